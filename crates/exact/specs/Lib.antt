@@ -1,0 +1,14 @@
+pub mod Integers
+pub mod Ring
+pub mod Rounding
+pub mod Units
+pub mod Sums
+pub mod Products
+pub mod Value
+pub mod Order
+pub mod Sharp
+pub mod Halves
+pub mod Table
+pub mod Match
+pub mod Shift
+pub mod Fields

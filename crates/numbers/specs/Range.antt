@@ -1,0 +1,27 @@
+-- What an elementary function answers (document 01, sections 3 and 6).
+use mathlib.Core.Bool.{Bool, true, false, cond, _&&_}
+use lib.Ieee as Ieee
+use lib.Ieee.{Float}
+use Rattle.numbers.specs.Rules.{finite, isNumber}
+use Rattle.numbers.specs.declared.Elementary.{Elementary}
+use Rattle.numbers.specs.declared.Elementary.the-variants.{Value, Refused}
+
+-- a range includes its ends
+abbrev pub inRange : Float → Float → Float → Bool
+inRange low high x = Ieee.le low x && Ieee.le x high
+
+-- refusal 2: an argument outside the range
+abbrev pub outsideOf : Float → Float → Float → Elementary
+outsideOf low high x = Refused 2
+
+-- the value v of a function at x, within its range
+abbrev pub ranged : Float → Float → Float → Float → Elementary
+ranged low high x v = cond (inRange low high x) (Value v) (outsideOf low high x)
+
+-- a bare call: refusal 1 of a NaN or an infinity comes first
+abbrev pub bare : Float → Elementary → Elementary
+bare x e = cond (finite x) e (Refused 1)
+
+-- inside a law: a NaN arose on the path, refusal 3; an infinity is outside the range
+abbrev pub onPath : Float → Elementary → Elementary
+onPath x e = cond (isNumber x) e (Refused 3)
