@@ -6,7 +6,7 @@ use Prim.Native.Nat.{ℕ, zero, suc, _+_, _-_, _*_, _^_, _≤_, _<_}
 use native.Mathlib.Nat.{le-of-mul-le-mul-right, mul-le-mul-right, mul-pos}
 use native.Mathlib.Omega.{arith}
 use lib.IntN.{ℤ, pos, negsuc}
-use lib.Ieee.{Float, binary64, ofBits}
+use lib.Ieee.{Float, binary64, ofBits, fits}
 use Rattle.exact.specs.Units.{L, L-pos, mag, sgn, Fin64}
 use Rattle.exact.specs.Value.{val}
 use Rattle.series.specs.Exponential.{num, den, den-pos}
@@ -56,3 +56,24 @@ pub narrow : (x r s : Float) → ExpNear x r → ExpNear x s → mag r * (2 ^ 45
 narrow x r s R S =
     narrow-plain (mag r) (mag s) L (2 ^ 45) (2 ^ 45 - 1) (2 ^ 45 + 1) L-pos (omega arith)
     (ordered (val x) L (mag r * 2 ^ 45) (L * (2 ^ 45 + 1)) (mag s * 2 ^ 45) (L * (2 ^ 45 - 1)) L-pos (R .below) (S .above))
+
+-- 1 is near exp 0
+cap-zero : (l m o : ℕ) → m ≤ o → (1 * (1 * l) + 2 * 0) * (l * m) ≤ l * o * (1 * (1 * l))
+cap-zero l m o h = omega (arith, mul-le-mul-right (l * l) h)
+
+one-units : (mag (ofBits binary64 0x3ff0_0000_0000_0000) ≡ L) × (val (ofBits binary64 0) ≡ pos 0)
+unfolding mag val L ofBits
+one-units = (refl, refl)
+
+one-fine : Fin64 (ofBits binary64 0x3ff0_0000_0000_0000) × (sgn (ofBits binary64 0x3ff0_0000_0000_0000) ≡ false)
+unfolding ofBits fits
+one-fine = ((tt, tt), refl)
+
+pub at-zero : ExpNear (ofBits binary64 0) (ofBits binary64 0x3ff0_0000_0000_0000)
+unfolding num den
+at-zero = record {
+    fine = one-fine .0;
+    sign = one-fine .1;
+    above = rw (one-units .0, one-units .1) (above 0 L 0 (L * 2 ^ 45) (L * (2 ^ 45 - 1)) L-pos (omega arith) (cap-zero L (2 ^ 45 - 1) (2 ^ 45) (omega arith)));
+    below = rw (one-units .0, one-units .1) (0, omega arith);
+  }
