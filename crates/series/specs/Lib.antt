@@ -7,3 +7,5 @@ pub mod Tested
 pub mod Alternate
 pub mod LogTail
 pub mod ExpNear
+pub mod Scale
+pub mod Ln2

@@ -1,0 +1,3 @@
+pub mod Tail
+pub mod Parts
+pub mod Reduced
