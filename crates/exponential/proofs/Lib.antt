@@ -1,3 +1,4 @@
 pub mod Tail
 pub mod Parts
 pub mod Reduced
+pub mod Packed
