@@ -2,3 +2,5 @@ pub mod Tail
 pub mod Parts
 pub mod Reduced
 pub mod Packed
+pub mod Quotients
+pub mod Near
