@@ -4,3 +4,4 @@ pub mod Reduced
 pub mod Packed
 pub mod Quotients
 pub mod Near
+pub mod Unpacking

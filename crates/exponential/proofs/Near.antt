@@ -19,7 +19,7 @@ use Rattle.series.specs.Remainder.{Above, Within}
 use Rattle.series.specs.ExpNear.{ExpNear}
 use Rattle.numbers.specs.Range.{inRange}
 use Rattle.numbers.proofs.Laws.{and-both}
-use Rattle.exponential.specs.Worked.{low, high, partOf, timesOf, belowOf, aboveOf, packOf, expBits, cutOf, expOf}
+use Rattle.exponential.specs.Worked.{low, high, partOf, timesOf, belowOf, aboveOf, tailOf, packOf, expBits, cutOf, expOf}
 use Rattle.exponential.proofs.Parts.{part-within, part-lt}
 use Rattle.exponential.proofs.Quotients.{Below, below-facts, Over, above-facts}
 use Rattle.exponential.proofs.Packed.{Scaled, scaled-plus, scaled-minus, packed}
@@ -128,3 +128,7 @@ val-is x = refl
 pub exp-near : (x : Float) → T (fits binary64 x) → inRange low high x ≡ true → ExpNear x (expOf x)
 unfolding expOf
 exp-near x f r = near-sign x (sgn x) (mag x) (cut-le (mag x) (ranged-mag x f r)) (val-is x)
+
+pub exp-zero : (expOf (ofBits binary64 0) ≡ ofBits binary64 0x3ff0_0000_0000_0000) × (expOf (ofBits binary64 0x8000_0000_0000_0000) ≡ ofBits binary64 0x3ff0_0000_0000_0000)
+unfolding expOf expBits packOf partOf tailOf mag L ofBits
+exp-zero = (refl, refl)

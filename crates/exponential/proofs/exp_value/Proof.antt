@@ -1,34 +1,46 @@
+-- `exponential::exp_value` meets its contract. Assumes nothing.
+use mathlib.Core.Path.{_≡_, sym, ap, ap₂, _∙_, subst}
+use mathlib.Core.Bool.{Bool, not}
+use Prim.Native.Nat.{ℕ, _+_, _*_, _^_, _≤_, _<_}
+use native.Mathlib.Omega.{arith}
 use borrow.Author.Needs.{needs}
+use lib.Dec.{T}
+use lib.Ieee.{binary64, ofBits, fits, nanBits}
+use Rattle.exponential.specs.Worked.{expBits}
+use Rattle.exponential.proofs.Unpacking.{no-nan, exponent-small, cut-is, sign-is, cut-small, exp-is, exp-no-nan}
 use Rattle.exponential.proofs.exp_value.Statement.{statement}
 use Rattle.exponential.proofs.exp_value.Tie as tie
 use Rattle.exponential.proofs.exp_value.Reads as reads
 use Rattle.exponential.proofs.exp_value.Lts as lts
-use Rattle.exponential.proofs.exp_bits.Reads as exp-bits-reads
-use Rattle.fixed_point.proofs.fixed.Reads as fixed-reads
 
--- src/lib.rt:65:13
 float-to-bits-n : tie.Need-float-to-bits-n
-float-to-bits-n c = ?
+float-to-bits-n c = no-nan (c .args .x) (subst T (sym (c .good .0 .1)) tt) (c .pre)
 
--- src/lib.rt:66:51
 add-fixed : tie.Need-add-fixed
 add-fixed c = search needs
 
--- src/lib.rt:66:9
 fixed-requires : tie.Need-fixed-requires
-fixed-requires c κs = ?
+fixed-requires c κs = (omega arith, exponent-small (c .args .x) (subst T (sym (c .good .0 .1)) tt) (c .pre))
 
--- src/lib.rt:67:20
 exp-bits-requires : tie.Need-exp-bits-requires
-exp-bits-requires c κs = ?
+exp-bits-requires c κs =
+    let s = c .before in
+    let f = subst T (sym (s .good .0 .1)) tt in
+    subst (λ (u : ℕ). u ≤ 700 * 2 ^ 53) (sym (c .fixed .ensures ∙ cut-is (s .args .x) f (s .pre))) (cut-small (s .args .x) f (s .pre))
 
--- src/lib.rt:67:5
 float-from-bits-result : tie.Need-float-from-bits-result
-float-from-bits-result c = ?
+float-from-bits-result c =
+    let s = c .before .before in
+    let f = subst T (sym (s .good .0 .1)) tt in
+    let e = c .exp-bits .ensures ∙ ap₂ expBits (sign-is (s .args .x) f (s .pre)) (c .before .fixed .ensures ∙ cut-is (s .args .x) f (s .pre)) in
+    subst (λ (n : ℕ). T (not (nanBits binary64 n))) (sym e) (exp-no-nan (s .args .x) f (s .pre))
 
--- src/lib.rt:61:1
 returns : tie.Need-returns
-returns c = ?
+returns c =
+    let s = c .before .before in
+    let f = subst T (sym (s .good .0 .1)) tt in
+    let e = c .exp-bits .ensures ∙ ap₂ expBits (sign-is (s .args .x) f (s .pre)) (c .before .fixed .ensures ∙ cut-is (s .args .x) f (s .pre)) in
+    ap (ofBits binary64) e ∙ exp-is (s .args .x) f (s .pre)
 
 pub exp-value-spec : {M : Type 1} → statement M
 exp-value-spec =

@@ -1,41 +1,43 @@
+-- `exponential::pack` meets its contract. Assumes nothing.
+use mathlib.Core.Path.{_≡_, sym, ap, _∙_, subst}
+use mathlib.Core.Bool.{Bool, true, false, cond}
+use Prim.Native.Nat.{ℕ, _+_, _-_, _*_, _/_, _^_, _<_, _≤_}
+use lib.Dec.{ltb}
 use borrow.Author.Needs.{needs}
+use borrow.Author.Tests.{lt-ltb, le-ltb}
+use Rattle.exponential.specs.Worked.{raisedOf, packOf}
 use Rattle.exponential.proofs.pack.Statement.{statement}
 use Rattle.exponential.proofs.pack.Tie as tie
-use Rattle.exponential.proofs.pack.Reads as reads
-use Rattle.exponential.proofs.pack.Lts as lts
-use Rattle.exponential.proofs.raised.Reads as raised-reads
 
--- src/lib.rt:38:9
+picks : (e c c' : ℕ) (t : Bool) → c ≡ c' → ltb c (2 ^ 62) ≡ t
+    → cond t ((e - 1) * 2 ^ 52 + c / 512) (e * 2 ^ 52 + c / 1024) ≡ cond (ltb c' (2 ^ 62)) ((e - 1) * 2 ^ 52 + c' / 512) (e * 2 ^ 52 + c' / 1024)
+picks e c c' t p q = rw (← p, q)
+
 raised-requires : tie.Need-raised-requires
 raised-requires c κs = search needs
 
--- src/lib.rt:40:10
 sub-result : tie.Need-sub-result
 sub-result c = search needs
 
--- src/lib.rt:40:9
 mul-result : tie.Need-mul-result
 mul-result c = search needs
 
--- src/lib.rt:40:9
 add-result : tie.Need-add-result
 add-result c = search needs
 
--- src/lib.rt:42:9
 mul-result-2 : tie.Need-mul-result-2
 mul-result-2 c = search needs
 
--- src/lib.rt:42:9
 add-result-2 : tie.Need-add-result-2
 add-result-2 c = search needs
 
--- src/lib.rt:34:1
 returns : tie.Need-returns
-returns c = ?
+unfolding packOf
+returns c = picks (c .before .before .args .e) (c .before .raised .result) (raisedOf (c .before .before .args .b)) true (c .before .raised .ensures) (lt-ltb _ _ (c .if1 .taken))
 
--- src/lib.rt:34:1
 returns-2 : tie.Need-returns-2
-returns-2 c = ?
+unfolding packOf
+returns-2 c = picks (c .before .before .args .e) (c .before .raised .result) (raisedOf (c .before .before .args .b)) false (c .before .raised .ensures) (le-ltb _ _ (c .if1 .left))
 
 pub pack-spec : {M : Type 1} → statement M
 pack-spec =

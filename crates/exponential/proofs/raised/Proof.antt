@@ -1,15 +1,13 @@
+-- `exponential::raised` meets its contract. Assumes nothing.
+use borrow.Author.Tests.{lt-ltb, le-ltb}
 use Rattle.exponential.proofs.raised.Statement.{statement}
 use Rattle.exponential.proofs.raised.Tie as tie
-use Rattle.exponential.proofs.raised.Reads as reads
-use Rattle.exponential.proofs.raised.Lts as lts
 
--- src/lib.rt:23:1
 returns : tie.Need-returns
-returns c = ?
+returns c = simp (lt-ltb _ _ (c .if1 .taken))
 
--- src/lib.rt:23:1
 returns-2 : tie.Need-returns-2
-returns-2 c = ?
+returns-2 c = simp (le-ltb _ _ (c .if1 .left))
 
 pub raised-spec : {M : Type 1} → statement M
 raised-spec = tie.close (tie.spec returns returns-2)

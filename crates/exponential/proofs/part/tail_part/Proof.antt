@@ -1,36 +1,33 @@
+-- `exponential::part::tail_part` meets its contract. Assumes nothing.
+use mathlib.Core.Path.{refl}
+use native.Mathlib.Omega.{arith}
 use borrow.Author.Needs.{needs}
+use Rattle.exponential.specs.Worked.{tailOf}
+use Rattle.exponential.proofs.Tail.{g2-le, g3-le}
 use Rattle.exponential.proofs.part.tail_part.Statement.{statement}
 use Rattle.exponential.proofs.part.tail_part.Tie as tie
-use Rattle.exponential.proofs.part.tail_part.Reads as reads
-use Rattle.exponential.proofs.part.tail_part.Lts as lts
 
--- src/part.rt:15:14
 mul-g2 : tie.Need-mul-g2
-mul-g2 c = ?
+mul-g2 c = omega (arith, g2-le (c .args .h) (c .pre))
 
--- src/part.rt:16:14
 mul-g3 : tie.Need-mul-g3
-mul-g3 c = ?
+mul-g3 c = omega (arith, g3-le (c .args .h) (c .pre))
 
--- src/part.rt:17:29
 mul-result : tie.Need-mul-result
 mul-result c = search needs
 
--- src/part.rt:17:5
 add-result : tie.Need-add-result
 add-result c = search needs
 
--- src/part.rt:17:5
 add-result-2 : tie.Need-add-result-2
-add-result-2 c = ?
+add-result-2 c = omega (arith, g2-le (c .args .h) (c .pre))
 
--- src/part.rt:17:5
 add-result-3 : tie.Need-add-result-3
-add-result-3 c = ?
+add-result-3 c = omega (arith, g2-le (c .args .h) (c .pre), g3-le (c .args .h) (c .pre))
 
--- src/part.rt:10:1
 returns : tie.Need-returns
-returns c = ?
+unfolding tailOf
+returns c = refl
 
 pub tail-part-spec : {M : Type 1} → statement M
 tail-part-spec =
