@@ -8,6 +8,7 @@ use part::exp_part;
 ghost use mathlib.Core.Path.{_≡_};
 ghost use mathlib.Core.Bool.{true};
 ghost use Prim.Native.Nat.{_+_, _*_, _^_, _≤_, _<_};
+ghost use Rattle.series.specs.ExpNear.{ExpNear};
 ghost use Rattle.numbers.specs.Range.{inRange, ranged, bare, onPath};
 ghost use Rattle.exponential.specs.Worked.{low, high, timesOf, belowOf, aboveOf, raisedOf, packOf, expBits, expOf};
 
@@ -49,7 +50,8 @@ fn exp_bits(negative: bool, u: u64) -> u64
     ensures { λ n. ⌜ n ≡ expBits negative u ⌝ }
 {
     if negative {
-        let k = ((u + 0x1_ffff_ffff) / 0x2_0000_0000 * 1549082005 + 0x3_ffff_ffff_ffff) / 0x4_0000_0000_0000;
+        let k = ((u + 0x1_ffff_ffff) / 0x2_0000_0000 * 1549082005 + 0x3_ffff_ffff_ffff)
+            / 0x4_0000_0000_0000;
         pack(1023 - k, exp_part(times(k) - u))
     } else {
         let k = u / 0x2_0000_0000 * 1549082004 / 0x4_0000_0000_0000;
@@ -57,16 +59,20 @@ fn exp_bits(negative: bool, u: u64) -> u64
     }
 }
 
-// exp x, for an x within the range.
+// exp x, for an x within the range: within 2^-45 of the exact value, times that value.
 fn exp_value(x: f64) -> f64
     requires { ⌜ inRange low high x ≡ true ⌝ }
-    ensures { λ r. ⌜ r ≡ expOf x ⌝ }
+    ensures { λ r. ⌜ (r ≡ expOf x) × ExpNear x r ⌝ }
 {
     let n = f64::to_bits(x);
-    let u = fixed(n % 0x8000_0000_0000_0000 / 0x10_0000_0000_0000, 0x10_0000_0000_0000 + n % 0x10_0000_0000_0000);
+    let u = fixed(
+        n % 0x8000_0000_0000_0000 / 0x10_0000_0000_0000,
+        0x10_0000_0000_0000 + n % 0x10_0000_0000_0000,
+    );
     f64::from_bits(exp_bits(0x8000_0000_0000_0000 <= n, u))
 }
 
+// exp x within the range; outside it a refusal by 2.
 fn exp_ranged(x: f64) -> Elementary
     ensures { λ r. ⌜ r ≡ ranged low high x (expOf x) ⌝ }
 {

@@ -5,8 +5,10 @@ use Prim.Native.Nat.{ℕ, _+_, _*_, _^_, _≤_, _<_}
 use native.Mathlib.Omega.{arith}
 use borrow.Author.Needs.{needs}
 use lib.Dec.{T}
-use lib.Ieee.{binary64, ofBits, fits, nanBits}
+use lib.Ieee.{Float, binary64, ofBits, fits, nanBits}
 use Rattle.exponential.specs.Worked.{expBits}
+use Rattle.series.specs.ExpNear.{ExpNear}
+use Rattle.exponential.proofs.Near.{exp-near}
 use Rattle.exponential.proofs.Unpacking.{no-nan, exponent-small, cut-is, sign-is, cut-small, exp-is, exp-no-nan}
 use Rattle.exponential.proofs.exp_value.Statement.{statement}
 use Rattle.exponential.proofs.exp_value.Tie as tie
@@ -40,7 +42,8 @@ returns c =
     let s = c .before .before in
     let f = subst T (sym (s .good .0 .1)) tt in
     let e = c .exp-bits .ensures ∙ ap₂ expBits (sign-is (s .args .x) f (s .pre)) (c .before .fixed .ensures ∙ cut-is (s .args .x) f (s .pre)) in
-    ap (ofBits binary64) e ∙ exp-is (s .args .x) f (s .pre)
+    let r = ap (ofBits binary64) e ∙ exp-is (s .args .x) f (s .pre) in
+    (r, subst (λ (v : Float). ExpNear (s .args .x) v) (sym r) (exp-near (s .args .x) f (s .pre)))
 
 pub exp-value-spec : {M : Type 1} → statement M
 exp-value-spec =
