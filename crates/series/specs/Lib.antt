@@ -6,3 +6,6 @@ pub mod Bounds
 pub mod Tested
 pub mod Alternate
 pub mod LogTail
+pub mod ExpNear
+pub mod Scale
+pub mod Ln2
