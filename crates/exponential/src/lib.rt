@@ -9,7 +9,8 @@ ghost use mathlib.Core.Path.{_≡_};
 ghost use mathlib.Core.Bool.{true};
 ghost use Prim.Native.Nat.{_+_, _*_, _^_, _≤_, _<_};
 ghost use Rattle.series.specs.ExpNear.{ExpNear};
-ghost use Rattle.numbers.specs.Range.{inRange, ranged, bare, onPath};
+ghost use Rattle.numbers.specs.Range.{inRange, bare, onPath};
+ghost use Rattle.exponential.specs.Exp.{expRanged};
 ghost use Rattle.exponential.specs.Worked.{low, high, timesOf, belowOf, aboveOf, raisedOf, packOf, expBits, expOf};
 
 // k ln 2, in units of 2^-53.
@@ -74,7 +75,7 @@ fn exp_value(x: f64) -> f64
 
 // exp x within the range; outside it a refusal by 2.
 fn exp_ranged(x: f64) -> Elementary
-    ensures { λ r. ⌜ r ≡ ranged low high x (expOf x) ⌝ }
+    ensures { λ r. ⌜ r ≡ expRanged x ⌝ }
 {
     if numbers::in_range(-700.0, 700.0, x) {
         Elementary::Value(exp_value(x))
@@ -85,7 +86,7 @@ fn exp_ranged(x: f64) -> Elementary
 
 // exp x: a NaN or an infinity is refused by 1, a number outside the range by 2.
 pub fn exp(x: f64) -> Elementary
-    ensures { λ r. ⌜ r ≡ bare x (ranged low high x (expOf x)) ⌝ }
+    ensures { λ r. ⌜ r ≡ bare x (expRanged x) ⌝ }
 {
     if numbers::is_finite(x) {
         exp_ranged(x)
@@ -96,7 +97,7 @@ pub fn exp(x: f64) -> Elementary
 
 // exp x within a law: a NaN is refused by 3, an infinity and a number outside the range by 2.
 pub fn exp_on_path(x: f64) -> Elementary
-    ensures { λ r. ⌜ r ≡ onPath x (ranged low high x (expOf x)) ⌝ }
+    ensures { λ r. ⌜ r ≡ onPath x (expRanged x) ⌝ }
 {
     if numbers::is_number(x) {
         exp_ranged(x)

@@ -1,0 +1,123 @@
+-- Laws of a pass by any law that keeps a record's length: what record i adds to the records, the answers and the counts.
+-- Assumes nothing.
+use mathlib.Core.Path.{_≡_, refl, sym, ap, _∙_}
+use mathlib.Core.List.{List, [], _∷_, _++_, append-assoc, append-nil}
+use Prim.Native.Nat.{ℕ, zero, suc, _+_, _*_, _≤_, _<_}
+use native.Mathlib.Omega.{arith}
+use native.Mathlib.Numerals.{add-one}
+use lib.ListN.{length, set, take, drop, getD, length-set, length-append, length-take, length-drop}
+use lib.Seq.{take-at, drop-at, drop-drop, drop-cons, set-at, drop-length}
+use Rattle.law.specs.declared.Outcome.{Outcome}
+use Rattle.law.specs.declared.Outcome.the-variants.{Untouched, Stored, Refused}
+use Rattle.law.specs.declared.State.{State}
+use Rattle.record.specs.Layout.{floats}
+use Rattle.particles.specs.declared.choice.Model.{Model}
+use Rattle.particles.specs.declared.choice.Model.the-variants.{Snow, Unknown}
+use Rattle.particles.specs.declared.list.Counts.{Counts}
+use Rattle.particles.specs.Model.{recordLaw, kept, updatedAt, putState}
+use Rattle.particles.specs.Pass.{Worked, recordAt, worked, answers, counted, counts, codeOf, valueOf}
+
+-- a law keeps a record's length
+abbrev pub Keeps : (List ℕ → Worked) → Type 0
+Keeps law = (r : List ℕ) → length (law r .after) ≡ length r
+
+put-length : (m : Model) (r : List ℕ) (s : State) → length (putState m r s) ≡ length r
+put-length (Snow p) r s = simp length-set
+put-length Unknown r s = simp length-set
+
+kept-length : (m : Model) (o : Outcome) (r : List ℕ) (s : State) → length (kept m o r s) ≡ length r
+kept-length m Untouched r s = refl
+kept-length m (Stored a) r s = put-length m r s
+kept-length m (Refused n) r s = refl
+
+pub record-keeps : (m : Model) → Keeps (recordLaw m)
+unfolding recordLaw
+record-keeps m r = kept-length m (updatedAt m r .outcome) r (updatedAt m r .state)
+
+module _ (law : List ℕ → Worked) (k : Keeps law) (l : List ℕ) where
+  pub worked-length : (i : ℕ) → i * floats ≤ length l → length (worked law l i) ≡ i * floats
+  unfolding worked
+  worked-length zero h = refl
+  worked-length (suc i) h =
+      let e : i * floats ≤ length l = omega arith in
+      let ih = worked-length i e in
+      simp (length-append, k, length-take, length-drop) (omega arith)
+
+  pub worked-step : (i : ℕ) → i * floats + floats ≤ length l → (xs : List ℕ) → xs ≡ worked law l i ++ drop (i * floats) l
+      → take (i * floats) xs ++ (law (recordAt xs i) .after ++ drop floats (drop (i * floats) xs)) ≡ worked law l (i + 1) ++ drop ((i + 1) * floats) l
+  unfolding worked
+  worked-step i h xs e =
+      let n : length (worked law l i) ≡ i * floats = worked-length i (omega arith) in
+      let t : take (i * floats) xs ≡ worked law l i = ap (take (i * floats)) e ∙ take-at (worked law l i) (drop (i * floats) l) (i * floats) n in
+      let d : drop (i * floats) xs ≡ drop (i * floats) l = ap (drop (i * floats)) e ∙ drop-at (worked law l i) (drop (i * floats) l) (i * floats) n in
+      let j : suc i * floats ≡ i * floats + floats = omega arith in
+      simp (t, d, drop-drop, j, add-one i, append-assoc)
+
+  module _ (i : ℕ) (xs : List ℕ) (e : xs ≡ worked law l i ++ drop (i * floats) l) (h : i * floats ≤ length l) where
+    pub records-length : length xs ≡ length l
+    records-length =
+        let n = worked-length i h in
+        ap length e ∙ simp (length-append, length-drop) (omega arith)
+
+    -- record i is still as it came
+    pub record-same : recordAt xs i ≡ recordAt l i
+    record-same =
+        ap (λ (t : List ℕ). take floats (drop (i * floats) t)) e
+        ∙ ap (take floats) (drop-at (worked law l i) (drop (i * floats) l) (i * floats) (worked-length i h))
+
+-- two places after a prefix are written
+two-set : (q a : List ℕ) (k v w : ℕ) → length q ≡ k → k + 2 ≤ length a → set (set (q ++ drop k a) k v) (k + 1) w ≡ (q ++ (v ∷ w ∷ [])) ++ drop (k + 2) a
+two-set q a k v w n h =
+    let b1 : k < length a = omega arith in
+    let b2 : suc k < length a = omega arith in
+    let d : drop k a ≡ getD a k 0 ∷ getD a (suc k) 0 ∷ drop (suc (suc k)) a =
+    drop-cons a k 0 b1 ∙ ap (λ (t : List ℕ). getD a k 0 ∷ t) (drop-cons a (suc k) 0 b2) in
+    let m : length (q ++ (v ∷ [])) ≡ k + 1 = simp length-append (omega arith) in
+    let e : k + 2 ≡ suc (suc k) = omega arith in
+    ap (λ (t : List ℕ). set (set (q ++ t) k v) (k + 1) w) d
+    ∙ ap (λ (t : List ℕ). set t (k + 1) w) (set-at q (getD a k 0) (getD a (suc k) 0 ∷ drop (suc (suc k)) a) v k n)
+    ∙ ap (λ (t : List ℕ). set t (k + 1) w) (sym (append-assoc q (v ∷ []) (getD a (suc k) 0 ∷ drop (suc (suc k)) a)))
+    ∙ set-at (q ++ (v ∷ [])) (getD a (suc k) 0) (drop (suc (suc k)) a) w (k + 1) m
+    ∙ simp (append-assoc, e)
+
+-- no count is above the number of records
+abbrev pub Most : Counts → ℕ → Type 0
+Most c i = (c .untouched ≤ i) × (c .stored ≤ i) × (c .refused ≤ i)
+
+counted-most : (c : Counts) (o : Outcome) (i : ℕ) → Most c i → Most (counted c o) (suc i)
+counted-most c Untouched i h = omega arith
+counted-most c (Stored a) i h = omega arith
+counted-most c (Refused n) i h = omega arith
+
+module _ (law : List ℕ → Worked) (l : List ℕ) where
+  pub answers-length : (i : ℕ) → length (answers law l i) ≡ i * 2
+  unfolding answers
+  answers-length zero = refl
+  answers-length (suc i) =
+      let ih = answers-length i in
+      simp length-append (omega arith)
+
+  pub answers-long : (a : List ℕ) (i : ℕ) (out : List ℕ) → out ≡ answers law l i ++ drop (i * 2) a → i * 2 ≤ length a → length out ≡ length a
+  answers-long a i out e h =
+      let n = answers-length i in
+      ap length e ∙ simp (length-append, length-drop) (omega arith)
+
+  pub answers-step : (i : ℕ) (a : List ℕ) → i * 2 + 2 ≤ length a → (out : List ℕ) → out ≡ answers law l i ++ drop (i * 2) a
+      → (o : Outcome) → o ≡ law (recordAt l i) .outcome → set (set out (i * 2) (codeOf o)) (i * 2 + 1) (valueOf o) ≡ answers law l (i + 1) ++ drop ((i + 1) * 2) a
+  unfolding answers
+  answers-step i a h out e o f =
+      let k : suc i * 2 ≡ i * 2 + 2 = omega arith in
+      rw (e, f, add-one i, k) (two-set (answers law l i) a (i * 2) _ _ (answers-length i) h)
+
+  pub counts-most : (i : ℕ) → Most (counts law l i) i
+  unfolding counts
+  counts-most zero = omega arith
+  counts-most (suc i) = counted-most (counts law l i) (law (recordAt l i) .outcome) i (counts-most i)
+
+  pub counts-step : (i : ℕ) (c : Counts) (o : Outcome) → c ≡ counts law l i → o ≡ law (recordAt l i) .outcome → counted c o ≡ counts law l (i + 1)
+  unfolding counts
+  counts-step i c o e f = rw (add-one i, e, f)
+
+-- at the end nothing is left of the old list
+pub all-done : (q l : List ℕ) (k : ℕ) → length l ≡ k → q ++ drop k l ≡ q
+all-done q l k e = rw (← e, drop-length) (append-nil q)

@@ -1,0 +1,136 @@
+// Snow: each singular value is clamped (plasticity_snow.rs; document 01, section 5).
+use law::Outcome;
+use law::State;
+use law::Updated;
+use numbers::Elementary;
+ghost use mathlib.Core.Path.{_≡_};
+ghost use Rattle.law.specs.State.{refused};
+ghost use Rattle.plasticity_snow.specs.Snow.{defaults, clampOf, clampedOf, determinantOf, exponentOf, parametersFinite, stateOf, snowStore, snowRun, snowUpdate};
+
+pub struct SnowPlasticity {
+    pub min_epsilon: f64,
+    pub max_epsilon: f64,
+    pub hardening_coeff: f64,
+}
+
+impl SnowPlasticity {
+    pub const MIN_EPSILON: f64 = 0.025;
+
+    pub const MAX_EPSILON: f64 = 0.0045;
+
+    pub const HARDENING_COEFF: f64 = 10.0;
+
+    pub fn new() -> SnowPlasticity
+        ensures { λ r. ⌜ r ≡ defaults ⌝ }
+    {
+        SnowPlasticity {
+            min_epsilon: SnowPlasticity::MIN_EPSILON,
+            max_epsilon: SnowPlasticity::MAX_EPSILON,
+            hardening_coeff: SnowPlasticity::HARDENING_COEFF,
+        }
+    }
+
+    // The maximum with the lower bound first: of a NaN this is the lower bound.
+    fn clamp(self, e: f64) -> f64
+        ensures { λ r. ⌜ r ≡ clampOf self e ⌝ }
+    {
+        numbers::min(
+            numbers::max(e, 1.0 - self.min_epsilon),
+            1.0 + self.max_epsilon,
+        )
+    }
+
+    // The bare clamp of each singular value, with no refusal.
+    pub fn project_deformation_gradient(self, singular_values: [f64; 3]) -> [f64; 3]
+        ensures { λ r. ⌜ r ≡ clampedOf self «singular_values» ⌝ }
+    {
+        [
+            self.clamp(singular_values[0]),
+            self.clamp(singular_values[1]),
+            self.clamp(singular_values[2]),
+        ]
+    }
+
+    // What the exponential is given.
+    fn exponent(self, determinant: f64) -> f64
+        ensures { λ r. ⌜ r ≡ exponentOf self determinant ⌝ }
+    {
+        self.hardening_coeff * (1.0 - determinant)
+    }
+
+    fn parameters_finite(self) -> bool
+        ensures { λ r. ⌜ r ≡ parametersFinite self ⌝ }
+    {
+        numbers::is_finite(self.min_epsilon)
+            & numbers::is_finite(self.max_epsilon)
+            & numbers::is_finite(self.hardening_coeff)
+    }
+
+    // The steps in the law's order: clamp, determinant, exponential, recomposed F.
+    fn run(self, u: [[f64; 3]; 3], vt: [[f64; 3]; 3], s: State) -> Updated
+        ensures { λ r. ⌜ r ≡ snowRun self u vt s ⌝ }
+    {
+        let sigma = s.sigma;
+        let new = self.project_deformation_gradient(sigma);
+        let d = determinant(s.plastic_determinant, sigma, new);
+        let h = exponential::exp_on_path(self.exponent(d));
+        match h {
+            Elementary::Value(hardening) => {
+                store(tensor::recompose(u, new, vt), new, d, hardening, s)
+            }
+            Elementary::Refused(n) => law::refuse(n, s),
+        }
+    }
+
+    // The update of one particle: F, sigma, plastic determinant and elastic hardening are new, or the
+    // state comes back as it was with a refusal.
+    pub fn update_particle(self, u: [[f64; 3]; 3], vt: [[f64; 3]; 3], s: State) -> Updated
+        ensures { λ r. ⌜ r ≡ snowUpdate self u vt s ⌝ }
+    {
+        if self.parameters_finite() & law::inputs_finite(u, vt, s) {
+            self.run(u, vt, s)
+        } else {
+            law::refuse(1, s)
+        }
+    }
+}
+
+// The plastic determinant times old product over new product.
+fn determinant(d: f64, old: [f64; 3], new: [f64; 3]) -> f64
+    ensures { λ r. ⌜ r ≡ determinantOf d old new ⌝ }
+{
+    d * (tensor::product(old) / tensor::product(new))
+}
+
+fn state_of(f: [[f64; 3]; 3], sigma: [f64; 3], d: f64, hardening: f64, s: State) -> State
+    ensures { λ r. ⌜ r ≡ stateOf f sigma d hardening s ⌝ }
+{
+    State {
+        f: tensor::to_rows(f),
+        sigma,
+        phase: s.phase,
+        plastic_determinant: d,
+        plastic_hardening: s.plastic_hardening,
+        elastic_hardening: hardening,
+        log_gain: s.log_gain,
+        alpha: s.alpha,
+    }
+}
+
+// The results are stored where all are finite.
+fn store(f: [[f64; 3]; 3], sigma: [f64; 3], d: f64, hardening: f64, s: State) -> Updated
+    ensures { λ r. ⌜ r ≡ snowStore f sigma d hardening s ⌝ }
+{
+    if tensor::mat_finite(f)
+        & tensor::row_finite(sigma)
+        & numbers::is_finite(d)
+        & numbers::is_finite(hardening)
+    {
+        Updated {
+            state: state_of(f, sigma, d, hardening, s),
+            outcome: Outcome::Stored(hardening),
+        }
+    } else {
+        law::refuse(3, s)
+    }
+}
