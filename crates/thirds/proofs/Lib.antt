@@ -1,1 +1,2 @@
 pub mod Cubes
+pub mod Powers
