@@ -8,9 +8,9 @@ use lib.Dec.{T, leb, leb→le, nleb→lt, lit≤}
 use lib.Pow.{pow-pos, shr-mono}
 use Rattle.thirds.specs.Root.{cubeOf, digitsFrom, rootOf}
 
-pub cube-mono : {a b : ℕ} → a ≤ b → cubeOf a ≤ cubeOf b
+pub cubeOf-mono : {a b : ℕ} → a ≤ b → cubeOf a ≤ cubeOf b
 unfolding cubeOf
-cube-mono h =
+cubeOf-mono h =
     let k = mul-le-mul-right (2 ^ 15) h in
     shr-mono 64 (mul-le-mul (shr-mono 64 (mul-le-mul k k)) k)
 
@@ -46,7 +46,7 @@ module _ (m : ℕ) where
   root-of = digits-root 49 0 (lit≤ tt) (omega arith) (λ t. absurd (omega arith))
 
   up-to : (r s : ℕ) → Root m r → Root m s → s ≤ r
-  up-to r s R S = by-contra s r (λ l. lt-irrefl m (lt-of-lt-of-le (R .high (lt-of-le-of-lt (next l) (S .small))) (le-trans (cube-mono (next l)) (S .low))))
+  up-to r s R S = by-contra s r (λ l. lt-irrefl m (lt-of-lt-of-le (R .high (lt-of-le-of-lt (next l) (S .small))) (le-trans (cubeOf-mono (next l)) (S .low))))
     where
       next : r < s → r + 1 ≤ s
       next l = omega arith

@@ -1,2 +1,4 @@
+pub mod Steps
 pub mod Cubes
+pub mod Rooted
 pub mod Powers

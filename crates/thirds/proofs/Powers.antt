@@ -2,7 +2,7 @@
 use mathlib.Core.Path.{_≡_, refl, sym, ap, subst, _∙_}
 use mathlib.Core.Bool.{false}
 use Prim.Native.Nat.{ℕ, zero, suc, _+_, _-_, _*_, _^_, _≤_, _<_}
-use native.Mathlib.Nat.{le-refl, le-trans, lt-irrefl, lt-of-lt-of-le, zero-lt-suc, mul-zero, mul-assoc, mul-comm, mul-left-comm, mul-pos, mul-le-mul, mul-le-mul-left, mul-le-mul-right, le-of-mul-le-mul-right}
+use native.Mathlib.Nat.{le-refl, le-trans, lt-irrefl, lt-of-lt-of-le, zero-lt-suc, mul-zero, mul-pos, mul-le-mul, mul-le-mul-left, mul-le-mul-right, le-of-mul-le-mul-right}
 use native.Mathlib.Omega.{arith}
 use lib.Dec.{lit≤, lit<}
 use lib.Pow.{pow-pos}
@@ -12,8 +12,7 @@ use Rattle.exact.specs.Units.{L, L-pos, mag, sgn, Fin64}
 use Rattle.exact.specs.Products.{mul-mag, div-mag}
 use Rattle.numbers.specs.Power.{one}
 use Rattle.series.specs.ThirdsNear.{cube, cube-mul, cube-mono, cube-pos, CubeRootNear}
-
-ruleset sorted = (mul-assoc, mul-comm, mul-left-comm)
+use Rattle.thirds.proofs.Steps.{sorted, steps}
 
 -- ---- over cubes alone: l, c and z are those of L, of the number and of the result; k, d and e those of the distances, lower case for
 -- the number itself, - and + for one less and one more
@@ -22,10 +21,6 @@ weak-low p q l z d d- k k- D n h = le-of-mul-le-mul-right {k = d} (omega (arith,
 
 weak-high : (p q l z d d+ k k+ : ℕ) → 0 < d → d+ * k ≤ k+ * d → q * (z * d) ≤ p * (l * d+) → q * (z * k) ≤ p * (l * k+)
 weak-high p q l z d d+ k k+ D n h = le-of-mul-le-mul-right {k = d} (omega (arith, mul-le-mul-left (p * l) n, mul-le-mul-right k h)) D
-
--- a ≤ h by three steps, each side sorted
-steps : {a b c d e f g h : ℕ} → b ≤ c → d ≤ e → f ≤ g → a ≡ b → c ≡ d → e ≡ f → g ≡ h → a ≤ h
-steps x y z p q r s = rw (p, ← s) (le-trans x (rw q (le-trans y (rw r z))))
 
 square-low : (p q l c z d d- e e- k k- : ℕ) → 0 < l * (e * (d * d)) → k- * (e * (d * d)) ≤ e- * (d- * d-) * k
     → c * c * e- ≤ z * l * e → p * (l * d-) ≤ q * (c * d) → p * p * (l * k-) ≤ q * q * (z * k)
