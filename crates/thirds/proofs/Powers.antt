@@ -71,6 +71,9 @@ pub record Between (a : ℕ) (c : Float) : Type 0 where
   pub low : L ≤ a * mag c
   pub high : mag c ≤ a * L
 
+pub wider : (a b : ℕ) (c : Float) → a ≤ b → Between a c → Between b c
+wider a b c h B = record { low = le-trans (B .low) (mul-le-mul-right (mag c) h); high = le-trans (B .high) (mul-le-mul-right L h) }
+
 positive : (a m : ℕ) → L ≤ a * m → 0 < m
 positive a zero h = absurd (lt-irrefl 0 (lt-of-lt-of-le L-pos (rw mul-zero at h)))
 positive a (suc m) h = zero-lt-suc m
