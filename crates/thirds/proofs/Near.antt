@@ -72,18 +72,22 @@ module _ (x : Float) (f : T (fits binary64 x)) (r : inRange low high x ≡ true)
   inv-cbrt-squared-near = inverted (cbrtSquaredOf x) (square-of-x .fine) between-of-square (mag x * mag x) (L * L) (square-of-x .sign) square-of-x
 
 -- ---- exactly 1 at 1
-cbrt-one : cbrtOf one ≡ one
+pub cbrt-one : cbrtOf one ≡ one
 unfolding cbrtOf rootBits digitsFrom cubeOf ofBits toBits
 cbrt-one = refl
 
-cbrt-squared-one : cbrtSquaredOf one ≡ one
+pub cbrt-squared-one : cbrtSquaredOf one ≡ one
 unfolding cbrtSquaredOf Ieee.mul ofBits
 cbrt-squared-one = ap (λ c. Ieee.mul binary64 c c) cbrt-one
 
-inv-cbrt-one : invCbrtOf one ≡ one
+pub inv-cbrt-one : invCbrtOf one ≡ one
 unfolding invCbrtOf Ieee.div ofBits
 inv-cbrt-one = ap (λ c. Ieee.div binary64 one c) cbrt-one
 
-inv-cbrt-squared-one : invCbrtSquaredOf one ≡ one
+pub inv-cbrt-squared-one : invCbrtSquaredOf one ≡ one
 unfolding invCbrtSquaredOf Ieee.div ofBits
 inv-cbrt-squared-one = ap (λ c. Ieee.div binary64 one c) cbrt-squared-one
+
+-- ---- what a value's function ensures, from its equality with the definition
+pub worked : (x v w : Float) (Near : Float → Type 0) → fits binary64 x ≡ true → (T (fits binary64 x) → inRange low high x ≡ true → Near w) → v ≡ w → (v ≡ w) × (inRange low high x ≡ true → Near v)
+worked x v w Near f h e = (e, λ r. subst Near (sym e) (h (true-T (fits binary64 x) f) r))

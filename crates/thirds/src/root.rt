@@ -7,7 +7,7 @@ use numbers::bits_of;
 use numbers::float_of;
 
 // v^3 / 2^83, rounded down twice.
-pub fn cube(v: u64) -> u64
+fn cube(v: u64) -> u64
     requires { ⌜ v < 2 ^ 49 ⌝ }
     ensures { λ r. ⌜ r ≡ cubeOf v ⌝ }
 {
@@ -16,7 +16,7 @@ pub fn cube(v: u64) -> u64
 }
 
 // The largest root whose cube is at most m. A guess that is far off only takes long.
-pub fn fix(guess: u64, m: u64) -> u64
+fn fix(guess: u64, m: u64) -> u64
     requires { ⌜ guess < 2 ^ 49 ⌝ }
     ensures { λ r. ⌜ r ≡ rootOf m ⌝ }
 {
