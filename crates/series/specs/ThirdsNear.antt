@@ -5,7 +5,8 @@ use mathlib.Core.Bool.{false}
 use Prim.Native.Nat.{ℕ, zero, suc, _+_, _-_, _*_, _^_, _≤_, _<_}
 use native.Mathlib.Nat.{le-trans, lt-irrefl, lt-of-lt-of-le, mul-pos, mul-le-mul, mul-le-mul-left, mul-le-mul-right, le-of-mul-le-mul-right}
 use native.Mathlib.Omega.{arith, by-contra}
-use lib.Ieee.{Float}
+use lib.Dec.{lit≤, le→leb}
+use lib.Ieee.{Float, binary64, ofBits, fits}
 use Rattle.exact.specs.Units.{L, L-pos, mag, sgn, Fin64}
 
 unfoldable pub cube : ℕ → ℕ
@@ -64,3 +65,24 @@ alike d p q r s hd hq R S =
   where
     go : (r s l d m k : ℕ) → 0 < q * d → q * (r * d) ≤ p * (l * k) → p * (l * m) ≤ q * (s * d) → r * m ≤ s * k
     go r s l d m k h x y = le-of-mul-le-mul-right {k = q * d} (omega (arith, mul-le-mul-right m x, mul-le-mul-right k y)) h
+
+-- ---- the cube root of 8 is 2, x ^ (-2/3) there 1 / 4; and 1 is every power of 1
+abbrev at : ℕ → Float
+at n = ofBits binary64 n
+
+pub cbrt-eight : CbrtNear (at 0x4020_0000_0000_0000) (at 0x4000_0000_0000_0000)
+unfolding ofBits fits mag L cube
+cbrt-eight = record { fine = (tt, tt); sign = refl; low = lit≤ tt; high = lit≤ tt }
+
+-- and 2 (1 + 2 ^ -44) is not
+pub cbrt-eight-only : CbrtNear (at 0x4020_0000_0000_0000) (at 0x4000_0000_0000_0100) → ⊥
+unfolding ofBits fits mag L cube
+cbrt-eight-only h = le→leb _ _ (h .high)
+
+pub inv-cbrt-squared-eight : InvCbrtSquaredNear (at 0x4020_0000_0000_0000) (at 0x3fd0_0000_0000_0000)
+unfolding ofBits fits mag L cube
+inv-cbrt-squared-eight = record { fine = (tt, tt); sign = refl; low = lit≤ tt; high = lit≤ tt }
+
+pub cbrt-one : CbrtNear (at 0x3ff0_0000_0000_0000) (at 0x3ff0_0000_0000_0000)
+unfolding ofBits fits mag L cube
+cbrt-one = record { fine = (tt, tt); sign = refl; low = lit≤ tt; high = lit≤ tt }

@@ -71,7 +71,7 @@ module _ (x : Float) (f : T (fits binary64 x)) (r : inRange low high x ≡ true)
   unfolding invCbrtSquaredOf
   inv-cbrt-squared-near = inverted (cbrtSquaredOf x) (square-of-x .fine) between-of-square (mag x * mag x) (L * L) (square-of-x .sign) square-of-x
 
--- ---- exactly 1 at 1
+-- ---- exactly 1 at 1, and 2 at 8
 pub cbrt-one : cbrtOf one ≡ one
 unfolding cbrtOf rootBits digitsFrom cubeOf ofBits toBits
 cbrt-one = refl
@@ -87,6 +87,10 @@ inv-cbrt-one = ap (λ c. Ieee.div binary64 one c) cbrt-one
 pub inv-cbrt-squared-one : invCbrtSquaredOf one ≡ one
 unfolding invCbrtSquaredOf Ieee.div ofBits
 inv-cbrt-squared-one = ap (λ c. Ieee.div binary64 one c) cbrt-squared-one
+
+pub cbrt-eight : cbrtOf (ofBits binary64 0x4020_0000_0000_0000) ≡ ofBits binary64 0x4000_0000_0000_0000
+unfolding cbrtOf rootBits digitsFrom cubeOf ofBits toBits
+cbrt-eight = refl
 
 -- ---- what a value's function ensures, from its equality with the definition
 pub worked : (x v w : Float) (Near : Float → Type 0) → fits binary64 x ≡ true → (T (fits binary64 x) → inRange low high x ≡ true → Near w) → v ≡ w → (v ≡ w) × (inRange low high x ≡ true → Near v)

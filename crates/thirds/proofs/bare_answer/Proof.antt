@@ -12,12 +12,12 @@ answer-requires c κs = search needs
 returns : tie.Need-returns
 returns c =
     let t0 = simp (c .before .before .is-finite .ensures) at (c .before .if1 .taken) in
-    simp (c .answer .ensures, c .before .before .is-finite .ensures, t0)
+    simp (c .answer .ensures, t0)
 
 returns-2 : tie.Need-returns-2
 returns-2 c =
     let t0 = simp (c .before .is-finite .ensures) at (c .if1 .left) in
-    simp (c .before .is-finite .ensures, t0)
+    simp t0
 
 pub bare-answer-spec : {M : Type 1} → statement M
 bare-answer-spec = tie.close (tie.spec is-finite-requires answer-requires returns returns-2)
