@@ -2,18 +2,17 @@
 use mathlib.Core.Path.{_≡_, refl, sym, ap, _∙_, subst}
 use mathlib.Core.Bool.{Bool, true, false, not, cond}
 use Prim.Native.Nat.{ℕ, zero, suc, _+_, _-_, _*_, _/_, _%_, _^_, _≤_, _<_}
-use native.Mathlib.Nat.{le-trans, lt-irrefl, lt-of-lt-of-le, lt-of-le-of-lt, le-of-lt, mul-le-mul-right, mul-lt-mul-of-pos-right}
+use native.Mathlib.Nat.{le-trans, lt-irrefl, lt-of-lt-of-le, lt-of-le-of-lt, mul-le-mul-right, mul-lt-mul-of-pos-right}
 use native.Mathlib.Omega.{arith, by-contra}
-use lib.Dec.{T, leb, eqb, leb→le, nleb→lt}
+use lib.Dec.{T, eqb, nleb→lt}
 use lib.Arith.{lt-of-le-ne}
 use lib.Pow.{pow-pos, pow-add, pow-mono}
-use lib.Ieee.{Float, nan, inf, fin, binary64, odd, ofFields, ofBits, toBits, fits, le}
+use lib.Ieee.{Float, nan, inf, binary64, ofFields, ofBits, toBits, le}
 use lib.Ieee.Scale.{finite}
-use Rattle.exact.specs.Units.{L, mag, sgn, Fin64, le-of-pow}
-use Rattle.exact.specs.Sums.{pl, mi, plus, minus}
-use Rattle.exact.specs.Integers.{p, n}
-use Rattle.exact.specs.Value.{val, p-val, n-val}
-use Rattle.exact.specs.Fields.{signAt, exponentAt, digitsAt, Has, normal-units, small-units, of-own}
+use Rattle.exact.specs.Units.{mag, sgn, Fin64}
+use Rattle.exact.specs.Sums.{pl, mi}
+use Rattle.exact.specs.Value.{p-val, n-val}
+use Rattle.exact.specs.Fields.{signAt, exponentAt, digitsAt, normal-units, small-units, of-own}
 use Rattle.exact.specs.OrderLe.{le-val}
 
 -- ---- `<=` between positive values

@@ -1,13 +1,13 @@
 -- What document 01, section 3, asks of the powers 1/3, -1/3, 2/3 and -2/3: within 2^-45 of the exact value, times that value. The exact
 -- value is the cube root of x, 1 / x, x ^ 2 or 1 / x ^ 2, and is met through cubes: t is the cube root of p / q when t ^ 3 = p / q.
-use mathlib.Core.Path.{_≡_, refl, sym, ap, subst}
+use mathlib.Core.Path.{_≡_, refl}
 use mathlib.Core.Bool.{false}
-use Prim.Native.Nat.{ℕ, zero, suc, _+_, _-_, _*_, _^_, _≤_, _<_}
-use native.Mathlib.Nat.{le-trans, lt-irrefl, lt-of-lt-of-le, mul-pos, mul-le-mul, mul-le-mul-left, mul-le-mul-right, le-of-mul-le-mul-right}
+use Prim.Native.Nat.{ℕ, suc, _+_, _-_, _*_, _^_, _≤_, _<_}
+use native.Mathlib.Nat.{lt-irrefl, lt-of-lt-of-le, mul-pos, mul-le-mul, mul-le-mul-right, le-of-mul-le-mul-right}
 use native.Mathlib.Omega.{arith, by-contra}
 use lib.Dec.{lit≤, le→leb}
 use lib.Ieee.{Float, binary64, ofBits, fits}
-use Rattle.exact.specs.Units.{L, L-pos, mag, sgn, Fin64}
+use Rattle.exact.specs.Units.{L, mag, sgn, Fin64}
 
 unfoldable pub cube : ℕ → ℕ
 cube n = n * n * n

@@ -1,7 +1,7 @@
 -- The root of `rootOf` is the only one whose cube is at most m and whose next cube is not. Assumes nothing.
-use mathlib.Core.Path.{_≡_, refl, sym, ap, subst}
+use mathlib.Core.Path.{_≡_, sym, subst}
 use mathlib.Core.Bool.{Bool, true, false, not, cond}
-use Prim.Native.Nat.{ℕ, zero, suc, _+_, _*_, _/_, _^_, _≤_, _<_}
+use Prim.Native.Nat.{ℕ, zero, suc, _+_, _^_, _≤_, _<_}
 use native.Mathlib.Nat.{le-trans, le-antisymm, lt-of-le-of-lt, mul-le-mul, mul-le-mul-right, not-suc-le-zero, zero-lt-suc, lt-of-lt-of-le, lt-irrefl}
 use native.Mathlib.Omega.{arith, by-contra}
 use lib.Dec.{T, leb, leb→le, nleb→lt, lit≤}

@@ -1,11 +1,9 @@
 -- The powers of a third are as near as document 01, section 3, asks (cbrt-near and the like), and exactly 1 at 1. Assumes nothing.
-use mathlib.Core.Path.{_≡_, refl, sym, ap, subst, _∙_}
-use mathlib.Core.Bool.{Bool, true, false, _&&_}
-use Prim.Native.Nat.{ℕ, zero, suc, _+_, _*_, _/_, _^_, _≤_, _<_}
-use native.Mathlib.Nat.{le-trans, le-of-lt, lt-of-le-of-lt, mul-le-mul, mul-le-mul-left}
-use native.Mathlib.Omega.{arith}
+use mathlib.Core.Path.{_≡_, refl, sym, ap, subst}
+use mathlib.Core.Bool.{Bool, true, false}
+use Prim.Native.Nat.{_*_, _^_, _≤_, _<_}
+use native.Mathlib.Nat.{lt-of-le-of-lt}
 use lib.Dec.{T, lit≤, lit<}
-use lib.Pow.{pow-mono}
 use lib.Ieee as Ieee
 use lib.Ieee.{Float, binary64, ofBits, toBits, fits}
 use Rattle.exact.specs.Units.{L, mag, sgn, Fin64}
@@ -15,7 +13,7 @@ use Rattle.series.specs.ThirdsNear.{CubeRootNear, CbrtNear, CbrtSquaredNear, In
 use Rattle.numbers.specs.Power.{one}
 use Rattle.numbers.specs.Range.{inRange}
 use Rattle.numbers.proofs.Laws.{and-both}
-use Rattle.thirds.specs.Root.{cubeOf, digitsFrom, rootOf, rootBits}
+use Rattle.thirds.specs.Root.{cubeOf, digitsFrom, rootBits}
 use Rattle.thirds.specs.Thirds.{low, high, cbrtOf, cbrtSquaredOf, invCbrtOf, invCbrtSquaredOf}
 use Rattle.thirds.proofs.Rooted.{root-near, root-between}
 use Rattle.thirds.proofs.Powers.{Between, from-48-to-46, from-46-to-45, squared, squared-between, inverted, wider}

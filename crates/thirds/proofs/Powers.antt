@@ -1,11 +1,10 @@
 -- From a number near a cube root: its square is near the square's root, its inverse near the inverse's. Assumes nothing.
-use mathlib.Core.Path.{_≡_, refl, sym, ap, subst, _∙_}
+use mathlib.Core.Path.{_≡_, refl, ap, _∙_}
 use mathlib.Core.Bool.{false}
 use Prim.Native.Nat.{ℕ, zero, suc, _+_, _-_, _*_, _^_, _≤_, _<_}
 use native.Mathlib.Nat.{le-refl, le-trans, lt-irrefl, lt-of-lt-of-le, zero-lt-suc, mul-zero, mul-pos, mul-le-mul, mul-le-mul-left, mul-le-mul-right, le-of-mul-le-mul-right}
 use native.Mathlib.Omega.{arith}
 use lib.Dec.{lit≤, lit<}
-use lib.Pow.{pow-pos}
 use lib.Ieee.{Float, binary64, ofBits, mul, div, unlike, fits}
 use Rattle.exact.specs.Rounding.{Near}
 use Rattle.exact.specs.Units.{L, L-pos, mag, sgn, Fin64}
@@ -14,8 +13,8 @@ use Rattle.numbers.specs.Power.{one}
 use Rattle.series.specs.ThirdsNear.{cube, cube-mul, cube-mono, cube-pos, CubeRootNear}
 use Rattle.thirds.proofs.Steps.{sorted, steps}
 
--- ---- over cubes alone: l, c and z are those of L, of the number and of the result; k, d and e those of the distances, lower case for
--- the number itself, - and + for one less and one more
+-- ---- over cubes alone. p / q is what the root is of; l, c and z are the cubes of L, of the number and of the result. One part in d, e or k:
+-- d, d- and d+ are the cubes of the number of parts, of one less and of one more.
 weak-low : (p q l z d d- k k- : ℕ) → 0 < d → k- * d ≤ d- * k → p * (l * d-) ≤ q * (z * d) → p * (l * k-) ≤ q * (z * k)
 weak-low p q l z d d- k k- D n h = le-of-mul-le-mul-right {k = d} (omega (arith, mul-le-mul-left (p * l) n, mul-le-mul-right k h)) D
 

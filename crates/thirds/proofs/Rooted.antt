@@ -1,18 +1,18 @@
 -- The root's pattern stands for a number near the cube root. Assumes nothing.
-use mathlib.Core.Path.{_≡_, refl, sym, ap, ap₂, subst, _∙_}
+use mathlib.Core.Path.{_≡_, refl, sym, ap, ap₂, _∙_}
 use mathlib.Core.Bool.{Bool, true, false, not}
-use Prim.Native.Nat.{ℕ, zero, suc, _+_, _-_, _*_, _/_, _%_, _^_, _≤_, _<_}
-use native.Mathlib.Nat.{le-refl, le-trans, lt-irrefl, lt-of-lt-of-le, mul-right-comm, le-of-lt, le-of-eq, mul-assoc, mul-comm, mul-left-comm, mul-pos, mul-le-mul, mul-le-mul-left, mul-le-mul-right, le-of-mul-le-mul-right, div-mul-le-self, lt-div-mul-add}
+use Prim.Native.Nat.{ℕ, suc, _+_, _-_, _*_, _/_, _%_, _^_, _≤_, _<_}
+use native.Mathlib.Nat.{le-refl, le-trans, lt-irrefl, lt-of-lt-of-le, mul-right-comm, le-of-lt, le-of-eq, mul-assoc, mul-le-mul, mul-le-mul-left, mul-le-mul-right, le-of-mul-le-mul-right, div-mul-le-self, lt-div-mul-add}
 use native.Mathlib.Omega.{arith, by-contra}
 use lib.Dec.{T, leb, ltb, ltb→lt, nltb→le, lit≤, lit<}
 use lib.Arith.{lt→nleb}
 use lib.Pow.{pow-pos, pow-add, pow-mono, shl-lt}
 use lib.Ieee.{Float, binary64, ofBits}
 use lib.Ieee.Bits.{is-false}
-use Rattle.exact.specs.Units.{L, L-pos, mag, sgn, Fin64}
+use Rattle.exact.specs.Units.{L, mag}
 use Rattle.exact.specs.Fields.{Has, normal-units}
 use Rattle.exact.specs.Normal.{Normal}
-use Rattle.series.specs.ThirdsNear.{cube, cube-mul, cube-mono, cube-pos, of-cubes, CubeRootNear}
+use Rattle.series.specs.ThirdsNear.{cube, cube-mul, cube-mono, CubeRootNear}
 use Rattle.thirds.specs.Root.{cubeOf, rootOf, rootBits}
 use Rattle.thirds.proofs.Powers.{Between}
 use Rattle.thirds.proofs.Cubes.{Root, root-of, cubeOf-mono}

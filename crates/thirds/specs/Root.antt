@@ -1,6 +1,6 @@
 -- The cube root in whole numbers: the digits of a root from the digits of a number, and its bit pattern from the number's.
 use mathlib.Core.Bool.{cond}
-use Prim.Native.Nat.{ℕ, zero, suc, _+_, _*_, _/_, _%_, _^_, _<_}
+use Prim.Native.Nat.{ℕ, zero, suc, _+_, _*_, _/_, _%_, _^_}
 use lib.Dec.{leb}
 
 -- v ^ 3 / 2 ^ 83, rounded down twice

@@ -1,5 +1,5 @@
 -- `thirds::cbrt_squared_value` meets its contract. Assumes nothing.
-use mathlib.Core.Path.{_≡_, ap}
+use mathlib.Core.Path.{ap}
 use lib.Ieee.{binary64, mul}
 use Rattle.series.specs.ThirdsNear.{CbrtSquaredNear}
 use Rattle.thirds.specs.Thirds.{cbrtSquaredOf}

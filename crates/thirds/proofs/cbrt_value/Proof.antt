@@ -1,5 +1,5 @@
 -- `thirds::cbrt_value` meets its contract. Assumes nothing.
-use mathlib.Core.Path.{_≡_, ap, _∙_}
+use mathlib.Core.Path.{ap, _∙_}
 use lib.Ieee.{binary64, ofBits}
 use Rattle.series.specs.ThirdsNear.{CbrtNear}
 use Rattle.thirds.specs.Root.{rootBits}

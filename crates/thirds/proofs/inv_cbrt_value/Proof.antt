@@ -1,5 +1,5 @@
 -- `thirds::inv_cbrt_value` meets its contract. Assumes nothing.
-use mathlib.Core.Path.{_≡_, ap}
+use mathlib.Core.Path.{ap}
 use lib.Ieee.{binary64, div}
 use Rattle.numbers.specs.Power.{one}
 use Rattle.series.specs.ThirdsNear.{InvCbrtNear}

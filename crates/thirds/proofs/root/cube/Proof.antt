@@ -1,6 +1,6 @@
 -- `root::cube` meets its contract. Assumes nothing.
-use mathlib.Core.Path.{_≡_, ap, _∙_}
-use Prim.Native.Nat.{ℕ, _*_, _/_, _^_}
+use mathlib.Core.Path.{ap, _∙_}
+use Prim.Native.Nat.{_*_, _/_, _^_}
 use borrow.Author.Needs.{needs}
 use Rattle.thirds.specs.Root.{cubeOf}
 use Rattle.thirds.proofs.root.cube.Statement.{statement}

@@ -1,9 +1,9 @@
 -- `root::fix` meets its contract. Assumes nothing.
 use mathlib.Core.Path.{_≡_}
-use Prim.Native.Nat.{ℕ, _+_, _-_, _^_, _≤_, _<_}
+use Prim.Native.Nat.{_-_, _^_, _≤_, _<_}
 use native.Mathlib.Omega.{arith}
-use Rattle.thirds.specs.Root.{cubeOf, rootOf}
-use Rattle.thirds.proofs.Cubes.{Root, above-zero, root-is}
+use Rattle.thirds.specs.Root.{cubeOf}
+use Rattle.thirds.proofs.Cubes.{above-zero, root-is}
 use Rattle.thirds.proofs.root.fix.Statement.{statement}
 use Rattle.thirds.proofs.root.fix.Tie as tie
 use Rattle.thirds.proofs.root.fix.Reads as reads
