@@ -1,8 +1,9 @@
 -- The powers of a third are as near as document 01, section 3, asks (cbrt-near and the like), and exactly 1 at 1. Assumes nothing.
 use mathlib.Core.Path.{_≡_, refl, sym, ap, subst}
-use mathlib.Core.Bool.{Bool, true, false}
-use Prim.Native.Nat.{_*_, _^_, _≤_, _<_}
+use mathlib.Core.Bool.{Bool, true, false, cond}
+use Prim.Native.Nat.{ℕ, _*_, _^_, _≤_, _<_}
 use native.Mathlib.Nat.{lt-of-le-of-lt}
+use native.Mathlib.Omega.{arith}
 use lib.Dec.{T, lit≤, lit<}
 use lib.Ieee as Ieee
 use lib.Ieee.{Float, binary64, ofBits, toBits, fits}
@@ -11,7 +12,10 @@ use Rattle.exact.specs.OrderLe.{between-finite}
 use Rattle.exact.specs.Normal.{Normal, normal, above-positive, below-positive}
 use Rattle.series.specs.ThirdsNear.{CubeRootNear, CbrtNear, CbrtSquaredNear, InvCbrtNear, InvCbrtSquaredNear}
 use Rattle.numbers.specs.Power.{one}
-use Rattle.numbers.specs.Range.{inRange}
+use Rattle.numbers.specs.Rules.{finite, isNumber}
+use Rattle.numbers.specs.Range.{inRange, ranged, bare, onPath}
+use Rattle.numbers.specs.declared.Elementary.{Elementary}
+use Rattle.numbers.specs.declared.Elementary.the-variants.{Value, Refused}
 use Rattle.numbers.proofs.Laws.{and-both}
 use Rattle.thirds.specs.Root.{cubeOf, digitsFrom, rootBits}
 use Rattle.thirds.specs.Thirds.{low, high, cbrtOf, cbrtSquaredOf, invCbrtOf, invCbrtSquaredOf}
@@ -93,3 +97,29 @@ cbrt-eight = refl
 -- ---- what a value's function ensures, from its equality with the definition
 pub worked : (x v w : Float) (Near : Float → Type 0) → fits binary64 x ≡ true → (T (fits binary64 x) → inRange low high x ≡ true → Near w) → v ≡ w → (v ≡ w) × (inRange low high x ≡ true → Near v)
 worked x v w Near f h e = (e, λ r. subst Near (sym e) (h (true-T (fits binary64 x) f) r))
+
+-- ---- what a public call answers as a value is as near, whether bare or within a law
+value-of : (b : Bool) (v w : Float) (e : Elementary) → (e ≡ Value v → ⊥) → cond b (Value w) e ≡ Value v → (b ≡ true) × (w ≡ v)
+value-of true v w e n h = (refl, cc)
+value-of false v w e n h = absurd (n h)
+
+no-value : (k : ℕ) (v : Float) → Refused k ≡ Value v → ⊥
+no-value k v h = let z : _≡_ {A = ℕ} 0 1 = cc in omega arith
+
+module _ (x v w : Float) (Near : Float → Type 0) (near : inRange low high x ≡ true → Near w) where
+  ranged-answer : ranged low high x w ≡ Value v → Near v
+  ranged-answer h = let r = value-of (inRange low high x) v w (Refused 2) (no-value 2 v) h in subst Near (r .1) (near (r .0))
+
+  pub bare-answer : bare x (ranged low high x w) ≡ Value v → Near v
+  bare-answer h = go (finite x) h
+    where
+      go : (b : Bool) → cond b (ranged low high x w) (Refused 1) ≡ Value v → Near v
+      go true h = ranged-answer h
+      go false h = absurd (no-value 1 v h)
+
+  pub path-answer : onPath x (ranged low high x w) ≡ Value v → Near v
+  path-answer h = go (isNumber x) h
+    where
+      go : (b : Bool) → cond b (ranged low high x w) (Refused 3) ≡ Value v → Near v
+      go true h = ranged-answer h
+      go false h = absurd (no-value 3 v h)
