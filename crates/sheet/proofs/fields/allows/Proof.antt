@@ -6,7 +6,7 @@ use Rattle.sheet.proofs.fields.allows.Lts as lts
 
 -- src/fields.rt:13:1
 returns : tie.Need-returns
-returns c = ?
+returns c = rw (c .if1 .taken)
 
 -- src/fields.rt:13:1
 returns-2 : tie.Need-returns-2

@@ -1,3 +1,4 @@
+use Rattle.sheet.specs.Sheet.{parameterAt}
 use borrow.Author.Needs.{needs}
 use Rattle.sheet.proofs.fields.parameter_at.Statement.{statement}
 use Rattle.sheet.proofs.fields.parameter_at.Tie as tie
@@ -24,15 +25,18 @@ allows-requires c κs = search needs
 
 -- src/fields.rt:19:1
 returns : tie.Need-returns
-returns c = ?
+unfolding parameterAt
+returns c = simp (← c .before .before .before .word-at .ensures, c .before .w .given .1)
 
 -- src/fields.rt:19:1
 returns-2 : tie.Need-returns-2
-returns-2 c = ?
+unfolding parameterAt
+returns-2 c = simp (← c .before .before .before .before .before .word-at .ensures, c .before .before .before .w2 .given .1, ← c .before .allows .ensures, c .if1 .taken)
 
 -- src/fields.rt:19:1
 returns-3 : tie.Need-returns-3
-returns-3 c = ?
+unfolding parameterAt
+returns-3 c = simp (← c .before .before .before .before .before .word-at .ensures, c .before .before .before .w2 .given .1, ← c .before .allows .ensures, c .if1 .left)
 
 pub parameter-at-spec : {M : Type 1} → statement M
 parameter-at-spec =

@@ -1,3 +1,4 @@
+use Rattle.sheet.proofs.Cases.{joined}
 use borrow.Author.Needs.{needs}
 use Rattle.sheet.proofs.words.word.Statement.{statement}
 use Rattle.sheet.proofs.words.word.Tie as tie
@@ -97,7 +98,7 @@ eight-requires c κs = search needs
 
 -- src/words.rt:29:1
 returns : tie.Need-returns
-returns c = ?
+returns c = joined _ _ _ _ _ _ _ _ _ (c .before .before .before .before .before .before .before .before .before .before .before .before .before .before .before .before .pre) (c .before .before .before .before .before .before .before .before .before .before .before .before .pair .ensures) (c .before .before .before .before .before .before .before .before .before .pair2 .ensures) (c .before .before .before .before .before .before .pair3 .ensures) (c .before .before .before .pair4 .ensures) (c .before .before .four .ensures) (c .before .four2 .ensures) (c .eight .ensures)
 
 pub word-spec : {M : Type 1} → statement M
 word-spec =
