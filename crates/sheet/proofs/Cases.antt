@@ -90,7 +90,7 @@ seventh (suc (suc (suc (suc zero)))) = refl
 seventh (suc (suc (suc (suc (suc zero))))) = refl
 seventh (suc (suc (suc (suc (suc (suc zero)))))) = refl
 seventh (suc (suc (suc (suc (suc (suc (suc zero))))))) = refl
-seventh (suc (suc (suc (suc (suc (suc (suc (suc i)))))))) = ne-eqb _ 6 (λ e. omega arith)
+seventh (suc (suc (suc (suc (suc (suc (suc (suc i)))))))) = ne-eqb (suc (suc (suc (suc (suc (suc (suc (suc i)))))))) 6 (λ e. omega (arith, e))
 
 pub fourth : (i : ℕ) → eqb i 3 ≡ getD (false ∷ false ∷ false ∷ true ∷ false ∷ false ∷ []) i false
 fourth zero = refl
@@ -99,4 +99,15 @@ fourth (suc (suc zero)) = refl
 fourth (suc (suc (suc zero))) = refl
 fourth (suc (suc (suc (suc zero)))) = refl
 fourth (suc (suc (suc (suc (suc zero))))) = refl
-fourth (suc (suc (suc (suc (suc (suc i)))))) = ne-eqb _ 3 (λ e. omega arith)
+fourth (suc (suc (suc (suc (suc (suc i)))))) = ne-eqb (suc (suc (suc (suc (suc (suc i)))))) 3 (λ e. omega (arith, e))
+
+-- Snow and Rankine have none
+pub of-three : (i : ℕ) → false ≡ getD (false ∷ false ∷ false ∷ []) i false
+of-three zero = refl
+of-three (suc zero) = refl
+of-three (suc (suc zero)) = refl
+of-three (suc (suc (suc i))) = refl
+
+pub of-four : (i : ℕ) → false ≡ getD (false ∷ false ∷ false ∷ false ∷ []) i false
+of-four zero = refl
+of-four (suc i) = of-three i

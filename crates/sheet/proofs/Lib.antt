@@ -1,2 +1,3 @@
 pub mod Cases
 pub mod Steps
+pub mod Bounds

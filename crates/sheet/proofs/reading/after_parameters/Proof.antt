@@ -1,3 +1,6 @@
+use Rattle.sheet.proofs.Bounds.{number-inside}
+use mathlib.Core.Path.{sym, _∙_}
+use borrow.Author.Tests.{lt-ltb, le-ltb}
 use borrow.Author.Needs.{needs}
 use Rattle.sheet.proofs.reading.after_parameters.Statement.{statement}
 use Rattle.sheet.proofs.reading.after_parameters.Tie as tie
@@ -29,19 +32,19 @@ refused-requires-2 c κs = search needs
 
 -- src/reading.rt:59:17
 returns : tie.Need-returns
-returns c = ?
+returns c = simp (← c .before .before .before .before .before .number-at .ensures, c .before .before .before .n2 .given .1, lt-ltb _ _ (c .before .if1 .taken)) (c .refused2 .ensures)
 
 -- src/reading.rt:61:13
 records-end-requires : tie.Need-records-end-requires
-records-end-requires c κs = ?
+records-end-requires c κs = (number-inside _ _ _ _ (sym (c .before .before .before .before .number-at .ensures) ∙ c .before .before .n2 .given .1), c .if1 .left)
 
 -- src/reading.rt:51:1
 returns-2 : tie.Need-returns-2
-returns-2 c = ?
+returns-2 c = simp (← c .before .before .before .before .number-at .ensures, c .before .before .n .given .1) (c .refused .ensures)
 
 -- src/reading.rt:51:1
 returns-3 : tie.Need-returns-3
-returns-3 c = ?
+returns-3 c = simp (← c .before .before .before .before .before .number-at .ensures, c .before .before .before .n2 .given .1, le-ltb _ _ (c .before .if1 .left)) (c .records-end .ensures)
 
 pub after-parameters-spec : {M : Type 1} → statement M
 after-parameters-spec =

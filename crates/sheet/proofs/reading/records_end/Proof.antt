@@ -1,3 +1,5 @@
+use Rattle.sheet.specs.Sheet.{recordsEnd}
+use borrow.Author.Tests.{lt-ltb, le-ltb}
 use borrow.Author.Needs.{needs}
 use Rattle.sheet.proofs.reading.records_end.Statement.{statement}
 use Rattle.sheet.proofs.reading.records_end.Tie as tie
@@ -23,7 +25,8 @@ refused-requires c κs = search needs
 
 -- src/reading.rt:37:9
 returns : tie.Need-returns
-returns c = ?
+unfolding recordsEnd
+returns c = rw (lt-ltb _ _ (c .before .if1 .taken)) (c .refused .ensures)
 
 -- src/reading.rt:40:9
 refused-requires-2 : tie.Need-refused-requires-2
@@ -31,11 +34,13 @@ refused-requires-2 c κs = search needs
 
 -- src/reading.rt:40:9
 returns-2 : tie.Need-returns-2
-returns-2 c = ?
+unfolding recordsEnd
+returns-2 c = rw (le-ltb _ _ (c .before .before .if1 .left), lt-ltb _ _ (c .before .if2 .taken)) (c .refused2 .ensures)
 
 -- src/reading.rt:30:1
 returns-3 : tie.Need-returns-3
-returns-3 c = ?
+unfolding recordsEnd
+returns-3 c = rw (le-ltb _ _ (c .before .if1 .left), le-ltb _ _ (c .if2 .left))
 
 pub records-end-spec : {M : Type 1} → statement M
 records-end-spec =
