@@ -28,13 +28,16 @@ tested false end x y h k = k
 
 ends-second : (low at end : ℕ) (l : List ℕ) → at + 1 + length l ≤ end → Ends end (secondGroup low l at)
 ends-second low at end [] h = not-0 3
-ends-second low at end (high ∷ rest) h = tested _ end _ _ (not-0 4) (tested _ end _ _ (not-0 4) (omega arith))
+ends-second low at end (high ∷ rest) h =
+    let k : at + 2 ≤ end = omega arith in
+    tested (leb 128 high) end _ _ (not-0 4) (tested (eqb high 0) end _ (Number·Read (low - 128 + high * 128) (at + 2)) (not-0 4) k)
 
 ends-first : (at end : ℕ) (l : List ℕ) → (0 < length l → at + length l ≤ end) → Ends end (firstGroup l at)
 ends-first at end [] h = not-0 3
 ends-first at end (low ∷ rest) h =
     let k : at + suc (length rest) ≤ end = h (omega arith) in
-    tested _ end _ _ (omega arith) (ends-second low at end rest (omega arith))
+    let m : at + 1 ≤ end = omega arith in
+    tested (ltb low 128) end (Number·Read low (at + 1)) _ m (ends-second low at end rest (omega arith))
 
 ends : (s : List ℕ) (at : ℕ) → Ends (length s) (numberAt s at)
 unfolding numberAt
@@ -83,16 +86,18 @@ unfolding parametersAt
 stops [] s at = tt
 stops (flag ∷ flags) s at = stops-then (parameterAt flag s at) (λ to. parametersAt flags s to) (told-parameter flag s at) (λ to. stops flags s to)
 
+pub stopped-not-0 : (flags : List Bool) (s : List ℕ) (at n : ℕ) → parametersAt flags s at ≡ Stopped n → n ≡ 0 → ⊥
+stopped-not-0 flags s at n e = subst Stops e (stops flags s at)
+
 -- the two ways on from the parameters
-module _ (s : List ℕ) (model : ℕ) (f : Fields) (p : Parameters) (e : p ≡ struckOf f) where
-  refusal-is : p .refusal ≡ struckOf f .refusal
-  refusal-is = ap (λ (q : Parameters). q .refusal) e
+refusal-is : (f : Fields) (p : Parameters) → p ≡ struckOf f → p .refusal ≡ struckOf f .refusal
+refusal-is f p e = ap (λ (q : Parameters). q .refusal) e
 
 pub parameters-refused : (s : List ℕ) (model : ℕ) (f : Fields) (p : Parameters) → p ≡ struckOf f → (p .refusal ≡ 0 → ⊥) → refusedBy (p .refusal) ≡ afterParameters s model f
-parameters-refused s model (Got ws at) p e h = absurd (h (refusal-is s model (Got ws at) p e))
-parameters-refused s model (Stopped n) p e h = ap refusedBy (refusal-is s model (Stopped n) p e)
+parameters-refused s model (Got ws at) p e h = absurd (h (refusal-is (Got ws at) p e))
+parameters-refused s model (Stopped n) p e h = ap refusedBy (refusal-is (Stopped n) p e)
 
 pub parameters-read : (s : List ℕ) (model : ℕ) (f : Fields) (p : Parameters) → p ≡ struckOf f → p .refusal ≡ 0 → Stops f
     → afterCount s model (p .bits) (numberAt s (p .at)) ≡ afterParameters s model f
 parameters-read s model (Got ws at) p e h k = ap (λ (q : Parameters). afterCount s model (q .bits) (numberAt s (q .at))) e
-parameters-read s model (Stopped n) p e h k = absurd (k (sym (refusal-is s model (Stopped n) p e) ∙ h))
+parameters-read s model (Stopped n) p e h k = absurd (k (sym (refusal-is (Stopped n) p e) ∙ h))

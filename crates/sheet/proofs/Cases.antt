@@ -76,9 +76,9 @@ unfolding wordOf
 joined s at ab cd ef gh l r w h q₁ q₂ q₃ q₄ q₅ q₆ q₇ =
     let z : at + 0 ≡ at = omega arith in
     nested _ _ _ _ _ _ _ _ _ _ _ _ _ _ _ _
-      (rw z at (next-byte s at 0 7 (omega arith))) (next-byte s at 1 6 (omega arith)) (next-byte s at 2 5 (omega arith)) (next-byte s at 3 4 (omega arith))
-      (next-byte s at 4 3 (omega arith)) (next-byte s at 5 2 (omega arith)) (next-byte s at 6 1 (omega arith)) (next-byte s at 7 0 (omega arith))
-      ab cd ef gh l r w q₁ q₂ q₃ q₄ q₅ q₆ q₇
+    (rw z at (next-byte s at 0 7 (omega arith))) (next-byte s at 1 6 (omega arith)) (next-byte s at 2 5 (omega arith)) (next-byte s at 3 4 (omega arith))
+    (next-byte s at 4 3 (omega arith)) (next-byte s at 5 2 (omega arith)) (next-byte s at 6 1 (omega arith)) (next-byte s at 7 0 (omega arith))
+    ab cd ef gh l r w q₁ q₂ q₃ q₄ q₅ q₆ q₇
 
 -- a flag's place among Drucker-Prager's fields, and among NACC's arguments
 pub seventh : (i : ℕ) → eqb i 6 ≡ getD (false ∷ false ∷ false ∷ false ∷ false ∷ false ∷ true ∷ false ∷ []) i false

@@ -13,7 +13,11 @@ ghost use Rattle.sheet.specs.Sheet.{allowed, parameterAt, kindsOf, param
 fn allows(flag: bool, bits: u64) -> bool
     ensures { λ r. ⌜ r ≡ allowed flag bits ⌝ }
 {
-    if flag { (bits == 0) | (bits == SET) } else { true }
+    if flag {
+        (bits == 0) | (bits == SET)
+    } else {
+        true
+    }
 }
 
 fn parameter_at(s: &[u8], flag: bool, at: usize) -> Word

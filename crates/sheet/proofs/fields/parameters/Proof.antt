@@ -43,7 +43,7 @@ enum-known-w c = search needs
 
 -- src/fields.rt:70:17
 returns : tie.Need-returns Inv-loop μ-loop
-returns c = 
+returns c =
     let s = c .before .before .before .before .before .before .before .before .before in
     let l = c .before .before .before .before .before .before .loop in
     let h = rw (c .before .before .before .before .before .before .before .fields .ensures) at (c .before .before .before .before .before .loop-test .taken) in
@@ -56,7 +56,7 @@ enum-known-w-2 c = search needs
 
 -- src/fields.rt:77:17
 mul-bits : tie.Need-mul-bits Inv-loop μ-loop
-mul-bits c = 
+mul-bits c =
     let m = kinds-most (c .before .before .before .before .before .before .before .before .before .args .model) in
     let f = c .before .before .before .before .before .before .before .fields .ensures in
     let t = c .before .before .before .before .before .loop-test .taken in
@@ -64,7 +64,7 @@ mul-bits c =
 
 -- src/fields.rt:77:17
 array-write-bits : tie.Need-array-write-bits Inv-loop μ-loop
-array-write-bits c = 
+array-write-bits c =
     let m = kinds-most (c .before .before .before .before .before .before .before .before .before .args .model) in
     let f = c .before .before .before .before .before .before .before .fields .ensures in
     let t = c .before .before .before .before .before .loop-test .taken in
@@ -81,7 +81,7 @@ loop-less c = search needs
 
 -- src/fields.rt:66:5
 loop-again : tie.Need-loop-again Inv-loop μ-loop
-loop-again c = 
+loop-again c =
     let s = c .before .before .before .before .before .before .before .before .before in
     let l = c .before .before .before .before .before .before .loop in
     let m = kinds-most (s .args .model) in
@@ -95,7 +95,7 @@ loop-again c =
 
 -- src/fields.rt:59:1
 returns-2 : tie.Need-returns-2 Inv-loop μ-loop
-returns-2 c = 
+returns-2 c =
     let s = c .before .before .before .before in
     let l = c .before .loop in
     let m = kinds-most (s .args .model) in

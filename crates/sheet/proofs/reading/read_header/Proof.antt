@@ -1,3 +1,5 @@
+use Rattle.sheet.specs.Sheet.{headerOf}
+use borrow.Author.Tests.{lt-ltb, le-ltb}
 use borrow.Author.Needs.{needs}
 use Rattle.sheet.proofs.reading.read_header.Statement.{statement}
 use Rattle.sheet.proofs.reading.read_header.Tie as tie
@@ -29,7 +31,8 @@ refused-requires-2 c κs = search needs
 
 -- src/reading.rt:85:17
 returns : tie.Need-returns
-returns c = ?
+unfolding headerOf
+returns c = simp (← c .before .before .before .before .before .number-at .ensures, c .before .before .before .n2 .given .1, lt-ltb _ _ (c .before .if1 .taken)) (c .refused2 .ensures)
 
 -- src/reading.rt:87:13
 after-model-requires : tie.Need-after-model-requires
@@ -37,11 +40,13 @@ after-model-requires c κs = search needs
 
 -- src/reading.rt:77:1
 returns-2 : tie.Need-returns-2
-returns-2 c = ?
+unfolding headerOf
+returns-2 c = simp (← c .before .before .before .before .number-at .ensures, c .before .before .n .given .1) (c .refused .ensures)
 
 -- src/reading.rt:77:1
 returns-3 : tie.Need-returns-3
-returns-3 c = ?
+unfolding headerOf
+returns-3 c = simp (← c .before .before .before .before .before .number-at .ensures, c .before .before .before .n2 .given .1, le-ltb _ _ (c .before .if1 .left)) (c .after-model .ensures)
 
 pub read-header-spec : {M : Type 1} → statement M
 read-header-spec =

@@ -37,7 +37,7 @@ word-requires c κs = let q = c .before .before .before .before .pre in omega ar
 
 -- src/words.rt:59:9
 mul-room : tie.Need-mul-room Inv-loop μ-loop
-mul-room c = 
+mul-room c =
     let q = c .before .before .before .before .before .pre in
     let l = c .before .before .loop in
     let e = fill-length (drop (c .before .before .before .before .before .args .at) (c .before .before .before .before .before .args .s .now)) (c .before .before .before .before .before .args .room .now) (l .room) (l .i) (omega arith) (l .inv .1) in
@@ -45,7 +45,7 @@ mul-room c =
 
 -- src/words.rt:59:9
 slice-write-room : tie.Need-slice-write-room Inv-loop μ-loop
-slice-write-room c = 
+slice-write-room c =
     let q = c .before .before .before .before .before .pre in
     let l = c .before .before .loop in
     let e = fill-length (drop (c .before .before .before .before .before .args .at) (c .before .before .before .before .before .args .s .now)) (c .before .before .before .before .before .args .room .now) (l .room) (l .i) (omega arith) (l .inv .1) in
@@ -61,7 +61,7 @@ loop-less c = search needs
 
 -- src/words.rt:58:5
 loop-again : tie.Need-loop-again Inv-loop μ-loop
-loop-again c = 
+loop-again c =
     let q = c .before .before .before .before .before .pre in
     let l = c .before .before .loop in
     let t = c .before .loop-test .taken in
@@ -70,14 +70,14 @@ loop-again c =
 
 -- src/words.rt:53:1
 same-length : tie.Need-same-length Inv-loop μ-loop
-same-length c = 
+same-length c =
     let q = c .before .before .before .before .pre in
     let l = c .before .loop in
     fill-length (drop (c .before .before .before .before .args .at) (c .before .before .before .before .args .s .now)) (c .before .before .before .before .args .room .now) (l .room) (l .i) (omega arith) (l .inv .1)
 
 -- src/words.rt:53:1
 returns : tie.Need-returns Inv-loop μ-loop
-returns c = 
+returns c =
     let l = c .before .loop in
     let t = c .loop-test .left in
     let e : l .i ≡ c .before .before .before .before .args .n = omega arith in
