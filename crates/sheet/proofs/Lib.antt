@@ -1,0 +1,5 @@
+pub mod Cases
+pub mod Steps
+pub mod Bounds
+pub mod Taken
+pub mod Rooms

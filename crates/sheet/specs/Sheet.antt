@@ -1,0 +1,138 @@
+-- A sheet of bytes, read by place (document 01, sections 6 and 7): what is read, and the refusals 4 to 8 in reading order.
+use mathlib.Core.Bool.{Bool, true, false, cond, _||_}
+use mathlib.Core.List.{List, [], _∷_, _++_}
+use Prim.Native.Nat.{ℕ, zero, suc, _+_, _*_, _-_, _%_}
+use lib.ListN.{length, take, drop, replicate}
+use lib.Dec.{ltb, leb, eqb}
+use Rattle.record.specs.Layout.{floats}
+use Rattle.sheet.specs.declared.Number.{Number}
+use Rattle.sheet.specs.declared.Number.the-variants.{Read as Number·Read, Refused as Number·Refused}
+use Rattle.sheet.specs.declared.Word.{Word}
+use Rattle.sheet.specs.declared.Word.the-variants.{Read as Word·Read, Refused as Word·Refused}
+use Rattle.sheet.specs.declared.Parameters.{Parameters}
+use Rattle.sheet.specs.declared.Header.{Header}
+
+-- A number in groups of seven bits, low group first, the top bit of a byte set where more follows. 4 where a byte is wanted
+-- and there is none; 5 where a third group would follow, or the second group is zero.
+abbrev pub secondGroup : ℕ → List ℕ → ℕ → Number
+secondGroup low [] at = Number·Refused 4
+secondGroup low (high ∷ rest) at =
+    cond (leb 128 high) (Number·Refused 5)
+    (cond (eqb high 0) (Number·Refused 5)
+    (Number·Read (low - 128 + high * 128) (at + 2)))
+
+abbrev pub firstGroup : List ℕ → ℕ → Number
+firstGroup [] at = Number·Refused 4
+firstGroup (low ∷ rest) at = cond (ltb low 128) (Number·Read low (at + 1)) (secondGroup low rest at)
+
+unfoldable pub numberAt : List ℕ → ℕ → Number
+numberAt s at = firstGroup (drop at s) at
+
+-- the number that bytes spell, low byte first
+unfoldable pub wordOf : List ℕ → ℕ
+wordOf [] = 0
+wordOf (b ∷ bs) = b + 256 * wordOf bs
+
+-- a float's bits: 8 bytes, or 4
+unfoldable pub wordAt : List ℕ → ℕ → Word
+wordAt s at = cond (ltb (length (drop at s)) 8) (Word·Refused 4) (Word·Read (wordOf (take 8 (drop at s))) (at + 8))
+
+-- n floats, one after the other
+unfoldable pub wordsOf : ℕ → List ℕ → List ℕ
+wordsOf zero l = []
+wordsOf (suc n) l = wordOf (take 8 l) ∷ wordsOf n (drop 8 l)
+
+-- the bits of 1.0
+abbrev pub one : ℕ
+one = 0x3ff0_0000_0000_0000
+
+-- a float may have any bits, a flag those of 0.0 and of 1.0
+abbrev pub allowed : Bool → ℕ → Bool
+allowed false w = true
+allowed true w = eqb w 0 || eqb w one
+
+abbrev pub checked : Bool → Word → Word
+checked flag (Word·Refused n) = Word·Refused n
+checked flag (Word·Read w next) = cond (allowed flag w) (Word·Read w next) (Word·Refused 6)
+
+unfoldable pub parameterAt : Bool → List ℕ → ℕ → Word
+parameterAt flag s at = checked flag (wordAt s at)
+
+-- Of each parameter whether it is a flag: Snow's 3 fields, Rankine's 4 arguments, Drucker-Prager's 8 fields with
+-- only_active_when_failed, NACC's 6 arguments with hardening_enabled.
+unfoldable pub kindsOf : ℕ → List Bool
+kindsOf model =
+    cond (eqb model 0) (false ∷ false ∷ false ∷ [])
+    (cond (eqb model 1) (false ∷ false ∷ false ∷ false ∷ [])
+    (cond (eqb model 2) (false ∷ false ∷ false ∷ false ∷ false ∷ false ∷ true ∷ false ∷ [])
+    (false ∷ false ∷ false ∷ true ∷ false ∷ false ∷ [])))
+
+-- the parameters read and the place after them, or the refusal that stopped the reading
+pub data Fields : Type 0 where
+  Got : List ℕ → ℕ → Fields
+  Stopped : ℕ → Fields
+
+abbrev pub before : ℕ → Fields → Fields
+before w (Got ws at) = Got (w ∷ ws) at
+before w (Stopped n) = Stopped n
+
+abbrev pub andThen : Word → (ℕ → Fields) → Fields
+andThen (Word·Refused n) next = Stopped n
+andThen (Word·Read w at) next = before w (next at)
+
+unfoldable pub parametersAt : List Bool → List ℕ → ℕ → Fields
+parametersAt [] s at = Got [] at
+parametersAt (flag ∷ flags) s at = andThen (parameterAt flag s at) (λ next. parametersAt flags s next)
+
+-- in eight places, 0 past the last
+abbrev pub padded : List ℕ → List ℕ
+padded ws = ws ++ replicate (8 - length ws) 0
+
+abbrev pub struckOf : Fields → Parameters
+struckOf (Got ws at) = record { refusal = 0; bits = padded ws; at = at }
+struckOf (Stopped n) = record { refusal = n; bits = padded []; at = 0 }
+
+abbrev pub refusedBy : ℕ → Header
+refusedBy n = record { refusal = n; model = 0; parameters = padded []; count = 0; at = 0 }
+
+-- The records end the sheet: 4 where some are missing, 7 where bytes follow the last.
+unfoldable pub recordsEnd : List ℕ → ℕ → List ℕ → ℕ → ℕ → Header
+recordsEnd s model bits count at =
+    cond (ltb (length s - at) (count * floats * 8)) (refusedBy 4)
+    (cond (ltb (count * floats * 8) (length s - at)) (refusedBy 7)
+    (record { refusal = 0; model = model; parameters = bits; count = count; at = at }))
+
+abbrev pub afterCount : List ℕ → ℕ → List ℕ → Number → Header
+afterCount s model bits (Number·Refused n) = refusedBy n
+afterCount s model bits (Number·Read count at) = cond (ltb 200 count) (refusedBy 7) (recordsEnd s model bits count at)
+
+abbrev pub afterParameters : List ℕ → ℕ → Fields → Header
+afterParameters s model (Stopped n) = refusedBy n
+afterParameters s model (Got ws at) = afterCount s model (padded ws) (numberAt s at)
+
+abbrev pub afterModel : List ℕ → Number → Header
+afterModel s (Number·Refused n) = refusedBy n
+afterModel s (Number·Read model at) =
+    cond (ltb 3 model) (refusedBy 6) (afterParameters s model (parametersAt (kindsOf model) s at))
+
+-- model number, parameters, count, then the length that the records take
+unfoldable pub headerOf : List ℕ → Header
+headerOf s = afterModel s (numberAt s 0)
+
+-- A room that is no whole number of records is refused by 8 before anything is read, and one that is too short for the count
+-- by 8 once the sheet itself is good.
+abbrev pub fitted : Header → ℕ → Header
+fitted h room = cond (eqb (h .refusal) 0) (cond (ltb room (h .count * floats)) (refusedBy 8) h) h
+
+unfoldable pub readOf : List ℕ → ℕ → Header
+readOf s room = cond (eqb (room % floats) 0) (fitted (headerOf s) room) (refusedBy 8)
+
+-- the room afterwards: the records' bits in front, where the sheet was read
+abbrev pub filled : List ℕ → List ℕ → Header → List ℕ
+filled s room h =
+    cond (eqb (h .refusal) 0)
+    (wordsOf (h .count * floats) (drop (h .at) s) ++ drop (h .count * floats) room)
+    room
+
+unfoldable pub roomOf : List ℕ → List ℕ → List ℕ
+roomOf s room = filled s room (readOf s (length room))

@@ -1,0 +1,110 @@
+// What stands before the records, and the records themselves.
+use crate::COUNT;
+use crate::ENDED;
+use crate::Header;
+use crate::LENGTH;
+use crate::MOST;
+use crate::Number;
+use crate::UNKNOWN;
+use crate::fields::parameters;
+use crate::groups::number_at;
+use crate::words::fill;
+use record::FLOATS;
+ghost use mathlib.Core.Path.{_≡_};
+ghost use Prim.Native.Nat.{_≤_};
+ghost use lib.ListN.{length};
+ghost use Rattle.sheet.specs.Sheet.{numberAt, kindsOf, parametersAt, padded, refusedBy, recordsEnd, afterCount, afterParameters, headerOf, readOf, roomOf};
+
+fn refused(n: u8) -> Header
+    ensures { λ r. ⌜ r ≡ refusedBy n ⌝ }
+{
+    Header {
+        refusal: n,
+        model: 0,
+        parameters: [0u64; 8],
+        count: 0,
+        at: 0,
+    }
+}
+
+fn records_end(s: &[u8], model: u64, parameters: [u64; 8], count: usize, at: usize) -> Header
+    requires { ⌜ (at ≤ length (now s)) × (count ≤ 200) ⌝ }
+    ensures { λ r. ⌜ r ≡ recordsEnd (now (s .entry)) model parameters count at ⌝ }
+{
+    let wanted = count * FLOATS * 8;
+    let left = s.len() - at;
+    if left < wanted {
+        return refused(ENDED);
+    }
+    if wanted < left {
+        return refused(COUNT);
+    }
+    Header {
+        refusal: 0,
+        model,
+        parameters,
+        count,
+        at,
+    }
+}
+
+fn after_parameters(s: &[u8], model: u64, parameters: [u64; 8], at: usize) -> Header
+    ensures { λ r. ⌜ r ≡ afterCount (now (s .entry)) model parameters (numberAt (now (s .entry)) at) ⌝ }
+{
+    let n = number_at(s, at);
+    match n {
+        Number::Refused(n) => refused(n),
+        Number::Read(count, next) => {
+            if MOST < count {
+                return refused(COUNT);
+            }
+            records_end(s, model, parameters, count as usize, next)
+        }
+    }
+}
+
+fn after_model(s: &[u8], model: u64, at: usize) -> Header
+    ensures { λ r. ⌜ r ≡ afterParameters (now (s .entry)) model (parametersAt (kindsOf model) (now (s .entry)) at) ⌝ }
+{
+    let p = parameters(s, model, at);
+    if p.refusal != 0 {
+        return refused(p.refusal);
+    }
+    let bits = p.bits;
+    after_parameters(s, model, bits, p.at)
+}
+
+pub fn read_header(s: &[u8]) -> Header
+    ensures { λ r. ⌜ r ≡ headerOf (now (s .entry)) ⌝ }
+{
+    let n = number_at(s, 0);
+    match n {
+        Number::Refused(n) => refused(n),
+        Number::Read(model, at) => {
+            if 3 < model {
+                return refused(UNKNOWN);
+            }
+            after_model(s, model, at)
+        }
+    }
+}
+
+// The first count * 36 places of the room get the records' bits; the others, and all of them beside a refusal, keep theirs.
+pub fn read(s: &[u8], room: &mut [u64]) -> Header
+    ensures header { λ r. ⌜ r ≡ readOf (now (s .entry)) (length (now (room .entry))) ⌝ }
+    ensures room { λ r. ⌜ now (room .exit) ≡ roomOf (now (s .entry)) (now (room .entry)) ⌝ }
+{
+    if room.len() % FLOATS != 0 {
+        return refused(LENGTH);
+    }
+    let h = read_header(s);
+    if h.refusal != 0 {
+        return h;
+    }
+    let n = h.count * FLOATS;
+    if room.len() < n {
+        return refused(LENGTH);
+    }
+    fill(s, h.at, n, room);
+    h
+}
