@@ -9,3 +9,4 @@ pub mod LogTail
 pub mod ExpNear
 pub mod Scale
 pub mod Ln2
+pub mod SinhNear
