@@ -5,3 +5,5 @@ pub mod Packed
 pub mod Quotients
 pub mod Near
 pub mod Unpacking
+pub mod HalfDifference
+pub mod SinhClose
