@@ -43,7 +43,7 @@ upper : (M l H t G K P o : ℕ) → K ≡ G + 1 → P ≡ o + 1 → t + l * l �
     → M * K * (M * K) * (l * o) ≤ l * G * (l * G) * (l * o) + 2 * (H * P + l) * (M * K * (l * G))
 upper M l H t G K P o k p s lm pg h =
     let u = upper-sum t (l * l) (M * l) (M * H) (K * K * o) (G * G * o) ((2 * G + 1) * o) (G * K) (P * (G * K)) (P * K)
-        (omega (arith, mul-le-mul-right (P * K) h)) (first₁ G K P o k p pg) (split G K o k) (first₂ G K P o k p pg) (mul-le-mul-right l lm) in
+    (omega (arith, mul-le-mul-right (P * K) h)) (first₁ G K P o k p pg) (split G K o k) (first₂ G K P o k p pg) (mul-le-mul-right l lm) in
     omega (arith, mul-le-mul-right l (rw s at u))
 
 second₁ : (G K P : ℕ) → K ≡ G + 1 → 1 ≤ P → 4 * P ≤ G → P * (G * K) + P * K ≤ G * G * (P + 1)
@@ -60,11 +60,11 @@ lower : (M l H v t G K P : ℕ) → K ≡ G + 1 → 1 ≤ P → t + l * l ≡ M 
     → 2 * v * (M * G * (l * K)) + l * K * (l * K) * (l * (P + 1)) ≤ M * G * (M * G) * (l * (P + 1))
 lower M l H v t G K P k p s lm pg w h =
     let u = lower-sum t (l * l) (M * l) (M * H) (K * K * (P + 1)) (G * G * (P + 1)) ((2 * G + 1) * (P + 1)) (G * K) (P * (G * K)) (P * K)
-        (omega (arith, mul-le-mul-right (P * K) h)) (second₁ G K P k p pg) (split G K (P + 1) k) (second₂ G K P k p pg) (mul-le-mul-right l lm) in
-    shape (P + 1) (M * G * (l * K)) (rw s at u)
+    (omega (arith, mul-le-mul-right (P * K) h)) (second₁ G K P k p pg) (split G K (P + 1) k) (second₂ G K P k p pg) (mul-le-mul-right l lm) in
+    shape (P + 1) (rw s at u)
   where
-    shape : (R Z : ℕ) → 2 * (M * H * (P * (G * K))) + l * l * (K * K * R) ≤ M * M * (G * G * R) + 2 * (M * l * (G * K)) → 2 * v * (M * G * (l * K)) + l * K * (l * K) * (l * R) ≤ M * G * (M * G) * (l * R)
-    shape R Z u = omega (arith, mul-le-mul-right l u, ap (λ z. z * (2 * (M * G * (l * K)))) w)
+    shape : (R : ℕ) → 2 * (M * H * (P * (G * K))) + l * l * (K * K * R) ≤ M * M * (G * G * R) + 2 * (M * l * (G * K)) → 2 * v * (M * G * (l * K)) + l * K * (l * K) * (l * R) ≤ M * G * (M * G) * (l * R)
+    shape R u = omega (arith, mul-le-mul-right l u, ap (λ z. z * (2 * (M * G * (l * K)))) w)
 
 -- ---- the bounds, from those on the growth and the half difference
 by-32 : (a b c : ℕ) → a * 2 ^ 53 ≤ b * 2 ^ 53 + 32 * c → a * 2 ^ 48 ≤ b * 2 ^ 48 + c
@@ -84,13 +84,13 @@ zero-value v w e = rw e (omega arith)
 module _ (a : ℕ) (g h : Float) (lo : L ≤ mag g) (A : Above a L (mag g * (2 ^ 48 + 1)) (L * 2 ^ 48)) (B : Under a L (mag g * 2 ^ 48) (L * (2 ^ 48 + 1))) (J : Joint (mag g) (mag h) (mag g * mag g - L * L) L (2 ^ 53)) where
   at-most : SinhAtMost a L (mag h * 2 ^ 45 + L) (L * (2 ^ 45 - 1))
   at-most = record {
-      x = mag g * (2 ^ 48 + 1);
-      y = L * 2 ^ 48;
-      positive = mul-pos L-pos (pow-pos 48);
-      bound = A;
-      value = upper (mag g) L (mag h) (mag g * mag g - L * L) (2 ^ 48) (2 ^ 48 + 1) (2 ^ 45) (2 ^ 45 - 1) refl refl (squared (mag g) L lo) lo (omega arith)
+    x = mag g * (2 ^ 48 + 1);
+    y = L * 2 ^ 48;
+    positive = mul-pos L-pos (pow-pos 48);
+    bound = A;
+    value = upper (mag g) L (mag h) (mag g * mag g - L * L) (2 ^ 48) (2 ^ 48 + 1) (2 ^ 45) (2 ^ 45 - 1) refl refl (squared (mag g) L lo) lo (omega arith)
         (by-32 (mag g * mag g - L * L) (2 * mag g * mag h) (2 * mag g * L + (mag g * mag g - L * L)) (J .low));
-    }
+  }
 
   at-least : SinhAtLeast a L (mag h * 2 ^ 45 - L) (L * (2 ^ 45 + 1))
   at-least = sub-cases (mag h * 2 ^ 45) L (SinhAtLeast a L (mag h * 2 ^ 45 - L) (L * (2 ^ 45 + 1)))
@@ -100,7 +100,7 @@ module _ (a : ℕ) (g h : Float) (lo : L ≤ mag g) (A : Above a L (mag g * (2 ^
         positive = mul-pos L-pos (omega arith);
         bound = B;
         value = lower (mag g) L (mag h) (mag h * 2 ^ 45 - L) (mag g * mag g - L * L) (2 ^ 48) (2 ^ 48 + 1) (2 ^ 45) refl (pow-pos 45) (squared (mag g) L lo) lo (omega arith) e
-          (by-32 (2 * mag g * mag h) (mag g * mag g - L * L) (2 * mag g * L + (mag g * mag g - L * L)) (J .high));
+            (by-32 (2 * mag g * mag h) (mag g * mag g - L * L) (2 * mag g * L + (mag g * mag g - L * L)) (J .high));
       })
       (λ k e. record {
         x = 1;
@@ -132,13 +132,13 @@ pub record Grown (a : ℕ) (g : Float) : Type 0 where
 
 grown-of : (a k : ℕ) (g : Float) → k ≤ 1010 → Packed (pos a) (1023 + k) g → Grown a g
 grown-of a k g few K = record {
-    fine = K .fine;
-    sign = K .sign;
-    above = K .above;
-    below = K .below;
-    least = from-least (1023 + k) (mag g) (at-1023 k) (K .least);
-    most = from-most (1023 + k) (mag g) (field-plus k few .1) (K .most);
-  }
+  fine = K .fine;
+  sign = K .sign;
+  above = K .above;
+  below = K .below;
+  least = from-least (1023 + k) (mag g) (at-1023 k) (K .least);
+  most = from-most (1023 + k) (mag g) (field-plus k few .1) (K .most);
+}
 
 pub grown : (x : Float) → T (fits binary64 x) → inRange low high x ≡ true → Grown (mag x) (growthOf x)
 unfolding growthOf
@@ -151,11 +151,11 @@ signed : (x h : Float) (s : Bool) → sgn x ≡ s → Fin64 h → sgn h ≡ fals
     → SinhNear x (cond s (Ieee.neg h) h)
 signed x h false e f g A B = record { fine = f; sign = g ∙ sym e; above = A; below = B }
 signed x h true e f g A B = record {
-    fine = neg-fine h f;
-    sign = neg-sign h f ∙ ap not g ∙ sym e;
-    above = rw (neg-mag h) A;
-    below = rw (neg-mag h) B;
-  }
+  fine = neg-fine h f;
+  sign = neg-sign h f ∙ ap not g ∙ sym e;
+  above = rw (neg-mag h) A;
+  below = rw (neg-mag h) B;
+}
 
 pub sinh-near : (x : Float) → T (fits binary64 x) → inRange low high x ≡ true → SinhNear x (sinhOf x)
 unfolding sinhOf
