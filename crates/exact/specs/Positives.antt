@@ -5,15 +5,15 @@ use Prim.Native.Nat.{ℕ, _+_, _-_, _*_, _^_, _≤_, _<_}
 use native.Mathlib.Nat.{mul-le-mul-right}
 use lib.Pow.{pow-pos}
 use native.Mathlib.Omega.{arith}
-use mathlib.Core.Bool.{Bool, true, false, not, cond, _&&_}
+use mathlib.Core.Bool.{Bool, true, false, not, cond}
 use lib.Arith.{le→nltb}
 use lib.Dec.{T, ltb}
-use lib.Ieee.{Float, nan, inf, fin, binary64, unlike, round, ofBits, fits, le, neg, sum, add, sub, div}
+use lib.Ieee.{Float, nan, inf, fin, binary64, unlike, round, ofBits, fits, le, neg, sum, sub, div}
 use lib.Ieee.Order.{round-mono}
 use lib.Ieee.Bits.{is-false}
 use lib.Ieee.Fits.{neg-fits}
 use lib.Ieee.Scale.{finite}
-use Rattle.exact.specs.Units.{L, L-pos, mag, sgn, Fin64, div-units}
+use Rattle.exact.specs.Units.{L, mag, sgn, Fin64, div-units}
 use Rattle.exact.specs.Sums.{pl, mi, add-units, Unit64, unit-near}
 use Rattle.exact.specs.Products.{div-mag}
 use Rattle.exact.specs.Value.{p-val, n-val}
@@ -75,7 +75,7 @@ one-round : round binary64 false 1 1 ≡ one
 unfolding round ofBits
 one-round = refl
 
-times-le : (a b k : ℕ) → 0 < k → a ≤ b → a ≤ k * b
+pub times-le : (a b k : ℕ) → 0 < k → a ≤ b → a ≤ k * b
 times-le a b k hk h = omega (arith, mul-le-mul-right b hk)
 
 pub div-le-one : (x y : Float) → Fin64 x → Fin64 y → sgn x ≡ false → sgn y ≡ false → 0 < mag y → mag x ≤ mag y → (sgn (div binary64 x y) ≡ false) × (mag (div binary64 x y) ≤ L)

@@ -1,8 +1,8 @@
 -- Half of a growth e and its reciprocal's difference, in floats: how far it is from (e - 1 / e) / 2. Assumes nothing.
 use mathlib.Core.Path.{_≡_, refl, sym, ap, _∙_, subst}
-use mathlib.Core.Bool.{Bool, true, false}
+use mathlib.Core.Bool.{false}
 use Prim.Native.Nat.{ℕ, _+_, _-_, _*_, _^_, _≤_, _<_}
-use native.Mathlib.Nat.{mul-le-mul, mul-le-mul-right, mul-le-mul-left, le-of-mul-le-mul-right, mul-pos, le-trans, lt-of-lt-of-le}
+use native.Mathlib.Nat.{mul-le-mul, mul-le-mul-right, le-of-mul-le-mul-right, le-trans, lt-of-lt-of-le}
 use native.Mathlib.Omega.{arith}
 use native.Mathlib.Bridge.{le-by-compare, IsLe}
 use lib.Pow.{pow-pos}
@@ -10,10 +10,10 @@ use lib.Ieee as Ieee
 use lib.Ieee.{Float, binary64, ofBits, fits, unlike}
 use Rattle.exact.specs.Rounding.{Near}
 use Rattle.exact.specs.Units.{L, L-pos, mag, sgn, Fin64}
-use Rattle.exact.specs.Sums.{Unit64}
 use Rattle.exact.specs.Products.{mul-mag, div-mag}
-use Rattle.exact.specs.Positives.{one-fine, one-is, sub-near, div-le-one}
-use Rattle.exponential.specs.Sinh.{one, half, halfOf}
+use Rattle.exact.specs.Positives.{one-fine, one-is, times-le, sub-near, div-le-one}
+use Rattle.numbers.specs.Power.{one}
+use Rattle.exponential.specs.Sinh.{half, halfOf}
 
 -- ---- over whole numbers: M is e, D its reciprocal, W their difference, S that rounded and H its half rounded; l is the unit of 1,
 -- h half of it; Q is 2^53, q half of that
@@ -77,10 +77,7 @@ sub-le M D = omega arith
 back : (M D l : ℕ) → D ≤ l → l ≤ M → M - D + D ≡ M
 back M D l h k = omega arith
 
-times-le : (a k : ℕ) → 0 < k → a ≤ k * a
-times-le a k hk = omega (arith, mul-le-mul-right a hk)
-
-squares : (M l : ℕ) → l ≤ M → M * M - l * l + l * l ≡ M * M
+pub squares : (M l : ℕ) → l ≤ M → M * M - l * l + l * l ≡ M * M
 squares M l h = let k = mul-le-mul h h in omega arith
 
 pub record Halved (e h : Float) : Type 0 where
@@ -100,7 +97,7 @@ half-near e f s lo hi =
     let M0 : 0 < M = lt-of-lt-of-le L-pos lo in
     let lo' : mag one ≤ M = subst (λ (v : ℕ). v ≤ M) (sym (one-is .0)) lo in
     let k = div-le-one one e one-fine f (one-is .1) s M0 lo' in
-    let q = div-mag one e one-fine f M0 (le-trans lo' (times-le M (2 ^ 1023) (pow-pos 1023))) in
+    let q = div-mag one e one-fine f M0 (times-le (mag one) M (2 ^ 1023) (pow-pos 1023) lo') in
     let qn = subst (λ (v : ℕ). Near (mag d * M * 2 ^ 53) (v * L * 2 ^ 53) (v * L + M * 2 ^ 52)) (one-is .0) (q .2) in
     let S = sub-near e d f (q .0) s (k .0) (le-trans (k .1) lo) (steps (2 ^ 1012) (2 ^ 1023) L M (powers .0) hi) in
     let u = Ieee.sub binary64 e d in

@@ -1,27 +1,26 @@
 -- The exponential is as near as document 01, section 3, asks: exp-near. And exactly 1 at 0: exp-zero. Assumes nothing.
-use mathlib.Core.Path.{_≡_, refl, sym, ap, _∙_, subst}
-use mathlib.Core.Bool.{Bool, true, false, not, cond, _&&_}
-use Prim.Native.Nat.{ℕ, zero, suc, _+_, _-_, _*_, _/_, _%_, _^_, _≤_, _<_}
-use native.Mathlib.Nat.{div-le-of-le-mul, le-trans, le-of-eq}
+use mathlib.Core.Path.{_≡_, refl, sym, subst}
+use mathlib.Core.Bool.{Bool, true, false, cond}
+use Prim.Native.Nat.{ℕ, zero, suc, _+_, _-_, _*_, _/_, _^_, _≤_, _<_}
+use native.Mathlib.Nat.{div-le-of-le-mul, le-trans}
 use native.Mathlib.Omega.{arith}
 use native.Mathlib.Bridge.{le-by-compare, IsLe}
 use lib.Dec.{T}
 use lib.IntN.{ℤ, pos, negsuc, negℤ}
 use lib.Ieee as Ieee
 use lib.Ieee.{Float, binary64, ofBits, fits}
-use lib.Ieee.Scale as Scale
 use Rattle.exact.specs.Units.{L, mag, sgn, Fin64}
 use Rattle.exact.specs.Integers.{p, n, abs, abs-is, _≤ᶻ_}
 use Rattle.exact.specs.Value.{val, abs-val}
 use Rattle.exact.specs.OrderLe.{le-val, between-finite}
 use Rattle.series.specs.Exponential.{num, den}
-use Rattle.series.specs.Remainder.{Above, Within}
+use Rattle.series.specs.Remainder.{Above}
 use Rattle.series.specs.ExpNear.{ExpNear}
 use Rattle.numbers.specs.Range.{inRange}
 use Rattle.numbers.proofs.Laws.{and-both}
-use Rattle.exponential.specs.Worked.{low, high, partOf, timesOf, belowOf, aboveOf, tailOf, packOf, expBits, cutOf, expOf}
+use Rattle.exponential.specs.Worked.{low, high, partOf, timesOf, belowOf, aboveOf, tailOf, packOf, expBits, expOf}
 use Rattle.exponential.proofs.Parts.{part-within, part-lt}
-use Rattle.exponential.proofs.Quotients.{Below, below-facts, Over, above-facts}
+use Rattle.exponential.proofs.Quotients.{below-facts, above-facts}
 use Rattle.exponential.proofs.Packed.{Scaled, scaled-plus, scaled-minus, Packed, packed, exp-near-of}
 
 -- ---- within the range

@@ -1,8 +1,8 @@
 -- From 2^(e - 1023) b 2^-61 to a float: what bounds the one bounds the other. Assumes nothing.
-use mathlib.Core.Path.{_≡_, refl, sym, ap, _∙_, subst}
+use mathlib.Core.Path.{_≡_, sym, ap, _∙_, subst}
 use mathlib.Core.Bool.{Bool, true, false, not, cond}
-use Prim.Native.Nat.{ℕ, zero, suc, _+_, _-_, _*_, _/_, _%_, _^_, _≤_, _<_}
-use native.Mathlib.Nat.{mul-le-mul-right, le-of-mul-le-mul-right, mul-pos, mul-assoc, pow-succ', zero-lt-suc}
+use Prim.Native.Nat.{ℕ, zero, suc, _+_, _-_, _*_, _/_, _^_, _≤_, _<_}
+use native.Mathlib.Nat.{mul-le-mul-right, le-of-mul-le-mul-right, mul-pos, mul-assoc, pow-succ'}
 use native.Mathlib.Omega.{arith}
 use native.Mathlib.Bridge.{le-by-compare, IsLe}
 use lib.Dec.{T, ltb, ltb→lt, nltb→le, lit<}
@@ -11,8 +11,8 @@ use lib.IntN.{ℤ, pos, negsuc}
 use lib.Ieee.{Float, binary64, ofBits}
 use Rattle.exact.specs.Units.{L, L-pos, mag, sgn, Fin64}
 use Rattle.exact.specs.Value.{val}
-use Rattle.exact.specs.Fields.{Has, normal-units, signAt, exponentAt, digitsAt, plus-sign, plus-exponent, plus-digits}
-use Rattle.series.specs.Remainder.{Above, Under, Within}
+use Rattle.exact.specs.Fields.{Has, normal-units, digitsAt, plus-sign, plus-exponent, plus-digits}
+use Rattle.series.specs.Remainder.{Within}
 use Rattle.series.specs.Bounds.{above-weak, under-weak}
 use Rattle.series.specs.ExpNear.{AtMost, AtLeast, ExpNear, at-most-weak, at-least-weak}
 use Rattle.exponential.specs.Worked.{timesOf, raisedOf, packOf}

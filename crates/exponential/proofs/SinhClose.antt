@@ -1,10 +1,9 @@
 -- The hyperbolic sine is as near as document 01, section 3, asks: sinh-near. And exactly 0 at 0: sinh-zero. Assumes nothing.
-use mathlib.Core.Path.{_≡_, refl, sym, ap, _∙_, subst}
+use mathlib.Core.Path.{_≡_, refl, sym, ap, _∙_}
 use mathlib.Core.Bool.{Bool, true, false, not, cond}
-use Prim.Native.Nat.{ℕ, zero, suc, _+_, _-_, _*_, _/_, _^_, _≤_, _<_}
+use Prim.Native.Nat.{ℕ, _+_, _-_, _*_, _^_, _≤_}
 use native.Mathlib.Nat.{mul-le-mul-right, mul-le-mul, le-of-mul-le-mul-right, mul-pos, le-trans}
 use native.Mathlib.Omega.{arith, sub-cases}
-use native.Mathlib.Bridge.{le-by-compare, IsLe}
 use lib.Dec.{T}
 use lib.Pow.{pow-pos, pow-mono}
 use lib.IntN.{pos}
@@ -19,9 +18,9 @@ use Rattle.numbers.specs.Range.{inRange}
 use Rattle.exponential.specs.Worked.{low, high, belowOf, tailOf, partOf, packOf, expBits, cutOf}
 use Rattle.exponential.specs.Sinh.{growthOf, halfOf, sinhOf}
 use Rattle.exponential.proofs.Packed.{Packed}
-use Rattle.exponential.proofs.Quotients.{Below, below-facts}
+use Rattle.exponential.proofs.Quotients.{below-facts}
 use Rattle.exponential.proofs.Near.{ranged-mag, cut-le, near-plus, field-plus}
-use Rattle.exponential.proofs.HalfDifference.{Joint, Halved, half-near}
+use Rattle.exponential.proofs.HalfDifference.{Joint, squares, half-near}
 
 -- ---- over whole numbers: M is the growth, H the half difference, t is M^2 - l^2; G is 2^48 and K is G + 1, P is 2^45
 -- the coefficients
@@ -70,9 +69,6 @@ lower M l H v t G K P k p s lm pg w h =
 by-32 : (a b c : ℕ) → a * 2 ^ 53 ≤ b * 2 ^ 53 + 32 * c → a * 2 ^ 48 ≤ b * 2 ^ 48 + c
 by-32 a b c h = omega arith
 
-squared : (M l : ℕ) → l ≤ M → M * M - l * l + l * l ≡ M * M
-squared M l h = let k = mul-le-mul h h in omega arith
-
 -- exp is at least 1
 one-under : (a q : ℕ) → Under a q 1 1
 unfolding num den
@@ -88,7 +84,7 @@ module _ (a : ℕ) (g h : Float) (lo : L ≤ mag g) (A : Above a L (mag g * (2 ^
     y = L * 2 ^ 48;
     positive = mul-pos L-pos (pow-pos 48);
     bound = A;
-    value = upper (mag g) L (mag h) (mag g * mag g - L * L) (2 ^ 48) (2 ^ 48 + 1) (2 ^ 45) (2 ^ 45 - 1) refl refl (squared (mag g) L lo) lo (omega arith)
+    value = upper (mag g) L (mag h) (mag g * mag g - L * L) (2 ^ 48) (2 ^ 48 + 1) (2 ^ 45) (2 ^ 45 - 1) refl refl (squares (mag g) L lo) lo (omega arith)
         (by-32 (mag g * mag g - L * L) (2 * mag g * mag h) (2 * mag g * L + (mag g * mag g - L * L)) (J .low));
   }
 
@@ -99,7 +95,7 @@ module _ (a : ℕ) (g h : Float) (lo : L ≤ mag g) (A : Above a L (mag g * (2 ^
         y = L * (2 ^ 48 + 1);
         positive = mul-pos L-pos (omega arith);
         bound = B;
-        value = lower (mag g) L (mag h) (mag h * 2 ^ 45 - L) (mag g * mag g - L * L) (2 ^ 48) (2 ^ 48 + 1) (2 ^ 45) refl (pow-pos 45) (squared (mag g) L lo) lo (omega arith) e
+        value = lower (mag g) L (mag h) (mag h * 2 ^ 45 - L) (mag g * mag g - L * L) (2 ^ 48) (2 ^ 48 + 1) (2 ^ 45) refl (pow-pos 45) (squares (mag g) L lo) lo (omega arith) e
             (by-32 (2 * mag g * mag h) (mag g * mag g - L * L) (2 * mag g * L + (mag g * mag g - L * L)) (J .high));
       })
       (λ k e. record {

@@ -1,13 +1,11 @@
 -- What the hyperbolic sine works (document 01, section 3): half of exp |x| less its reciprocal, with the sign of x, so that -0 gives -0.
 -- How near it is stands in `series`, SinhNear; that it is so near, in proofs/SinhClose.
-use mathlib.Core.Bool.{Bool, true, false, cond}
+use mathlib.Core.Bool.{false, cond}
 use lib.Ieee as Ieee
 use lib.Ieee.{Float, binary64, ofBits}
 use Rattle.exact.specs.Units.{sgn}
+use Rattle.numbers.specs.Power.{one}
 use Rattle.exponential.specs.Worked.{expBits, cutOf}
-
-abbrev pub one : Float
-one = ofBits binary64 0x3ff0_0000_0000_0000
 
 abbrev pub half : Float
 half = ofBits binary64 0x3fe0_0000_0000_0000

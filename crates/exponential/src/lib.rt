@@ -15,7 +15,7 @@ ghost use Prim.Native.Nat.{_+_, _*_, _^_, _≤_, _<_};
 ghost use Rattle.exact.specs.Units.{sgn};
 ghost use Rattle.series.specs.ExpNear.{ExpNear};
 ghost use Rattle.numbers.specs.Range.{inRange, ranged, bare, onPath};
-ghost use Rattle.exponential.specs.Worked.{low, high, timesOf, belowOf, aboveOf, raisedOf, packOf, expBits, cutOf, expOf};
+ghost use Rattle.exponential.specs.Worked.{low, high, timesOf, raisedOf, packOf, expBits, cutOf, expOf};
 
 // k ln 2, in units of 2^-53.
 fn times(k: u64) -> u64

@@ -1,8 +1,8 @@
 -- What document 01, section 3, asks of the hyperbolic sine: within 2^-45 times (1 + the size of the exact value). The exact value is
 -- sinh a = (E - 1 / E) / 2 with E = exp a (NIST DLMF 4.28.1), which grows with E; sinh (- a) = - sinh a.
-use mathlib.Core.Path.{_≡_, refl, sym, ap, _∙_}
+use mathlib.Core.Path.{_≡_}
 use Prim.Native.Nat.{ℕ, zero, suc, _+_, _-_, _*_, _^_, _≤_, _<_}
-use native.Mathlib.Nat.{le-of-mul-le-mul-right, mul-le-mul-right, mul-le-mul-left, mul-pos, le-trans}
+use native.Mathlib.Nat.{le-of-mul-le-mul-right, mul-le-mul-right, mul-pos}
 use native.Mathlib.Omega.{arith}
 use lib.IntN.{pos}
 use lib.Ieee.{Float}

@@ -1,6 +1,6 @@
 -- `exponential::exp_value` meets its contract. Assumes nothing.
-use mathlib.Core.Path.{_≡_, sym, ap, ap₂, _∙_, subst}
-use mathlib.Core.Bool.{Bool, not}
+use mathlib.Core.Path.{sym, ap, ap₂, _∙_, subst}
+use mathlib.Core.Bool.{not}
 use Prim.Native.Nat.{ℕ, _*_, _^_, _≤_}
 use borrow.Author.Needs.{needs}
 use lib.Dec.{T}

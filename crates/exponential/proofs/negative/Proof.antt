@@ -1,5 +1,5 @@
 -- `exponential::negative` meets its contract. Assumes nothing.
-use mathlib.Core.Path.{_≡_, sym, subst}
+use mathlib.Core.Path.{sym, subst}
 use lib.Dec.{T}
 use Rattle.exponential.proofs.Unpacking.{no-nan, sign-is}
 use Rattle.exponential.proofs.negative.Statement.{statement}

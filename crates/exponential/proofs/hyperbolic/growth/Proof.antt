@@ -1,13 +1,13 @@
 -- `exponential::hyperbolic::growth` meets its contract. Assumes nothing.
-use mathlib.Core.Path.{_≡_, sym, ap, _∙_, subst}
-use mathlib.Core.Bool.{Bool, false, not}
+use mathlib.Core.Path.{sym, ap, _∙_, subst}
+use mathlib.Core.Bool.{false, not}
 use Prim.Native.Nat.{ℕ, _*_, _^_, _≤_}
 use borrow.Author.Needs.{needs}
 use lib.Dec.{T}
-use lib.Ieee.{Float, binary64, ofBits, nanBits}
+use lib.Ieee.{binary64, ofBits, nanBits}
 use Rattle.exponential.specs.Worked.{expBits, cutOf}
 use Rattle.exponential.specs.Sinh.{growthOf}
-use Rattle.exponential.proofs.SinhClose.{Grown, grown}
+use Rattle.exponential.proofs.SinhClose.{grown}
 use Rattle.exponential.proofs.Unpacking.{cut-small, not-nan-bits}
 use Rattle.exponential.proofs.hyperbolic.growth.Statement.{statement}
 use Rattle.exponential.proofs.hyperbolic.growth.Tie as tie
