@@ -7,3 +7,4 @@ pub mod Near
 pub mod Unpacking
 pub mod HalfDifference
 pub mod SinhClose
+pub mod Laws
