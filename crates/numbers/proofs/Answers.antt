@@ -6,7 +6,6 @@ use native.Mathlib.Omega.{arith}
 use lib.Ieee.{Float}
 use Rattle.numbers.specs.Rules.{finite, isNumber}
 use Rattle.numbers.specs.Range.{inRange, ranged, bare, onPath}
-use Rattle.numbers.specs.declared.Elementary.{Elementary}
 use Rattle.numbers.specs.declared.Elementary.the-variants.{Value, Refused}
 
 never : (n : ℕ) (r : Float) → Refused n ≡ Value r → ⊥
