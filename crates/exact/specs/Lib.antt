@@ -15,3 +15,4 @@ pub mod Fields
 pub mod OrderLe
 pub mod Cut
 pub mod Normal
+pub mod Positives

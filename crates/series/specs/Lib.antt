@@ -10,3 +10,4 @@ pub mod ExpNear
 pub mod Scale
 pub mod Ln2
 pub mod ThirdsNear
+pub mod SinhNear
