@@ -6,3 +6,4 @@ pub mod Bounds
 pub mod Tested
 pub mod Alternate
 pub mod LogTail
+pub mod ExpNear
