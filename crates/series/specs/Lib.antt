@@ -7,3 +7,6 @@ pub mod Tested
 pub mod Alternate
 pub mod LogTail
 pub mod ExpNear
+pub mod Scale
+pub mod LogNear
+pub mod Logs
