@@ -10,3 +10,4 @@ pub mod ExpNear
 pub mod Scale
 pub mod LogNear
 pub mod Logs
+pub mod Ln2

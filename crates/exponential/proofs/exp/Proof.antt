@@ -1,0 +1,20 @@
+-- `exponential::exp` meets its contract. Assumes nothing.
+use mathlib.Core.Path.{_≡_, sym, _∙_}
+use borrow.Author.Needs.{needs}
+use Rattle.exponential.proofs.exp.Statement.{statement}
+use Rattle.exponential.proofs.exp.Tie as tie
+
+is-finite-requires : tie.Need-is-finite-requires
+is-finite-requires c κs = search needs
+
+exp-ranged-requires : tie.Need-exp-ranged-requires
+exp-ranged-requires c κs = search needs
+
+returns : tie.Need-returns
+returns c = rw (c .exp-ranged .ensures, sym (c .before .before .is-finite .ensures) ∙ c .before .if1 .taken)
+
+returns-2 : tie.Need-returns-2
+returns-2 c = rw (sym (c .before .is-finite .ensures) ∙ c .if1 .left)
+
+pub exp-spec : {M : Type 1} → statement M
+exp-spec = tie.close (tie.spec is-finite-requires exp-ranged-requires returns returns-2)
