@@ -14,10 +14,10 @@ use Rattle.series.specs.Remainder.{Above, Under, Cap, above}
 use Rattle.series.specs.Powers.{pow1, pow2, pow3}
 use Rattle.series.specs.Bounds.{above-add, under-add, above-weak, under-weak, under-mono, one-plus}
 
--- l is the whole part of q log (x / y)
-pub record Whole (q l x y : ℕ) : Type 0 where
+-- q log (x / y) lies from l to l + w
+pub record Between (q w l x y : ℕ) : Type 0 where
   pub above : Above l q x y
-  pub under : Under (l + 1) q x y
+  pub under : Under (l + w) q x y
 
 -- the same, tested by n terms of the series at closed numbers
 over : (q n x y l : ℕ) → Bool
@@ -26,22 +26,22 @@ over q n x y l = leb ((num l q n * (suc n * q) + 2 * l ^ suc n) * y) (x * den q 
 
 below : (q n x y l : ℕ) → Bool
 unfolding num den
-below q n x y l = leb (x * den q n) (num (l + 1) q n * y)
+below q n x y l = leb (x * den q n) (num l q n * y)
 
-unfoldable pub wholeTest : (q n x y l : ℕ) → Bool
+unfoldable pub betweenTest : (q w n x y l : ℕ) → Bool
 unfolding over below
-wholeTest q n x y l = both (leb (2 * l) (suc (suc n) * q)) (both (over q n x y l) (below q n x y l))
+betweenTest q w n x y l = both (leb (2 * l) (suc (suc n) * q)) (both (over q n x y l) (below q n x y (l + w)))
 
-pub whole : (q n x y l : ℕ) → 0 < q → T (wholeTest q n x y l) → Whole q l x y
-unfolding wholeTest over below
-whole q n x y l hq t =
+pub between : (q w n x y l : ℕ) → 0 < q → T (betweenTest q w n x y l) → Between q w l x y
+unfolding betweenTest over below
+between q w n x y l hq t =
     let a = leb (2 * l) (suc (suc n) * q) in
     let b = over q n x y l in
-    let c = below q n x y l in
+    let c = below q n x y (l + w) in
     let u = both-right a (both b c) t in
     record {
       above = above l q n x y hq (leb→le (2 * l) (suc (suc n) * q) (both-left a (both b c) t)) (leb→le ((num l q n * (suc n * q) + 2 * l ^ suc n) * y) (x * den q (suc n)) (both-left b c u));
-      under = (n, leb→le (x * den q n) (num (l + 1) q n * y) (both-right b c u));
+      under = (n, leb→le (x * den q n) (num (l + w) q n * y) (both-right b c u));
     }
 
 -- l is q log (y / q) but for a units above y and b units above l
@@ -67,11 +67,11 @@ step-above q m d y z a c h k = omega (arith, mul-le-mul-right q h, mul-le-mul-ri
 step-under : (q m d y z : ℕ) → y * d ≤ m * z → y * (d * q) ≤ m * z * q
 step-under q m d y z h = omega (arith, mul-le-mul-right q h)
 
-pub step : (q m d y z k l a b c : ℕ) → 0 < q → 0 < d → Whole q k m d → y * d ≤ m * z → m * z ≤ y * d + m → m * a + m ≤ (a + c) * d → Log q z l a b → Log q y (k + l) (a + c) (b + 1)
-step q m d y z k l a b c hq hd W lo hi room G = record {
+pub step : (q w m d y z k l a b c : ℕ) → 0 < q → 0 < d → Between q w k m d → y * d ≤ m * z → m * z ≤ y * d + m → m * a + m ≤ (a + c) * d → Log q z l a b → Log q y (k + l) (a + c) (b + w)
+step q w m d y z k l a b c hq hd W lo hi room G = record {
   above = above-weak (k + l) q (m * (z + a)) (d * q) (y + (a + c)) q (mul-pos hd hq) (step-above q m d y z a c hi room) (above-add k l q m d (z + a) q hq (W .above) (G .above));
-  under = under-mono (k + 1 + (l + b)) (k + l + (b + 1)) q y q (omega arith)
-      (under-weak (k + 1 + (l + b)) q (m * z) (d * q) y q (mul-pos hd hq) (step-under q m d y z lo) (under-add (k + 1) (l + b) q m d z q hq (W .under) (G .under)));
+  under = under-mono (k + w + (l + b)) (k + l + (b + w)) q y q (omega arith)
+      (under-weak (k + w + (l + b)) q (m * z) (d * q) y q (mul-pos hd hq) (step-under q m d y z lo) (under-add (k + w) (l + b) q m d z q hq (W .under) (G .under)));
 }
 
 -- log (1 + h / q) by h - s, where s is h^2 / 2 q
