@@ -1,9 +1,9 @@
 -- The logarithm's two summands as floats: the exponent times log 2, by a test at each exponent, and the logarithm of what is left, by the
 -- error of one difference. Assumes nothing.
-use mathlib.Core.Path.{_≡_, refl, sym, ap, ap₂, _∙_, subst, subst₂}
+use mathlib.Core.Path.{_≡_, refl, sym, ap₂, subst, subst₂}
 use mathlib.Core.Logic.{_⊎_, inl, inr}
-use mathlib.Core.Bool.{Bool, true, false, not}
-use Prim.Native.Nat.{ℕ, zero, suc, _+_, _-_, _*_, _/_, _%_, _^_, _≤_, _<_}
+use mathlib.Core.Bool.{Bool, true, false}
+use Prim.Native.Nat.{ℕ, zero, suc, _+_, _-_, _*_, _^_, _≤_, _<_}
 use native.Mathlib.Nat.{not-suc-le-zero, eq-or-lt-of-le, le-trans, mul-le-mul-right}
 use native.Mathlib.Omega.{arith}
 use native.Mathlib.Bridge.{le-by-compare, IsLe}
@@ -13,10 +13,10 @@ use lib.Ieee.{Float, binary64, ofBits, fits}
 use lib.Ieee.Scale.{finite}
 use Rattle.exact.specs.Table.{both, both-left, both-right}
 use Rattle.exact.specs.Units.{L, mag, sgn, Fin64}
-use Rattle.exact.specs.Sums.{pl, mi, plus, minus, Rounds, add-near}
+use Rattle.exact.specs.Sums.{pl, mi, plus, minus, add-near}
 use Rattle.exact.specs.Rounding.{Near}
 use Rattle.exact.specs.Fields.{Has, normal-units, plus-sign, plus-exponent, plus-digits}
-use Rattle.logarithm.specs.Worked.{exponentOf, fractionOf, ln2, partOf}
+use Rattle.logarithm.specs.Worked.{ln2}
 
 -- 2^-57 in units of 2^-1074, shut
 unfoldable pub K : ℕ

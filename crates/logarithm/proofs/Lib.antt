@@ -3,4 +3,5 @@ pub mod Tables
 pub mod Parts
 pub mod Floats
 pub mod Near
-pub mod Ranged
+pub mod Patterns
+pub mod Laws

@@ -1,14 +1,14 @@
 -- What the logarithm works lies within 2^-45 of the logarithm. Assumes nothing.
-use mathlib.Core.Path.{_≡_, refl, sym, ap, _∙_, subst}
-use Prim.Native.Nat.{ℕ, zero, suc, _+_, _-_, _*_, _/_, _%_, _^_, _≤_, _<_}
-use native.Mathlib.Nat.{mul-pos, mul-one, mul-le-mul-right, pow-zero, pow-suc, lt-of-lt-of-le}
+use mathlib.Core.Path.{_≡_, refl, ap, _∙_, subst}
+use Prim.Native.Nat.{ℕ, zero, suc, _+_, _-_, _*_, _^_, _≤_, _<_}
+use native.Mathlib.Nat.{mul-pos, mul-one, mul-le-mul-right, pow-zero, pow-suc}
 use native.Mathlib.Omega.{arith}
 use lib.Dec.{lit<}
 use lib.Pow.{pow-pos, pow-add}
-use lib.IntN.{ℤ, pos, _+ℤ_, _*ℤ_, _-ℤ_}
+use lib.IntN.{pos, _+ℤ_, _*ℤ_, _-ℤ_}
 use lib.Ieee.{Float}
 use Rattle.exact.specs.Integers.{p, n}
-use Rattle.exact.specs.Units.{L, L-pos, mag}
+use Rattle.exact.specs.Units.{L, mag}
 use Rattle.exact.specs.Sums.{plus, minus}
 use Rattle.exact.specs.Value.{val, p-val, n-val}
 use Rattle.series.specs.Remainder.{Above, Under}

@@ -1,14 +1,14 @@
 -- What the parts of the logarithm work lies near the logarithm, in units of 2^-57. Assumes nothing.
-use mathlib.Core.Path.{_≡_, sym, subst}
+use mathlib.Core.Path.{_≡_, subst}
 use Prim.Native.Nat.{ℕ, _+_, _-_, _*_, _/_, _%_, _^_, _≤_, _<_}
 use native.Mathlib.Nat.{div-mul-le-self, lt-div-mul-add, le-of-lt, le-trans, mul-le-mul, mul-le-mul-left, le-of-mul-le-mul-right, sub-add-cancel}
 use native.Mathlib.Omega.{arith}
 use native.Mathlib.Bridge.{le-by-compare, IsLe}
 use lib.Pow.{pow-pos}
-use Rattle.series.specs.Logs.{Between, Log, small, step, plus-one}
+use Rattle.series.specs.Logs.{Log, small, step, plus-one}
 use Rattle.logarithm.specs.Entries.{coarseOf, middleOf, fineOf}
 use Rattle.logarithm.specs.Worked.{middleAt, fineAt, nearer, shortOf, fineLog, middleLog, firstAt, partBy, partOf}
-use Rattle.logarithm.proofs.Steps.{Step, middle-step, fine-step, nearer-low, nearer-high, First, first-step, Short, short}
+use Rattle.logarithm.proofs.Steps.{Step, middle-step, fine-step, nearer-low, nearer-high, First, first-step, short}
 use Rattle.logarithm.proofs.Tables.{Entry, middle-entry, fine-entry, Coarse, coarse-entry}
 
 -- l is at most `top`, and log (y / 2^57) but for a and b units

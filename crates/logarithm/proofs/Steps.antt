@@ -1,10 +1,10 @@
 -- Each factor brings a number nearer to 1 from above: places in the tables, and bounds. Assumes nothing.
 use mathlib.Core.Path.{_≡_, ap}
-use Prim.Native.Nat.{ℕ, _+_, _-_, _*_, _/_, _%_, _^_, _≤_, _<_}
-use native.Mathlib.Nat.{mul-le-mul, mul-le-mul-left, mul-le-mul-right, le-of-mul-le-mul-right, le-trans}
+use Prim.Native.Nat.{ℕ, _+_, _-_, _*_, _/_, _^_, _≤_, _<_}
+use native.Mathlib.Nat.{mul-le-mul, mul-le-mul-left, mul-le-mul-right, le-of-mul-le-mul-right}
 use native.Mathlib.Omega.{arith}
 use lib.Pow.{pow-pos}
-use Rattle.logarithm.specs.Worked.{middleAt, fineAt, nearer, shortOf, firstAt}
+use Rattle.logarithm.specs.Worked.{middleAt, fineAt, nearer}
 
 -- j / m is at most h / (1 + h)
 stay : (y h j a b m : ℕ) → 0 < b → j * b ≤ a * h → a * y ≤ b * m → y * j ≤ m * h

@@ -2,12 +2,10 @@
 -- Assumes nothing.
 use mathlib.Core.Path.{_≡_, ap}
 use mathlib.Core.Bool.{Bool}
-use Prim.Native.Nat.{ℕ, zero, suc, _+_, _-_, _*_, _/_, _^_, _≤_, _<_}
+use Prim.Native.Nat.{ℕ, suc, _+_, _-_, _*_, _^_, _≤_, _<_}
 use native.Mathlib.Nat.{mul-le-mul, mul-le-mul-right, mul-pos, sub-add-cancel, le-refl, le-trans}
 use native.Mathlib.Omega.{arith}
-use native.Mathlib.Bridge.{le-by-compare, IsLe}
 use lib.Dec.{T, leb, leb→le}
-use lib.Pow.{pow-pos}
 use Rattle.exact.specs.Table.{both, both-left, both-right}
 use Rattle.series.specs.Exponential.{num, den, den-pos}
 use Rattle.series.specs.Remainder.{Above, Under, Cap, above}

@@ -1,5 +1,5 @@
 -- `logarithm::fraction` meets its contract. Assumes nothing.
-use mathlib.Core.Path.{_≡_, sym, ap, subst}
+use mathlib.Core.Path.{sym, ap, subst}
 use mathlib.Core.Bool.{not}
 use Prim.Native.Nat.{ℕ, _+_, _/_, _%_, _^_, _<_}
 use native.Mathlib.Omega.{arith}
@@ -10,7 +10,7 @@ use borrow.Author.Needs.{needs}
 use Rattle.logarithm.specs.Worked.{partOf, fractionOf}
 use Rattle.logarithm.proofs.Parts.{part-near}
 use Rattle.logarithm.proofs.Floats.{units-at}
-use Rattle.logarithm.proofs.Ranged.{not-nan-bits}
+use Rattle.logarithm.proofs.Patterns.{not-nan-bits}
 use Rattle.logarithm.proofs.fraction.Statement.{statement}
 use Rattle.logarithm.proofs.fraction.Tie as tie
 

@@ -1,12 +1,12 @@
 -- `logarithm::ln_value` meets its contract. Assumes nothing.
-use mathlib.Core.Path.{_≡_, sym, ap₂, subst}
+use mathlib.Core.Path.{sym, ap₂, subst}
 use lib.Dec.{T}
 use lib.Ieee as Ieee
-use lib.Ieee.{Float, binary64, fits}
+use lib.Ieee.{Float, binary64}
 use borrow.Author.Needs.{needs}
 use Rattle.series.specs.LogNear.{LogNear}
 use Rattle.logarithm.specs.Worked.{lnOf, ln2}
-use Rattle.logarithm.proofs.Ranged.{no-nan, ln-near}
+use Rattle.logarithm.proofs.Laws.{no-nan, ln-near}
 use Rattle.logarithm.proofs.ln_value.Statement.{statement}
 use Rattle.logarithm.proofs.ln_value.Tie as tie
 
