@@ -1,16 +1,15 @@
 -- The float of l * 2 ^ -u with a sign, cut to 53 digits, and its distance from it. Assumes nothing.
-use mathlib.Core.Path.{_≡_, refl, sym, ap, _∙_, subst, subst₂}
-use mathlib.Core.Bool.{Bool, true, false, not}
+use mathlib.Core.Path.{_≡_, refl, ap, _∙_, subst, subst₂}
+use mathlib.Core.Bool.{Bool, true, false}
 use Prim.Native.Nat.{ℕ, zero, suc, _+_, _-_, _*_, _/_, _^_, _≤_, _<_}
 use native.Mathlib.Nat.{lt-irrefl, zero-lt-suc, le-trans, le-of-eq, mul-le-mul-right}
 use native.Mathlib.Omega.{arith}
-use lib.Dec.{T, leb, le→leb}
+use lib.Dec.{leb, le→leb}
 use lib.Arith.{lt→nleb}
-use lib.Ieee.Bits.{is-false, is-true, nanBits-is}
+use lib.Ieee.Bits.{is-false, is-true}
 use lib.Pow.{pow-add, shl-lt}
 use lib.Count.{leadingZeros, leading-top}
-use lib.Ieee.{Float, nan, inf, fin, binary64, ofBits, isNan, nanBits}
-use lib.Ieee.Scale.{finite}
+use lib.Ieee.{Float, binary64, ofBits}
 use Rattle.exact.specs.Units.{mag, sgn, Fin64}
 use Rattle.exact.specs.Value.{val, signed}
 use Rattle.exact.specs.Fields.{Has, signAt, exponentAt, digitsAt, normal-units, small-units}
@@ -147,16 +146,6 @@ pub is-minus : (l u : ℕ) → 0 < l → ofBits binary64 (2 ^ 63 + patternOf l u
 unfolding toFloatOf
 is-minus zero u h = absurd (lt-irrefl 0 h)
 is-minus (suc l) u h = refl
-
--- a pattern of a finite number is none of a NaN's
-no-nan : (v : Float) → T (finite v) → T (not (isNan v))
-unfolding isNan
-no-nan nan t = absurd t
-no-nan (inf s) t = tt
-no-nan (fin s k e) t = tt
-
-pub not-nan : (n : ℕ) → Fin64 (ofBits binary64 n) → T (not (nanBits binary64 n))
-not-nan n f = subst (λ (b : Bool). T (not b)) (sym (nanBits-is binary64 n)) (no-nan (ofBits binary64 n) (f .0))
 
 -- the value, of either sign, in units
 pub value-of : (l u : ℕ) (s : Bool) (r : Float) → FloatOf l u s r → val r ≡ signed s (mag r)

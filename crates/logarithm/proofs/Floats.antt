@@ -1,6 +1,6 @@
 -- The logarithm's two summands as floats: the exponent times log 2, by a test at each exponent, and the logarithm of what is left, by the
 -- error of one difference. Assumes nothing.
-use mathlib.Core.Path.{_≡_, refl, sym, ap₂, subst, subst₂}
+use mathlib.Core.Path.{_≡_, refl, sym, ap₂, subst}
 use mathlib.Core.Logic.{_⊎_, inl, inr}
 use mathlib.Core.Bool.{Bool, true, false}
 use Prim.Native.Nat.{ℕ, zero, suc, _+_, _-_, _*_, _^_, _≤_, _<_}
@@ -15,7 +15,8 @@ use Rattle.exact.specs.Table.{both, both-left, both-right}
 use Rattle.exact.specs.Units.{L, mag, sgn, Fin64}
 use Rattle.exact.specs.Sums.{pl, mi, plus, minus, add-near}
 use Rattle.exact.specs.Rounding.{Near}
-use Rattle.exact.specs.Fields.{Has, normal-units, plus-sign, plus-exponent, plus-digits}
+use Rattle.exact.specs.Fields.{Has}
+use Rattle.exact.specs.Patterns.{units-at}
 use Rattle.logarithm.specs.Worked.{ln2}
 
 -- 2^-57 in units of 2^-1074, shut
@@ -81,14 +82,6 @@ at-each f (suc k) t i h = go (eq-or-lt-of-le {n = i} {m = k} (omega arith)) (at-
 pub product : (i : ℕ) → i < 121 → Times i (productAt i)
 unfolding timesTest upTo mag K L fits Ieee.mul Ieee.sub ofBits
 product i h = times i (productAt i) (at-each (λ k. timesTest k (productAt k)) 121 tt i h)
-
--- a positive pattern of a normal number
-pub units-at : (x t : ℕ) → suc x < 2047 → t < 2 ^ 52 → Has false ((2 ^ 52 + t) * 2 ^ x) (ofBits binary64 (suc x * 2 ^ 52 + t))
-units-at x t h k =
-    let n = suc x * 2 ^ 52 + t in
-    let l : suc x < 2048 = omega arith in
-    subst₂ (λ (b : Bool) (v : ℕ). Has b ((2 ^ 52 + v) * 2 ^ x) (ofBits binary64 n)) (plus-sign (suc x) t l k) (plus-digits (suc x) t l k)
-    (normal-units n x (plus-exponent (suc x) t l k) h)
 
 -- what a float with the sign + or - has
 pub plus-of : (s : Bool) (a : ℕ) (x : Float) → Has s a x → (plus x ≡ pl s a) × (minus x ≡ mi s a)

@@ -1,7 +1,8 @@
--- The logarithm's laws: its distance within the range, and 0 at 1. Assumes nothing.
+-- The logarithm's laws: its distance and its size within the range, and 0 at 1. Assumes nothing.
 use mathlib.Core.Path.{_≡_, refl, sym, ap, _∙_, subst}
 use mathlib.Core.Bool.{Bool, true, false, not}
-use Prim.Native.Nat.{ℕ, _+_, _-_, _/_, _%_, _^_, _≤_, _<_}
+use Prim.Native.Nat.{ℕ, _+_, _-_, _*_, _/_, _%_, _^_, _≤_, _<_}
+use native.Mathlib.Nat.{mul-le-mul-right}
 use native.Mathlib.Omega.{arith}
 use lib.Dec.{T}
 use lib.Pow.{pow-pos}
@@ -14,14 +15,15 @@ use Rattle.exact.specs.Sums.{pl, mi}
 use Rattle.exact.specs.Value.{val, p-val, n-val}
 use Rattle.exact.specs.OrderLe.{le-val, between-finite}
 use Rattle.exact.specs.Fields.{exponentAt, of-own}
+use Rattle.exact.specs.Patterns.{finite-not-nan, exponent-lt}
 use Rattle.numbers.specs.Range.{inRange}
 use Rattle.numbers.proofs.Laws.{and-both}
 use Rattle.series.specs.LogNear.{LogNear}
 use Rattle.logarithm.specs.Worked.{low, high, exponentOf, fractionOf, lnOf, ln2, partOf}
 use Rattle.logarithm.proofs.Parts.{part-near}
-use Rattle.logarithm.proofs.Floats.{Times, product, left, Sum, sum}
+use Rattle.logarithm.proofs.Floats.{K, L-is, ln2Whole, Times, product, left, Sum, sum}
 use Rattle.logarithm.proofs.Near.{Shape, near}
-use Rattle.logarithm.proofs.Patterns.{finite-not-nan, exponent-lt, Pattern, pattern}
+use Rattle.logarithm.proofs.Patterns.{Pattern, pattern}
 
 -- the range's ends
 ends : (val low ≡ pos (2 ^ 1014)) × (val high ≡ pos (2 ^ 1134)) × Fin64 low × Fin64 high
@@ -31,6 +33,10 @@ ends = (refl, refl, (tt, tt), (tt, tt))
 positive : (s : Bool) (m a b : ℕ) → 0 < a → a + mi s m ≤ pl s m + 0 → pl s m + 0 ≤ b + mi s m → (s ≡ false) × (a ≤ m) × (m ≤ b)
 positive false m a b h k l = (refl, omega arith, omega arith)
 positive true m a b h k l = absurd (omega arith)
+
+size : (b : Bool) (m k i l : ℕ) → i ≤ 120 → l ≤ 2 ^ 57 → pl b m + 60 * ln2Whole * k ≤ mi b m + (i * ln2Whole + l + 1405) * k → mi b m + (i * ln2Whole + l) * k ≤ pl b m + (60 * ln2Whole + 1436) * k → m ≤ 43 * (2 ^ 57 * k)
+size false m k i l h g a c = let d : i * k ≤ 120 * k = mul-le-mul-right k h in let e : l * k ≤ 2 ^ 57 * k = mul-le-mul-right k g in omega arith
+size true m k i l h g a c = omega arith
 
 module _ (x : Float) (f : T (fits binary64 x)) (r : inRange low high x ≡ true) where
   abbrev m : ℕ
@@ -88,6 +94,13 @@ module _ (x : Float) (f : T (fits binary64 x)) (r : inRange low high x ≡ true)
 
   pub ln-near : LogNear x (lnOf x)
   ln-near = near x (lnOf x) i (t + 2 ^ 52) (partOf t) shape (part-near t t-lt .log) summed
+
+  -- its size is at most 43
+  pub ln-size : mag (lnOf x) ≤ 43 * L
+  ln-size =
+      let r = lnOf x in
+      let N = part-near t t-lt .small in
+      rw L-is (size (sgn r) (mag r) K i (partOf t) (shape .few) (omega arith) (summed .most) (summed .least))
 
 pub ln-one : lnOf (ofBits binary64 0x3ff0_0000_0000_0000) ≡ ofBits binary64 0
 unfolding lnOf exponentOf fractionOf partOf ofBits toBits Ieee.add Ieee.sub Ieee.mul

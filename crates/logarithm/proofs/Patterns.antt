@@ -1,33 +1,14 @@
--- What the pattern of a finite number says of it, and of one from 2^-60 to 2^60. Assumes nothing.
+-- The exponent's field and the units of a number from 2^-60 to 2^60, from its pattern. Assumes nothing.
 use mathlib.Core.Path.{_≡_, sym, ap₂, _∙_, subst}
 use mathlib.Core.Bool.{Bool, false, not}
 use Prim.Native.Nat.{ℕ, zero, suc, _+_, _-_, _*_, _/_, _%_, _^_, _≤_, _<_}
 use native.Mathlib.Nat.{lt-irrefl, lt-of-le-of-lt, lt-of-lt-of-le, le-trans, le-of-eq, le-add-right, add-comm, mul-le-mul-right, mul-lt-mul-of-pos-right}
 use native.Mathlib.Omega.{arith, by-contra}
-use borrow.Author.Tests.{eq-eqb}
-use lib.Dec.{T, eqb, nleb→lt}
+use lib.Dec.{T, nleb→lt}
 use lib.Pow.{pow-add, pow-pos, pow-mono}
-use lib.Ieee.{Float, nan, inf, fin, binary64, ofBits, isNan, nanBits}
-use lib.Ieee.Bits.{nanBits-is}
-use lib.Ieee.Scale as Scale
+use lib.Ieee.{binary64, ofBits}
 use Rattle.exact.specs.Units.{mag, sgn, le-of-pow}
 use Rattle.exact.specs.Fields.{exponentAt, digitsAt, normal-units, small-units}
-use Rattle.numbers.proofs.Laws.{finite-bits, finite-is}
-
-pub finite-not-nan : (x : Float) → T (Scale.finite x) → T (not (isNan x))
-unfolding isNan
-finite-not-nan nan f = absurd f
-finite-not-nan (inf s) f = absurd f
-finite-not-nan (fin s m e) f = tt
-
-pub not-nan-bits : (n : ℕ) → T (Scale.finite (ofBits binary64 n)) → T (not (nanBits binary64 n))
-not-nan-bits n f = rw (nanBits-is binary64 n) (finite-not-nan (ofBits binary64 n) f)
-
-not-all-ones : (e : ℕ) → e < 2048 → T (not (eqb e 2047)) → e < 2047
-not-all-ones e h t = by-contra (suc e) 2047 (λ g. subst (λ (b : Bool). T (not b)) (eq-eqb e 2047 (omega arith)) t)
-
-pub exponent-lt : (n : ℕ) → T (Scale.finite (ofBits binary64 n)) → exponentAt n < 2047
-exponent-lt n f = not-all-ones (exponentAt n) (omega arith) (subst T (sym (finite-is (ofBits binary64 n)) ∙ finite-bits n) f)
 
 below-52 : (n : ℕ) → digitsAt n < 2 ^ 52
 below-52 n = omega arith

@@ -1,4 +1,5 @@
--- What the logarithm works (document 01, section 3): in whole numbers, in units of 2^-57. How near it is stands in `series`, LogNear.
+-- What the logarithm works (document 01, section 3): in whole numbers of 2^-57 for a number from 1 to 2, and a sum of two floats. How
+-- near it is stands in `series`, LogNear; that it is so near, in proofs/Laws.
 use Prim.Native.Nat.{ℕ, _+_, _-_, _*_, _/_, _%_, _^_}
 use lib.Ieee as Ieee
 use lib.Ieee.{Float, binary64, ofBits, toBits}
@@ -11,7 +12,7 @@ low = ofBits binary64 0x3c30_0000_0000_0000
 abbrev pub high : Float
 high = ofBits binary64 0x43b0_0000_0000_0000
 
--- the place in a table by which y, from 1 up, comes nearer to 1; and y after it
+-- the place in a table by which y, from 1 up, comes nearer to 1, and y after the factor 1 - j / m
 abbrev pub middleAt : ℕ → ℕ
 middleAt y = (y - 2 ^ 57) * 63 / 2 ^ 52
 
@@ -49,6 +50,7 @@ exponentOf n = Ieee.sub binary64 (ofBits binary64 (0x4330_0000_0000_0000 + n / 2
 unfoldable pub fractionOf : ℕ → Float
 fractionOf n = Ieee.sub binary64 (ofBits binary64 (0x3ff0_0000_0000_0000 + partOf (n % 2 ^ 52) / 32)) (ofBits binary64 0x3ff0_0000_0000_0000)
 
+-- log 2
 abbrev pub ln2 : Float
 ln2 = ofBits binary64 0x3fe6_2e42_fefa_39ef
 

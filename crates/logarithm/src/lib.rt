@@ -11,7 +11,8 @@ ghost use Rattle.numbers.specs.Range.{inRange, ranged, bare, onPath};
 ghost use Rattle.series.specs.LogNear.{LogNear};
 ghost use Rattle.logarithm.specs.Worked.{low, high, exponentOf, fractionOf, lnOf};
 
-// The exponent of a positive number with the bits n: the digits of 2^52 + e are those of e.
+// The exponent of a positive number with the bits n. The last digits of 2^52 + e are those of e: no cast, and no branch on the
+// sign, which near 1 no processor foresees.
 fn exponent(n: u64) -> f64
     ensures { λ r. ⌜ r ≡ exponentOf n ⌝ }
 {

@@ -1,4 +1,5 @@
-// The logarithm of a number from 1 to 2, in units of 2^-57.
+// The logarithm of a number from 1 to 2, in units of 2^-57. Each step takes a factor off a number 1 + h, so that it stays at 1 or
+// above: 1 - j / m for a j / m of at most h / (1 + h), which 63 / 64 and 1023 / 1024 of h are.
 use super::entries::coarse;
 use super::entries::fine;
 use super::entries::middle;

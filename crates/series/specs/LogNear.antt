@@ -15,7 +15,7 @@ use Rattle.series.specs.Powers.{pow1}
 use Rattle.series.specs.Bounds.{above-mono, under-mono, above-cancel, under-cancel}
 use Rattle.series.specs.ExpNear.{AtMost, AtLeast}
 
--- exp (r - 2^-45) ≤ x ≤ exp (r + 2^-45), where x is `mag x` and r is `val r` units of 1 / L
+-- exp (r - 2^-45) ≤ x ≤ exp (r + 2^-45), for a positive x, where x is `mag x` and r is `val r` units of 1 / L
 pub record LogNear (x r : Float) : Type 0 where
   pub fine : Fin64 r
   pub low : AtMost (val r *ℤ pos (2 ^ 45) -ℤ pos L) (L * 2 ^ 45) (mag x) L

@@ -2,9 +2,8 @@
 use Prim.Native.Nat.{_+_, _/_, _^_, _<_}
 use native.Mathlib.Omega.{arith}
 use borrow.Author.Needs.{needs}
+use Rattle.exact.specs.Patterns.{units-at, not-nan-bits}
 use Rattle.logarithm.specs.Worked.{exponentOf}
-use Rattle.logarithm.proofs.Floats.{units-at}
-use Rattle.logarithm.proofs.Patterns.{not-nan-bits}
 use Rattle.logarithm.proofs.exponent.Statement.{statement}
 use Rattle.logarithm.proofs.exponent.Tie as tie
 

@@ -7,10 +7,9 @@ use lib.Dec.{T}
 use lib.Ieee as Ieee
 use lib.Ieee.{binary64, ofBits, nanBits}
 use borrow.Author.Needs.{needs}
+use Rattle.exact.specs.Patterns.{units-at, not-nan-bits}
 use Rattle.logarithm.specs.Worked.{partOf, fractionOf}
 use Rattle.logarithm.proofs.Parts.{part-near}
-use Rattle.logarithm.proofs.Floats.{units-at}
-use Rattle.logarithm.proofs.Patterns.{not-nan-bits}
 use Rattle.logarithm.proofs.fraction.Statement.{statement}
 use Rattle.logarithm.proofs.fraction.Tie as tie
 

@@ -5,7 +5,8 @@ use native.Mathlib.Nat.{mod-eq-of-lt}
 use native.Mathlib.Omega.{arith}
 use lib.Count.{leadingZeros}
 use borrow.Author.Needs.{needs}
-use Rattle.fixed_point.specs.ToFloat.{Packs, packs, from-pattern, at-zero, is-plus, is-minus, not-nan}
+use Rattle.exact.specs.Patterns.{not-nan-bits}
+use Rattle.fixed_point.specs.ToFloat.{Packs, packs, from-pattern, at-zero, is-plus, is-minus}
 use Rattle.fixed_point.proofs.float.to_float.Statement.{statement}
 use Rattle.fixed_point.proofs.float.to_float.Tie as tie
 use Rattle.fixed_point.proofs.float.to_float.Reads as reads
@@ -49,10 +50,10 @@ add-result : tie.Need-add-result
 add-result c = search needs
 
 float-from-bits-result : tie.Need-float-from-bits-result
-float-from-bits-result c = rw (whole (c .before)) (not-nan _ (parts (c .before) .minus .fine))
+float-from-bits-result c = rw (whole (c .before)) (not-nan-bits _ (parts (c .before) .minus .fine .0))
 
 float-from-bits-result-2 : tie.Need-float-from-bits-result-2
-float-from-bits-result-2 c = rw (whole (c .before)) (not-nan _ (parts (c .before) .plus .fine))
+float-from-bits-result-2 c = rw (whole (c .before)) (not-nan-bits _ (parts (c .before) .plus .fine .0))
 
 returns-2 : tie.Need-returns-2
 returns-2 c =
