@@ -16,3 +16,4 @@ pub mod OrderLe
 pub mod Cut
 pub mod Normal
 pub mod Positives
+pub mod Patterns

@@ -8,6 +8,8 @@ pub mod Alternate
 pub mod LogTail
 pub mod ExpNear
 pub mod Scale
+pub mod LogNear
+pub mod Logs
 pub mod Ln2
 pub mod ThirdsNear
 pub mod SinhNear
