@@ -6,3 +6,5 @@ pub mod Bounds
 pub mod Tested
 pub mod Alternate
 pub mod LogTail
+pub mod Sine
+pub mod SinNear
