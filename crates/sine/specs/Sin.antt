@@ -5,7 +5,7 @@ use mathlib.Core.List.{List, [], _∷_}
 use Prim.Native.Nat.{ℕ, _+_, _-_, _*_, _/_, _^_, _≤_, _<_}
 use mathlib.Core.Path.{_≡_}
 use lib.Dec.{leb}
-use lib.Ieee.{Float, binary64, toBits}
+use lib.Ieee.{Float, binary64, toBits, ofBits, neg}
 use Rattle.exact.specs.Fields.{signAt, exponentAt, digitsAt}
 use Rattle.fixed_point.specs.ToFloat.{toFloatOf, FloatOf}
 
@@ -48,6 +48,13 @@ pub record Difference (a c : ℕ) (s : Bool) (r : Float) : Type 0 where
   pub is : r ≡ differenceOf a c s
   pub same : c ≤ a → FloatOf (a - c) 54 s r
   pub other : a < c → FloatOf (c - a) 54 (not s) r
+
+-- the ends of the range (document 01, section 3): -8 and 8
+abbrev pub low : Float
+low = neg (ofBits binary64 0x4020_0000_0000_0000)
+
+abbrev pub high : Float
+high = ofBits binary64 0x4020_0000_0000_0000
 
 -- by the pattern's sign, exponent and digits
 abbrev pub eighthAt : ℕ → ℕ

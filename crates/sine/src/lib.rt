@@ -1,8 +1,11 @@
 // The sine of every number from -8 to 8, within 2^-45 (document 01, section 3), by its own series in whole numbers.
+use numbers::Elementary;
 ghost use mathlib.Core.Path.{_≡_};
 ghost use mathlib.Core.Bool.{true};
 ghost use Prim.Native.Nat.{_+_, _*_, _/_, _^_, _≤_, _<_};
-ghost use Rattle.sine.specs.Sin.{stepOf, nested, plusses, minuses, eighthOf, plusOf, minusOf, Difference, differenceOf, sinOf};
+ghost use Rattle.numbers.specs.Range.{inRange, ranged, bare, onPath};
+ghost use Rattle.series.specs.SinNear.{SinNear};
+ghost use Rattle.sine.specs.Sin.{stepOf, nested, plusses, minuses, eighthOf, plusOf, minusOf, Difference, sinOf, low, high};
 
 // One step of a nested sum: c + h * z, z in units of 2^-64.
 fn step(c: u64, h: u64, z: u64) -> u64
@@ -64,5 +67,59 @@ fn difference(a: u64, c: u64, negative: bool) -> f64
         fixed_point::to_float(a - c, 54, negative)
     } else {
         fixed_point::to_float(c - a, 54, !negative)
+    }
+}
+
+// The sine at 8 v, v in units of 2^-64.
+fn at_eighth(v: u64, negative: bool) -> f64
+    ensures { λ r. ⌜ Difference (plusOf v) (minusOf v) negative r ⌝ }
+{
+    let y = fixed_point::mulhi(v, v);
+    let z = fixed_point::mulhi(y, y);
+    let a = fixed_point::mulhi(plus(z), v);
+    let c = fixed_point::mulhi(fixed_point::mulhi(minus(z), y), v);
+    difference(a, c, negative)
+}
+
+// The sine of a number in the range.
+fn sin_value(x: f64) -> f64
+    requires { ⌜ inRange low high x ≡ true ⌝ }
+    ensures { λ r. ⌜ (r ≡ sinOf x) × SinNear x r ⌝ }
+{
+    let b = numbers::bits_of(x);
+    let e = b % 0x8000_0000_0000_0000 / 0x10_0000_0000_0000;
+    let m = b % 0x10_0000_0000_0000 + 0x10_0000_0000_0000;
+    at_eighth(eighth(e, m), b >= 0x8000_0000_0000_0000)
+}
+
+fn within(x: f64) -> Elementary
+    ensures { λ r. ⌜ r ≡ ranged low high x (sinOf x) ⌝ }
+{
+    if numbers::in_range(-8.0, 8.0, x) {
+        Elementary::Value(sin_value(x))
+    } else {
+        numbers::outside(-8.0, 8.0, x)
+    }
+}
+
+// A bare call: a NaN or an infinity is refused by 1 (document 01, section 6).
+pub fn sin(x: f64) -> Elementary
+    ensures { λ r. ⌜ r ≡ bare x (ranged low high x (sinOf x)) ⌝ }
+{
+    if numbers::is_finite(x) {
+        within(x)
+    } else {
+        Elementary::Refused(1)
+    }
+}
+
+// Inside a law: a NaN arose on the path, refusal 3.
+pub fn sin_on_path(x: f64) -> Elementary
+    ensures { λ r. ⌜ r ≡ onPath x (ranged low high x (sinOf x)) ⌝ }
+{
+    if numbers::is_number(x) {
+        within(x)
+    } else {
+        Elementary::Refused(3)
     }
 }
