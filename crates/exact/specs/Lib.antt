@@ -12,3 +12,5 @@ pub mod Table
 pub mod Match
 pub mod Shift
 pub mod Fields
+pub mod OrderLe
+pub mod Cut

@@ -8,3 +8,6 @@ pub mod Alternate
 pub mod LogTail
 pub mod Sine
 pub mod SinNear
+pub mod ExpNear
+pub mod Scale
+pub mod Ln2

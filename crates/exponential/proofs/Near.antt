@@ -1,0 +1,134 @@
+-- The exponential is as near as document 01, section 3, asks: exp-near. And exactly 1 at 0: exp-zero. Assumes nothing.
+use mathlib.Core.Path.{_≡_, refl, sym, ap, _∙_, subst}
+use mathlib.Core.Bool.{Bool, true, false, not, cond, _&&_}
+use Prim.Native.Nat.{ℕ, zero, suc, _+_, _-_, _*_, _/_, _%_, _^_, _≤_, _<_}
+use native.Mathlib.Nat.{div-le-of-le-mul, le-trans, le-of-eq}
+use native.Mathlib.Omega.{arith}
+use native.Mathlib.Bridge.{le-by-compare, IsLe}
+use lib.Dec.{T}
+use lib.IntN.{ℤ, pos, negsuc, negℤ}
+use lib.Ieee as Ieee
+use lib.Ieee.{Float, binary64, ofBits, fits}
+use lib.Ieee.Scale as Scale
+use Rattle.exact.specs.Units.{L, mag, sgn, Fin64}
+use Rattle.exact.specs.Integers.{p, n, abs, abs-is, _≤ᶻ_}
+use Rattle.exact.specs.Value.{val, abs-val}
+use Rattle.exact.specs.OrderLe.{le-val, between-finite}
+use Rattle.series.specs.Exponential.{num, den}
+use Rattle.series.specs.Remainder.{Above, Within}
+use Rattle.series.specs.ExpNear.{ExpNear}
+use Rattle.numbers.specs.Range.{inRange}
+use Rattle.numbers.proofs.Laws.{and-both}
+use Rattle.exponential.specs.Worked.{low, high, partOf, timesOf, belowOf, aboveOf, tailOf, packOf, expBits, cutOf, expOf}
+use Rattle.exponential.proofs.Parts.{part-within, part-lt}
+use Rattle.exponential.proofs.Quotients.{Below, below-facts, Over, above-facts}
+use Rattle.exponential.proofs.Packed.{Scaled, scaled-plus, scaled-minus, packed}
+
+-- ---- within the range
+true-T : (b : Bool) → b ≡ true → T b
+true-T b e = subst T (sym e) tt
+
+ends : Fin64 low × Fin64 high × (val low ≡ negℤ (pos (700 * 2 ^ 1074))) × (val high ≡ pos (700 * 2 ^ 1074))
+unfolding ofBits fits val mag L Ieee.neg
+ends = ((tt, tt), (tt, tt), refl, refl)
+
+within-ends : (z : ℤ) (m : ℕ) → negℤ (pos (suc m)) ≤ᶻ z → z ≤ᶻ pos (suc m) → abs z ≤ suc m
+within-ends z m h k = rw (abs-is z) (go z h k)
+  where
+    go : (z : ℤ) → negℤ (pos (suc m)) ≤ᶻ z → z ≤ᶻ pos (suc m) → p z + n z ≤ suc m
+    go (pos a) h k = omega arith
+    go (negsuc a) h k = omega arith
+
+pub ranged-finite : (x : Float) → T (fits binary64 x) → inRange low high x ≡ true → Fin64 x
+ranged-finite x f r =
+    let b = and-both (Ieee.le low x) (Ieee.le x high) r in
+    (between-finite low x high (ends .0 .0) (ends .1 .0) (true-T (Ieee.le low x) (b .0)) (true-T (Ieee.le x high) (b .1)), f)
+
+pub ranged-mag : (x : Float) → T (fits binary64 x) → inRange low high x ≡ true → mag x ≤ 700 * 2 ^ 1074
+ranged-mag x f r =
+    let b = and-both (Ieee.le low x) (Ieee.le x high) r in
+    let F = ranged-finite x f r in
+    let lo : negℤ (pos (700 * 2 ^ 1074)) ≤ᶻ val x = subst (λ (z : ℤ). z ≤ᶻ val x) (ends .2) (le-val low x (ends .0) F (true-T (Ieee.le low x) (b .0))) in
+    let hi : val x ≤ᶻ pos (700 * 2 ^ 1074) = subst (λ (z : ℤ). val x ≤ᶻ z) (ends .3) (le-val x high F (ends .1) (true-T (Ieee.le x high) (b .1))) in
+    rw (abs-val x) at (within-ends (val x) (700 * 2 ^ 1074 - 1) lo hi)
+
+pub cut-le : (a : ℕ) → a ≤ 700 * 2 ^ 1074 → a / 2 ^ 1021 ≤ 700 * 2 ^ 53
+unfolding IsLe
+cut-le a h = div-le-of-le-mul (2 ^ 1021) (le-trans h (le-by-compare (700 * 2 ^ 1074) (2 ^ 1021 * (700 * 2 ^ 53)) tt))
+
+-- ---- the part
+-- exp is at least 1
+at-least : (r b : ℕ) → Above r (2 ^ 53) (b + 40) (2 ^ 61) → 2 ^ 61 ≤ b + 40
+unfolding num den
+at-least r b a = let h = a 0 in omega arith
+
+pub part-ge : (r : ℕ) → r < 90 * 2 ^ 46 → 2 ^ 61 ≤ partOf r + 40
+part-ge r h = at-least r (partOf r) (part-within r h .above)
+
+positive : (b : ℕ) → 2 ^ 61 ≤ b + 40 → 0 < b
+positive b h = omega arith
+
+near-of : (x : Float) (e r : ℕ) → Scaled (val x) e (partOf r) → r < 90 * 2 ^ 46 → 0 < e → e ≤ 2033 → ExpNear x (ofBits binary64 (packOf e (partOf r)))
+near-of x zero r S h lo hi = absurd (omega arith)
+near-of x (suc f) r S h lo hi = packed x f (partOf r) S (omega arith) (part-ge r h) (part-lt r h)
+
+joined : (t u : ℕ) → t ≤ u → t + (u - t) ≡ u
+joined t u h = omega arith
+
+apart : (t u : ℕ) → u ≤ t → t ≡ t - u + u
+apart t u h = omega arith
+
+pub field-plus : (k : ℕ) → k ≤ 1010 → (0 < 1023 + k) × (1023 + k ≤ 2033)
+field-plus k h = (omega arith, omega arith)
+
+pub field-minus : (k : ℕ) → k ≤ 1010 → (0 < 1023 - k) × (1023 - k ≤ 2033) × (1023 - k + k ≡ 1023)
+field-minus k h = (omega arith, omega arith, omega arith)
+
+module _ (x : Float) (a : ℕ) (u1 : a / 2 ^ 1021 ≤ 700 * 2 ^ 53) where
+  near-plus : val x ≡ pos a → ExpNear x (ofBits binary64 (expBits false (a / 2 ^ 1021)))
+  unfolding expBits
+  near-plus v =
+      let u = a / 2 ^ 1021 in
+      let k = belowOf u in
+      let B = below-facts u u1 in
+      let r = u - timesOf k in
+      let k1 = B .few in
+      near-of x (1023 + k) r
+      (subst (λ (z : ℤ). Scaled z (1023 + k) (partOf r)) (sym v) (scaled-plus a k r (partOf r) k1 (positive (partOf r) (part-ge r (B .rest))) (part-within r (B .rest)) (joined (timesOf k) u (B .fits))))
+      (B .rest) (field-plus k k1 .0) (field-plus k k1 .1)
+
+module _ (x : Float) (a' : ℕ) (u1 : suc a' / 2 ^ 1021 ≤ 700 * 2 ^ 53) where
+  near-minus : val x ≡ negsuc a' → ExpNear x (ofBits binary64 (expBits true (suc a' / 2 ^ 1021)))
+  unfolding expBits
+  near-minus v =
+      let u = suc a' / 2 ^ 1021 in
+      let k = aboveOf u in
+      let B = above-facts u u1 in
+      let r = timesOf k - u in
+      let k1 = B .few in
+      near-of x (1023 - k) r
+      (subst (λ (z : ℤ). Scaled z (1023 - k) (partOf r)) (sym v)
+      (scaled-minus a' k (1023 - k) r (partOf r) k1 (positive (partOf r) (part-ge r (B .rest))) (part-within r (B .rest)) (field-minus k k1 .2) (apart (timesOf k) u (B .fits))))
+      (B .rest) (field-minus k k1 .0) (field-minus k k1 .1)
+
+-- -0 is worked as 0
+zeros : expBits true (0 / 2 ^ 1021) ≡ expBits false (0 / 2 ^ 1021)
+unfolding expBits packOf partOf
+zeros = refl
+
+near-sign : (x : Float) (s : Bool) (a : ℕ) → a / 2 ^ 1021 ≤ 700 * 2 ^ 53 → val x ≡ cond s (negℤ (pos a)) (pos a) → ExpNear x (ofBits binary64 (expBits s (a / 2 ^ 1021)))
+near-sign x false a u1 v = near-plus x a u1 v
+near-sign x true zero u1 v = rw zeros (near-plus x 0 u1 v)
+near-sign x true (suc a') u1 v = near-minus x a' u1 v
+
+val-is : (x : Float) → val x ≡ cond (sgn x) (negℤ (pos (mag x))) (pos (mag x))
+unfolding val
+val-is x = refl
+
+pub exp-near : (x : Float) → T (fits binary64 x) → inRange low high x ≡ true → ExpNear x (expOf x)
+unfolding expOf
+exp-near x f r = near-sign x (sgn x) (mag x) (cut-le (mag x) (ranged-mag x f r)) (val-is x)
+
+pub exp-zero : (expOf (ofBits binary64 0) ≡ ofBits binary64 0x3ff0_0000_0000_0000) × (expOf (ofBits binary64 0x8000_0000_0000_0000) ≡ ofBits binary64 0x3ff0_0000_0000_0000)
+unfolding expOf expBits packOf partOf tailOf mag L ofBits
+exp-zero = (refl, refl)

@@ -1,0 +1,409 @@
+-- `exponential::entries::fine` meets its contract. Assumes nothing.
+use mathlib.Core.Path.{sym}
+use borrow.Author.Needs.{needs}
+use Rattle.exact.specs.Match.{beyond, past}
+use Rattle.exponential.specs.Entries.{fine-entries}
+use Rattle.exponential.proofs.entries.fine.Statement.{statement}
+use Rattle.exponential.proofs.entries.fine.Tie as tie
+
+returns : tie.Need-returns
+returns c = search needs
+
+returns-2 : tie.Need-returns-2
+returns-2 c = search needs
+
+returns-3 : tie.Need-returns-3
+returns-3 c = search needs
+
+returns-4 : tie.Need-returns-4
+returns-4 c = search needs
+
+returns-5 : tie.Need-returns-5
+returns-5 c = search needs
+
+returns-6 : tie.Need-returns-6
+returns-6 c = search needs
+
+returns-7 : tie.Need-returns-7
+returns-7 c = search needs
+
+returns-8 : tie.Need-returns-8
+returns-8 c = search needs
+
+returns-9 : tie.Need-returns-9
+returns-9 c = search needs
+
+returns-10 : tie.Need-returns-10
+returns-10 c = search needs
+
+returns-11 : tie.Need-returns-11
+returns-11 c = search needs
+
+returns-12 : tie.Need-returns-12
+returns-12 c = search needs
+
+returns-13 : tie.Need-returns-13
+returns-13 c = search needs
+
+returns-14 : tie.Need-returns-14
+returns-14 c = search needs
+
+returns-15 : tie.Need-returns-15
+returns-15 c = search needs
+
+returns-16 : tie.Need-returns-16
+returns-16 c = search needs
+
+returns-17 : tie.Need-returns-17
+returns-17 c = search needs
+
+returns-18 : tie.Need-returns-18
+returns-18 c = search needs
+
+returns-19 : tie.Need-returns-19
+returns-19 c = search needs
+
+returns-20 : tie.Need-returns-20
+returns-20 c = search needs
+
+returns-21 : tie.Need-returns-21
+returns-21 c = search needs
+
+returns-22 : tie.Need-returns-22
+returns-22 c = search needs
+
+returns-23 : tie.Need-returns-23
+returns-23 c = search needs
+
+returns-24 : tie.Need-returns-24
+returns-24 c = search needs
+
+returns-25 : tie.Need-returns-25
+returns-25 c = search needs
+
+returns-26 : tie.Need-returns-26
+returns-26 c = search needs
+
+returns-27 : tie.Need-returns-27
+returns-27 c = search needs
+
+returns-28 : tie.Need-returns-28
+returns-28 c = search needs
+
+returns-29 : tie.Need-returns-29
+returns-29 c = search needs
+
+returns-30 : tie.Need-returns-30
+returns-30 c = search needs
+
+returns-31 : tie.Need-returns-31
+returns-31 c = search needs
+
+returns-32 : tie.Need-returns-32
+returns-32 c = search needs
+
+returns-33 : tie.Need-returns-33
+returns-33 c = search needs
+
+returns-34 : tie.Need-returns-34
+returns-34 c = search needs
+
+returns-35 : tie.Need-returns-35
+returns-35 c = search needs
+
+returns-36 : tie.Need-returns-36
+returns-36 c = search needs
+
+returns-37 : tie.Need-returns-37
+returns-37 c = search needs
+
+returns-38 : tie.Need-returns-38
+returns-38 c = search needs
+
+returns-39 : tie.Need-returns-39
+returns-39 c = search needs
+
+returns-40 : tie.Need-returns-40
+returns-40 c = search needs
+
+returns-41 : tie.Need-returns-41
+returns-41 c = search needs
+
+returns-42 : tie.Need-returns-42
+returns-42 c = search needs
+
+returns-43 : tie.Need-returns-43
+returns-43 c = search needs
+
+returns-44 : tie.Need-returns-44
+returns-44 c = search needs
+
+returns-45 : tie.Need-returns-45
+returns-45 c = search needs
+
+returns-46 : tie.Need-returns-46
+returns-46 c = search needs
+
+returns-47 : tie.Need-returns-47
+returns-47 c = search needs
+
+returns-48 : tie.Need-returns-48
+returns-48 c = search needs
+
+returns-49 : tie.Need-returns-49
+returns-49 c = search needs
+
+returns-50 : tie.Need-returns-50
+returns-50 c = search needs
+
+returns-51 : tie.Need-returns-51
+returns-51 c = search needs
+
+returns-52 : tie.Need-returns-52
+returns-52 c = search needs
+
+returns-53 : tie.Need-returns-53
+returns-53 c = search needs
+
+returns-54 : tie.Need-returns-54
+returns-54 c = search needs
+
+returns-55 : tie.Need-returns-55
+returns-55 c = search needs
+
+returns-56 : tie.Need-returns-56
+returns-56 c = search needs
+
+returns-57 : tie.Need-returns-57
+returns-57 c = search needs
+
+returns-58 : tie.Need-returns-58
+returns-58 c = search needs
+
+returns-59 : tie.Need-returns-59
+returns-59 c = search needs
+
+returns-60 : tie.Need-returns-60
+returns-60 c = search needs
+
+returns-61 : tie.Need-returns-61
+returns-61 c = search needs
+
+returns-62 : tie.Need-returns-62
+returns-62 c = search needs
+
+returns-63 : tie.Need-returns-63
+returns-63 c = search needs
+
+returns-64 : tie.Need-returns-64
+returns-64 c = search needs
+
+returns-65 : tie.Need-returns-65
+returns-65 c = search needs
+
+returns-66 : tie.Need-returns-66
+returns-66 c = search needs
+
+returns-67 : tie.Need-returns-67
+returns-67 c = search needs
+
+returns-68 : tie.Need-returns-68
+returns-68 c = search needs
+
+returns-69 : tie.Need-returns-69
+returns-69 c = search needs
+
+returns-70 : tie.Need-returns-70
+returns-70 c = search needs
+
+returns-71 : tie.Need-returns-71
+returns-71 c = search needs
+
+returns-72 : tie.Need-returns-72
+returns-72 c = search needs
+
+returns-73 : tie.Need-returns-73
+returns-73 c = search needs
+
+returns-74 : tie.Need-returns-74
+returns-74 c = search needs
+
+returns-75 : tie.Need-returns-75
+returns-75 c = search needs
+
+returns-76 : tie.Need-returns-76
+returns-76 c = search needs
+
+returns-77 : tie.Need-returns-77
+returns-77 c = search needs
+
+returns-78 : tie.Need-returns-78
+returns-78 c = search needs
+
+returns-79 : tie.Need-returns-79
+returns-79 c = search needs
+
+returns-80 : tie.Need-returns-80
+returns-80 c = search needs
+
+returns-81 : tie.Need-returns-81
+returns-81 c = search needs
+
+returns-82 : tie.Need-returns-82
+returns-82 c = search needs
+
+returns-83 : tie.Need-returns-83
+returns-83 c = search needs
+
+returns-84 : tie.Need-returns-84
+returns-84 c = search needs
+
+returns-85 : tie.Need-returns-85
+returns-85 c = search needs
+
+returns-86 : tie.Need-returns-86
+returns-86 c = search needs
+
+returns-87 : tie.Need-returns-87
+returns-87 c = search needs
+
+returns-88 : tie.Need-returns-88
+returns-88 c = search needs
+
+returns-89 : tie.Need-returns-89
+returns-89 c = search needs
+
+returns-90 : tie.Need-returns-90
+returns-90 c = search needs
+
+returns-91 : tie.Need-returns-91
+returns-91 c = search needs
+
+returns-92 : tie.Need-returns-92
+returns-92 c = search needs
+
+returns-93 : tie.Need-returns-93
+returns-93 c = search needs
+
+returns-94 : tie.Need-returns-94
+returns-94 c = search needs
+
+returns-95 : tie.Need-returns-95
+returns-95 c = search needs
+
+returns-96 : tie.Need-returns-96
+returns-96 c = search needs
+
+returns-97 : tie.Need-returns-97
+returns-97 c = search needs
+
+returns-98 : tie.Need-returns-98
+returns-98 c = search needs
+
+returns-99 : tie.Need-returns-99
+returns-99 c = search needs
+
+returns-100 : tie.Need-returns-100
+returns-100 c = search needs
+
+returns-101 : tie.Need-returns-101
+returns-101 c = search needs
+
+returns-102 : tie.Need-returns-102
+returns-102 c = search needs
+
+returns-103 : tie.Need-returns-103
+returns-103 c = search needs
+
+returns-104 : tie.Need-returns-104
+returns-104 c = search needs
+
+returns-105 : tie.Need-returns-105
+returns-105 c = search needs
+
+returns-106 : tie.Need-returns-106
+returns-106 c = search needs
+
+returns-107 : tie.Need-returns-107
+returns-107 c = search needs
+
+returns-108 : tie.Need-returns-108
+returns-108 c = search needs
+
+returns-109 : tie.Need-returns-109
+returns-109 c = search needs
+
+returns-110 : tie.Need-returns-110
+returns-110 c = search needs
+
+returns-111 : tie.Need-returns-111
+returns-111 c = search needs
+
+returns-112 : tie.Need-returns-112
+returns-112 c = search needs
+
+returns-113 : tie.Need-returns-113
+returns-113 c = search needs
+
+returns-114 : tie.Need-returns-114
+returns-114 c = search needs
+
+returns-115 : tie.Need-returns-115
+returns-115 c = search needs
+
+returns-116 : tie.Need-returns-116
+returns-116 c = search needs
+
+returns-117 : tie.Need-returns-117
+returns-117 c = search needs
+
+returns-118 : tie.Need-returns-118
+returns-118 c = search needs
+
+returns-119 : tie.Need-returns-119
+returns-119 c = search needs
+
+returns-120 : tie.Need-returns-120
+returns-120 c = search needs
+
+returns-121 : tie.Need-returns-121
+returns-121 c = search needs
+
+returns-122 : tie.Need-returns-122
+returns-122 c = search needs
+
+returns-123 : tie.Need-returns-123
+returns-123 c = search needs
+
+returns-124 : tie.Need-returns-124
+returns-124 c = search needs
+
+returns-125 : tie.Need-returns-125
+returns-125 c = search needs
+
+returns-126 : tie.Need-returns-126
+returns-126 c = search needs
+
+returns-127 : tie.Need-returns-127
+returns-127 c = search needs
+
+returns-128 : tie.Need-returns-128
+returns-128 c = sym (past fine-entries 9295144492400693840 (c .before .args .j) (beyond (c .before .args .j) 127 (c .match .rest)))
+
+pub fine-spec : {M : Type 1} → statement M
+fine-spec =
+    tie.close
+    (tie.spec
+    returns returns-2 returns-3 returns-4 returns-5 returns-6 returns-7 returns-8 returns-9 returns-10
+    returns-11 returns-12 returns-13 returns-14 returns-15 returns-16 returns-17 returns-18 returns-19 returns-20
+    returns-21 returns-22 returns-23 returns-24 returns-25 returns-26 returns-27 returns-28 returns-29 returns-30
+    returns-31 returns-32 returns-33 returns-34 returns-35 returns-36 returns-37 returns-38 returns-39 returns-40
+    returns-41 returns-42 returns-43 returns-44 returns-45 returns-46 returns-47 returns-48 returns-49 returns-50
+    returns-51 returns-52 returns-53 returns-54 returns-55 returns-56 returns-57 returns-58 returns-59 returns-60
+    returns-61 returns-62 returns-63 returns-64 returns-65 returns-66 returns-67 returns-68 returns-69 returns-70
+    returns-71 returns-72 returns-73 returns-74 returns-75 returns-76 returns-77 returns-78 returns-79 returns-80
+    returns-81 returns-82 returns-83 returns-84 returns-85 returns-86 returns-87 returns-88 returns-89 returns-90
+    returns-91 returns-92 returns-93 returns-94 returns-95 returns-96 returns-97 returns-98 returns-99 returns-100
+    returns-101 returns-102 returns-103 returns-104 returns-105 returns-106 returns-107 returns-108 returns-109 returns-110
+    returns-111 returns-112 returns-113 returns-114 returns-115 returns-116 returns-117 returns-118 returns-119 returns-120
+    returns-121 returns-122 returns-123 returns-124 returns-125 returns-126 returns-127 returns-128)

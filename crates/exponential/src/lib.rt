@@ -1,0 +1,100 @@
+// The exponential (document 01, section 3), in fixed point: 2^k times a part from two tables and four terms of the series.
+mod entries;
+mod part;
+
+use fixed_point::fixed;
+use numbers::Elementary;
+use part::exp_part;
+ghost use mathlib.Core.Path.{_≡_};
+ghost use mathlib.Core.Bool.{true};
+ghost use Prim.Native.Nat.{_+_, _*_, _^_, _≤_, _<_};
+ghost use Rattle.numbers.specs.Range.{inRange, ranged, bare, onPath};
+ghost use Rattle.exponential.specs.Worked.{low, high, timesOf, belowOf, aboveOf, raisedOf, packOf, expBits, expOf};
+
+// k ln 2, in units of 2^-53.
+fn times(k: u64) -> u64
+    requires { ⌜ k ≤ 1010 ⌝ }
+    ensures { λ r. ⌜ r ≡ timesOf k ⌝ }
+{
+    k * 6243314768165359 + k * 897137782 / 0x1_0000_0000
+}
+
+// b, or 2^61 where it falls short of that.
+fn raised(b: u64) -> u64
+    ensures { λ c. ⌜ c ≡ raisedOf b ⌝ }
+{
+    if b < 0x2000_0000_0000_0000 {
+        0x2000_0000_0000_0000
+    } else {
+        b
+    }
+}
+
+// The bits of b 2^-61 2^(e - 1023).
+fn pack(e: u64, b: u64) -> u64
+    requires { ⌜ (0 < e) × (e ≤ 2033) × (b < 2 ^ 63) ⌝ }
+    ensures { λ n. ⌜ n ≡ packOf e b ⌝ }
+{
+    let c = raised(b);
+    if c < 0x4000_0000_0000_0000 {
+        (e - 1) * 0x10_0000_0000_0000 + c / 512
+    } else {
+        e * 0x10_0000_0000_0000 + c / 1024
+    }
+}
+
+// The bits of exp (u / 2^53), or of exp (- u / 2^53).
+fn exp_bits(negative: bool, u: u64) -> u64
+    requires { ⌜ u ≤ 700 * 2 ^ 53 ⌝ }
+    ensures { λ n. ⌜ n ≡ expBits negative u ⌝ }
+{
+    if negative {
+        let k = ((u + 0x1_ffff_ffff) / 0x2_0000_0000 * 1549082005 + 0x3_ffff_ffff_ffff) / 0x4_0000_0000_0000;
+        pack(1023 - k, exp_part(times(k) - u))
+    } else {
+        let k = u / 0x2_0000_0000 * 1549082004 / 0x4_0000_0000_0000;
+        pack(1023 + k, exp_part(u - times(k)))
+    }
+}
+
+// exp x, for an x within the range.
+fn exp_value(x: f64) -> f64
+    requires { ⌜ inRange low high x ≡ true ⌝ }
+    ensures { λ r. ⌜ r ≡ expOf x ⌝ }
+{
+    let n = f64::to_bits(x);
+    let u = fixed(n % 0x8000_0000_0000_0000 / 0x10_0000_0000_0000, 0x10_0000_0000_0000 + n % 0x10_0000_0000_0000);
+    f64::from_bits(exp_bits(0x8000_0000_0000_0000 <= n, u))
+}
+
+fn exp_ranged(x: f64) -> Elementary
+    ensures { λ r. ⌜ r ≡ ranged low high x (expOf x) ⌝ }
+{
+    if numbers::in_range(-700.0, 700.0, x) {
+        Elementary::Value(exp_value(x))
+    } else {
+        numbers::outside(-700.0, 700.0, x)
+    }
+}
+
+// exp x: a NaN or an infinity is refused by 1, a number outside the range by 2.
+pub fn exp(x: f64) -> Elementary
+    ensures { λ r. ⌜ r ≡ bare x (ranged low high x (expOf x)) ⌝ }
+{
+    if numbers::is_finite(x) {
+        exp_ranged(x)
+    } else {
+        Elementary::Refused(1)
+    }
+}
+
+// exp x within a law: a NaN is refused by 3, an infinity and a number outside the range by 2.
+pub fn exp_on_path(x: f64) -> Elementary
+    ensures { λ r. ⌜ r ≡ onPath x (ranged low high x (expOf x)) ⌝ }
+{
+    if numbers::is_number(x) {
+        exp_ranged(x)
+    } else {
+        Elementary::Refused(3)
+    }
+}
