@@ -38,11 +38,11 @@ same₄ F K B M N Q E e = rw e (omega arith)
 module _ (a k r b : ℕ) (few : k ≤ 1010) (b0 : 0 < b) (W : Within r (2 ^ 53) b (b + 40) (2 ^ 61)) where
   pub scaled-plus : timesOf k + r ≡ a / 2 ^ 1021 → Scaled (pos a) (1023 + k) b
   scaled-plus e = record {
-      above = above-weak a L ((2 ^ 53 + 3) * (2 ^ k * (b + 40))) (2 ^ 53 * (1 * 2 ^ 61)) (2 ^ (1023 + k) * (b + 40) * (2 ^ 53 + 3)) (2 ^ 1023 * 2 ^ 61 * 2 ^ 53) (pow-pos 114)
+    above = above-weak a L ((2 ^ 53 + 3) * (2 ^ k * (b + 40))) (2 ^ 53 * (1 * 2 ^ 61)) (2 ^ (1023 + k) * (b + 40) * (2 ^ 53 + 3)) (2 ^ 1023 * 2 ^ 61 * 2 ^ 53) (pow-pos 114)
         (same₁ (2 ^ 53 + 3) (2 ^ k) (b + 40) (2 ^ 1023) (2 ^ 61) (2 ^ 53) (2 ^ (1023 + k)) (pow-add 2 1023 k)) (plus-above a k r b few W e);
-      below = under-weak a L (2 ^ k * 2 ^ 53 * b) (1 * (2 ^ 53 + 3) * 2 ^ 61) (2 ^ (1023 + k) * b * 2 ^ 53) (2 ^ 1023 * 2 ^ 61 * (2 ^ 53 + 3)) (lit< {m = 0} {n = 1 * (2 ^ 53 + 3) * 2 ^ 61} tt)
+    below = under-weak a L (2 ^ k * 2 ^ 53 * b) (1 * (2 ^ 53 + 3) * 2 ^ 61) (2 ^ (1023 + k) * b * 2 ^ 53) (2 ^ 1023 * 2 ^ 61 * (2 ^ 53 + 3)) (lit< {m = 0} {n = 1 * (2 ^ 53 + 3) * 2 ^ 61} tt)
         (same₂ (2 ^ 53 + 3) (2 ^ k) b (2 ^ 1023) (2 ^ 61) (2 ^ 53) (2 ^ (1023 + k)) (pow-add 2 1023 k)) (plus-under a k r b few W e);
-    }
+  }
 
 module _ (a' k e r b : ℕ) (few : k ≤ 1010) (b0 : 0 < b) (W : Within r (2 ^ 53) b (b + 40) (2 ^ 61)) (d : e + k ≡ 1023) where
   split : 2 ^ 1023 ≡ 2 ^ e * 2 ^ k
@@ -56,11 +56,11 @@ module _ (a' k e r b : ℕ) (few : k ≤ 1010) (b0 : 0 < b) (W : Within r (2 ^ 5
 
   pub scaled-minus : timesOf k ≡ r + suc a' / 2 ^ 1021 → Scaled (negsuc a') e b
   scaled-minus t = record {
-      above = under-weak (suc a') L (2 ^ k * 2 ^ 53 * 2 ^ 61) (1 * (2 ^ 53 + 3) * (b + 40)) (2 ^ 1023 * 2 ^ 61 * 2 ^ 53) (2 ^ e * (b + 40) * (2 ^ 53 + 3)) pos₁
+    above = under-weak (suc a') L (2 ^ k * 2 ^ 53 * 2 ^ 61) (1 * (2 ^ 53 + 3) * (b + 40)) (2 ^ 1023 * 2 ^ 61 * 2 ^ 53) (2 ^ e * (b + 40) * (2 ^ 53 + 3)) pos₁
         (same₃ (2 ^ 53 + 3) (2 ^ k) (b + 40) (2 ^ 1023) (2 ^ 61) (2 ^ 53) (2 ^ e) split) (minus-under (suc a') k r b few W t);
-      below = above-weak (suc a') L ((2 ^ 53 + 3) * (2 ^ k * 2 ^ 61)) (2 ^ 53 * (1 * b)) (2 ^ 1023 * 2 ^ 61 * (2 ^ 53 + 3)) (2 ^ e * b * 2 ^ 53) pos₂
+    below = above-weak (suc a') L ((2 ^ 53 + 3) * (2 ^ k * 2 ^ 61)) (2 ^ 53 * (1 * b)) (2 ^ 1023 * 2 ^ 61 * (2 ^ 53 + 3)) (2 ^ e * b * 2 ^ 53) pos₂
         (same₄ (2 ^ 53 + 3) (2 ^ k) b (2 ^ 1023) (2 ^ 61) (2 ^ 53) (2 ^ e) split) (minus-above (suc a') k r b few W t);
-    }
+  }
 
 -- d 2^f units of 2^-1074 are near, where d is b / 512 but for two units
 plain-above : (E G B F l c d P S U Y : ℕ) → E ≡ 2 * G → B * S ≤ d * U → 2 * U * F * (l * c) ≤ S * P * Y → 0 < S → E * B * F * (l * c) ≤ d * G * P * Y
@@ -97,11 +97,11 @@ near x r f b d S H b1 lo hi =
       fine = H .fine;
       sign = H .sign;
       above = rw (H .units)
-        (at-most-weak (val x) L (E * (b + 40) * (2 ^ 53 + 3)) (2 ^ 1023 * 2 ^ 61 * 2 ^ 53) (d * 2 ^ f * 2 ^ 45) (L * (2 ^ 45 - 1)) (positive₁ E b (pow-pos (suc f))) (pow-pos 1137)
-        (plain-above E (2 ^ f) (b + 40) (2 ^ 53 + 3) L (2 ^ 45 - 1) d (2 ^ 45) (2 ^ 46) (512 * (2 ^ 46 + 1)) (2 ^ 1023 * 2 ^ 61 * 2 ^ 53) (pow-succ' 2 f) (cut-above b d b1 hi) room-above (pow-pos 46)) (S .above));
+          (at-most-weak (val x) L (E * (b + 40) * (2 ^ 53 + 3)) (2 ^ 1023 * 2 ^ 61 * 2 ^ 53) (d * 2 ^ f * 2 ^ 45) (L * (2 ^ 45 - 1)) (positive₁ E b (pow-pos (suc f))) (pow-pos 1137)
+          (plain-above E (2 ^ f) (b + 40) (2 ^ 53 + 3) L (2 ^ 45 - 1) d (2 ^ 45) (2 ^ 46) (512 * (2 ^ 46 + 1)) (2 ^ 1023 * 2 ^ 61 * 2 ^ 53) (pow-succ' 2 f) (cut-above b d b1 hi) room-above (pow-pos 46)) (S .above));
       below = rw (H .units)
-        (at-least-weak (val x) L (E * b * 2 ^ 53) (2 ^ 1023 * 2 ^ 61 * (2 ^ 53 + 3)) (d * 2 ^ f * 2 ^ 45) (L * (2 ^ 45 + 1)) (positive₂ E b (pow-pos (suc f)) b1) (lit< {m = 0} {n = 2 ^ 1023 * 2 ^ 61 * (2 ^ 53 + 3)} tt)
-        (plain-below E (2 ^ f) b (2 ^ 53) L (2 ^ 45 + 1) d (2 ^ 45) (2 ^ 46 + 1) (512 * 2 ^ 46) (2 ^ 1023 * 2 ^ 61 * (2 ^ 53 + 3)) (pow-succ' 2 f) (cut-below b d b1 lo) room-below (lit< {m = 0} {n = 512 * 2 ^ 46} tt)) (S .below));
+          (at-least-weak (val x) L (E * b * 2 ^ 53) (2 ^ 1023 * 2 ^ 61 * (2 ^ 53 + 3)) (d * 2 ^ f * 2 ^ 45) (L * (2 ^ 45 + 1)) (positive₂ E b (pow-pos (suc f)) b1) (lit< {m = 0} {n = 2 ^ 1023 * 2 ^ 61 * (2 ^ 53 + 3)} tt)
+          (plain-below E (2 ^ f) b (2 ^ 53) L (2 ^ 45 + 1) d (2 ^ 45) (2 ^ 46 + 1) (512 * 2 ^ 46) (2 ^ 1023 * 2 ^ 61 * (2 ^ 53 + 3)) (pow-succ' 2 f) (cut-below b d b1 lo) room-below (lit< {m = 0} {n = 512 * 2 ^ 46} tt)) (S .below));
     }
 
 -- a pattern from an exponent and digits that include the leading one

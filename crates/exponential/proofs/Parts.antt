@@ -82,11 +82,11 @@ module _ (x y z q t s p : ℕ) (hq : 0 < q) (A : Within x q t (t + 1) (2 ^ 62)) 
 
   product : Within (x + y + z) q b (b + 40) (2 ^ 61)
   product = record {
-      under = under-weak (x + y + z) q (t * s * p) (2 ^ 62 * 2 ^ 63 * 2 ^ 63) b (2 ^ 61) (pow-pos 188) (scaled b (2 ^ 64 * 2 ^ 64) (t * s * p) 2 (2 ^ 60) low)
+    under = under-weak (x + y + z) q (t * s * p) (2 ^ 62 * 2 ^ 63 * 2 ^ 63) b (2 ^ 61) (pow-pos 188) (scaled b (2 ^ 64 * 2 ^ 64) (t * s * p) 2 (2 ^ 60) low)
         (under-add (x + y) z q (t * s) (2 ^ 62 * 2 ^ 63) p (2 ^ 63) hq (under-add x y q t (2 ^ 62) s (2 ^ 63) hq (A .under) (B .under)) (C .under));
-      above = above-weak (x + y + z) q ((t + 1) * (s + 1) * (p + 32)) (2 ^ 62 * 2 ^ 63 * 2 ^ 63) (b + 40) (2 ^ 61) (pow-pos 188) (scaled ((t + 1) * (s + 1) * (p + 32)) 2 (b + 40) (2 ^ 64 * 2 ^ 64) (2 ^ 60) high)
+    above = above-weak (x + y + z) q ((t + 1) * (s + 1) * (p + 32)) (2 ^ 62 * 2 ^ 63 * 2 ^ 63) (b + 40) (2 ^ 61) (pow-pos 188) (scaled ((t + 1) * (s + 1) * (p + 32)) 2 (b + 40) (2 ^ 64 * 2 ^ 64) (2 ^ 60) high)
         (above-add (x + y) z q ((t + 1) * (s + 1)) (2 ^ 62 * 2 ^ 63) (p + 32) (2 ^ 63) hq (above-add x y q (t + 1) (2 ^ 62) (s + 1) (2 ^ 63) hq (A .above) (B .above)) (C .above));
-    }
+  }
 
   all : (a ≤ 4690000000000000000) × Within (x + y + z) q b (b + 40) (2 ^ 61) × (b < 2 ^ 63)
   all = (a-le, product, b-lt)

@@ -68,10 +68,10 @@ pub record Over (u k : ℕ) : Type 0 where
 
 over-of : (u v k : ℕ) → u ≤ 700 * 2 ^ 53 → u ≤ v * 2 ^ 33 → v * 2 ^ 33 < u + 2 ^ 33 → v * 1549082005 ≤ k * 2 ^ 50 → k * 2 ^ 50 < v * 1549082005 + 2 ^ 50 → Over u k
 over-of u v k h l m n o = record {
-    few = few₃ v k (at-most₃ u v h m) o;
-    fits = reach u (v * 2 ^ 33) (k * 6243314768165359) (k * 897137782 / 2 ^ 32) l (low₃ v k n);
-    rest = less₃ u (v * 2 ^ 33) k (k * 897137782 / 2 ^ 32) (2 ^ 33) (90 * 2 ^ 46) (omega arith) m (high₃ v k (at-most₃ u v h m) o) (part k);
-  }
+  few = few₃ v k (at-most₃ u v h m) o;
+  fits = reach u (v * 2 ^ 33) (k * 6243314768165359) (k * 897137782 / 2 ^ 32) l (low₃ v k n);
+  rest = less₃ u (v * 2 ^ 33) k (k * 897137782 / 2 ^ 32) (2 ^ 33) (90 * 2 ^ 46) (omega arith) m (high₃ v k (at-most₃ u v h m) o) (part k);
+}
 
 pub above-facts : (u : ℕ) → u ≤ 700 * 2 ^ 53 → Over u (aboveOf u)
 above-facts u h = go ((u + 0x1_ffff_ffff) / 2 ^ 33) (omega arith) (omega arith)

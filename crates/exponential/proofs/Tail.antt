@@ -74,10 +74,10 @@ module _ (h : ℕ) (hh : h < 2 ^ 39) where
   pub tail-within : Within h (2 ^ 53) (tailOf h) (tailOf h + 32) (2 ^ 63)
   unfolding tailOf top
   tail-within = record {
-      under = (3, under-terms (2 ^ 53) h a2 a3 (let l = low2 in omega arith) (let l = low3 in omega arith));
-      above = above-weak h (2 ^ 53) top (2 ^ 63) (tailOf h + 32) (2 ^ 63) (omega arith) (mul-le-mul-right (2 ^ 63) (omega arith))
+    under = (3, under-terms (2 ^ 53) h a2 a3 (let l = low2 in omega arith) (let l = low3 in omega arith));
+    above = above-weak h (2 ^ 53) top (2 ^ 63) (tailOf h + 32) (2 ^ 63) (omega arith) (mul-le-mul-right (2 ^ 63) (omega arith))
         (above h (2 ^ 53) 3 top (2 ^ 63) (omega arith) (omega arith) (cap-terms (2 ^ 53) h (a2 + 9) (a3 + 2) 11 (let l = high2 in omega arith) (let l = high3 in omega arith) high4));
-    }
+  }
 
   pub tail-lt : tailOf h < 2 ^ 63 + 2 ^ 50
   unfolding tailOf

@@ -49,7 +49,8 @@ fn exp_bits(negative: bool, u: u64) -> u64
     ensures { λ n. ⌜ n ≡ expBits negative u ⌝ }
 {
     if negative {
-        let k = ((u + 0x1_ffff_ffff) / 0x2_0000_0000 * 1549082005 + 0x3_ffff_ffff_ffff) / 0x4_0000_0000_0000;
+        let k = ((u + 0x1_ffff_ffff) / 0x2_0000_0000 * 1549082005 + 0x3_ffff_ffff_ffff)
+            / 0x4_0000_0000_0000;
         pack(1023 - k, exp_part(times(k) - u))
     } else {
         let k = u / 0x2_0000_0000 * 1549082004 / 0x4_0000_0000_0000;
@@ -63,7 +64,10 @@ fn exp_value(x: f64) -> f64
     ensures { λ r. ⌜ r ≡ expOf x ⌝ }
 {
     let n = f64::to_bits(x);
-    let u = fixed(n % 0x8000_0000_0000_0000 / 0x10_0000_0000_0000, 0x10_0000_0000_0000 + n % 0x10_0000_0000_0000);
+    let u = fixed(
+        n % 0x8000_0000_0000_0000 / 0x10_0000_0000_0000,
+        0x10_0000_0000_0000 + n % 0x10_0000_0000_0000,
+    );
     f64::from_bits(exp_bits(0x8000_0000_0000_0000 <= n, u))
 }
 

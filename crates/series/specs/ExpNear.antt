@@ -72,8 +72,8 @@ one-fine = ((tt, tt), refl)
 pub at-zero : ExpNear (ofBits binary64 0) (ofBits binary64 0x3ff0_0000_0000_0000)
 unfolding num den
 at-zero = record {
-    fine = one-fine .0;
-    sign = one-fine .1;
-    above = rw (one-units .0, one-units .1) (above 0 L 0 (L * 2 ^ 45) (L * (2 ^ 45 - 1)) L-pos (omega arith) (cap-zero L (2 ^ 45 - 1) (2 ^ 45) (omega arith)));
-    below = rw (one-units .0, one-units .1) (0, omega arith);
-  }
+  fine = one-fine .0;
+  sign = one-fine .1;
+  above = rw (one-units .0, one-units .1) (above 0 L 0 (L * 2 ^ 45) (L * (2 ^ 45 - 1)) L-pos (omega arith) (cap-zero L (2 ^ 45 - 1) (2 ^ 45) (omega arith)));
+  below = rw (one-units .0, one-units .1) (0, omega arith);
+}

@@ -8,6 +8,7 @@ pub mod Alternate
 pub mod LogTail
 pub mod Sine
 pub mod SinNear
+pub mod SineNest
 pub mod ExpNear
 pub mod Scale
 pub mod Ln2

@@ -10,7 +10,7 @@ use lib.Ieee.Bits.{is-false, is-true}
 use lib.Pow.{pow-pos, pow-add, pow-mono, shl-lt}
 use lib.Ieee.{Float}
 use Rattle.fixed_point.specs.ToFloat.{toFloatOf, FloatOf}
-use Rattle.sine.specs.Sin.{stepOf, eighthOf, Difference, differenceOf}
+use Rattle.sine.specs.Sine.{stepOf, eighthOf, Difference, differenceOf}
 
 pub cut-le : (h z : ℕ) → z < 2 ^ 64 → h * z / 2 ^ 64 ≤ h
 cut-le h z l = div-le-of-le-mul (2 ^ 64) (le-trans (mul-le-mul-left h (le-of-lt l)) (omega arith))

@@ -1,1 +1,1 @@
-pub mod Sin
+pub mod Sine

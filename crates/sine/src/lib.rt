@@ -3,9 +3,9 @@ use numbers::Elementary;
 ghost use mathlib.Core.Path.{_≡_};
 ghost use mathlib.Core.Bool.{true};
 ghost use Prim.Native.Nat.{_+_, _*_, _/_, _^_, _≤_, _<_};
-ghost use Rattle.numbers.specs.Range.{inRange, ranged, bare, onPath};
+ghost use Rattle.numbers.specs.Range.{inRange, bare, onPath};
 ghost use Rattle.series.specs.SinNear.{SinNear};
-ghost use Rattle.sine.specs.Sin.{stepOf, nested, plusses, minuses, eighthOf, plusOf, minusOf, Difference, sinOf, low, high};
+ghost use Rattle.sine.specs.Sine.{stepOf, nested, plusses, minuses, eighthOf, plusOf, minusOf, Difference, low, high, sinOf, sinRanged};
 
 // One step of a nested sum: c + h * z, z in units of 2^-64.
 fn step(c: u64, h: u64, z: u64) -> u64
@@ -92,8 +92,9 @@ fn sin_value(x: f64) -> f64
     at_eighth(eighth(e, m), b >= 0x8000_0000_0000_0000)
 }
 
-fn within(x: f64) -> Elementary
-    ensures { λ r. ⌜ r ≡ ranged low high x (sinOf x) ⌝ }
+// The sine within its range; outside it a refusal by 2.
+pub fn sin_ranged(x: f64) -> Elementary
+    ensures { λ r. ⌜ r ≡ sinRanged x ⌝ }
 {
     if numbers::in_range(-8.0, 8.0, x) {
         Elementary::Value(sin_value(x))
@@ -104,10 +105,10 @@ fn within(x: f64) -> Elementary
 
 // A bare call: a NaN or an infinity is refused by 1 (document 01, section 6).
 pub fn sin(x: f64) -> Elementary
-    ensures { λ r. ⌜ r ≡ bare x (ranged low high x (sinOf x)) ⌝ }
+    ensures { λ r. ⌜ r ≡ bare x (sinRanged x) ⌝ }
 {
     if numbers::is_finite(x) {
-        within(x)
+        sin_ranged(x)
     } else {
         Elementary::Refused(1)
     }
@@ -115,10 +116,10 @@ pub fn sin(x: f64) -> Elementary
 
 // Inside a law: a NaN arose on the path, refusal 3.
 pub fn sin_on_path(x: f64) -> Elementary
-    ensures { λ r. ⌜ r ≡ onPath x (ranged low high x (sinOf x)) ⌝ }
+    ensures { λ r. ⌜ r ≡ onPath x (sinRanged x) ⌝ }
 {
     if numbers::is_number(x) {
-        within(x)
+        sin_ranged(x)
     } else {
         Elementary::Refused(3)
     }

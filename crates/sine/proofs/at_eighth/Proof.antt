@@ -1,4 +1,4 @@
-use Rattle.sine.specs.Sin.{plusOf, minusOf}
+use Rattle.sine.specs.Sine.{plusOf, minusOf}
 use borrow.Author.Needs.{needs}
 use Rattle.sine.proofs.at_eighth.Statement.{statement}
 use Rattle.sine.proofs.at_eighth.Tie as tie

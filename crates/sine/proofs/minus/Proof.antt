@@ -1,4 +1,4 @@
-use Rattle.sine.specs.Sin.{nested}
+use Rattle.sine.specs.Sine.{nested}
 use borrow.Author.Needs.{needs}
 use Rattle.sine.proofs.minus.Statement.{statement}
 use Rattle.sine.proofs.minus.Tie as tie

@@ -4,21 +4,21 @@ use Rattle.sine.proofs.sin_on_path.Tie as tie
 use Rattle.sine.proofs.sin_on_path.Reads as reads
 use Rattle.sine.proofs.sin_on_path.Lts as lts
 use Rattle.numbers.proofs.is_number.Reads as is-number-reads
-use Rattle.sine.proofs.within.Reads as within-reads
+use Rattle.sine.proofs.sin_ranged.Reads as sin-ranged-reads
 
 -- src/lib.rt:120:8
 is-number-requires : tie.Need-is-number-requires
 is-number-requires c κs = search needs
 
 -- src/lib.rt:121:9
-within-requires : tie.Need-within-requires
-within-requires c κs = search needs
+sin-ranged-requires : tie.Need-sin-ranged-requires
+sin-ranged-requires c κs = search needs
 
 -- src/lib.rt:117:1
 returns : tie.Need-returns
 returns c =
     let t0 = simp (c .before .before .is-number .ensures) at (c .before .if1 .taken) in
-    simp (c .within .ensures, c .before .before .is-number .ensures, t0)
+    simp (c .sin-ranged .ensures, c .before .before .is-number .ensures, t0)
 
 -- src/lib.rt:117:1
 returns-2 : tie.Need-returns-2
@@ -27,4 +27,4 @@ returns-2 c =
     simp (c .before .is-number .ensures, t0)
 
 pub sin-on-path-spec : {M : Type 1} → statement M
-sin-on-path-spec = tie.close (tie.spec is-number-requires within-requires returns returns-2)
+sin-on-path-spec = tie.close (tie.spec is-number-requires sin-ranged-requires returns returns-2)

@@ -1,5 +1,5 @@
 use Rattle.sine.proofs.Laws.{stepped}
-use Rattle.sine.specs.Sin.{stepOf}
+use Rattle.sine.specs.Sine.{stepOf}
 use mathlib.Core.Path.{_≡_}
 use Prim.Native.Nat.{_+_, _≤_}
 use native.Mathlib.Nat.{lt-of-le-of-lt}

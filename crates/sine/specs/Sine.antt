@@ -7,6 +7,8 @@ use mathlib.Core.Path.{_≡_}
 use lib.Dec.{leb}
 use lib.Ieee.{Float, binary64, toBits, ofBits, neg}
 use Rattle.exact.specs.Fields.{signAt, exponentAt, digitsAt}
+use Rattle.numbers.specs.Range.{ranged}
+use Rattle.numbers.specs.declared.Elementary.{Elementary}
 use Rattle.fixed_point.specs.ToFloat.{toFloatOf, FloatOf}
 
 -- 8 ^ (2 k + 1) / (2 k + 1)! in units of 2 ^ -54, cut: k = 0, 2, .. 20, and k = 1, 3, .. 21
@@ -65,3 +67,7 @@ sinAt b = differenceOf (plusOf (eighthAt b)) (minusOf (eighthAt b)) (signAt b)
 
 unfoldable pub sinOf : Float → Float
 sinOf x = sinAt (toBits binary64 x)
+
+-- within its range
+abbrev pub sinRanged : Float → Elementary
+sinRanged x = ranged low high x (sinOf x)

@@ -1,8 +1,8 @@
 use borrow.Author.Needs.{needs}
-use Rattle.sine.proofs.within.Statement.{statement}
-use Rattle.sine.proofs.within.Tie as tie
-use Rattle.sine.proofs.within.Reads as reads
-use Rattle.sine.proofs.within.Lts as lts
+use Rattle.sine.proofs.sin_ranged.Statement.{statement}
+use Rattle.sine.proofs.sin_ranged.Tie as tie
+use Rattle.sine.proofs.sin_ranged.Reads as reads
+use Rattle.sine.proofs.sin_ranged.Lts as lts
 use Rattle.numbers.proofs.in_range.Reads as in-range-reads
 use Rattle.numbers.proofs.outside.Reads as outside-reads
 use Rattle.sine.proofs.sin_value.Reads as sin-value-reads
@@ -31,6 +31,6 @@ returns-2 c =
     let t0 = simp (c .before .before .in-range .ensures) at (c .before .if1 .left) in
     simp (c .outside .ensures, c .before .before .in-range .ensures, t0)
 
-pub within-spec : {M : Type 1} → statement M
-within-spec =
+pub sin-ranged-spec : {M : Type 1} → statement M
+sin-ranged-spec =
     tie.close (tie.spec in-range-requires sin-value-requires outside-requires returns returns-2)
