@@ -1,3 +1,4 @@
+use Rattle.sine.proofs.Terms.{minus-cut, plus-cut}
 use borrow.Author.Needs.{needs}
 use Rattle.sine.proofs.sin_value.Statement.{statement}
 use Rattle.sine.proofs.sin_value.Tie as tie
