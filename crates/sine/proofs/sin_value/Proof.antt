@@ -1,4 +1,5 @@
 use Rattle.sine.proofs.Terms.{minus-cut, plus-cut}
+use Rattle.sine.proofs.Size.{Sized, sized}
 use borrow.Author.Needs.{needs}
 use Rattle.sine.proofs.sin_value.Statement.{statement}
 use Rattle.sine.proofs.sin_value.Tie as tie
