@@ -14,3 +14,4 @@ pub mod Shift
 pub mod Fields
 pub mod OrderLe
 pub mod Cut
+pub mod Symmetric

@@ -8,9 +8,8 @@ use lib.Dec.{T, leb, leb→le, le→leb}
 use lib.Arith.{lt→nleb}
 use lib.Ieee.Bits.{is-false, is-true}
 use lib.Pow.{pow-pos, pow-add, pow-mono, shl-lt}
-use lib.Ieee.{Float}
-use Rattle.fixed_point.specs.ToFloat.{toFloatOf, FloatOf}
-use Rattle.sine.specs.Sine.{stepOf, eighthOf, Difference, differenceOf}
+use Rattle.fixed_point.specs.ToFloat.{toFloatOf}
+use Rattle.sine.specs.Sine.{stepOf, eighthOf, differenceOf}
 
 pub cut-le : (h z : ℕ) → z < 2 ^ 64 → h * z / 2 ^ 64 ≤ h
 cut-le h z l = div-le-of-le-mul (2 ^ 64) (le-trans (mul-le-mul-left h (le-of-lt l)) (omega arith))
@@ -37,19 +36,10 @@ pub below-eight : (e m : ℕ) → e < 1026 → 2 * (m * 2 ^ (e + 7) / 2 ^ 1022) 
 unfolding eighthOf
 below-eight e m h = rw (is-false (leb 1026 e) (lt→nleb 1026 e h)) refl
 
-module _ (a c : ℕ) (s : Bool) (r : Float) where
-  pub plus-difference : c ≤ a → FloatOf (a - c) 54 s r → Difference a c s r
-  unfolding differenceOf
-  plus-difference h f = record {
-    is = f .is ∙ ap (λ (b : Bool). cond b (toFloatOf (a - c) 54 s) (toFloatOf (c - a) 54 (not s))) (sym (is-true (leb c a) (le→leb c a h)));
-    same = λ _. f;
-    other = λ l. absurd (not-le-of-lt l h);
-  }
+pub plus-difference : (a c : ℕ) (s : Bool) → c ≤ a → toFloatOf (a - c) 54 s ≡ differenceOf a c s
+unfolding differenceOf
+plus-difference a c s h = rw (is-true (leb c a) (le→leb c a h)) refl
 
-  pub minus-difference : a < c → FloatOf (c - a) 54 (not s) r → Difference a c s r
-  unfolding differenceOf
-  minus-difference l f = record {
-    is = f .is ∙ ap (λ (b : Bool). cond b (toFloatOf (a - c) 54 s) (toFloatOf (c - a) 54 (not s))) (sym (is-false (leb c a) (lt→nleb c a l)));
-    same = λ h. absurd (not-le-of-lt l h);
-    other = λ _. f;
-  }
+pub minus-difference : (a c : ℕ) (s : Bool) → a < c → toFloatOf (c - a) 54 (not s) ≡ differenceOf a c s
+unfolding differenceOf
+minus-difference a c s l = rw (is-false (leb c a) (lt→nleb c a l)) refl

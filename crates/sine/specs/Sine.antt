@@ -2,14 +2,13 @@
 -- said by series/specs/SinNear.
 use mathlib.Core.Bool.{Bool, not, cond}
 use mathlib.Core.List.{List, [], _∷_}
-use Prim.Native.Nat.{ℕ, _+_, _-_, _*_, _/_, _^_, _≤_, _<_}
-use mathlib.Core.Path.{_≡_}
+use Prim.Native.Nat.{ℕ, _+_, _-_, _*_, _/_, _^_}
 use lib.Dec.{leb}
 use lib.Ieee.{Float, binary64, toBits, ofBits, neg}
 use Rattle.exact.specs.Fields.{signAt, exponentAt, digitsAt}
 use Rattle.numbers.specs.Range.{ranged}
 use Rattle.numbers.specs.declared.Elementary.{Elementary}
-use Rattle.fixed_point.specs.ToFloat.{toFloatOf, FloatOf}
+use Rattle.fixed_point.specs.ToFloat.{toFloatOf}
 
 -- 8 ^ (2 k + 1) / (2 k + 1)! in units of 2 ^ -54, cut: k = 0, 2, .. 20, and k = 1, 3, .. 21
 abbrev pub plusses : List ℕ
@@ -46,11 +45,6 @@ minusOf v = nested (square (square v)) minuses * square v / 2 ^ 64 * v / 2 ^ 64
 unfoldable pub differenceOf : ℕ → ℕ → Bool → Float
 differenceOf a c s = cond (leb c a) (toFloatOf (a - c) 54 s) (toFloatOf (c - a) 54 (not s))
 
-pub record Difference (a c : ℕ) (s : Bool) (r : Float) : Type 0 where
-  pub is : r ≡ differenceOf a c s
-  pub same : c ≤ a → FloatOf (a - c) 54 s r
-  pub other : a < c → FloatOf (c - a) 54 (not s) r
-
 -- the ends of the range (document 01, section 3): -8 and 8
 abbrev pub low : Float
 low = neg (ofBits binary64 0x4020_0000_0000_0000)
@@ -60,7 +54,7 @@ high = ofBits binary64 0x4020_0000_0000_0000
 
 -- by the pattern's sign, exponent and digits
 abbrev pub eighthAt : ℕ → ℕ
-eighthAt b = eighthOf (exponentAt b) (digitsAt b + 2 ^ 52)
+eighthAt b = eighthOf (exponentAt b) (2 ^ 52 + digitsAt b)
 
 abbrev pub sinAt : ℕ → Float
 sinAt b = differenceOf (plusOf (eighthAt b)) (minusOf (eighthAt b)) (signAt b)

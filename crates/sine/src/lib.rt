@@ -5,7 +5,7 @@ ghost use mathlib.Core.Bool.{true};
 ghost use Prim.Native.Nat.{_+_, _*_, _/_, _^_, _≤_, _<_};
 ghost use Rattle.numbers.specs.Range.{inRange, bare, onPath};
 ghost use Rattle.series.specs.SinNear.{SinNear};
-ghost use Rattle.sine.specs.Sine.{stepOf, nested, plusses, minuses, eighthOf, plusOf, minusOf, Difference, low, high, sinOf, sinRanged};
+ghost use Rattle.sine.specs.Sine.{stepOf, nested, plusses, minuses, eighthOf, plusOf, minusOf, differenceOf, low, high, sinOf, sinRanged};
 
 // One step of a nested sum: c + h * z, z in units of 2^-64.
 fn step(c: u64, h: u64, z: u64) -> u64
@@ -61,7 +61,7 @@ fn eighth(e: u64, m: u64) -> u64
 
 // The float of a - c, both in units of 2^-54, with the sign turned where `negative` says so.
 fn difference(a: u64, c: u64, negative: bool) -> f64
-    ensures { λ r. ⌜ Difference a c negative r ⌝ }
+    ensures { λ r. ⌜ r ≡ differenceOf a c negative ⌝ }
 {
     if a >= c {
         fixed_point::to_float(a - c, 54, negative)
@@ -72,7 +72,7 @@ fn difference(a: u64, c: u64, negative: bool) -> f64
 
 // The sine at 8 v, v in units of 2^-64.
 fn at_eighth(v: u64, negative: bool) -> f64
-    ensures { λ r. ⌜ Difference (plusOf v) (minusOf v) negative r ⌝ }
+    ensures { λ r. ⌜ r ≡ differenceOf (plusOf v) (minusOf v) negative ⌝ }
 {
     let y = fixed_point::mulhi(v, v);
     let z = fixed_point::mulhi(y, y);
@@ -88,7 +88,7 @@ fn sin_value(x: f64) -> f64
 {
     let b = numbers::bits_of(x);
     let e = b % 0x8000_0000_0000_0000 / 0x10_0000_0000_0000;
-    let m = b % 0x10_0000_0000_0000 + 0x10_0000_0000_0000;
+    let m = 0x10_0000_0000_0000 + b % 0x10_0000_0000_0000;
     at_eighth(eighth(e, m), b >= 0x8000_0000_0000_0000)
 }
 

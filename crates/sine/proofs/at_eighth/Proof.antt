@@ -44,7 +44,7 @@ difference-requires c κs = search needs
 -- src/lib.rt:74:1
 returns : tie.Need-returns
 unfolding plusOf minusOf
-returns c = simp (c .before .mulhi5 .ensures, c .before .before .mulhi4 .ensures, c .before .before .before .minus .ensures, c .before .before .before .before .mulhi3 .ensures, c .before .before .before .before .before .plus .ensures, c .before .before .before .before .before .before .mulhi2 .ensures, c .before .before .before .before .before .before .before .mulhi .ensures) at (c .difference .ensures)
+returns c = simp (c .difference .ensures, c .before .mulhi5 .ensures, c .before .before .mulhi4 .ensures, c .before .before .before .minus .ensures, c .before .before .before .before .mulhi3 .ensures, c .before .before .before .before .before .plus .ensures, c .before .before .before .before .before .before .mulhi2 .ensures, c .before .before .before .before .before .before .before .mulhi .ensures)
 
 pub at-eighth-spec : {M : Type 1} → statement M
 at-eighth-spec =

@@ -1,3 +1,4 @@
+use mathlib.Core.Path.{_∙_}
 use Rattle.sine.proofs.Laws.{plus-difference, minus-difference}
 use borrow.Author.Needs.{needs}
 use Rattle.sine.proofs.difference.Statement.{statement}
@@ -20,13 +21,11 @@ to-float-requires-2 c κs = search needs
 
 -- src/lib.rt:60:1
 returns : tie.Need-returns
-returns c =
-    plus-difference (c .before .before .args .a) (c .before .before .args .c) (c .before .before .args .negative) (c .to-float .result) (c .before .if1 .taken) (c .to-float .ensures)
+returns c = c .to-float .ensures .is ∙ plus-difference (c .before .before .args .a) (c .before .before .args .c) (c .before .before .args .negative) (c .before .if1 .taken)
 
 -- src/lib.rt:60:1
 returns-2 : tie.Need-returns-2
-returns-2 c =
-    minus-difference (c .before .before .args .a) (c .before .before .args .c) (c .before .before .args .negative) (c .to-float2 .result) (c .before .if1 .left) (c .to-float2 .ensures)
+returns-2 c = c .to-float2 .ensures .is ∙ minus-difference (c .before .before .args .a) (c .before .before .args .c) (c .before .before .args .negative) (c .before .if1 .left)
 
 pub difference-spec : {M : Type 1} → statement M
 difference-spec =

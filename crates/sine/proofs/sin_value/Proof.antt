@@ -1,3 +1,4 @@
+use Rattle.sine.proofs.Argument.{Eighth}
 use Rattle.sine.proofs.Terms.{minus-cut, plus-cut}
 use Rattle.sine.proofs.Size.{Sized, sized}
 use borrow.Author.Needs.{needs}
