@@ -1,6 +1,4 @@
-use Rattle.sine.proofs.Argument.{Eighth}
-use Rattle.sine.proofs.Terms.{minus-cut, plus-cut}
-use Rattle.sine.proofs.Size.{Sized, sized}
+use Rattle.sine.proofs.Near as near
 use borrow.Author.Needs.{needs}
 use Rattle.sine.proofs.sin_value.Statement.{statement}
 use Rattle.sine.proofs.sin_value.Tie as tie
