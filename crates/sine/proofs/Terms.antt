@@ -101,7 +101,6 @@ module _ (p q v : ℕ) (hq : 0 < q) (hp : p ≤ 8 * q) (hv : v < 2 ^ 64) (at : C
       cut-same (h * y / 2 ^ 64 * v / 2 ^ 64) 140 (2 ^ 63 * n * (p * p * 2 ^ 64) * (p * 2 ^ 64)) (6 * s * (8 * q * (8 * q)) * 2 ^ 64 * (8 * q) * 2 ^ 64) (2 ^ 54 * (p * (p * p) * n)) (q * (6 * (q * q)) * s) (mul-pos (mul-pos (mul-pos (mul-pos six (mul-pos e8 e8)) (pow-pos 64)) e8) (pow-pos 64)) (minus-plain n s p q (2 ^ 64))
       (cut-mul (h * y / 2 ^ 64) 137 (2 ^ 63 * n * (p * p * 2 ^ 64)) (6 * s * (8 * q * (8 * q)) * 2 ^ 64) v 2 (p * 2 ^ 64) (8 * q) (2 ^ 64) (pow-pos 64) (le-trans (cut-le h y (square-lt v hv)) top) (fraction-le p (8 * q) (2 ^ 64) hp) once at)
 
-
   pub plus-cut : Cut (plusOf v) 134 (2 ^ 54 * added p q 21) (den q 21)
   unfolding den
   plus-cut =

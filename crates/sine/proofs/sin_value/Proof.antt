@@ -1,4 +1,7 @@
-use Rattle.sine.proofs.Near as near
+use mathlib.Core.Path.{_≡_, sym, subst}
+use lib.Dec.{T}
+use Rattle.sine.specs.Sine.{sinOf}
+use Rattle.sine.proofs.Near.{sin-near}
 use borrow.Author.Needs.{needs}
 use Rattle.sine.proofs.sin_value.Statement.{statement}
 use Rattle.sine.proofs.sin_value.Tie as tie
@@ -26,7 +29,12 @@ at-eighth-requires c κs = search needs
 
 -- src/lib.rt:85:1
 returns : tie.Need-returns
-returns c = ?
+unfolding sinOf
+returns c =
+    let s = c .before .before .before in
+    let x = s .args .x in
+    let e : c .at-eighth .result ≡ sinOf x = simp (c .at-eighth .ensures, c .before .eighth .ensures, c .before .before .bits-of .ensures) in
+    (e, rw e (sin-near x (subst T (sym (s .good .0 .1)) tt) (s .pre)))
 
 pub sin-value-spec : {M : Type 1} → statement M
 sin-value-spec =
