@@ -1,29 +1,22 @@
+-- `sine::difference` meets its contract. Assumes nothing.
 use mathlib.Core.Path.{_∙_}
 use Rattle.sine.proofs.Laws.{plus-difference, minus-difference}
 use borrow.Author.Needs.{needs}
 use Rattle.sine.proofs.difference.Statement.{statement}
 use Rattle.sine.proofs.difference.Tie as tie
-use Rattle.sine.proofs.difference.Reads as reads
-use Rattle.sine.proofs.difference.Lts as lts
-use Rattle.fixed_point.proofs.to_float.Reads as to-float-reads
 
--- src/lib.rt:64:9
 to-float-requires : tie.Need-to-float-requires
 to-float-requires c κs = search needs
 
--- src/lib.rt:66:31
 sub-to-float : tie.Need-sub-to-float
 sub-to-float c = search needs
 
--- src/lib.rt:66:9
 to-float-requires-2 : tie.Need-to-float-requires-2
 to-float-requires-2 c κs = search needs
 
--- src/lib.rt:60:1
 returns : tie.Need-returns
 returns c = c .to-float .ensures .is ∙ plus-difference (c .before .before .args .a) (c .before .before .args .c) (c .before .before .args .negative) (c .before .if1 .taken)
 
--- src/lib.rt:60:1
 returns-2 : tie.Need-returns-2
 returns-2 c = c .to-float2 .ensures .is ∙ minus-difference (c .before .before .args .a) (c .before .before .args .c) (c .before .before .args .negative) (c .before .if1 .left)
 

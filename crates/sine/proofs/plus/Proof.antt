@@ -1,52 +1,39 @@
+-- `sine::plus` meets its contract. Assumes nothing.
 use Rattle.sine.specs.Sine.{nested}
 use borrow.Author.Needs.{needs}
 use Rattle.sine.proofs.plus.Statement.{statement}
 use Rattle.sine.proofs.plus.Tie as tie
-use Rattle.sine.proofs.plus.Reads as reads
-use Rattle.sine.proofs.plus.Lts as lts
-use Rattle.sine.proofs.step.Reads as step-reads
 
--- src/lib.rt:19:9
 step-requires : tie.Need-step-requires
 step-requires c κs = search needs
 
--- src/lib.rt:20:9
 step-requires-2 : tie.Need-step-requires-2
 step-requires-2 c κs = search needs
 
--- src/lib.rt:21:9
 step-requires-3 : tie.Need-step-requires-3
 step-requires-3 c κs = search needs
 
--- src/lib.rt:22:9
 step-requires-4 : tie.Need-step-requires-4
 step-requires-4 c κs = search needs
 
--- src/lib.rt:23:9
 step-requires-5 : tie.Need-step-requires-5
 step-requires-5 c κs = search needs
 
--- src/lib.rt:24:9
 step-requires-6 : tie.Need-step-requires-6
 step-requires-6 c κs = search needs
 
--- src/lib.rt:25:9
 step-requires-7 : tie.Need-step-requires-7
 step-requires-7 c κs = search needs
 
--- src/lib.rt:26:9
 step-requires-8 : tie.Need-step-requires-8
 step-requires-8 c κs = search needs
 
--- src/lib.rt:27:9
 step-requires-9 : tie.Need-step-requires-9
 step-requires-9 c κs = search needs
 
--- src/lib.rt:28:5
 step-requires-10 : tie.Need-step-requires-10
 step-requires-10 c κs = search needs
 
--- src/lib.rt:16:1
 returns : tie.Need-returns
 unfolding nested
 returns c =

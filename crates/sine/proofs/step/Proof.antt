@@ -1,3 +1,4 @@
+-- `sine::step` meets its contract. Assumes nothing.
 use Rattle.sine.proofs.Laws.{stepped}
 use Rattle.sine.specs.Sine.{stepOf}
 use mathlib.Core.Path.{_≡_}
@@ -10,7 +11,6 @@ use Rattle.sine.proofs.step.Reads as reads
 use Rattle.sine.proofs.step.Lts as lts
 use Rattle.fixed_point.proofs.mulhi.Reads as mulhi-reads
 
--- src/lib.rt:12:9
 mulhi-requires : tie.Need-mulhi-requires
 mulhi-requires c κs = search needs
 
@@ -20,7 +20,6 @@ stepped-at c = stepped (c .before .args .c) (c .before .args .h) (c .before .arg
 add-result : tie.Need-add-result
 add-result c = record { fits = lt-of-le-of-lt (stepped-at c .1) (c .before .pre) }
 
--- src/lib.rt:8:1
 returns : tie.Need-returns
 returns c = stepped-at c
 
