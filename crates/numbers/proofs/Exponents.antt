@@ -1,5 +1,5 @@
 -- The exponent's field of a finite number is not all ones. Assumes nothing.
-use mathlib.Core.Path.{_≡_, sym, subst, _∙_}
+use mathlib.Core.Path.{sym, subst, _∙_}
 use mathlib.Core.Bool.{Bool, not}
 use Prim.Native.Nat.{ℕ, suc, _/_, _%_, _^_, _<_}
 use native.Mathlib.Omega.{arith, by-contra}

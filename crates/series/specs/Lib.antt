@@ -8,6 +8,8 @@ pub mod Alternate
 pub mod LogTail
 pub mod Sine
 pub mod SinNear
+pub mod SinSure
+pub mod SinNarrow
 pub mod SineNest
 pub mod ExpNear
 pub mod Scale

@@ -1,7 +1,7 @@
 -- The series of the sine at a fraction p / q ≥ 0 (NIST DLMF 4.19.1): a - a^3 / 3! + a^5 / 5! - .. with a = p / q. Assumes nothing.
-use mathlib.Core.Path.{_≡_, refl, sym, ap, _∙_, subst}
+use mathlib.Core.Path.{_≡_, ap, _∙_, subst}
 use Prim.Native.Nat.{ℕ, zero, suc, _+_, _-_, _*_, _≤_, _<_}
-use native.Mathlib.Nat.{le-refl, le-trans, mul-pos, mul-le-mul, mul-le-mul-right, zero-lt-suc, sub-add-cancel}
+use native.Mathlib.Nat.{le-trans, mul-pos, mul-le-mul, mul-le-mul-right, zero-lt-suc, sub-add-cancel}
 use native.Mathlib.Omega.{arith}
 use Rattle.series.specs.Alternate.{even}
 
@@ -38,8 +38,8 @@ unfolding den
 den-pos q zero h = h
 den-pos q (suc n) h = mul-pos (den-pos q n h) (ratio-pos q n h)
 
-falls-next : (p q n : ℕ) → Falls p q n → Falls p q (suc n)
-falls-next p q n h = le-trans h (mul-le-mul-right (q * q) (mul-le-mul {n₁ = 2 * n + 2} {m₁ = 2 * n + 3} {n₂ = 2 * suc n + 2} {m₂ = 2 * suc n + 3} (omega arith) (omega arith)))
+pub ratio-mono : (q n : ℕ) → ratio q n ≤ ratio q (suc n)
+ratio-mono q n = mul-le-mul-right (q * q) (mul-le-mul {n₁ = 2 * n + 2} {m₁ = 2 * n + 3} {n₂ = 2 * suc n + 2} {m₂ = 2 * suc n + 3} (omega arith) (omega arith))
 
 -- what follows the n-th sum up to the m-th is part / span of the n-th term, with the sign of the next one; span is den q m / den q n
 pub record Rest (p q n m : ℕ) : Type 0 where
@@ -80,4 +80,4 @@ module _ (p q : ℕ) (hq : 0 < q) where
       let same : n ≡ m = omega arith in
       subst (λ (k : ℕ). Rest p q n k) same
       (record { span = 1; part = 0; wide = zero-lt-suc 0; over = omega arith; small = omega arith; next = omega arith; same = omega arith })
-  rest (suc d) n m e h = rest-back n m h (rest d (suc n) m (omega arith) (falls-next p q n h))
+  rest (suc d) n m e h = rest-back n m h (rest d (suc n) m (omega arith) (le-trans h (ratio-mono q n)))

@@ -1,7 +1,7 @@
 -- Every other term of the sine's series, summed by nesting: the terms k, k + 2, .. k + 2 d are the k-th term times 1 + (a^4 / ..) (1 + ..).
 -- Assumes nothing.
-use mathlib.Core.Path.{_≡_, refl, sym, ap, _∙_, subst}
-use Prim.Native.Nat.{ℕ, zero, suc, _+_, _*_, _≤_, _<_}
+use mathlib.Core.Path.{_≡_, refl, _∙_, subst}
+use Prim.Native.Nat.{ℕ, zero, suc, _+_, _*_, _<_}
 use native.Mathlib.Nat.{mul-pos, zero-lt-suc}
 use native.Mathlib.Omega.{arith}
 use Rattle.series.specs.Alternate.{even}

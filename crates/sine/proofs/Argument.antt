@@ -1,17 +1,17 @@
 -- An eighth of x in units of 2 ^ -64, from its pattern. Assumes nothing.
 use mathlib.Core.Path.{_≡_, refl, sym, ap, _∙_, subst, subst₂}
 use mathlib.Core.Bool.{Bool, true, false, not}
-use Prim.Native.Nat.{ℕ, zero, suc, _+_, _-_, _*_, _/_, _%_, _^_, _≤_, _<_}
-use native.Mathlib.Nat.{le-trans, le-of-eq, le-of-lt, lt-of-lt-of-le, mul-le-mul, mul-le-mul-right, div-mul-le-self, lt-mul-div-succ, div-eq-of-lt, pow-suc, mul-assoc}
+use Prim.Native.Nat.{ℕ, zero, suc, _+_, _-_, _*_, _/_, _^_, _≤_, _<_}
+use native.Mathlib.Nat.{le-trans, le-of-eq, le-of-lt, lt-of-lt-of-le, mul-le-mul, div-mul-le-self, lt-mul-div-succ, div-eq-of-lt, mul-assoc}
 use native.Mathlib.Omega.{arith}
 use lib.Dec.{T, ltb, ltb→lt, nltb→le}
-use lib.IntN.{ℤ, pos, negℤ}
+use lib.IntN.{pos, negℤ}
 use lib.Pow.{pow-pos, pow-add, pow-mono, shl-lt}
 use lib.Ieee as Ieee
 use lib.Ieee.{Float, binary64, ofBits, toBits, fits}
 use lib.Ieee.Scale.{finite}
-use Rattle.exact.specs.Units.{L, L-pos, mag, sgn, Fin64}
-use Rattle.exact.specs.Fields.{Has, signAt, exponentAt, digitsAt, normal-units, small-units, of-own}
+use Rattle.exact.specs.Units.{L, mag, sgn, Fin64}
+use Rattle.exact.specs.Fields.{signAt, exponentAt, digitsAt, normal-units, small-units, of-own}
 use Rattle.exact.specs.Value.{val}
 use Rattle.exact.specs.Symmetric.{symmetric-finite, symmetric-mag}
 use Rattle.numbers.specs.Range.{inRange}

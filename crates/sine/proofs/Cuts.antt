@@ -1,7 +1,7 @@
 -- A whole number just below a fraction, and what sums and cut products of such numbers are just below. Assumes nothing.
-use mathlib.Core.Path.{_≡_, refl, sym, ap, _∙_}
-use Prim.Native.Nat.{ℕ, zero, suc, _+_, _*_, _/_, _%_, _≤_, _<_}
-use native.Mathlib.Nat.{le-trans, le-of-eq, le-of-mul-le-mul-right, mul-le-mul-right, mul-le-mul, le-of-lt, lt-of-lt-of-le, div-mul-le-self, lt-mul-div-succ}
+use mathlib.Core.Path.{_≡_}
+use Prim.Native.Nat.{ℕ, _+_, _*_, _/_, _≤_, _<_}
+use native.Mathlib.Nat.{le-trans, le-of-mul-le-mul-right, mul-le-mul-right, mul-le-mul, le-of-lt, lt-of-lt-of-le, div-mul-le-self, lt-mul-div-succ}
 use native.Mathlib.Omega.{arith}
 
 -- v ≤ X / W ≤ v + e

@@ -1,13 +1,13 @@
 -- What the steps of the sine keep to: their sizes. Assumes nothing.
-use mathlib.Core.Path.{_≡_, refl, sym, ap, _∙_}
-use mathlib.Core.Bool.{Bool, true, false, not, cond}
-use Prim.Native.Nat.{ℕ, zero, suc, _+_, _-_, _*_, _/_, _^_, _≤_, _<_}
-use native.Mathlib.Nat.{le-refl, add-le-add, mul-le-mul-left, le-of-lt, le-trans, div-le-of-le-mul, div-lt-iff-lt-mul, lt-of-lt-of-le, not-le-of-lt}
+use mathlib.Core.Path.{_≡_, refl}
+use mathlib.Core.Bool.{Bool, not}
+use Prim.Native.Nat.{ℕ, _+_, _-_, _*_, _/_, _^_, _≤_, _<_}
+use native.Mathlib.Nat.{le-refl, add-le-add, mul-le-mul-left, le-of-lt, le-trans, div-le-of-le-mul, div-lt-iff-lt-mul, lt-of-lt-of-le}
 use native.Mathlib.Omega.{arith}
-use lib.Dec.{T, leb, leb→le, le→leb}
+use lib.Dec.{leb, le→leb}
 use lib.Arith.{lt→nleb}
 use lib.Ieee.Bits.{is-false, is-true}
-use lib.Pow.{pow-pos, pow-add, pow-mono, shl-lt}
+use lib.Pow.{pow-pos, pow-mono, shl-lt}
 use Rattle.fixed_point.specs.ToFloat.{toFloatOf}
 use Rattle.sine.specs.Sine.{stepOf, eighthOf, differenceOf}
 

@@ -1,8 +1,8 @@
 -- The sine is as near as document 01, section 3, asks: sin-near. And exactly 0 at 0: sin-zero. Assumes nothing.
-use mathlib.Core.Path.{_≡_, refl, sym, ap, _∙_, subst, subst₂}
+use mathlib.Core.Path.{_≡_, refl, sym, ap, subst, subst₂}
 use mathlib.Core.Bool.{Bool, true, false, not, cond}
-use Prim.Native.Nat.{ℕ, zero, suc, _+_, _-_, _*_, _/_, _^_, _≤_, _<_}
-use native.Mathlib.Nat.{le-refl, le-trans, le-of-eq, le-of-lt, lt-of-le-of-lt, le-of-mul-le-mul-right, mul-le-mul, mul-le-mul-right, mul-assoc, sub-add-cancel, sub-le, zero-lt-suc}
+use Prim.Native.Nat.{ℕ, zero, suc, _+_, _-_, _*_, _^_, _≤_, _<_}
+use native.Mathlib.Nat.{le-trans, le-of-eq, le-of-lt, lt-of-le-of-lt, le-of-mul-le-mul-right, mul-le-mul, mul-le-mul-right, mul-assoc, sub-add-cancel, sub-le, zero-lt-suc}
 use native.Mathlib.Omega.{arith}
 use native.Mathlib.Bridge.{le-by-compare, IsLe}
 use lib.Dec.{T, leb, leb→le, nleb→lt}
@@ -14,12 +14,13 @@ use Rattle.exact.specs.Fields.{signAt}
 use Rattle.fixed_point.specs.ToFloat.{toFloatOf, FloatOf}
 use Rattle.fixed_point.specs.FloatOfLaw.{float-of}
 use Rattle.numbers.specs.Range.{inRange}
-use Rattle.series.specs.Sine.{odd, ratio, den, added, taken, Falls}
-use Rattle.series.specs.SinNear.{SinNear, Sure, sure, Close}
+use Rattle.series.specs.Sine.{odd, ratio, den, added, taken}
+use Rattle.series.specs.SinNear.{SinNear}
+use Rattle.series.specs.SinSure.{Sure, sure}
 use Rattle.sine.specs.Sine.{stepOf, nested, plusOf, minusOf, differenceOf, eighthOf, eighthAt, low, high, sinOf}
 use Rattle.sine.proofs.Cuts.{Cut}
 use Rattle.sine.proofs.Terms.{plus-cut, minus-cut}
-use Rattle.sine.proofs.Size.{Sized, sized}
+use Rattle.sine.proofs.Size.{sized}
 use Rattle.sine.proofs.Argument.{Eighth, small-x, sign-is, eighth-is}
 
 -- ---- the term after the last

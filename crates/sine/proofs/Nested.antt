@@ -1,14 +1,13 @@
 -- A nested sum of the code is just below the nested sum of the series. Assumes nothing.
-use mathlib.Core.Path.{_≡_, refl, sym, ap, _∙_, subst}
-use mathlib.Core.Bool.{Bool, true, false}
+use mathlib.Core.Path.{_≡_, subst}
+use mathlib.Core.Bool.{Bool, false}
 use mathlib.Core.List.{List, [], _∷_}
-use Prim.Native.Nat.{ℕ, zero, suc, _+_, _*_, _/_, _^_, _≤_, _<_, zero-le}
-use native.Mathlib.Nat.{le-refl, le-trans, le-of-lt, le-of-eq, add-le-add, mul-pos, mul-le-mul, mul-le-mul-right, zero-lt-suc}
+use Prim.Native.Nat.{ℕ, suc, _+_, _*_, _/_, _^_, _≤_, _<_}
+use native.Mathlib.Nat.{le-refl, le-trans, add-le-add, mul-pos, mul-le-mul, mul-le-mul-right}
 use native.Mathlib.Omega.{arith}
 use lib.Dec.{T, leb, leb→le}
 use lib.Pow.{pow-pos}
 use Rattle.exact.specs.Table.{both, both-left, both-right}
-use Rattle.series.specs.Sine.{ratio}
 use Rattle.series.specs.SineNest.{span, nest, span-pos}
 use Rattle.sine.specs.Sine.{stepOf, nested}
 use Rattle.sine.proofs.Cuts.{Cut, cut-same, cut-scale, cut-add, cut-mul}

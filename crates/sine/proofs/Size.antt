@@ -1,10 +1,9 @@
 -- The sums of the code differ by at most 64, in units of 2 ^ -54: both grow with v, and a few places bound them in between. Assumes nothing.
-use mathlib.Core.Path.{_≡_}
-use mathlib.Core.Bool.{Bool, true, false}
+use mathlib.Core.Bool.{Bool}
 use mathlib.Core.List.{List, [], _∷_}
-use Prim.Native.Nat.{ℕ, zero, suc, _+_, _*_, _/_, _^_, _≤_, _<_, zero-le}
+use Prim.Native.Nat.{ℕ, suc, _+_, _*_, _/_, _^_, _≤_, _<_, zero-le}
 use native.Mathlib.Nat.{le-refl, le-trans, lt-of-le-of-lt, lt-irrefl, lt-of-lt-of-le, add-le-add, mul-le-mul, le-div-iff-mul-le, div-mul-le-self}
-use native.Mathlib.Omega.{arith, sub-cases}
+use native.Mathlib.Omega.{sub-cases}
 use native.Mathlib.Bridge.{le-by-compare, IsLe}
 use lib.Dec.{T, leb, leb→le}
 use lib.Pow.{pow-pos}

@@ -1,12 +1,12 @@
 -- The sums of the code are just below the terms 0 to 21 of the series in units of 2 ^ -54. Assumes nothing.
-use mathlib.Core.Path.{_≡_, refl, sym, ap, _∙_, subst, subst₂}
-use Prim.Native.Nat.{ℕ, zero, suc, _+_, _*_, _/_, _^_, _≤_, _<_}
+use mathlib.Core.Path.{_≡_, refl, sym, subst, subst₂}
+use Prim.Native.Nat.{ℕ, suc, _+_, _*_, _/_, _^_, _≤_, _<_}
 use native.Mathlib.Nat.{le-trans, le-of-lt, lt-of-le-of-lt, mul-pos, mul-le-mul, mul-le-mul-right, zero-lt-suc}
 use native.Mathlib.Omega.{arith}
 use native.Mathlib.Bridge.{le-by-compare, IsLe}
 use lib.Pow.{pow-pos}
 use Rattle.series.specs.Alternate.{even}
-use Rattle.series.specs.Sine.{odd, ratio, den, added, taken}
+use Rattle.series.specs.Sine.{ratio, den, added, taken}
 use Rattle.series.specs.SineNest.{span, nest, span-pos, span-den, added-nest, taken-nest}
 use Rattle.sine.specs.Sine.{plusses, minuses, nested, square, plusOf, minusOf}
 use Rattle.sine.proofs.Cuts.{Cut, cut-same, cut-scale, cut-mul}

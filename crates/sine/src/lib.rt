@@ -2,7 +2,7 @@
 use numbers::Elementary;
 ghost use mathlib.Core.Path.{_≡_};
 ghost use mathlib.Core.Bool.{true};
-ghost use Prim.Native.Nat.{_+_, _*_, _/_, _^_, _≤_, _<_};
+ghost use Prim.Native.Nat.{_+_, _^_, _≤_, _<_};
 ghost use Rattle.numbers.specs.Range.{inRange, bare, onPath};
 ghost use Rattle.series.specs.SinNear.{SinNear};
 ghost use Rattle.sine.specs.Sine.{stepOf, nested, plusses, minuses, eighthOf, plusOf, minusOf, differenceOf, low, high, sinOf, sinRanged};
