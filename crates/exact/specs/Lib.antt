@@ -17,3 +17,4 @@ pub mod Cut
 pub mod Normal
 pub mod Positives
 pub mod Patterns
+pub mod Symmetric

@@ -2,3 +2,4 @@ pub mod Laws
 pub mod Halves
 pub mod Cases
 pub mod Answers
+pub mod Exponents

@@ -6,6 +6,11 @@ pub mod Bounds
 pub mod Tested
 pub mod Alternate
 pub mod LogTail
+pub mod Sine
+pub mod SinNear
+pub mod SinSure
+pub mod SinNarrow
+pub mod SineNest
 pub mod ExpNear
 pub mod Scale
 pub mod LogNear
