@@ -12,3 +12,6 @@ pub mod Table
 pub mod Match
 pub mod Shift
 pub mod Fields
+pub mod Midpoints
+pub mod RootOf
+pub mod RootLaws
