@@ -15,3 +15,4 @@ pub mod Fields
 pub mod Midpoints
 pub mod RootOf
 pub mod RootLaws
+pub mod RootCases
