@@ -2,7 +2,7 @@
 use mathlib.Core.Path.{_≡_, refl, sym, ap, _∙_, subst}
 use mathlib.Core.Logic.{inl, inr}
 use Prim.Native.Nat.{ℕ, zero, suc, _+_, _-_, _*_, _/_, _^_, _≤_, _<_}
-use native.Mathlib.Nat.{le-trans, le-of-eq, lt-of-lt-of-le, lt-of-le-of-lt, lt-irrefl, le-of-suc-le-suc, eq-or-lt-of-le, mul-assoc, mul-pos, mul-le-mul-right, mul-lt-mul-of-pos-right, le-of-mul-le-mul-right, lt-of-mul-lt-mul-right, le-div-iff-mul-le, div-lt-iff-lt-mul}
+use native.Mathlib.Nat.{le-trans, le-of-eq, lt-of-lt-of-le, lt-of-le-of-lt, lt-irrefl, le-of-suc-le-suc, eq-or-lt-of-le, mul-assoc, mul-pos, mul-le-mul-right, mul-lt-mul-of-pos-right, le-of-mul-le-mul-right, lt-of-mul-lt-mul-right, le-div-iff-mul-le, div-lt-iff-lt-mul, eq-of-mul-eq-mul-right}
 use native.Mathlib.Omega.{arith, sub-cases, by-contra}
 use mathlib.Core.Bool.{Bool, true, false, cond}
 use lib.IntN.{ℤ}
@@ -11,11 +11,13 @@ use lib.Pow.{pow-add, pow-pos, pow-mono}
 use lib.Ieee.{Float, nan, inf, fin, binary64, prec, low, up, down, size, round, le, fits, ofBits, toBits, hid, top}
 use lib.Ieee.Bits.{ofBits-toBits}
 use lib.Ieee.Digits.{size-lt, size-le, size-reaches}
+use lib.Ieee.Fits.{down-pos}
+use lib.Ieee.Positive.{positive, between, le→cross}
 use lib.Ieee.Exact.{HasValue, round-exact}
 use lib.Ieee.Order.{drop, kept, round-mono, le-of-values}
 use lib.Ieee.Scale.{grid, overflow, finite, round-val}
 use Rattle.exact.specs.Rounding.{Near, grid-near}
-use Rattle.exact.specs.Units.{L, L-pos, mag, sgn, Fin64}
+use Rattle.exact.specs.Units.{L, mag, sgn, mag-exact, Fin64}
 
 -- ---- a finite value is told by its sign and its units
 pattern-of : (s : Bool) (m : ℕ) (e : ℤ) → toBits binary64 (fin s m e) ≡ cond s (top binary64) 0 + (size (mag (fin s m e)) - 53) * hid binary64 + mag (fin s m e) / 2 ^ (size (mag (fin s m e)) - 53)
@@ -35,6 +37,27 @@ same-units (fin t a e) (fin u b d) f g s m =
     ∙ ap (λ (z : ℕ). cond u (top binary64) 0 + (size z - 53) * hid binary64 + z / 2 ^ (size z - 53)) m
     ∙ sym (pattern-of u b d))
     ∙ ofBits-toBits binary64 (fin u b d) (g .1)
+
+-- two values above zero, each at most the other
+pub le-both : (x y : Float) → T (positive x) → T (fits binary64 x) → T (fits binary64 y) → T (le x y) → T (le y x) → x ≡ y
+le-both x y p f g h k = go x y p (between x y x p p h k) f g h k
+  where
+    cross : (a b c d u v : ℕ) → 0 < c → 0 < d → u * c ≡ a * L → v * d ≡ b * L → a * d ≤ b * c → b * c ≤ a * d → u ≡ v
+    cross a b c d u v C D p q h k =
+        let e : a * d ≡ b * c = omega arith in
+        eq-of-mul-eq-mul-right (c * d) (mul-pos C D) u v (omega (arith, ap (λ z. z * d) p, ap (λ z. z * c) q, ap (λ z. z * L) e))
+
+    go : (x y : Float) → T (positive x) → T (positive y) → T (fits binary64 x) → T (fits binary64 y) → T (le x y) → T (le y x) → x ≡ y
+    go nan y p q f g h k = absurd p
+    go (inf s) y p q f g h k = absurd p
+    go (fin true m e) y p q f g h k = absurd p
+    go (fin false m e) nan p q f g h k = absurd q
+    go (fin false m e) (inf t) p q f g h k = absurd q
+    go (fin false m e) (fin true n d) p q f g h k = absurd q
+    go (fin false m e) (fin false n d) p q f g h k =
+        same-units (fin false m e) (fin false n d) (tt, f) (tt, g) refl
+        (cross (m * up e) (n * up d) (down e) (down d) (mag (fin false m e)) (mag (fin false n d)) (down-pos e) (down-pos d) (mag-exact false m e f) (mag-exact false n d g)
+        (le→cross (fin false m e) (fin false n d) p q h) (le→cross (fin false n d) (fin false m e) q p k))
 
 pub either : (a b : ℕ) (G : Type 0) → (a ≤ b → G) → (b < a → G) → G
 either a b G f g = sub-cases a (suc b) G (λ h e. g h) (λ h e. f' h)
@@ -79,7 +102,7 @@ module _ (a c q j : ℕ) (C : 0 < c) (Q : 2 ^ 52 ≤ q) (R : q < 2 ^ 53) (J : j 
   fits-at : (n i : ℕ) → i ≤ 98 → n < 2 ^ i * 2 ^ j → n < 2 ^ 2098
   fits-at n i I h = lt-of-lt-of-le h (le-trans (le-of-eq (sym (pow-add 2 i j))) (pow-mono {i = i + j} {j = 2098} (omega arith)))
 
-  exact-at : (p : ℕ) → p < 2 ^ 53 → HasValue (round binary64 false (p * 2 ^ j) (2 ^ 1074)) false (p * 2 ^ j) (2 ^ 1074)
+  pub exact-at : (p : ℕ) → p < 2 ^ 53 → HasValue (round binary64 false (p * 2 ^ j) (2 ^ 1074)) false (p * 2 ^ j) (2 ^ 1074)
   exact-at p h = round-exact binary64 false (p * 2 ^ j) (2 ^ 1074) p j (pow-pos 1074) h (fits-at (p * 2 ^ j) 53 (omega arith) (mul-lt-mul-of-pos-right h (pow-pos j))) refl
 
   value-at : (k : ℕ) → grid binary64 a c ≡ k * 2 ^ j → k < 2 ^ 54 → HasValue (round binary64 false a c) false (k * 2 ^ j) (2 ^ 1074)

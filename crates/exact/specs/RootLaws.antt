@@ -3,11 +3,15 @@ use mathlib.Core.Path.{_≡_, refl, sym, ap, _∙_, subst}
 use mathlib.Core.Logic.{inl, inr}
 use mathlib.Core.Bool.{Bool, true, false, not, cond}
 use Prim.Native.Nat.{ℕ, zero, suc, _+_, _-_, _*_, _/_, _%_, _^_, _≤_, _<_}
-use native.Mathlib.Nat.{le-refl, le-trans, le-of-eq, lt-of-lt-of-le, lt-of-le-of-lt, lt-irrefl, mul-le-mul, pow-suc, pow-zero}
+use native.Mathlib.Nat.{le-refl, le-trans, le-of-eq, lt-of-lt-of-le, lt-of-le-of-lt, lt-irrefl, mul-le-mul, mul-le-mul-right, mul-lt-mul-of-pos-right, mul-pos, pow-suc, pow-succ', pow-zero}
 use native.Mathlib.Omega.{arith, by-contra}
 use lib.Dec.{T, leb, eqb, leb→le, nleb→lt, eqb→eq}
-use lib.Ieee.{size}
+use lib.Arith.{lt-of-le-ne}
+use lib.Pow.{pow-pos, pow-add}
+use lib.Ieee.{Float, binary64, size, round, le}
 use lib.Ieee.Digits.{size-lt}
+use lib.Ieee.Order.{round-mono}
+use Rattle.exact.specs.Midpoints.{same-units, le-both, exact-at, below-mid, above-mid}
 use Rattle.exact.specs.RootOf.{rootIn, floorRoot}
 
 -- ---- the root of a whole number
@@ -28,5 +32,82 @@ pub floor-root : (n : ℕ) → Floor n (floorRoot n)
 unfolding floorRoot
 floor-root n = root-in (size n) n (size-lt n)
 
-pub square-le : (a b : ℕ) → a * a < suc b * suc b → a ≤ b
-square-le a b h = by-contra a b (λ g. lt-irrefl (a * a) (lt-of-lt-of-le h (mul-le-mul g g)))
+pub square-lt : (a b : ℕ) → a * a < b * b → a < b
+square-lt a b h = by-contra (suc a) b (λ g. lt-irrefl (a * a) (lt-of-lt-of-le h (mul-le-mul {n₁ = b} {m₁ = b} {n₂ = a} {m₂ = a} (omega arith) (omega arith))))
+
+square-le : (a b : ℕ) → a * a ≤ b * b → a ≤ b
+square-le a b h = by-contra a b (λ g. more (mul-le-mul g g))
+  where
+    more : suc b * suc b ≤ a * a → ⊥
+    more k = omega arith
+
+-- ---- n is v * 2 ^ 54 times the square of a power of two, and m, of 54 digits, is the root of v * 2 ^ 54
+pub record Parted (n v t m : ℕ) : Type 0 where
+  pub is : n ≡ v * 2 ^ 54 * (2 ^ t * 2 ^ t)
+  pub low : 2 ^ 52 ≤ v
+  pub high : suc v < 2 ^ 54
+  pub few : t < 2000
+  pub root : Floor (v * 2 ^ 54) m
+
+-- Whether the last of the 54 digits is set. If it is, the root is not exact: m * m is odd.
+data Last (N m : ℕ) : Type 0 where
+  clear : (h : ℕ) → m ≡ 2 * h → 2 ^ 52 ≤ h → h < 2 ^ 53 → Last N m
+  set : (h : ℕ) → m ≡ 2 * h + 1 → 2 ^ 52 ≤ h → suc h < 2 ^ 53 → m * m < N → Last N m
+
+odd-square : (h v : ℕ) → (2 * h + 1) * (2 * h + 1) ≡ v * 2 ^ 54 → ⊥
+odd-square h v e = omega arith
+
+last : (v m : ℕ) → 2 ^ 52 ≤ v → suc v < 2 ^ 54 → Floor (v * 2 ^ 54) m → Last (v * 2 ^ 54) m
+last v m l h f = go (m / 2) (m % 2) (omega arith) (omega arith) (square-lt (2 ^ 53) (suc m) (omega (arith, f .over))) (square-lt m (2 ^ 54 - 1) (omega (arith, f .under)))
+  where
+    go : (h r : ℕ) → r < 2 → m ≡ 2 * h + r → 2 ^ 53 < suc m → m < 2 ^ 54 - 1 → Last (v * 2 ^ 54) m
+    go h zero k e a b = clear h (omega arith) (omega arith) (omega arith)
+    go h (suc zero) k e a b = set h e (omega arith) (omega arith) (lt-of-le-ne (f .under) (λ q. odd-square h v (subst (λ z. z * z ≡ v * 2 ^ 54) e q)))
+    go h (suc (suc r)) k e a b = absurd (omega arith)
+
+-- ---- a fraction below or above the root of n = X * l, in units: A = a * l is below or above the root times c
+module _ (X l n N P a c m : ℕ) (i : n ≡ X * l) (j : n ≡ N * (P * P)) (O : 0 < P) (C : 0 < c) where
+  squared-le : a * a * l ≤ X * (c * c) → a * l * (a * l) ≤ N * (P * P) * (c * c)
+  squared-le h = omega (arith, mul-le-mul-right l h, ap (λ z. z * (c * c)) i, ap (λ z. z * (c * c)) j)
+
+  squared-ge : X * (c * c) ≤ a * a * l → N * (P * P) * (c * c) ≤ a * l * (a * l)
+  squared-ge h = omega (arith, mul-le-mul-right l h, ap (λ z. z * (c * c)) i, ap (λ z. z * (c * c)) j)
+
+  positive-square : 0 < P * P * (c * c)
+  positive-square = mul-pos (mul-pos O O) (mul-pos C C)
+
+  under-root : N < suc m * suc m → a * a * l ≤ X * (c * c) → a * l < suc m * P * c
+  under-root f h = square-lt (a * l) (suc m * P * c) (omega (arith, squared-le h, mul-lt-mul-of-pos-right f positive-square))
+
+  over-root : m * m ≤ N → X * (c * c) ≤ a * a * l → m * P * c ≤ a * l
+  over-root f h = square-le (m * P * c) (a * l) (omega (arith, squared-ge h, mul-le-mul-right (P * P * (c * c)) f))
+
+  past-root : m * m < N → X * (c * c) ≤ a * a * l → m * P * c < a * l
+  past-root f h = square-lt (m * P * c) (a * l) (omega (arith, squared-ge h, mul-lt-mul-of-pos-right f positive-square))
+
+-- ---- the root, rounded to 53 digits, in units
+abbrev pub rounded : ℕ → ℕ → ℕ
+rounded m t = suc m / 2 * 2 ^ suc t
+
+abbrev nearestRoot : ℕ → ℕ → Float
+nearestRoot m t = round binary64 false (rounded m t) (2 ^ 1074)
+
+clear-is : (h m : ℕ) → m ≡ 2 * h → suc m / 2 ≡ h
+clear-is h m e = omega arith
+
+set-is : (h m : ℕ) → m ≡ 2 * h + 1 → suc m / 2 ≡ suc h
+set-is h m e = omega arith
+
+module _ (X n v t m : ℕ) (i : n ≡ X * 2 ^ 1074) (p : Parted n v t m) where
+  above-root : (a c : ℕ) → 0 < c → a * a * 2 ^ 1074 ≤ X * (c * c) → T (le (round binary64 false a c) (nearestRoot m t))
+  above-root a c C h = go (last v m (p .low) (p .high) (p .root)) (under-root X (2 ^ 1074) n (v * 2 ^ 54) (2 ^ t) a c m i (p .is) (pow-pos t) C (p .root .over) h)
+    where
+      clear-lt : (A P k : ℕ) → m ≡ 2 * k → A < suc m * P * c → 2 * A < (2 * k + 1) * (2 * P) * c
+      clear-lt A P k e h = omega (arith, rw e at h)
+
+      set-le : (A P k : ℕ) → m ≡ 2 * k + 1 → A < suc m * P * c → A ≤ suc k * (2 * P) * c
+      set-le A P k e h = omega (arith, rw e at h)
+
+      go : Last (v * 2 ^ 54) m → a * 2 ^ 1074 < suc m * 2 ^ t * c → T (le (round binary64 false a c) (nearestRoot m t))
+      go (clear k e f g) u = rw (clear-is k m e) (below-mid a c k (suc t) C f g (p .few) (rw (pow-succ' 2 t) (clear-lt (a * 2 ^ 1074) (2 ^ t) k e u)))
+      go (set k e f g o) u = rw (set-is k m e) (round-mono binary64 a c (suc k * 2 ^ suc t) (2 ^ 1074) C (pow-pos 1074) (rw (pow-succ' 2 t) (set-le (a * 2 ^ 1074) (2 ^ t) k e u)))
