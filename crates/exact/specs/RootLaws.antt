@@ -3,15 +3,20 @@ use mathlib.Core.Path.{_≡_, refl, sym, ap, _∙_, subst}
 use mathlib.Core.Logic.{inl, inr}
 use mathlib.Core.Bool.{Bool, true, false, not, cond}
 use Prim.Native.Nat.{ℕ, zero, suc, _+_, _-_, _*_, _/_, _%_, _^_, _≤_, _<_}
-use native.Mathlib.Nat.{le-refl, le-trans, le-of-eq, lt-of-lt-of-le, lt-of-le-of-lt, lt-irrefl, mul-le-mul, mul-le-mul-right, mul-lt-mul-of-pos-right, mul-pos, pow-suc, pow-succ', pow-zero}
+use native.Mathlib.Nat.{le-refl, le-trans, le-of-eq, lt-of-lt-of-le, lt-of-le-of-lt, lt-irrefl, lt-trans, lt-suc-self, mul-div-cancel, mul-le-mul, mul-le-mul-right, mul-lt-mul-of-pos-right, mul-pos, pow-suc, pow-succ', pow-zero}
 use native.Mathlib.Omega.{arith, by-contra}
-use lib.Dec.{T, leb, eqb, leb→le, nleb→lt, eqb→eq}
+use lib.Dec.{T, leb, eqb, leb→le, nleb→lt, eqb→eq, lit<}
 use lib.Arith.{lt-of-le-ne}
 use lib.Pow.{pow-pos, pow-add}
-use lib.Ieee.{Float, binary64, size, round, le}
+use lib.Ieee.{Float, nan, inf, fin, binary64, down, size, round, le, fits}
 use lib.Ieee.Digits.{size-lt}
+use lib.Ieee.Exact.{HasValue}
+use lib.Ieee.Fits.{down-pos, round-fits}
 use lib.Ieee.Order.{round-mono}
+use lib.Ieee.Positive.{positive, positive-of-value}
+use lib.Ieee.Scale.{finite, round-same}
 use Rattle.exact.specs.Midpoints.{same-units, le-both, exact-at, below-mid, above-mid}
+use Rattle.exact.specs.Units.{L, mag, sgn, Fin64}
 use Rattle.exact.specs.RootOf.{rootIn, floorRoot}
 
 -- ---- the root of a whole number
@@ -111,3 +116,47 @@ module _ (X n v t m : ℕ) (i : n ≡ X * 2 ^ 1074) (p : Parted n v t m) where
       go : Last (v * 2 ^ 54) m → a * 2 ^ 1074 < suc m * 2 ^ t * c → T (le (round binary64 false a c) (nearestRoot m t))
       go (clear k e f g) u = rw (clear-is k m e) (below-mid a c k (suc t) C f g (p .few) (rw (pow-succ' 2 t) (clear-lt (a * 2 ^ 1074) (2 ^ t) k e u)))
       go (set k e f g o) u = rw (set-is k m e) (round-mono binary64 a c (suc k * 2 ^ suc t) (2 ^ 1074) C (pow-pos 1074) (rw (pow-succ' 2 t) (set-le (a * 2 ^ 1074) (2 ^ t) k e u)))
+
+  below-root : (a c : ℕ) → 0 < c → X * (c * c) ≤ a * a * 2 ^ 1074 → T (le (nearestRoot m t) (round binary64 false a c))
+  below-root a c C h = go (last v m (p .low) (p .high) (p .root))
+    where
+      clear-le : (A P k : ℕ) → m ≡ 2 * k → m * P * c ≤ A → k * (2 * P) * c ≤ A
+      clear-le A P k e h = omega (arith, rw e at h)
+
+      set-lt : (A P k : ℕ) → m ≡ 2 * k + 1 → m * P * c < A → (2 * k + 1) * (2 * P) * c < 2 * A
+      set-lt A P k e h = omega (arith, rw e at h)
+
+      go : Last (v * 2 ^ 54) m → T (le (nearestRoot m t) (round binary64 false a c))
+      go (clear k e f g) =
+          let u = over-root X (2 ^ 1074) n (v * 2 ^ 54) (2 ^ t) a c m i (p .is) (pow-pos t) C (p .root .under) h in
+          rw (clear-is k m e) (round-mono binary64 (k * 2 ^ suc t) (2 ^ 1074) a c (pow-pos 1074) C (rw (pow-succ' 2 t) (clear-le (a * 2 ^ 1074) (2 ^ t) k e u)))
+      go (set k e f g o) =
+          let u = past-root X (2 ^ 1074) n (v * 2 ^ 54) (2 ^ t) a c m i (p .is) (pow-pos t) C o h in
+          rw (set-is k m e) (above-mid a c k (suc t) C f (lt-trans (lt-suc-self k) g) (p .few) g (rw (pow-succ' 2 t) (set-lt (a * 2 ^ 1074) (2 ^ t) k e u)))
+
+  -- its value
+  root-digits : (2 ^ 52 ≤ suc m / 2) × (suc m / 2 < 2 ^ 53)
+  root-digits = go (last v m (p .low) (p .high) (p .root))
+    where
+      go : Last (v * 2 ^ 54) m → (2 ^ 52 ≤ suc m / 2) × (suc m / 2 < 2 ^ 53)
+      go (clear k e f g) = (omega arith, omega arith)
+      go (set k e f g o) = (omega arith, omega arith)
+
+  root-value : HasValue (nearestRoot m t) false (rounded m t) (2 ^ 1074)
+  root-value = exact-at 0 1 (2 ^ 52) (suc t) (lit< tt) (le-refl (2 ^ 52)) (lit< tt) (p .few) (suc m / 2) (root-digits .1)
+
+  root-positive : T (positive (nearestRoot m t))
+  root-positive = positive-of-value (nearestRoot m t) (rounded m t) (2 ^ 1074) root-value (mul-pos (lt-of-lt-of-le (lit< tt) (root-digits .0)) (pow-pos (suc t)))
+
+  root-units : (mag (nearestRoot m t) ≡ rounded m t) × (sgn (nearestRoot m t) ≡ false) × T (finite (nearestRoot m t))
+  unfolding mag L
+  root-units = go (nearestRoot m t) root-value
+    where
+      go : (r : Float) → HasValue r false (rounded m t) (2 ^ 1074) → (mag r ≡ rounded m t) × (sgn r ≡ false) × T (finite r)
+      go nan v = absurd v
+      go (inf s) v = absurd v
+      go (fin s q e) v = (ap (λ z. z / down e) (v .1) ∙ mul-div-cancel (rounded m t) (down-pos e), v .0, tt)
+
+  -- what lies between it and itself is it
+  squeezed : (z : Float) → T (fits binary64 z) → T (le (nearestRoot m t) z) → T (le z (nearestRoot m t)) → nearestRoot m t ≡ z
+  squeezed z f h k = le-both (nearestRoot m t) z root-positive (round-fits binary64 false (rounded m t) (2 ^ 1074)) f h k
