@@ -3,7 +3,7 @@ use mathlib.Core.Path.{_≡_, refl, sym, ap, _∙_, subst}
 use mathlib.Core.Logic.{inl, inr}
 use mathlib.Core.Bool.{Bool, true, false, not, cond}
 use Prim.Native.Nat.{ℕ, zero, suc, _+_, _-_, _*_, _/_, _%_, _^_, _≤_, _<_}
-use native.Mathlib.Nat.{le-refl, le-trans, le-of-eq, lt-of-lt-of-le, lt-of-le-of-lt, lt-irrefl, lt-trans, lt-suc-self, mul-div-cancel, mul-le-mul, mul-le-mul-right, mul-lt-mul-of-pos-right, mul-pos, pow-suc, pow-succ', pow-zero}
+use native.Mathlib.Nat.{le-refl, le-trans, le-of-eq, lt-of-lt-of-le, lt-of-le-of-lt, lt-irrefl, lt-trans, le-of-suc-le-suc, lt-suc-self, mul-div-cancel, mul-le-mul, mul-le-mul-right, mul-lt-mul-of-pos-right, mul-pos, pow-suc, pow-succ', pow-zero}
 use native.Mathlib.Omega.{arith, by-contra}
 use lib.Dec.{T, leb, eqb, leb→le, nleb→lt, eqb→eq, lit<}
 use lib.Arith.{lt-of-le-ne}
@@ -17,7 +17,7 @@ use lib.Ieee.Positive.{positive, positive-of-value}
 use lib.Ieee.Scale.{finite, round-same}
 use Rattle.exact.specs.Midpoints.{same-units, le-both, exact-at, below-mid, above-mid}
 use Rattle.exact.specs.Units.{L, mag, sgn, Fin64}
-use Rattle.exact.specs.RootOf.{rootIn, floorRoot}
+use Rattle.exact.specs.RootOf.{Rooted, rootIn, floorRoot, sqrtOf}
 
 -- ---- the root of a whole number
 pub record Floor (n r : ℕ) : Type 0 where
@@ -90,6 +90,20 @@ module _ (X l n N P a c m : ℕ) (i : n ≡ X * l) (j : n ≡ N * (P * P)) (O : 
   past-root : m * m < N → X * (c * c) ≤ a * a * l → m * P * c < a * l
   past-root f h = square-lt (m * P * c) (a * l) (omega (arith, squared-ge h, mul-lt-mul-of-pos-right f positive-square))
 
+-- ---- the root r of n is m * P, rounded down further; with s, a half where r is not exact, it is past m * P where m is not exact
+module _ (N P n m r : ℕ) (j : n ≡ N * (P * P)) (O : 0 < P) (F : Floor N m) (G : Floor n r) where
+  from-digits : m * P ≤ r
+  from-digits = le-of-suc-le-suc (square-lt (m * P) (suc r) (omega (arith, G .over, mul-le-mul-right (P * P) (F .under))))
+
+  to-digits : r < suc m * P
+  to-digits = square-lt r (suc m * P) (omega (arith, G .under, mul-lt-mul-of-pos-right (F .over) (mul-pos O O)))
+
+  past-digits : m * m < N → (b : Bool) → (T b → r * r ≡ n) → 2 * (m * P) < 2 * r + cond b 0 1
+  past-digits h true e =
+      let q : m * P < r = square-lt (m * P) r (omega (arith, e tt, mul-lt-mul-of-pos-right h (mul-pos O O))) in
+      omega arith
+  past-digits h false e = omega (arith, from-digits)
+
 -- ---- the root, rounded to 53 digits, in units
 abbrev pub rounded : ℕ → ℕ → ℕ
 rounded m t = suc m / 2 * 2 ^ suc t
@@ -160,3 +174,57 @@ module _ (X n v t m : ℕ) (i : n ≡ X * 2 ^ 1074) (p : Parted n v t m) where
   -- what lies between it and itself is it
   squeezed : (z : Float) → T (fits binary64 z) → T (le (nearestRoot m t) z) → T (le z (nearestRoot m t)) → nearestRoot m t ≡ z
   squeezed z f h k = le-both (nearestRoot m t) z root-positive (round-fits binary64 false (rounded m t) (2 ^ 1074)) f h k
+
+-- ---- the definition's value: with the 54 digits m of the root, it is (m + 1) / 2 times a power of two
+module _ (x : Float) (v t m : ℕ) (s : sgn x ≡ false) (p : Parted (mag x * L) v t m) where
+  sqrt-nearest : sqrtOf x ≡ nearestRoot m t
+  unfolding sqrtOf L
+  sqrt-nearest =
+      let n = mag x * L in
+      let r = floorRoot n in
+      rw s (go r (eqb (r * r) n) (eqb→eq (r * r) n) (floor-root n) (last v m (p .low) (p .high) (p .root)))
+    where
+      most : (b : Bool) → cond b 0 1 ≤ 1
+      most true = omega arith
+      most false = omega arith
+
+      clear-lt : (r s k P l : ℕ) → 0 < l → s ≤ 1 → m ≡ 2 * k → r < suc m * P → 2 * ((2 * r + s) * l) < (2 * k + 1) * (2 * P) * (2 * l)
+      clear-lt r s k P l O S e h =
+          let q : 2 * r + s < 2 * ((2 * k + 1) * P) = omega (arith, rw e at h) in
+          omega (arith, mul-lt-mul-of-pos-right q O)
+
+      clear-le : (r s k P l : ℕ) → m ≡ 2 * k → m * P ≤ r → k * (2 * P) * (2 * l) ≤ (2 * r + s) * l
+      clear-le r s k P l e h = omega (arith, mul-le-mul-right l (rw e at h))
+
+      set-le : (r s k P l : ℕ) → s ≤ 1 → m ≡ 2 * k + 1 → r < suc m * P → (2 * r + s) * l ≤ suc k * (2 * P) * (2 * l)
+      set-le r s k P l S e h =
+          let q : 2 * r + s ≤ 2 * (suc k * (2 * P)) = omega (arith, rw e at h) in
+          omega (arith, mul-le-mul-right l q)
+
+      set-lt : (r s k P l : ℕ) → 0 < l → m ≡ 2 * k + 1 → 2 * (m * P) < 2 * r + s → (2 * k + 1) * (2 * P) * (2 * l) < 2 * ((2 * r + s) * l)
+      set-lt r s k P l O e h = omega (arith, mul-lt-mul-of-pos-right (rw e at h) O)
+
+      go : (r : ℕ) (b : Bool) → (T b → r * r ≡ mag x * L) → Floor (mag x * L) r → Last (v * 2 ^ 54) m → round binary64 false (2 * r + cond b 0 1) (2 * 2 ^ 1074) ≡ nearestRoot m t
+      go r b e G (clear k d f g) =
+          let z : ℕ = cond b 0 1 in
+          let lo = from-digits (v * 2 ^ 54) (2 ^ t) (mag x * L) m r (p .is) (pow-pos t) (p .root) G in
+          let hi = to-digits (v * 2 ^ 54) (2 ^ t) (mag x * L) m r (p .is) (pow-pos t) (p .root) G in
+          sym
+          (squeezed (mag x) (mag x * L) v t m refl p (round binary64 false (2 * r + z) (2 * 2 ^ 1074)) (round-fits binary64 false (2 * r + z) (2 * 2 ^ 1074))
+          (rw (clear-is k m d) (round-mono binary64 (k * 2 ^ suc t) (2 ^ 1074) (2 * r + z) (2 * 2 ^ 1074) (pow-pos 1074) (pow-pos 1075) (rw (pow-succ' 2 t) (clear-le r z k (2 ^ t) (2 ^ 1074) d lo))))
+          (rw (clear-is k m d) (below-mid (2 * r + z) (2 * 2 ^ 1074) k (suc t) (pow-pos 1075) f g (p .few) (rw (pow-succ' 2 t) (clear-lt r z k (2 ^ t) (2 ^ 1074) (pow-pos 1074) (most b) d hi)))))
+      go r b e G (set k d f g o) =
+          let z : ℕ = cond b 0 1 in
+          let lo = past-digits (v * 2 ^ 54) (2 ^ t) (mag x * L) m r (p .is) (pow-pos t) (p .root) G o b e in
+          let hi = to-digits (v * 2 ^ 54) (2 ^ t) (mag x * L) m r (p .is) (pow-pos t) (p .root) G in
+          sym
+          (squeezed (mag x) (mag x * L) v t m refl p (round binary64 false (2 * r + z) (2 * 2 ^ 1074)) (round-fits binary64 false (2 * r + z) (2 * 2 ^ 1074))
+          (rw (set-is k m d) (above-mid (2 * r + z) (2 * 2 ^ 1074) k (suc t) (pow-pos 1075) f (lt-trans (lt-suc-self k) g) (p .few) g (rw (pow-succ' 2 t) (set-lt r z k (2 ^ t) (2 ^ 1074) (pow-pos 1074) d lo))))
+          (rw (set-is k m d) (round-mono binary64 (2 * r + z) (2 * 2 ^ 1074) (suc k * 2 ^ suc t) (2 ^ 1074) (pow-pos 1075) (pow-pos 1074) (rw (pow-succ' 2 t) (set-le r z k (2 ^ t) (2 ^ 1074) (most b) d hi)))))
+
+  -- so what has that many units is the root
+  pub sqrt-is : (r : Float) → Fin64 r → sgn r ≡ false → mag r ≡ rounded m t → r ≡ sqrtOf x
+  unfolding L
+  sqrt-is r f g h =
+      let u = root-units (mag x) (mag x * L) v t m refl p in
+      same-units r (nearestRoot m t) f (u .2, round-fits binary64 false (rounded m t) (2 ^ 1074)) (g ∙ sym (u .1)) (h ∙ sym (u .0)) ∙ sym sqrt-nearest
