@@ -1,22 +1,23 @@
 -- The laws of the correctly rounded square root: it is there, there is one, and its digits. Assumes nothing.
 use mathlib.Core.Path.{_≡_, refl, sym, ap, _∙_, subst}
 use mathlib.Core.Logic.{inl, inr}
-use mathlib.Core.Bool.{Bool, true, false, not, cond}
+use mathlib.Core.Bool.{Bool, true, false, not, cond, _&&_}
 use Prim.Native.Nat.{ℕ, zero, suc, _+_, _-_, _*_, _/_, _%_, _^_, _≤_, _<_}
-use native.Mathlib.Nat.{le-refl, le-trans, le-of-eq, lt-of-lt-of-le, lt-of-le-of-lt, lt-irrefl, lt-trans, le-of-lt, zero-lt-suc, mul-comm, add-comm, le-of-suc-le-suc, lt-suc-self, mul-div-cancel, mul-le-mul, mul-le-mul-right, mul-lt-mul-of-pos-right, mul-pos, pow-suc, pow-succ', pow-zero}
+use native.Mathlib.Nat.{le-refl, le-trans, le-of-eq, lt-of-lt-of-le, lt-of-le-of-lt, lt-irrefl, lt-trans, le-of-lt, zero-lt-suc, mul-comm, mul-assoc, add-comm, le-of-suc-le-suc, lt-suc-self, mul-div-cancel, mul-le-mul, mul-le-mul-right, mul-lt-mul-of-pos-right, mul-pos, zero-mul, lt-of-mul-lt-mul-right, mod-lt, pow-suc, pow-succ', pow-zero}
 use native.Mathlib.Omega.{arith, sub-cases, by-contra}
-use lib.Dec.{T, leb, eqb, leb→le, nleb→lt, eqb→eq, lit<}
+use lib.Dec.{T, ltb, ltb→lt, leb, eqb, leb→le, nleb→lt, eqb→eq, lit<}
 use lib.Arith.{lt-of-le-ne}
-use lib.Pow.{pow-pos, pow-add}
-use lib.Ieee.{Float, nan, inf, fin, binary64, down, size, round, le, fits}
-use lib.Ieee.Digits.{size-lt}
+use lib.Pow.{pow-pos, pow-add, pow-mono}
+use lib.Ieee.{Float, nan, inf, fin, binary64, up, down, size, round, le, fits}
+use lib.Ieee.Digits.{size-lt, size-le, size-reaches}
 use lib.Ieee.Exact.{HasValue}
-use lib.Ieee.Fits.{down-pos, round-fits}
+use lib.Ieee.Fits.{down-pos, round-fits, and-r}
 use lib.Ieee.Order.{round-mono}
 use lib.Ieee.Positive.{positive, positive-of-value}
 use lib.Ieee.Scale.{finite, round-same}
 use Rattle.exact.specs.Midpoints.{same-units, le-both, exact-at, below-mid, above-mid}
-use Rattle.exact.specs.Units.{L, mag, sgn, Fin64}
+use Rattle.exact.specs.Units.{L, L-pos, mag, sgn, mag-exact, Fin64}
+use Rattle.exact.specs.Sharp.{Digits, digits}
 use Rattle.exact.specs.RootOf.{Rooted, rootIn, floorRoot, sqrtOf}
 
 -- ---- the root of a whole number
@@ -318,3 +319,97 @@ module _ (x : Float) (v t m : ℕ) (s : sgn x ≡ false) (p : Parted (mag x * L)
           by-above (2 * n * D) ((n + D * D) * 2 ^ 1074) C (mean-le (mag x) (2 ^ 1074) n D refl)
           (rw (set-is k m e) (above-mid (2 * n * D) ((n + D * D) * 2 ^ 1074) k (suc t) C f (lt-trans (lt-suc-self k) g) (p .few) g (rw (pow-succ' 2 t) (mean-gt (2 ^ 1074) n P k D (pow-pos 1074) M (ap (λ z. z * P) e) u))))
           (R .below (rounded m t) (2 ^ 1074) (pow-pos 1074) (own-ge (mag x) (2 ^ 1074) n (v * 2 ^ 54) P k (rounded m t) refl (p .is) e d (le-of-lt (p .root .over))))
+
+-- ---- q * 2 ^ k with q of 53 digits, parted
+pub parted : (n q k m : ℕ) → n ≡ q * 2 ^ k → 2 ^ 52 ≤ q → q < 2 ^ 53 → 54 ≤ k → k < 4000 → Floor (q * 2 ^ (k % 2) * 2 ^ 54) m → Parted n (q * 2 ^ (k % 2)) (k / 2 - 27) m
+parted n q k m e a b c d f =
+    let t = k / 2 - 27 in
+    let s : k ≡ k % 2 + (54 + (t + t)) = omega arith in
+    let w : 2 ^ k ≡ 2 ^ (k % 2) * (2 ^ 54 * (2 ^ t * 2 ^ t)) = ap (λ z. 2 ^ z) s ∙ pow-add 2 (k % 2) (54 + (t + t)) ∙ ap (λ z. 2 ^ (k % 2) * z) (pow-add 2 54 (t + t) ∙ ap (λ z. 2 ^ 54 * z) (pow-add 2 t t)) in
+    let g = span (k % 2) (mod-lt k (lit< tt)) in
+    record { is = e ∙ ap (λ z. q * z) w ∙ regroup (2 ^ (k % 2)) (2 ^ t * 2 ^ t); low = g .0; high = g .1; few = omega arith; root = f }
+  where
+    regroup : (b T : ℕ) → q * (b * (2 ^ 54 * T)) ≡ q * b * 2 ^ 54 * T
+    regroup b T = omega arith
+
+    span : (r : ℕ) → r < 2 → (2 ^ 52 ≤ q * 2 ^ r) × (suc (q * 2 ^ r) < 2 ^ 54)
+    span zero h = (omega arith, omega arith)
+    span (suc zero) h = (omega arith, omega arith)
+    span (suc (suc r)) h = absurd (omega arith)
+
+cancel : (g a d E l : ℕ) → 0 < d → 0 < l → g * d ≡ a * l → a < E * d → g < E * l
+cancel g a d E l D O e h = lt-of-mul-lt-mul-right d (omega (arith, mul-lt-mul-of-pos-right h O))
+
+-- ---- every finite value above zero can be parted
+mag-lt : (x : Float) → Fin64 x → mag x < 2 ^ 1024 * L
+unfolding fits
+mag-lt nan f = absurd (f .0)
+mag-lt (inf s) f = absurd (f .0)
+mag-lt (fin s zero e) f = cancel (mag (fin s 0 e)) (0 * up e) (down e) (2 ^ 1024) L (down-pos e) L-pos (mag-exact s 0 e (f .1)) (rw (zero-mul (up e)) (mul-pos (pow-pos 1024) (down-pos e)))
+mag-lt (fin s (suc m) e) f =
+    cancel (mag (fin s (suc m) e)) (suc m * up e) (down e) (2 ^ 1024) L (down-pos e) L-pos (mag-exact s (suc m) e (f .1))
+    (ltb→lt (suc m * up e) (2 ^ 1024 * down e) (and-r (eqb (suc m % 2) 1 && ltb (suc m) (2 ^ 53) && leb (down e) (2 ^ 1074)) (ltb (suc m * up e) (2 ^ 1024 * down e)) (f .1)))
+
+pub record Normal (n : ℕ) : Type 0 where
+  pub q : ℕ
+  pub k : ℕ
+  pub is : n ≡ q * 2 ^ k
+  pub low : 2 ^ 52 ≤ q
+  pub high : q < 2 ^ 53
+  pub least : 54 ≤ k
+  pub most : k < 4000
+
+exponent : (q j : ℕ) → q * 2 ^ j < 2 ^ 1024 * 2 ^ 1074 → 0 < q → j < 2098
+exponent q j h o = by-contra (suc j) 2098 (λ g. lt-irrefl (2 ^ 2098) (lt-of-le-of-lt (le-trans (pow-mono {i = 2098} {j = j} (omega arith)) (many (2 ^ j))) (rw (pow-add 2 1024 1074) h)))
+  where
+    many : (P : ℕ) → P ≤ q * P
+    many P = omega (arith, mul-le-mul-right P o)
+
+-- q, which has z digits, moved up to 53 digits
+up-to-53 : (n q j z i : ℕ) → n ≡ q * 2 ^ j → j < 2098 → q < 2 ^ suc z → 2 ^ z ≤ q → z + i ≡ 52 → Normal (n * 2 ^ 1074)
+up-to-53 n q j z i e b h l c =
+    record {
+      q = q * 2 ^ i;
+      k = z + (j + 1022);
+      is = ap (λ y. y * 2 ^ 1074) e
+          ∙ mul-assoc q (2 ^ j) (2 ^ 1074)
+          ∙ ap (λ y. q * y) (sym (pow-add 2 j 1074) ∙ ap (λ y. 2 ^ y) (moved j) ∙ pow-add 2 i (z + (j + 1022)))
+          ∙ sym (mul-assoc q (2 ^ i) (2 ^ (z + (j + 1022))));
+      low = le-trans (le-of-eq (ap (λ y. 2 ^ y) (sym c) ∙ pow-add 2 z i)) (mul-le-mul-right (2 ^ i) l);
+      high = lt-of-lt-of-le (mul-lt-mul-of-pos-right h (pow-pos i)) (le-of-eq (sym (pow-add 2 (suc z) i) ∙ ap (λ y. 2 ^ y) (one-more)));
+      least = omega arith;
+      most = omega arith;
+    }
+  where
+    moved : (j : ℕ) → j + 1074 ≡ i + (z + (j + 1022))
+    moved j = omega arith
+
+    one-more : suc z + i ≡ 53
+    one-more = omega arith
+
+normal : (x : Float) → Fin64 x → 0 < mag x → Normal (mag x * L)
+unfolding L
+normal x f o = go (mag x) o (mag-lt x f) (digits x f)
+  where
+    some : (q P n : ℕ) → n ≡ q * P → 0 < n → 0 < q
+    some zero P n e h = absurd (omega (arith, zero-mul P))
+    some (suc q) P n e h = zero-lt-suc q
+
+    go : (n : ℕ) → 0 < n → n < 2 ^ 1024 * L → Digits n → Normal (n * L)
+    go n o h d =
+        let z = size (d .q) in
+        let w : 0 < d .q = some (d .q) (2 ^ d .j) n (d .is) o in
+        let a : z ≤ 53 = size-le (d .q) 53 (d .few) in
+        let b : 0 < z = by-contra 1 z (λ g. lt-irrefl 0 (lt-of-lt-of-le w (none (d .q) z (size-lt (d .q)) g))) in
+        up-to-53 n (d .q) (d .j) (z - 1) (53 - z) (d .is) (exponent (d .q) (d .j) (subst (λ y. y < 2 ^ 1024 * L) (d .is) h) w)
+        (subst (λ y. d .q < 2 ^ y) (back z b) (size-lt (d .q))) (size-reaches (d .q) (z - 1) (less z b)) (omega arith)
+      where
+        none : (q z : ℕ) → q < 2 ^ z → z < 1 → q ≤ 0
+        none q zero h g = omega (arith, rw pow-zero at h)
+        none q (suc z) h g = absurd (omega arith)
+
+        back : (z : ℕ) → 0 < z → z ≡ suc (z - 1)
+        back z h = omega arith
+
+        less : (z : ℕ) → 0 < z → z - 1 < z
+        less z h = omega arith
