@@ -1,14 +1,15 @@
 -- The laws of the correctly rounded square root: it is there, there is one, and its digits. Assumes nothing.
 use mathlib.Core.Path.{_≡_, refl, sym, ap, _∙_, subst}
 use mathlib.Core.Logic.{inl, inr}
-use mathlib.Core.Bool.{Bool, true, false, not, cond, _&&_}
+use mathlib.Core.Bool.{Bool, true, false, not, cond, _&&_, _||_}
 use Prim.Native.Nat.{ℕ, zero, suc, _+_, _-_, _*_, _/_, _%_, _^_, _≤_, _<_}
 use native.Mathlib.Nat.{le-refl, le-trans, le-of-eq, lt-of-lt-of-le, lt-of-le-of-lt, lt-irrefl, lt-trans, le-of-lt, zero-lt-suc, mul-comm, mul-assoc, add-comm, le-of-suc-le-suc, lt-suc-self, mul-div-cancel, mul-le-mul, mul-le-mul-right, mul-lt-mul-of-pos-right, mul-pos, zero-mul, lt-of-mul-lt-mul-right, mod-lt, pow-suc, pow-succ', pow-zero}
 use native.Mathlib.Omega.{arith, sub-cases, by-contra}
-use lib.Dec.{T, ltb, ltb→lt, leb, eqb, leb→le, nleb→lt, eqb→eq, lit<}
+use lib.Dec.{T, ltb, ltb→lt, lt→ltb, eqb·zero-suc, leb, eqb, leb→le, nleb→lt, eqb→eq, lit<}
+use lib.IntN.{ℤ, pos}
 use lib.Arith.{lt-of-le-ne}
 use lib.Pow.{pow-pos, pow-add, pow-mono}
-use lib.Ieee.{Float, nan, inf, fin, binary64, up, down, size, round, le, fits}
+use lib.Ieee.{Float, nan, inf, fin, binary64, up, down, size, round, below, level, le, fits}
 use lib.Ieee.Digits.{size-lt, size-le, size-reaches}
 use lib.Ieee.Exact.{HasValue}
 use lib.Ieee.Fits.{down-pos, round-fits, and-r}
@@ -413,3 +414,67 @@ normal x f o = go (mag x) o (mag-lt x f) (digits x f)
 
         less : (z : ℕ) → 0 < z → z - 1 < z
         less z h = omega arith
+
+-- ---- zero: its root is itself, with its sign
+zeroOf : Bool → Float
+zeroOf s = fin s 0 (pos 0)
+
+round-zero : (s : Bool) (c : ℕ) → 0 < c → round binary64 s 0 c ≡ zeroOf s
+unfolding round zeroOf
+round-zero true c C = round-same binary64 true 0 c 0 1 C (lit< tt) (sym (zero-mul c))
+round-zero false c C = round-same binary64 false 0 c 0 1 C (lit< tt) (sym (zero-mul c))
+
+or-l : (a b : Bool) → T a → T (a || b)
+or-l true b h = tt
+or-l false b h = absurd h
+
+-- either zero is at most what +0 is at most, and at least what +0 is at least
+zero-below : (s : Bool) (y : Float) → T (le (zeroOf false) y) → T (le (zeroOf s) y)
+unfolding le zeroOf
+zero-below s nan h = absurd h
+zero-below s (inf t) h = h
+zero-below s (fin t m e) h = go s t (0 * down e) (m * up e * 1) (zero-mul (down e)) h
+  where
+    at : (s t : Bool) (B : ℕ) → T (below false 0 t B || level false 0 t B) → T (below s 0 t B || level s 0 t B)
+    at false t B h = h
+    at true t zero h = or-zero t
+      where
+        or-zero : (t : Bool) → T (below true 0 t 0 || level true 0 t 0)
+        or-zero true = tt
+        or-zero false = tt
+    at true false (suc n) h = or-l (ltb 0 (0 + suc n)) (level true 0 false (suc n)) (lt→ltb 0 (0 + suc n) (omega arith))
+    at true true (suc n) h = absurd (rw (eqb·zero-suc n) at h)
+
+    go : (s t : Bool) (A B : ℕ) → A ≡ 0 → T (below false A t B || level false A t B) → T (below s A t B || level s A t B)
+    go s t A B e h = subst (λ z. T (below s z t B || level s z t B)) (sym e) (at s t B (subst (λ z. T (below false z t B || level false z t B)) e h))
+
+zero-le : (s : Bool) (a c : ℕ) → 0 < c → T (le (zeroOf s) (round binary64 false a c))
+zero-le s a c C = zero-below s (round binary64 false a c) (subst (λ z. T (le z (round binary64 false a c))) (round-zero false 1 (lit< tt)) (round-mono binary64 0 1 a c (lit< tt) C (rw (zero-mul c) zero-le-any)))
+  where
+    zero-le-any : 0 ≤ a * 1
+    zero-le-any = omega arith
+
+both-zero : (s t : Bool) → T (le (zeroOf s) (zeroOf t))
+unfolding le zeroOf
+both-zero true true = tt
+both-zero true false = tt
+both-zero false true = tt
+both-zero false false = tt
+
+zero-rooted : (x : Float) → mag x ≡ 0 → Rooted x (zeroOf (sgn x))
+unfolding zeroOf fits
+zero-rooted x z =
+    record {
+      fine = (tt, tt);
+      sign = refl;
+      above = λ a c C h. rw (none a c (rw z at h), round-zero false c C) (both-zero false (sgn x));
+      below = λ a c C h. zero-le (sgn x) a c C;
+    }
+  where
+    none : (a c : ℕ) → a * a * L ≤ 0 * (c * c) → a ≡ 0
+    none zero c h = refl
+    none (suc a) c h = absurd (lt-irrefl 0 (lt-of-lt-of-le (mul-pos (mul-pos (zero-lt-suc a) (zero-lt-suc a)) L-pos) (le-trans h (le-of-eq (zero-mul (c * c))))))
+
+zero-sqrt : (x : Float) → mag x ≡ 0 → sqrtOf x ≡ zeroOf (sgn x)
+unfolding sqrtOf floorRoot rootIn size
+zero-sqrt x z = rw (z, zero-mul L) (round-zero (sgn x) (2 * L) (mul-pos (lit< tt) L-pos))
