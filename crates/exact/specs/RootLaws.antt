@@ -3,13 +3,14 @@ use mathlib.Core.Path.{_≡_, refl, sym, ap, _∙_, subst}
 use mathlib.Core.Logic.{inl, inr}
 use mathlib.Core.Bool.{Bool, true, false, not, cond, _&&_, _||_}
 use Prim.Native.Nat.{ℕ, zero, suc, _+_, _-_, _*_, _/_, _%_, _^_, _≤_, _<_}
-use native.Mathlib.Nat.{le-refl, le-trans, le-of-eq, lt-of-lt-of-le, lt-of-le-of-lt, lt-irrefl, lt-trans, le-of-lt, zero-lt-suc, mul-comm, mul-assoc, add-comm, le-of-suc-le-suc, lt-suc-self, mul-div-cancel, mul-le-mul, mul-le-mul-right, mul-lt-mul-of-pos-right, mul-pos, zero-mul, lt-of-mul-lt-mul-right, mod-lt, pow-suc, pow-succ', pow-zero}
+use native.Mathlib.Nat.{le-refl, le-trans, le-of-eq, lt-of-lt-of-le, lt-of-le-of-lt, lt-irrefl, lt-trans, le-of-lt, zero-lt-suc, mul-comm, mul-assoc, add-comm, le-of-suc-le-suc, lt-suc-self, mul-div-cancel, mul-le-mul, mul-le-mul-right, mul-lt-mul-of-pos-right, mul-pos, mul-one, zero-div, eq-zero-or-pos, eq-of-mul-eq-mul-right, zero-mul, lt-of-mul-lt-mul-right, mod-lt, pow-suc, pow-succ', pow-zero}
 use native.Mathlib.Omega.{arith, sub-cases, by-contra}
-use lib.Dec.{T, ltb, ltb→lt, lt→ltb, eqb·zero-suc, leb, eqb, leb→le, nleb→lt, eqb→eq, lit<}
+use lib.Dec.{T, ltb, ltb→lt, lt→ltb, eqb·zero-suc, eqb·suc-zero, leb, eqb, leb→le, nleb→lt, eqb→eq, lit<}
 use lib.IntN.{ℤ, pos}
-use lib.Arith.{lt-of-le-ne}
+use lib.Arith.{lt-of-le-ne, le→nltb}
 use lib.Pow.{pow-pos, pow-add, pow-mono}
 use lib.Ieee.{Float, nan, inf, fin, binary64, up, down, size, round, below, level, le, fits}
+use lib.Ieee.Bits.{is-false}
 use lib.Ieee.Digits.{size-lt, size-le, size-reaches}
 use lib.Ieee.Exact.{HasValue}
 use lib.Ieee.Fits.{down-pos, round-fits, and-r}
@@ -478,3 +479,61 @@ zero-rooted x z =
 zero-sqrt : (x : Float) → mag x ≡ 0 → sqrtOf x ≡ zeroOf (sgn x)
 unfolding sqrtOf floorRoot rootIn size
 zero-sqrt x z = rw (z, zero-mul L) (round-zero (sgn x) (2 * L) (mul-pos (lit< tt) L-pos))
+
+zero-only : (r : Float) → Fin64 r → T (le r (zeroOf false)) → T (le (zeroOf false) r) → mag r ≡ 0
+unfolding le zeroOf
+zero-only nan f h k = absurd h
+zero-only (inf s) f h k = absurd (f .0)
+zero-only (fin s m e) f h k = whole (size-zero s (m * up e * 1) (0 * down e) (zero-mul (down e)) h k)
+  where
+    below-zero : (A : ℕ) → T (ltb A 0 || level false A false 0) → A ≡ 0
+    below-zero zero h = refl
+    below-zero (suc A) h = absurd (rw (is-false (ltb (suc A) 0) (le→nltb (suc A) 0 (omega arith)), eqb·suc-zero A) at h)
+
+    above-zero : (A : ℕ) → T (level false 0 true A) → A ≡ 0
+    above-zero zero h = refl
+    above-zero (suc A) h = absurd (rw (eqb·zero-suc A) at h)
+
+    size-zero : (s : Bool) (A B : ℕ) → B ≡ 0 → T (below s A false B || level s A false B) → T (below false B s A || level false B s A) → A ≡ 0
+    size-zero false A B e h k = below-zero A (subst (λ z. T (ltb A z || level false A false z)) e h)
+    size-zero true A B e h k = above-zero A (subst (λ z. T (level false z true A)) e k)
+
+    whole : m * up e * 1 ≡ 0 → mag (fin s m e) ≡ 0
+    whole z = eq-of-mul-eq-mul-right (down e) (down-pos e) (mag (fin s m e)) 0 (mag-exact s m e (f .1) ∙ ap (λ y. y * L) (sym (mul-one (m * up e)) ∙ z) ∙ zero-mul L ∙ sym (zero-mul (down e)))
+
+zero-one : (x r : Float) → mag x ≡ 0 → Rooted x r → zeroOf (sgn x) ≡ r
+unfolding zeroOf fits mag
+zero-one x r z R =
+    let up-to = rw (round-zero false 1 (lit< tt)) at (R .below 0 1 (lit< tt) (rw z (omega arith))) in
+    let from = rw (round-zero false 1 (lit< tt)) at (R .above 0 1 (lit< tt) (rw z (omega arith))) in
+    same-units (fin (sgn x) 0 (pos 0)) r (tt, tt) (R .fine) (sym (R .sign)) (ap (λ y. y / 1) (zero-mul L) ∙ zero-div 1 ∙ sym (zero-only r (R .fine) up-to from))
+
+-- ---- of every finite value that is not below zero
+abbrev pub NotBelow : Float → Type 0
+NotBelow x = 0 < mag x → sgn x ≡ false
+
+-- the definition's value is the correctly rounded root
+pub sqrt-rooted : (x : Float) → Fin64 x → NotBelow x → Rooted x (sqrtOf x)
+sqrt-rooted x f g = elim (eq-zero-or-pos (mag x)) [
+  | inl z ↦ rw (zero-sqrt x z) (zero-rooted x z)
+  | inr o ↦ at o (normal x f o)
+]
+  where
+    at : 0 < mag x → Normal (mag x * L) → Rooted x (sqrtOf x)
+    at o d =
+        let F = floor-root (d .q * 2 ^ (d .k % 2) * 2 ^ 54) in
+        let p = parted (mag x * L) (d .q) (d .k) _ (d .is) (d .low) (d .high) (d .least) (d .most) F in
+        rw (sqrt-nearest x _ _ _ (g o) p) (rooted-nearest x _ _ _ (g o) p)
+
+-- and there is no other
+pub rooted-one : (x r : Float) → Fin64 x → NotBelow x → Rooted x r → r ≡ sqrtOf x
+rooted-one x r f g R = elim (eq-zero-or-pos (mag x)) [
+  | inl z ↦ sym (zero-sqrt x z ∙ zero-one x r z R)
+  | inr o ↦ at o (normal x f o)
+]
+  where
+    at : 0 < mag x → Normal (mag x * L) → r ≡ sqrtOf x
+    at o d =
+        let F = floor-root (d .q * 2 ^ (d .k % 2) * 2 ^ 54) in
+        let p = parted (mag x * L) (d .q) (d .k) _ (d .is) (d .low) (d .high) (d .least) (d .most) F in
+        sym (sqrt-nearest x _ _ _ (g o) p ∙ nearest-one x _ _ _ (g o) p r R)
