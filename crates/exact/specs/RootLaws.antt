@@ -49,7 +49,8 @@ square-le a b h = by-contra a b (λ g. more (mul-le-mul g g))
     more : suc b * suc b ≤ a * a → ⊥
     more k = omega arith
 
-four : (a b : ℕ) → 4 * (a * b) ≤ (a + b) * (a + b)
+-- the mean's square is at least the product
+pub four : (a b : ℕ) → 4 * (a * b) ≤ (a + b) * (a + b)
 four a b = sub-cases a b _ (λ h e. more b (a - b) a (sym e)) (λ h e. rw (mul-comm a b, add-comm a b) (more a (b - a) b (omega arith)))
   where
     more : (b d a : ℕ) → a ≡ d + b → 4 * (a * b) ≤ (a + b) * (a + b)
@@ -158,7 +159,7 @@ module _ (X n v t m : ℕ) (i : n ≡ X * 2 ^ 1074) (p : Parted n v t m) where
           rw (set-is k m e) (above-mid a c k (suc t) C f (lt-trans (lt-suc-self k) g) (p .few) g (rw (pow-succ' 2 t) (set-lt (a * 2 ^ 1074) (2 ^ t) k e u)))
 
   -- its value
-  root-digits : (2 ^ 52 ≤ suc m / 2) × (suc m / 2 < 2 ^ 53)
+  pub root-digits : (2 ^ 52 ≤ suc m / 2) × (suc m / 2 < 2 ^ 53)
   root-digits = go (last v m (p .low) (p .high) (p .root))
     where
       go : Last (v * 2 ^ 54) m → (2 ^ 52 ≤ suc m / 2) × (suc m / 2 < 2 ^ 53)
@@ -323,21 +324,21 @@ module _ (x : Float) (v t m : ℕ) (s : sgn x ≡ false) (p : Parted (mag x * L)
           (R .below (rounded m t) (2 ^ 1074) (pow-pos 1074) (own-ge (mag x) (2 ^ 1074) n (v * 2 ^ 54) P k (rounded m t) refl (p .is) e d (le-of-lt (p .root .over))))
 
 -- ---- q * 2 ^ k with q of 53 digits, parted
+pub doubled : (q r : ℕ) → 2 ^ 52 ≤ q → q < 2 ^ 53 → r < 2 → (2 ^ 52 ≤ q * 2 ^ r) × (suc (q * 2 ^ r) < 2 ^ 54)
+doubled q zero a b h = (omega arith, omega arith)
+doubled q (suc zero) a b h = (omega arith, omega arith)
+doubled q (suc (suc r)) a b h = absurd (omega arith)
+
 pub parted : (n q k m : ℕ) → n ≡ q * 2 ^ k → 2 ^ 52 ≤ q → q < 2 ^ 53 → 54 ≤ k → k < 4000 → Floor (q * 2 ^ (k % 2) * 2 ^ 54) m → Parted n (q * 2 ^ (k % 2)) (k / 2 - 27) m
 parted n q k m e a b c d f =
     let t = k / 2 - 27 in
     let s : k ≡ k % 2 + (54 + (t + t)) = omega arith in
     let w : 2 ^ k ≡ 2 ^ (k % 2) * (2 ^ 54 * (2 ^ t * 2 ^ t)) = ap (λ z. 2 ^ z) s ∙ pow-add 2 (k % 2) (54 + (t + t)) ∙ ap (λ z. 2 ^ (k % 2) * z) (pow-add 2 54 (t + t) ∙ ap (λ z. 2 ^ 54 * z) (pow-add 2 t t)) in
-    let g = span (k % 2) (mod-lt k (lit< tt)) in
+    let g = doubled q (k % 2) a b (mod-lt k (lit< tt)) in
     record { is = e ∙ ap (λ z. q * z) w ∙ regroup (2 ^ (k % 2)) (2 ^ t * 2 ^ t); low = g .0; high = g .1; few = omega arith; root = f }
   where
     regroup : (b T : ℕ) → q * (b * (2 ^ 54 * T)) ≡ q * b * 2 ^ 54 * T
     regroup b T = omega arith
-
-    span : (r : ℕ) → r < 2 → (2 ^ 52 ≤ q * 2 ^ r) × (suc (q * 2 ^ r) < 2 ^ 54)
-    span zero h = (omega arith, omega arith)
-    span (suc zero) h = (omega arith, omega arith)
-    span (suc (suc r)) h = absurd (omega arith)
 
 cancel : (g a d E l : ℕ) → 0 < d → 0 < l → g * d ≡ a * l → a < E * d → g < E * l
 cancel g a d E l D O e h = lt-of-mul-lt-mul-right d (omega (arith, mul-lt-mul-of-pos-right h O))
@@ -480,11 +481,14 @@ zero-sqrt : (x : Float) → mag x ≡ 0 → sqrtOf x ≡ zeroOf (sgn x)
 unfolding sqrtOf floorRoot rootIn size
 zero-sqrt x z = rw (z, zero-mul L) (round-zero (sgn x) (2 * L) (mul-pos (lit< tt) L-pos))
 
+pub mag-zero : (s : Bool) (m : ℕ) (e : ℤ) → T (fits binary64 (fin s m e)) → m * up e * 1 ≡ 0 → mag (fin s m e) ≡ 0
+mag-zero s m e f z = eq-of-mul-eq-mul-right (down e) (down-pos e) (mag (fin s m e)) 0 (mag-exact s m e f ∙ ap (λ y. y * L) (sym (mul-one (m * up e)) ∙ z) ∙ zero-mul L ∙ sym (zero-mul (down e)))
+
 zero-only : (r : Float) → Fin64 r → T (le r (zeroOf false)) → T (le (zeroOf false) r) → mag r ≡ 0
 unfolding le zeroOf
 zero-only nan f h k = absurd h
 zero-only (inf s) f h k = absurd (f .0)
-zero-only (fin s m e) f h k = whole (size-zero s (m * up e * 1) (0 * down e) (zero-mul (down e)) h k)
+zero-only (fin s m e) f h k = mag-zero s m e (f .1) (size-zero s (m * up e * 1) (0 * down e) (zero-mul (down e)) h k)
   where
     below-zero : (A : ℕ) → T (ltb A 0 || level false A false 0) → A ≡ 0
     below-zero zero h = refl
@@ -498,15 +502,16 @@ zero-only (fin s m e) f h k = whole (size-zero s (m * up e * 1) (0 * down e) (ze
     size-zero false A B e h k = below-zero A (subst (λ z. T (ltb A z || level false A false z)) e h)
     size-zero true A B e h k = above-zero A (subst (λ z. T (level false z true A)) e k)
 
-    whole : m * up e * 1 ≡ 0 → mag (fin s m e) ≡ 0
-    whole z = eq-of-mul-eq-mul-right (down e) (down-pos e) (mag (fin s m e)) 0 (mag-exact s m e (f .1) ∙ ap (λ y. y * L) (sym (mul-one (m * up e)) ∙ z) ∙ zero-mul L ∙ sym (zero-mul (down e)))
-
 zero-one : (x r : Float) → mag x ≡ 0 → Rooted x r → zeroOf (sgn x) ≡ r
 unfolding zeroOf fits mag
 zero-one x r z R =
     let up-to = rw (round-zero false 1 (lit< tt)) at (R .below 0 1 (lit< tt) (rw z (omega arith))) in
     let from = rw (round-zero false 1 (lit< tt)) at (R .above 0 1 (lit< tt) (rw z (omega arith))) in
     same-units (fin (sgn x) 0 (pos 0)) r (tt, tt) (R .fine) (sym (R .sign)) (ap (λ y. y / 1) (zero-mul L) ∙ zero-div 1 ∙ sym (zero-only r (R .fine) up-to from))
+
+pub sqrt-zero : (x : Float) → Fin64 x → mag x ≡ 0 → x ≡ sqrtOf x
+unfolding zeroOf fits mag
+sqrt-zero x f z = same-units x (fin (sgn x) 0 (pos 0)) f (tt, tt) refl (z ∙ sym (ap (λ y. y / 1) (zero-mul L) ∙ zero-div 1)) ∙ sym (zero-sqrt x z)
 
 -- ---- of every finite value that is not below zero
 abbrev pub NotBelow : Float → Type 0

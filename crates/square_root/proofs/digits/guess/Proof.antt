@@ -1,0 +1,28 @@
+use borrow.Author.Needs.{needs}
+use Rattle.square_root.proofs.digits.guess.Statement.{statement}
+use Rattle.square_root.proofs.digits.guess.Tie as tie
+use Rattle.square_root.proofs.digits.guess.Reads as reads
+use Rattle.square_root.proofs.digits.guess.Lts as lts
+
+-- src/digits.rt:13:25
+mul-c : tie.Need-mul-c
+mul-c c = search needs
+
+-- src/digits.rt:13:13
+sub-c : tie.Need-sub-c
+sub-c c = search needs
+
+-- src/digits.rt:14:16
+mul-result : tie.Need-mul-result
+mul-result c = omega (arith, bound c)
+
+-- src/digits.rt:14:5
+add-result : tie.Need-add-result
+add-result c = omega (arith, bound c)
+
+-- src/digits.rt:8:1
+returns : tie.Need-returns
+returns c = let b = bound c in (omega arith, omega arith)
+
+pub guess-spec : {M : Type 1} → statement M
+guess-spec = tie.close (tie.spec mul-c sub-c mul-result add-result returns)
