@@ -1,8 +1,14 @@
+use Prim.Native.Nat.{_-_, _*_, _/_, _^_, _≤_}
+use native.Mathlib.Omega.{arith}
+use Rattle.square_root.proofs.Laws.{product}
 use borrow.Author.Needs.{needs}
 use Rattle.square_root.proofs.digits.guess.Statement.{statement}
 use Rattle.square_root.proofs.digits.guess.Tie as tie
 use Rattle.square_root.proofs.digits.guess.Reads as reads
 use Rattle.square_root.proofs.digits.guess.Lts as lts
+
+bound : (c : lts.Start reads.Pre reads.Post) → (141199651 - 42455873 * (c .args .n / 2 ^ 22) / 2 ^ 32) * (c .args .n / 2 ^ 22) ≤ 141199651 * 4294967295
+bound c = product (141199651 - 42455873 * (c .args .n / 2 ^ 22) / 2 ^ 32) (c .args .n / 2 ^ 22) (omega arith) (omega (arith, c .pre))
 
 -- src/digits.rt:13:25
 mul-c : tie.Need-mul-c

@@ -1,3 +1,7 @@
+use Prim.Native.Nat.{suc, _*_, _^_, _<_}
+use native.Mathlib.Omega.{arith}
+use Rattle.square_root.proofs.Laws.{reaches, square-fits, some, down}
+use borrow.Author.Needs.{needs}
 use Rattle.square_root.proofs.digits.half_root.Statement.{statement}
 use Rattle.square_root.proofs.digits.half_root.Tie as tie
 use Rattle.square_root.proofs.digits.half_root.Reads as reads
@@ -13,39 +17,39 @@ abbrev μ-loop : tie.MeasureT-loop
 
 -- src/digits.rt:30:33
 guess-requires : tie.Need-guess-requires Inv-loop μ-loop
-guess-requires c κs = ?
+guess-requires c κs = c .pre .1
 
 -- src/digits.rt:30:25
 mean-requires : tie.Need-mean-requires Inv-loop μ-loop
-mean-requires c κs = ?
+mean-requires c κs = (c .before .pre .1, c .guess .ensures .0, c .guess .ensures .1)
 
 -- src/digits.rt:30:9
 mean-requires-2 : tie.Need-mean-requires-2 Inv-loop μ-loop
-mean-requires-2 c κs = ?
+mean-requires-2 c κs = let b = reaches (c .before .before .args .n) (c .mean .result) (c .before .before .pre .0) (c .mean .ensures .0) in (c .before .before .pre .1, omega arith, c .mean .ensures .1)
 
 -- src/digits.rt:31:5
 loop-holds : tie.Need-loop-holds Inv-loop μ-loop
-loop-holds c = ?
+loop-holds c = c .mean2 .ensures
 
 -- src/digits.rt:31:15
 mul-loop : tie.Need-mul-loop Inv-loop μ-loop
-mul-loop c = ?
+mul-loop c = omega (arith, square-fits (c .loop .s) (c .loop .inv .1))
 
 -- src/digits.rt:32:9
 sub-s : tie.Need-sub-s Inv-loop μ-loop
-sub-s c = ?
+sub-s c = omega (arith, some (c .before .before .before .before .before .args .n) (c .before .loop .s) (c .loop-test .taken))
 
 -- src/digits.rt:31:5
 loop-less : tie.Need-loop-less Inv-loop μ-loop
-loop-less c = ?
+loop-less c = omega (arith, some (c .before .before .before .before .before .args .n) (c .before .loop .s) (c .loop-test .taken))
 
 -- src/digits.rt:31:5
 loop-again : tie.Need-loop-again Inv-loop μ-loop
-loop-again c = ?
+loop-again c = (down (c .before .before .before .before .before .args .n) (c .before .loop .s) (c .loop-test .taken), omega arith)
 
 -- src/digits.rt:26:1
 returns : tie.Need-returns Inv-loop μ-loop
-returns c = ?
+returns c = record { under = c .loop-test .left; over = c .before .loop .inv .0 }
 
 pub half-root-spec : {M : Type 1} → statement M
 half-root-spec =
