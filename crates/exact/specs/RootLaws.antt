@@ -80,6 +80,14 @@ last v m l h f = go (m / 2) (m % 2) (omega arith) (omega arith) (square-lt (2 ^ 
     go h (suc zero) k e a b = set h e (omega arith) (omega arith) (lt-of-le-ne (f .under) (λ q. odd-square h v (subst (λ z. z * z ≡ v * 2 ^ 54) e q)))
     go h (suc (suc r)) k e a b = absurd (omega arith)
 
+-- rounded to 53 digits, a half up
+pub root-digits : (v m : ℕ) → 2 ^ 52 ≤ v → suc v < 2 ^ 54 → Floor (v * 2 ^ 54) m → (2 ^ 52 ≤ suc m / 2) × (suc m / 2 < 2 ^ 53)
+root-digits v m l h f = go (last v m l h f)
+  where
+    go : Last (v * 2 ^ 54) m → (2 ^ 52 ≤ suc m / 2) × (suc m / 2 < 2 ^ 53)
+    go (clear k e f g) = (omega arith, omega arith)
+    go (set k e f g o) = (omega arith, omega arith)
+
 -- ---- a fraction below or above the root of n = X * l, in units: A = a * l is below or above the root times c
 module _ (X l n N P a c m : ℕ) (i : n ≡ X * l) (j : n ≡ N * (P * P)) (O : 0 < P) (C : 0 < c) where
   squared-le : a * a * l ≤ X * (c * c) → a * l * (a * l) ≤ N * (P * P) * (c * c)
@@ -159,18 +167,14 @@ module _ (X n v t m : ℕ) (i : n ≡ X * 2 ^ 1074) (p : Parted n v t m) where
           rw (set-is k m e) (above-mid a c k (suc t) C f (lt-trans (lt-suc-self k) g) (p .few) g (rw (pow-succ' 2 t) (set-lt (a * 2 ^ 1074) (2 ^ t) k e u)))
 
   -- its value
-  pub root-digits : (2 ^ 52 ≤ suc m / 2) × (suc m / 2 < 2 ^ 53)
-  root-digits = go (last v m (p .low) (p .high) (p .root))
-    where
-      go : Last (v * 2 ^ 54) m → (2 ^ 52 ≤ suc m / 2) × (suc m / 2 < 2 ^ 53)
-      go (clear k e f g) = (omega arith, omega arith)
-      go (set k e f g o) = (omega arith, omega arith)
+  few-digits : (2 ^ 52 ≤ suc m / 2) × (suc m / 2 < 2 ^ 53)
+  few-digits = root-digits v m (p .low) (p .high) (p .root)
 
   root-value : HasValue (nearestRoot m t) false (rounded m t) (2 ^ 1074)
-  root-value = exact-at 0 1 (2 ^ 52) (suc t) (lit< tt) (le-refl (2 ^ 52)) (lit< tt) (p .few) (suc m / 2) (root-digits .1)
+  root-value = exact-at 0 1 (2 ^ 52) (suc t) (lit< tt) (le-refl (2 ^ 52)) (lit< tt) (p .few) (suc m / 2) (few-digits .1)
 
   root-positive : T (positive (nearestRoot m t))
-  root-positive = positive-of-value (nearestRoot m t) (rounded m t) (2 ^ 1074) root-value (mul-pos (lt-of-lt-of-le (lit< tt) (root-digits .0)) (pow-pos (suc t)))
+  root-positive = positive-of-value (nearestRoot m t) (rounded m t) (2 ^ 1074) root-value (mul-pos (lt-of-lt-of-le (lit< tt) (few-digits .0)) (pow-pos (suc t)))
 
   root-units : (mag (nearestRoot m t) ≡ rounded m t) × (sgn (nearestRoot m t) ≡ false) × T (finite (nearestRoot m t))
   unfolding mag L
