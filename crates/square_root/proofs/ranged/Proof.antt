@@ -13,7 +13,7 @@ in-range-requires c κs = search needs
 
 -- src/lib.rt:43:36
 value-requires : tie.Need-value-requires
-value-requires c κs = ?
+value-requires c κs = simp (c .before .in-range .ensures) at (c .if1 .taken)
 
 -- src/lib.rt:45:9
 outside-requires : tie.Need-outside-requires
@@ -21,11 +21,15 @@ outside-requires c κs = search needs
 
 -- src/lib.rt:39:1
 returns : tie.Need-returns
-returns c = ?
+returns c =
+    let t0 = simp (c .before .before .in-range .ensures) at (c .before .if1 .taken) in
+    simp (c .value .ensures .0, c .before .before .in-range .ensures, t0)
 
 -- src/lib.rt:39:1
 returns-2 : tie.Need-returns-2
-returns-2 c = ?
+returns-2 c =
+    let t0 = simp (c .before .before .in-range .ensures) at (c .before .if1 .left) in
+    simp (c .outside .ensures, c .before .before .in-range .ensures, t0)
 
 pub ranged-spec : {M : Type 1} → statement M
 ranged-spec =

@@ -16,11 +16,15 @@ ranged-requires c κs = search needs
 
 -- src/lib.rt:50:1
 returns : tie.Need-returns
-returns c = ?
+returns c =
+    let t0 = simp (c .before .before .is-finite .ensures) at (c .before .if1 .taken) in
+    simp (c .ranged .ensures, c .before .before .is-finite .ensures, t0)
 
 -- src/lib.rt:50:1
 returns-2 : tie.Need-returns-2
-returns-2 c = ?
+returns-2 c =
+    let t0 = simp (c .before .is-finite .ensures) at (c .if1 .left) in
+    simp (c .before .is-finite .ensures, t0)
 
 pub sqrt-spec : {M : Type 1} → statement M
 sqrt-spec = tie.close (tie.spec is-finite-requires ranged-requires returns returns-2)

@@ -16,11 +16,15 @@ ranged-requires c κs = search needs
 
 -- src/lib.rt:61:1
 returns : tie.Need-returns
-returns c = ?
+returns c =
+    let t0 = simp (c .before .before .is-number .ensures) at (c .before .if1 .taken) in
+    simp (c .ranged .ensures, c .before .before .is-number .ensures, t0)
 
 -- src/lib.rt:61:1
 returns-2 : tie.Need-returns-2
-returns-2 c = ?
+returns-2 c =
+    let t0 = simp (c .before .is-number .ensures) at (c .if1 .left) in
+    simp (c .before .is-number .ensures, t0)
 
 pub sqrt-on-path-spec : {M : Type 1} → statement M
 sqrt-on-path-spec = tie.close (tie.spec is-number-requires ranged-requires returns returns-2)
