@@ -14,5 +14,9 @@ pub mod Shift
 pub mod Fields
 pub mod Midpoints
 pub mod RootOf
+pub mod WholeRoot
+pub mod RootDigits
+pub mod RootNearest
+pub mod RootZero
 pub mod RootLaws
 pub mod RootCases

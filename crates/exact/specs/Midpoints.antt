@@ -2,20 +2,20 @@
 use mathlib.Core.Path.{_≡_, refl, sym, ap, _∙_, subst}
 use mathlib.Core.Logic.{inl, inr}
 use Prim.Native.Nat.{ℕ, zero, suc, _+_, _-_, _*_, _/_, _^_, _≤_, _<_}
-use native.Mathlib.Nat.{le-trans, le-of-eq, lt-of-lt-of-le, lt-of-le-of-lt, lt-irrefl, le-of-suc-le-suc, eq-or-lt-of-le, mul-assoc, mul-pos, mul-le-mul-right, mul-lt-mul-of-pos-right, le-of-mul-le-mul-right, lt-of-mul-lt-mul-right, le-div-iff-mul-le, div-lt-iff-lt-mul, eq-of-mul-eq-mul-right}
+use native.Mathlib.Nat.{le-trans, le-of-eq, lt-of-lt-of-le, lt-irrefl, le-of-suc-le-suc, eq-or-lt-of-le, mul-pos, mul-le-mul-right, mul-lt-mul-of-pos-right, lt-of-mul-lt-mul-right, le-div-iff-mul-le, div-lt-iff-lt-mul, eq-of-mul-eq-mul-right}
 use native.Mathlib.Omega.{arith, sub-cases, by-contra}
 use mathlib.Core.Bool.{Bool, true, false, cond}
 use lib.IntN.{ℤ}
-use lib.Dec.{T, lit<}
+use lib.Dec.{T}
 use lib.Pow.{pow-add, pow-pos, pow-mono}
-use lib.Ieee.{Float, nan, inf, fin, binary64, prec, low, up, down, size, round, le, fits, ofBits, toBits, hid, top}
+use lib.Ieee.{Float, nan, inf, fin, binary64, up, down, size, round, le, fits, ofBits, toBits, hid, top}
 use lib.Ieee.Bits.{ofBits-toBits}
 use lib.Ieee.Digits.{size-lt, size-le, size-reaches}
 use lib.Ieee.Fits.{down-pos}
 use lib.Ieee.Positive.{positive, between, le→cross}
 use lib.Ieee.Exact.{HasValue, round-exact}
 use lib.Ieee.Order.{drop, kept, round-mono, le-of-values}
-use lib.Ieee.Scale.{grid, overflow, finite, round-val}
+use lib.Ieee.Scale.{grid, finite, round-val}
 use Rattle.exact.specs.Rounding.{Near, grid-near}
 use Rattle.exact.specs.Units.{L, mag, sgn, mag-exact, Fin64}
 
@@ -59,7 +59,7 @@ le-both x y p f g h k = go x y p (between x y x p p h k) f g h k
         (cross (m * up e) (n * up d) (down e) (down d) (mag (fin false m e)) (mag (fin false n d)) (down-pos e) (down-pos d) (mag-exact false m e f) (mag-exact false n d g)
         (le→cross (fin false m e) (fin false n d) p q h) (le→cross (fin false n d) (fin false m e) q p k))
 
-pub either : (a b : ℕ) (G : Type 0) → (a ≤ b → G) → (b < a → G) → G
+either : (a b : ℕ) (G : Type 0) → (a ≤ b → G) → (b < a → G) → G
 either a b G f g = sub-cases a (suc b) G (λ h e. g h) (λ h e. f' h)
   where
     f' : a ≤ suc b → G

@@ -1,16 +1,15 @@
 -- What the range test and the test for zero say of a value. Assumes nothing.
 use mathlib.Core.Path.{_≡_, refl, sym, ap, _∙_, subst}
 use mathlib.Core.Logic.{inl, inr}
-use mathlib.Core.Bool.{Bool, true, false, not, _&&_, _||_, true≢false}
-use Prim.Native.Nat.{ℕ, zero, suc, _+_, _*_, _<_}
-use native.Mathlib.Nat.{lt-irrefl, lt-of-lt-of-le, le-of-eq, mul-one, zero-mul, mul-pos, eq-zero-or-pos, eq-of-mul-eq-mul-right}
+use mathlib.Core.Bool.{Bool, true, false, _||_, true≢false}
+use Prim.Native.Nat.{ℕ, zero, _*_, _<_}
+use native.Mathlib.Nat.{lt-irrefl, lt-of-lt-of-le, le-of-eq, mul-one, zero-mul, eq-zero-or-pos, eq-of-mul-eq-mul-right}
 use lib.Dec.{T, eqb, eqb→eq}
-use lib.IntN.{ℤ, pos}
 use lib.Ieee.{Float, nan, inf, fin, binary64, up, down, below, level, le, eq, fits, ofBits}
-use lib.Ieee.Bits.{is-true}
-use lib.Ieee.Fits.{and-l, eq→eqb}
-use Rattle.exact.specs.Units.{L, L-pos, mag, sgn, mag-exact, Fin64}
-use Rattle.exact.specs.RootLaws.{NotBelow, mag-zero}
+use lib.Ieee.Fits.{and-l}
+use Rattle.exact.specs.Units.{L, L-pos, mag, mag-exact, Fin64}
+use Rattle.exact.specs.RootZero.{mag-zero}
+use Rattle.exact.specs.RootLaws.{NotBelow}
 use Rattle.numbers.specs.Range.{inRange}
 use Rattle.numbers.proofs.Laws.{and-both}
 use Rattle.square_root.specs.Range.{least, largest}

@@ -1,9 +1,9 @@
 -- The whole-number work of the square root. Assumes nothing.
-use mathlib.Core.Path.{_≡_, refl, sym, ap, _∙_, subst}
+use mathlib.Core.Path.{_≡_, subst}
 use Prim.Native.Nat.{ℕ, zero, suc, _+_, _-_, _*_, _/_, _%_, _^_, _≤_, _<_}
-use native.Mathlib.Nat.{le-of-suc-le-suc, mul-le-mul, mul-le-mul-right, mul-pos, div-add-mod', mod-lt, div-lt-iff-lt-mul}
+use native.Mathlib.Nat.{le-of-suc-le-suc, mul-le-mul, mul-le-mul-right, div-add-mod', mod-lt, div-lt-iff-lt-mul}
 use native.Mathlib.Omega.{arith}
-use Rattle.exact.specs.RootLaws.{Floor, four, square-lt}
+use Rattle.exact.specs.WholeRoot.{Floor, four, square-lt}
 
 -- ---- the guess
 pub product : (c z : ℕ) → c ≤ 141199651 → z < 2 ^ 32 → c * z ≤ 141199651 * 4294967295

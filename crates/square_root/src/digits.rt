@@ -1,6 +1,6 @@
 ghost use mathlib.Core.Path.{_≡_};
 ghost use Prim.Native.Nat.{suc, _*_, _^_, _≤_, _<_};
-ghost use Rattle.exact.specs.RootLaws.{Floor};
+ghost use Rattle.exact.specs.WholeRoot.{Floor};
 ghost use Rattle.square_root.specs.Digits.{RootAt};
 
 // A guess at the root of n, one part in 200 away at most: 2^27 (0.25928 + 1.05202 z - 0.31632 z z),
@@ -44,7 +44,11 @@ fn root(n: u64) -> u64
     let a = (n - s * s) * 0x400_0000;
     let d = a / s;
     let m = s * 0x800_0000 + d;
-    if a % s * 0x1000_0000 < d * d { m - 1 } else { m }
+    if a % s * 0x1000_0000 < d * d {
+        m - 1
+    } else {
+        m
+    }
 }
 
 // The root of the number of q * 2^k / 2^2148, q of 53 digits. The last of the root's 54 digits is the

@@ -1,3 +1,4 @@
+-- `square_root::digits::guess` meets its contract. Assumes nothing.
 use Prim.Native.Nat.{_-_, _*_, _/_, _^_, _≤_}
 use native.Mathlib.Omega.{arith}
 use Rattle.square_root.proofs.Laws.{product}
@@ -10,23 +11,18 @@ use Rattle.square_root.proofs.digits.guess.Lts as lts
 bound : (c : lts.Start reads.Pre reads.Post) → (141199651 - 42455873 * (c .args .n / 2 ^ 22) / 2 ^ 32) * (c .args .n / 2 ^ 22) ≤ 141199651 * 4294967295
 bound c = product (141199651 - 42455873 * (c .args .n / 2 ^ 22) / 2 ^ 32) (c .args .n / 2 ^ 22) (omega arith) (omega (arith, c .pre))
 
--- src/digits.rt:13:25
 mul-c : tie.Need-mul-c
 mul-c c = search needs
 
--- src/digits.rt:13:13
 sub-c : tie.Need-sub-c
 sub-c c = search needs
 
--- src/digits.rt:14:16
 mul-result : tie.Need-mul-result
 mul-result c = omega (arith, bound c)
 
--- src/digits.rt:14:5
 add-result : tie.Need-add-result
 add-result c = omega (arith, bound c)
 
--- src/digits.rt:8:1
 returns : tie.Need-returns
 returns c = let b = bound c in (omega arith, omega arith)
 

@@ -1,20 +1,16 @@
+-- `square_root::digits::mean` meets its contract. Assumes nothing.
 use native.Mathlib.Omega.{arith}
 use Rattle.square_root.proofs.Laws.{quotient, mean-over}
 use borrow.Author.Needs.{needs}
 use Rattle.square_root.proofs.digits.mean.Statement.{statement}
 use Rattle.square_root.proofs.digits.mean.Tie as tie
-use Rattle.square_root.proofs.digits.mean.Reads as reads
-use Rattle.square_root.proofs.digits.mean.Lts as lts
 
--- src/digits.rt:22:10
 div-result : tie.Need-div-result
 div-result c = search needs
 
--- src/digits.rt:22:6
 add-result : tie.Need-add-result
 add-result c = omega (arith, quotient (c .args .n) (c .args .y) (c .pre .0) (c .pre .1))
 
--- src/digits.rt:18:1
 returns : tie.Need-returns
 returns c = (mean-over (c .args .n) (c .args .y) (omega arith), omega (arith, quotient (c .args .n) (c .args .y) (c .pre .0) (c .pre .1)))
 

@@ -1,3 +1,4 @@
+-- `square_root::digits::root` meets its contract. Assumes nothing.
 use native.Mathlib.Omega.{arith}
 use Rattle.square_root.proofs.Laws.{Sizes, sizes, one-less, as-many}
 use borrow.Author.Needs.{needs}
@@ -10,55 +11,42 @@ use Rattle.square_root.proofs.digits.half_root.Reads as half-root-reads
 known : (c : lts.After-half-root (half-root-reads.Asked, half-root-reads.Learnt) reads.Pre reads.Post) → Sizes (c .before .args .n) (c .half-root .result) (c .before .pre .0) (c .before .pre .1) (c .half-root .ensures)
 known c = sizes (c .before .args .n) (c .half-root .result) (c .before .pre .0) (c .before .pre .1) (c .half-root .ensures)
 
--- src/digits.rt:43:9
 half-root-requires : tie.Need-half-root-requires
 half-root-requires c κs = search needs
 
--- src/digits.rt:44:18
 mul-a : tie.Need-mul-a
 mul-a c = search needs
 
--- src/digits.rt:44:14
 sub-a : tie.Need-sub-a
 sub-a c = search needs
 
--- src/digits.rt:44:13
 mul-a-2 : tie.Need-mul-a-2
 mul-a-2 c = let z = known c in omega arith
 
--- src/digits.rt:45:13
 div-d : tie.Need-div-d
 div-d c = let z = known c in omega arith
 
--- src/digits.rt:46:13
 mul-m : tie.Need-mul-m
 mul-m c = let z = known c in omega arith
 
--- src/digits.rt:46:13
 add-m : tie.Need-add-m
 add-m c = let z = known c in omega arith
 
--- src/digits.rt:47:8
 rem-if1 : tie.Need-rem-if1
 rem-if1 c = let z = known c in omega arith
 
--- src/digits.rt:47:8
 mul-if1 : tie.Need-mul-if1
 mul-if1 c = let z = known c in omega arith
 
--- src/digits.rt:47:30
 mul-if1-2 : tie.Need-mul-if1-2
 mul-if1-2 c = let z = known c in omega arith
 
--- src/digits.rt:47:38
 sub-result : tie.Need-sub-result
 sub-result c = let z = known (c .before) in omega arith
 
--- src/digits.rt:39:1
 returns : tie.Need-returns
 returns c = one-less (c .before .before .args .n) (c .before .half-root .result) (c .before .before .pre .0) (c .before .before .pre .1) (c .before .half-root .ensures) (c .if1 .taken)
 
--- src/digits.rt:39:1
 returns-2 : tie.Need-returns-2
 returns-2 c = as-many (c .before .before .args .n) (c .before .half-root .result) (c .before .before .pre .0) (c .before .before .pre .1) (c .before .half-root .ensures) (c .if1 .left)
 
