@@ -36,6 +36,7 @@ fn value(x: f64) -> f64
     if x == 0.0 { x } else { positive(x) }
 }
 
+// The root of an x in the range, or the refusal of one outside it.
 fn ranged(x: f64) -> numbers::Elementary
     ensures { λ r. ⌜ r ≡ sqrtRanged x ⌝ }
 {
@@ -46,7 +47,7 @@ fn ranged(x: f64) -> numbers::Elementary
     }
 }
 
-// The root of x, called by itself: refusal 1 where x is not finite, 2 where it is below 0.
+// The root of x, called by itself: refusal 1 where x is not finite; below 0 it is outside the range.
 pub fn sqrt(x: f64) -> numbers::Elementary
     ensures { λ r. ⌜ r ≡ bare x (sqrtRanged x) ⌝ }
 {
@@ -57,7 +58,7 @@ pub fn sqrt(x: f64) -> numbers::Elementary
     }
 }
 
-// The root of x inside a law: refusal 3 of a NaN, 2 of an infinity or a number below 0.
+// The root of x inside a law: refusal 3 of a NaN; an infinity or a number below 0 is outside the range.
 pub fn sqrt_on_path(x: f64) -> numbers::Elementary
     ensures { λ r. ⌜ r ≡ onPath x (sqrtRanged x) ⌝ }
 {
