@@ -1,7 +1,7 @@
 -- What lies strictly on one side of the midpoint of two neighbouring binary64 values is rounded to that side. Assumes nothing.
 use mathlib.Core.Path.{_≡_, refl, sym, ap, _∙_, subst}
 use mathlib.Core.Logic.{inl, inr}
-use Prim.Native.Nat.{ℕ, zero, suc, _+_, _-_, _*_, _/_, _^_, _≤_, _<_}
+use Prim.Native.Nat.{ℕ, suc, _+_, _-_, _*_, _/_, _^_, _≤_, _<_}
 use native.Mathlib.Nat.{le-trans, le-of-eq, lt-of-lt-of-le, lt-irrefl, le-of-suc-le-suc, eq-or-lt-of-le, mul-pos, mul-le-mul-right, mul-lt-mul-of-pos-right, lt-of-mul-lt-mul-right, le-div-iff-mul-le, div-lt-iff-lt-mul, eq-of-mul-eq-mul-right}
 use native.Mathlib.Omega.{arith, sub-cases, by-contra}
 use mathlib.Core.Bool.{Bool, true, false, cond}
@@ -15,7 +15,7 @@ use lib.Ieee.Fits.{down-pos}
 use lib.Ieee.Positive.{positive, between, le→cross}
 use lib.Ieee.Exact.{HasValue, round-exact}
 use lib.Ieee.Order.{drop, kept, round-mono, le-of-values}
-use lib.Ieee.Scale.{grid, finite, round-val}
+use lib.Ieee.Scale.{grid, round-val}
 use Rattle.exact.specs.Rounding.{Near, grid-near}
 use Rattle.exact.specs.Units.{L, mag, sgn, mag-exact, Fin64}
 
@@ -65,6 +65,13 @@ either a b G f g = sub-cases a (suc b) G (λ h e. g h) (λ h e. f' h)
     f' : a ≤ suc b → G
     f' h = elim (eq-or-lt-of-le h) [ inl e ↦ g (le-of-eq (sym e)) | inr l ↦ f (le-of-suc-le-suc l) ]
 
+-- ---- a number of 53 digits times 2 ^ j units is its own rounding
+fits-at : (n i j : ℕ) → i ≤ 98 → j ≤ 2000 → n < 2 ^ i * 2 ^ j → n < 2 ^ 2098
+fits-at n i j I J h = lt-of-lt-of-le h (le-trans (le-of-eq (sym (pow-add 2 i j))) (pow-mono {i = i + j} {j = 2098} (omega arith)))
+
+pub exact-at : (p j : ℕ) → j ≤ 2000 → p < 2 ^ 53 → HasValue (round binary64 false (p * 2 ^ j) (2 ^ 1074)) false (p * 2 ^ j) (2 ^ 1074)
+exact-at p j J h = round-exact binary64 false (p * 2 ^ j) (2 ^ 1074) p j (pow-pos 1074) h (fits-at (p * 2 ^ j) 53 j (omega arith) J (mul-lt-mul-of-pos-right h (pow-pos j))) refl
+
 -- ---- the neighbours q and q + 1, times 2 ^ j units, with q of 53 digits
 module _ (a c q j : ℕ) (C : 0 < c) (Q : 2 ^ 52 ≤ q) (R : q < 2 ^ 53) (J : j ≤ 2000) where
   w : ℕ
@@ -99,16 +106,10 @@ module _ (a c q j : ℕ) (C : 0 < c) (Q : 2 ^ 52 ≤ q) (R : q < 2 ^ 53) (J : j 
       go : (n P : ℕ) → 2 ^ 53 * P * c ≤ n → suc q * P * c ≤ n
       go n P h = omega (arith, mul-le-mul-right (P * c) R)
 
-  fits-at : (n i : ℕ) → i ≤ 98 → n < 2 ^ i * 2 ^ j → n < 2 ^ 2098
-  fits-at n i I h = lt-of-lt-of-le h (le-trans (le-of-eq (sym (pow-add 2 i j))) (pow-mono {i = i + j} {j = 2098} (omega arith)))
-
-  pub exact-at : (p : ℕ) → p < 2 ^ 53 → HasValue (round binary64 false (p * 2 ^ j) (2 ^ 1074)) false (p * 2 ^ j) (2 ^ 1074)
-  exact-at p h = round-exact binary64 false (p * 2 ^ j) (2 ^ 1074) p j (pow-pos 1074) h (fits-at (p * 2 ^ j) 53 (omega arith) (mul-lt-mul-of-pos-right h (pow-pos j))) refl
-
   value-at : (k : ℕ) → grid binary64 a c ≡ k * 2 ^ j → k < 2 ^ 54 → HasValue (round binary64 false a c) false (k * 2 ^ j) (2 ^ 1074)
   value-at k e h =
       subst (λ z. HasValue (round binary64 false a c) false z (2 ^ 1074)) e
-      (round-val binary64 a c (subst (λ z. z < 2 ^ 2098) (sym e) (fits-at (k * 2 ^ j) 54 (omega arith) (mul-lt-mul-of-pos-right h (pow-pos j)))))
+      (round-val binary64 a c (subst (λ z. z < 2 ^ 2098) (sym e) (fits-at (k * 2 ^ j) 54 j (omega arith) J (mul-lt-mul-of-pos-right h (pow-pos j)))))
 
   -- below the midpoint of q and q + 1
   pub below-mid : 2 * (a * 2 ^ 1074) < (2 * q + 1) * 2 ^ j * c → T (le (round binary64 false a c) (round binary64 false (q * 2 ^ j) (2 ^ 1074)))
@@ -128,7 +129,7 @@ module _ (a c q j : ℕ) (C : 0 < c) (Q : 2 ^ 52 ≤ q) (R : q < 2 ^ 53) (J : j 
           let r = near-at (omega arith) in
           let k : r .0 ≤ q = most (r .0) (a * 2 ^ 1074) (2 ^ j) (pow-pos j) h (r .2 .0) in
           le-of-values (round binary64 false a c) (round binary64 false (q * 2 ^ j) (2 ^ 1074)) (r .0 * 2 ^ j) (2 ^ 1074) (q * 2 ^ j) (2 ^ 1074) (pow-pos 1074) (pow-pos 1074)
-          (value-at (r .0) (r .1) (omega arith)) (exact-at q R) (mul-le-mul-right (2 ^ 1074) (mul-le-mul-right (2 ^ j) k))
+          (value-at (r .0) (r .1) (omega arith)) (exact-at q j J R) (mul-le-mul-right (2 ^ 1074) (mul-le-mul-right (2 ^ j) k))
 
   -- above it
   pub above-mid : suc q < 2 ^ 53 → (2 * q + 1) * 2 ^ j * c < 2 * (a * 2 ^ 1074) → T (le (round binary64 false (suc q * 2 ^ j) (2 ^ 1074)) (round binary64 false a c))
@@ -152,4 +153,4 @@ module _ (a c q j : ℕ) (C : 0 < c) (Q : 2 ^ 52 ≤ q) (R : q < 2 ^ 53) (J : j 
           let r = near-at (omega arith) in
           let k : suc q ≤ r .0 = least (r .0) (a * 2 ^ 1074) (2 ^ j) (pow-pos j) h (r .2 .1) in
           le-of-values (round binary64 false (suc q * 2 ^ j) (2 ^ 1074)) (round binary64 false a c) (suc q * 2 ^ j) (2 ^ 1074) (r .0 * 2 ^ j) (2 ^ 1074) (pow-pos 1074) (pow-pos 1074)
-          (exact-at (suc q) S) (value-at (r .0) (r .1) (few (r .0) (a * 2 ^ 1074) (2 ^ j) (pow-pos j) (div-lt-iff-lt-mul C .0 t) (r .2 .0))) (mul-le-mul-right (2 ^ 1074) (mul-le-mul-right (2 ^ j) k))
+          (exact-at (suc q) j J S) (value-at (r .0) (r .1) (few (r .0) (a * 2 ^ 1074) (2 ^ j) (pow-pos j) (div-lt-iff-lt-mul C .0 t) (r .2 .0))) (mul-le-mul-right (2 ^ 1074) (mul-le-mul-right (2 ^ j) k))

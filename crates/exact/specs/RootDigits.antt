@@ -1,13 +1,13 @@
 -- The 54 binary digits of a root: on which side of it a fraction lies, and what it is rounded to. Assumes nothing.
 use mathlib.Core.Path.{_≡_, ap, _∙_, subst}
-use mathlib.Core.Bool.{false, not}
+use mathlib.Core.Bool.{false}
 use Prim.Native.Nat.{ℕ, zero, suc, _+_, _-_, _*_, _/_, _%_, _^_, _≤_, _<_}
-use native.Mathlib.Nat.{le-refl, lt-of-lt-of-le, lt-trans, lt-suc-self, mul-div-cancel, mul-le-mul-right, mul-lt-mul-of-pos-right, mul-pos, mod-lt, pow-succ'}
+use native.Mathlib.Nat.{lt-of-lt-of-le, lt-trans, lt-suc-self, mul-div-cancel, mul-le-mul-right, mul-lt-mul-of-pos-right, mul-pos, mod-lt, pow-succ'}
 use native.Mathlib.Omega.{arith}
 use lib.Dec.{T, lit<}
 use lib.Arith.{lt-of-le-ne}
 use lib.Pow.{pow-pos, pow-add}
-use lib.Ieee.{Float, nan, inf, fin, binary64, up, down, round, below, le, fits}
+use lib.Ieee.{Float, nan, inf, fin, binary64, down, round, le, fits}
 use lib.Ieee.Exact.{HasValue}
 use lib.Ieee.Fits.{down-pos, round-fits}
 use lib.Ieee.Order.{round-mono}
@@ -15,7 +15,6 @@ use lib.Ieee.Positive.{positive, positive-of-value}
 use lib.Ieee.Scale.{finite}
 use Rattle.exact.specs.Midpoints.{le-both, exact-at, below-mid, above-mid}
 use Rattle.exact.specs.Units.{L, mag, sgn}
-use Rattle.exact.specs.Sharp.{digits}
 use Rattle.exact.specs.WholeRoot.{Floor, square-le, square-lt}
 
 -- ---- n is v * 2 ^ 54 times the square of a power of two, and m, of 54 digits, is the root of v * 2 ^ 54
@@ -42,7 +41,7 @@ last v m l h f = go (m / 2) (m % 2) (omega arith) (omega arith) (square-lt (2 ^ 
     go h (suc zero) k e a b = set h e (omega arith) (omega arith) (lt-of-le-ne (f .under) (λ q. odd-square h v (subst (λ z. z * z ≡ v * 2 ^ 54) e q)))
     go h (suc (suc r)) k e a b = absurd (omega arith)
 
--- rounded to 53 digits, a half up
+-- rounded to 53 digits, a half up, it keeps 53
 pub root-digits : (v m : ℕ) → 2 ^ 52 ≤ v → suc v < 2 ^ 54 → Floor (v * 2 ^ 54) m → (2 ^ 52 ≤ suc m / 2) × (suc m / 2 < 2 ^ 53)
 root-digits v m l h f = go (last v m l h f)
   where
@@ -136,7 +135,7 @@ module _ (X n v t m : ℕ) (i : n ≡ X * 2 ^ 1074) (p : Parted n v t m) where
   few-digits = root-digits v m (p .low) (p .high) (p .root)
 
   pub root-value : HasValue (nearestRoot m t) false (rounded m t) (2 ^ 1074)
-  root-value = exact-at 0 1 (2 ^ 52) (suc t) (lit< tt) (le-refl (2 ^ 52)) (lit< tt) (p .few) (suc m / 2) (few-digits .1)
+  root-value = exact-at (suc m / 2) (suc t) (p .few) (few-digits .1)
 
   pub root-positive : T (positive (nearestRoot m t))
   root-positive = positive-of-value (nearestRoot m t) (rounded m t) (2 ^ 1074) root-value (mul-pos (lt-of-lt-of-le (lit< tt) (few-digits .0)) (pow-pos (suc t)))

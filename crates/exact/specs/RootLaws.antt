@@ -1,21 +1,20 @@
 -- The laws of the correctly rounded square root: the defined one is correctly rounded, and there is no other. Assumes nothing.
 use mathlib.Core.Path.{_≡_, sym, ap, _∙_, subst}
 use mathlib.Core.Logic.{inl, inr}
-use mathlib.Core.Bool.{false, not, _&&_}
-use Prim.Native.Nat.{ℕ, zero, suc, _+_, _-_, _*_, _%_, _^_, _≤_, _<_}
+use mathlib.Core.Bool.{false, _&&_}
+use Prim.Native.Nat.{ℕ, zero, suc, _+_, _-_, _*_, _/_, _%_, _^_, _≤_, _<_}
 use native.Mathlib.Nat.{le-trans, le-of-eq, lt-of-lt-of-le, lt-of-le-of-lt, lt-irrefl, zero-lt-suc, mul-assoc, mul-le-mul-right, mul-lt-mul-of-pos-right, mul-pos, eq-zero-or-pos, zero-mul, lt-of-mul-lt-mul-right, pow-zero}
 use native.Mathlib.Omega.{arith, by-contra}
 use lib.Dec.{ltb, ltb→lt, leb, eqb}
 use lib.Pow.{pow-pos, pow-add, pow-mono}
-use lib.Ieee.{Float, nan, inf, fin, up, down, size, below, fits}
+use lib.Ieee.{Float, nan, inf, fin, up, down, size, fits}
 use lib.Ieee.Digits.{size-lt, size-le, size-reaches}
 use lib.Ieee.Fits.{down-pos, and-r}
-use lib.Ieee.Scale.{finite}
 use Rattle.exact.specs.Units.{L, L-pos, mag, sgn, mag-exact, Fin64}
 use Rattle.exact.specs.Sharp.{Digits, digits}
-use Rattle.exact.specs.RootOf.{Rooted, sqrtOf}
+use Rattle.exact.specs.RootOf.{Rooted, floorRoot, sqrtOf}
 use Rattle.exact.specs.WholeRoot.{floor-root}
-use Rattle.exact.specs.RootDigits.{parted, rounded}
+use Rattle.exact.specs.RootDigits.{Parted, parted}
 use Rattle.exact.specs.RootNearest.{nearest-one, rooted-nearest, sqrt-nearest}
 use Rattle.exact.specs.RootZero.{zero-one, zero-rooted, zero-sqrt}
 
@@ -32,14 +31,14 @@ mag-lt (fin s (suc m) e) f =
     cancel (mag (fin s (suc m) e)) (suc m * up e) (down e) (2 ^ 1024) L (down-pos e) L-pos (mag-exact s (suc m) e (f .1))
     (ltb→lt (suc m * up e) (2 ^ 1024 * down e) (and-r (eqb (suc m % 2) 1 && ltb (suc m) (2 ^ 53) && leb (down e) (2 ^ 1074)) (ltb (suc m * up e) (2 ^ 1024 * down e)) (f .1)))
 
-pub record Normal (n : ℕ) : Type 0 where
-  pub q : ℕ
-  pub k : ℕ
-  pub is : n ≡ q * 2 ^ k
-  pub low : 2 ^ 52 ≤ q
-  pub high : q < 2 ^ 53
-  pub least : 54 ≤ k
-  pub most : k < 4000
+record Normal (n : ℕ) : Type 0 where
+  q : ℕ
+  k : ℕ
+  is : n ≡ q * 2 ^ k
+  low : 2 ^ 52 ≤ q
+  high : q < 2 ^ 53
+  least : 54 ≤ k
+  most : k < 4000
 
 exponent : (q j : ℕ) → q * 2 ^ j < 2 ^ 1024 * 2 ^ 1074 → 0 < q → j < 2098
 exponent q j h o = by-contra (suc j) 2098 (λ g. lt-irrefl (2 ^ 2098) (lt-of-le-of-lt (le-trans (pow-mono {i = 2098} {j = j} (omega arith)) (many (2 ^ j))) (rw (pow-add 2 1024 1074) h)))
@@ -58,7 +57,7 @@ up-to-53 n q j z i e b h l c =
           ∙ ap (λ y. q * y) (sym (pow-add 2 j 1074) ∙ ap (λ y. 2 ^ y) (moved j) ∙ pow-add 2 i (z + (j + 1022)))
           ∙ sym (mul-assoc q (2 ^ i) (2 ^ (z + (j + 1022))));
       low = le-trans (le-of-eq (ap (λ y. 2 ^ y) (sym c) ∙ pow-add 2 z i)) (mul-le-mul-right (2 ^ i) l);
-      high = lt-of-lt-of-le (mul-lt-mul-of-pos-right h (pow-pos i)) (le-of-eq (sym (pow-add 2 (suc z) i) ∙ ap (λ y. 2 ^ y) (one-more)));
+      high = lt-of-lt-of-le (mul-lt-mul-of-pos-right h (pow-pos i)) (le-of-eq (sym (pow-add 2 (suc z) i) ∙ ap (λ y. 2 ^ y) one-more));
       least = omega arith;
       most = omega arith;
     }
@@ -96,6 +95,20 @@ normal x f o = go (mag x) o (mag-lt x f) (digits x f)
         less : (z : ℕ) → 0 < z → z - 1 < z
         less z h = omega arith
 
+record Parts (x : Float) : Type 0 where
+  v : ℕ
+  t : ℕ
+  m : ℕ
+  is : Parted (mag x * L) v t m
+
+parts : (x : Float) → Fin64 x → 0 < mag x → Parts x
+parts x f o = go (normal x f o)
+  where
+    go : Normal (mag x * L) → Parts x
+    go d =
+        let N = d .q * 2 ^ (d .k % 2) in
+        record { v = N; t = d .k / 2 - 27; m = floorRoot (N * 2 ^ 54); is = parted (mag x * L) (d .q) (d .k) (floorRoot (N * 2 ^ 54)) (d .is) (d .low) (d .high) (d .least) (d .most) (floor-root (N * 2 ^ 54)) }
+
 -- ---- of every finite value that is not below zero
 abbrev pub NotBelow : Float → Type 0
 NotBelow x = 0 < mag x → sgn x ≡ false
@@ -104,24 +117,18 @@ NotBelow x = 0 < mag x → sgn x ≡ false
 pub sqrt-rooted : (x : Float) → Fin64 x → NotBelow x → Rooted x (sqrtOf x)
 sqrt-rooted x f g = elim (eq-zero-or-pos (mag x)) [
   | inl z ↦ rw (zero-sqrt x z) (zero-rooted x z)
-  | inr o ↦ at o (normal x f o)
+  | inr o ↦ at o (parts x f o)
 ]
   where
-    at : 0 < mag x → Normal (mag x * L) → Rooted x (sqrtOf x)
-    at o d =
-        let F = floor-root (d .q * 2 ^ (d .k % 2) * 2 ^ 54) in
-        let p = parted (mag x * L) (d .q) (d .k) _ (d .is) (d .low) (d .high) (d .least) (d .most) F in
-        rw (sqrt-nearest x _ _ _ (g o) p) (rooted-nearest x _ _ _ (g o) p)
+    at : 0 < mag x → Parts x → Rooted x (sqrtOf x)
+    at o d = rw (sqrt-nearest x (d .v) (d .t) (d .m) (g o) (d .is)) (rooted-nearest x (d .v) (d .t) (d .m) (g o) (d .is))
 
 -- and there is no other
 pub rooted-one : (x r : Float) → Fin64 x → NotBelow x → Rooted x r → r ≡ sqrtOf x
 rooted-one x r f g R = elim (eq-zero-or-pos (mag x)) [
   | inl z ↦ sym (zero-sqrt x z ∙ zero-one x r z R)
-  | inr o ↦ at o (normal x f o)
+  | inr o ↦ at o (parts x f o)
 ]
   where
-    at : 0 < mag x → Normal (mag x * L) → r ≡ sqrtOf x
-    at o d =
-        let F = floor-root (d .q * 2 ^ (d .k % 2) * 2 ^ 54) in
-        let p = parted (mag x * L) (d .q) (d .k) _ (d .is) (d .low) (d .high) (d .least) (d .most) F in
-        sym (sqrt-nearest x _ _ _ (g o) p ∙ nearest-one x _ _ _ (g o) p r R)
+    at : 0 < mag x → Parts x → r ≡ sqrtOf x
+    at o d = sym (sqrt-nearest x (d .v) (d .t) (d .m) (g o) (d .is) ∙ nearest-one x (d .v) (d .t) (d .m) (g o) (d .is) r R)

@@ -1,22 +1,21 @@
 -- The root that the digits give is the defined one, is correctly rounded, and is the only one. Assumes nothing.
 use mathlib.Core.Path.{_≡_, refl, sym, ap, _∙_, subst}
-use mathlib.Core.Bool.{Bool, true, false, not, cond}
-use Prim.Native.Nat.{ℕ, suc, _+_, _-_, _*_, _/_, _^_, _≤_, _<_}
+use mathlib.Core.Bool.{Bool, true, false, cond}
+use Prim.Native.Nat.{ℕ, suc, _+_, _-_, _*_, _^_, _≤_, _<_}
 use native.Mathlib.Nat.{lt-trans, le-of-lt, zero-lt-suc, le-of-suc-le-suc, lt-suc-self, mul-le-mul-right, mul-lt-mul-of-pos-right, mul-pos, pow-succ'}
 use native.Mathlib.Omega.{arith}
 use lib.Dec.{T, eqb, eqb→eq, lit<}
 use lib.Pow.{pow-pos}
-use lib.Ieee.{Float, binary64, down, round, below, le}
+use lib.Ieee.{Float, binary64, round, le}
 use lib.Ieee.Fits.{round-fits}
 use lib.Ieee.Order.{round-mono}
 use Rattle.exact.specs.Midpoints.{same-units, below-mid, above-mid}
 use Rattle.exact.specs.Units.{L, mag, sgn, Fin64}
-use Rattle.exact.specs.Sharp.{digits}
 use Rattle.exact.specs.RootOf.{Rooted, floorRoot, sqrtOf}
-use Rattle.exact.specs.WholeRoot.{Floor, floor-root, four, square-lt}
+use Rattle.exact.specs.WholeRoot.{Floor, floor-root, mean-product, square-lt}
 use Rattle.exact.specs.RootDigits.{Last, Parted, above-root, below-root, clear-is, last, nearestRoot, root-units, rounded, set-is, squeezed, clear, set}
 
--- ---- the root r of n is m * P, rounded down further; with s, a half where r is not exact, it is past m * P where m is not exact
+-- ---- n is N * P * P, m the root of N and r that of n: r lies from m * P to (m + 1) * P; and where neither is exact, r and a half is past m * P
 module _ (N P n m r : ℕ) (j : n ≡ N * (P * P)) (O : 0 < P) (F : Floor N m) (G : Floor n r) where
   from-digits : m * P ≤ r
   from-digits = le-of-suc-le-suc (square-lt (m * P) (suc r) (omega (arith, G .over, mul-le-mul-right (P * P) (F .under))))
@@ -95,8 +94,8 @@ module _ (x : Float) (v t m : ℕ) (s : sgn x ≡ false) (p : Parted (mag x * L)
         below = below-root (mag x) (mag x * L) v t m refl p;
       }
 
-  -- A fraction on the far side of the root, and still on the near side of the midpoint, rounds to it: the root's mean with
-  -- the midpoint's upper bound (arithmetic), or with its lower one (harmonic).
+  -- On one side r is held by the nearest root itself, on the other by a fraction between the root and the midpoint, which rounds to
+  -- the nearest root: the arithmetic mean of the root and its upper bound (m + 1) * P, or the harmonic one of it and m * P.
   pub nearest-one : (r : Float) → Rooted x r → nearestRoot m t ≡ r
   unfolding L
   nearest-one r R = go (last v m (p .low) (p .high) (p .root))
@@ -112,13 +111,13 @@ module _ (x : Float) (v t m : ℕ) (s : sgn x ≡ false) (p : Parted (mag x * L)
           omega (arith, mul-le-mul-right l g, ap (λ z. z * l) i)
 
       mean-ge : (X l n Y : ℕ) → n ≡ X * l → X * (2 * Y * l * (2 * Y * l)) ≤ (Y * Y + n) * (Y * Y + n) * l
-      mean-ge X l n Y i = omega (arith, mul-le-mul-right l (four (Y * Y) n), ap (λ z. z * (4 * (Y * Y) * l)) i)
+      mean-ge X l n Y i = omega (arith, mul-le-mul-right l (mean-product (Y * Y) n), ap (λ z. z * (4 * (Y * Y) * l)) i)
 
       mean-lt : (l n P k Y : ℕ) → 0 < l → Y ≡ (2 * k + 1) * P → n < Y * Y → 2 * ((Y * Y + n) * l) < (2 * k + 1) * (2 * P) * (2 * Y * l)
       mean-lt l n P k Y O e h = omega (arith, mul-lt-mul-of-pos-right h O, ap (λ z. z * (4 * Y * l)) e)
 
       mean-le : (X l n D : ℕ) → n ≡ X * l → 2 * n * D * (2 * n * D) * l ≤ X * ((n + D * D) * l * ((n + D * D) * l))
-      mean-le X l n D i = omega (arith, mul-le-mul-right (n * l) (four n (D * D)), ap (λ z. z * ((n + D * D) * (n + D * D) * l)) i)
+      mean-le X l n D i = omega (arith, mul-le-mul-right (n * l) (mean-product n (D * D)), ap (λ z. z * ((n + D * D) * (n + D * D) * l)) i)
 
       mean-gt : (l n P k D : ℕ) → 0 < l → 0 < D → D ≡ (2 * k + 1) * P → D * D < n → (2 * k + 1) * (2 * P) * ((n + D * D) * l) < 2 * (2 * n * D * l)
       mean-gt l n P k D O Q e h = omega (arith, mul-lt-mul-of-pos-right h (mul-pos Q O), ap (λ z. z * (2 * (n + D * D) * l)) e)

@@ -36,9 +36,9 @@ square-le a b h = by-contra a b (λ g. more (mul-le-mul g g))
     more : suc b * suc b ≤ a * a → ⊥
     more k = omega arith
 
--- the mean's square is at least the product
-pub four : (a b : ℕ) → 4 * (a * b) ≤ (a + b) * (a + b)
-four a b = sub-cases a b _ (λ h e. more b (a - b) a (sym e)) (λ h e. rw (mul-comm a b, add-comm a b) (more a (b - a) b (omega arith)))
+-- the square of the mean of two numbers is at least their product
+pub mean-product : (a b : ℕ) → 4 * (a * b) ≤ (a + b) * (a + b)
+mean-product a b = sub-cases a b _ (λ h e. more b (a - b) a (sym e)) (λ h e. rw (mul-comm a b, add-comm a b) (more a (b - a) b (omega arith)))
   where
     more : (b d a : ℕ) → a ≡ d + b → 4 * (a * b) ≤ (a + b) * (a + b)
     more b d a e = rw e (omega arith)

@@ -3,7 +3,7 @@ use mathlib.Core.Path.{_≡_, subst}
 use Prim.Native.Nat.{ℕ, zero, suc, _+_, _-_, _*_, _/_, _%_, _^_, _≤_, _<_}
 use native.Mathlib.Nat.{le-of-suc-le-suc, mul-le-mul, mul-le-mul-right, div-add-mod', mod-lt, div-lt-iff-lt-mul}
 use native.Mathlib.Omega.{arith}
-use Rattle.exact.specs.WholeRoot.{Floor, four, square-lt}
+use Rattle.exact.specs.WholeRoot.{Floor, mean-product, square-lt}
 
 -- ---- the guess
 pub product : (c z : ℕ) → c ≤ 141199651 → z < 2 ^ 32 → c * z ≤ 141199651 * 4294967295
@@ -23,7 +23,7 @@ mean-over n y O =
     go (n / y) ((y + n / y) / 2) a (omega arith)
   where
     go : (q r : ℕ) → n < suc q * y → y + suc q ≤ 2 * suc r → n < suc r * suc r
-    go q r a b = omega (arith, four y (suc q), mul-le-mul b b)
+    go q r a b = omega (arith, mean-product y (suc q), mul-le-mul b b)
 
 pub reaches : (n s : ℕ) → 2 ^ 52 ≤ n → n < suc s * suc s → 2 ^ 26 ≤ s
 reaches n s h k = le-of-suc-le-suc (square-lt (2 ^ 26) (suc s) (omega arith))
