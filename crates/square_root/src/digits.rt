@@ -53,7 +53,7 @@ fn root(n: u64) -> u64
 
 // The root of q * 2^k / 2^2148, q of 53 digits. The last of the root's 54 digits is the
 // half of the result's last. A tie cannot be, so where it is set the result is the next one up.
-pub fn of_digits(q: u64, k: u64) -> f64
+pub(crate) fn of_digits(q: u64, k: u64) -> f64
     requires { ⌜ (2 ^ 52 ≤ q) × (q < 2 ^ 53) × (54 ≤ k) × (k < 4000) ⌝ }
     ensures { λ r. ⌜ RootAt q k r ⌝ }
 {
