@@ -3,3 +3,4 @@ pub mod Steps
 pub mod Bounds
 pub mod Taken
 pub mod Rooms
+pub mod Pieces
