@@ -128,3 +128,124 @@ word-below (x ∷ l) b =
     let i = word-below l (b .1) in
     let p = pow-succ' 256 (length l) in
     omega arith
+
+-- the bytes of a list that has a word in front
+front-bytes : (l : List ℕ) → Below 256 l → 8 ≤ length l → l ≡ spellBytes 8 (wordOf (take 8 l)) ++ drop 8 l
+front-bytes l b h =
+    let n : length (take 8 l) ≡ 8 = simp length-take (omega arith) in
+    let e : spellBytes 8 (wordOf (take 8 l)) ≡ take 8 l = ap (λ (k : ℕ). spellBytes k (wordOf (take 8 l))) (sym n) ∙ bytes-of-word (take 8 l) (below-take 256 8 l b) in
+    rw e (sym (take-append-drop 8 l))
+
+front-below : (l : List ℕ) → Below 256 l → 8 ≤ length l → wordOf (take 8 l) < 2 ^ 64
+front-below l b h =
+    let n : length (take 8 l) ≡ 8 = simp length-take (omega arith) in
+    rw n at (word-below (take 8 l) (below-take 256 8 l b))
+
+word-spelled : (s : List ℕ) (at w next : ℕ) → Below 256 s → wordAt s at ≡ Word·Read w next → (drop at s ≡ spellBytes 8 w ++ drop next s) × (w < 2 ^ 64)
+unfolding wordAt
+word-spelled s at w next b e =
+    either (ltb (length (drop at s)) 8) _ _ _ e
+    (λ t p. let z : _≡_ {A = ℕ} 0 1 = cc in absurd (omega arith))
+    (λ t p.
+    let h = ltb-false (length (drop at s)) 8 t in
+    let w-is : wordOf (take 8 (drop at s)) ≡ w = cc in
+    let next-is : at + 8 ≡ next = cc in
+    let d = below-drop 256 at s b in
+    (rw (← w-is, ← next-is, ← drop-drop 8 at s) (front-bytes (drop at s) d h), rw (← w-is) (front-below (drop at s) d h)))
+
+pub word-front : (w : ℕ) (rest : List ℕ) → w < 2 ^ 64 → wordOf (take 8 (spellBytes 8 w ++ rest)) ≡ w
+word-front w rest h = rw (take-at (spellBytes 8 w) rest 8 (bytes-length 8 w)) (word-of-bytes 8 w h)
+
+word-read : (s : List ℕ) (at w : ℕ) (rest : List ℕ) → w < 2 ^ 64 → drop at s ≡ spellBytes 8 w ++ rest → wordAt s at ≡ Word·Read w (at + 8)
+unfolding wordAt
+word-read s at w rest h d =
+    let n : 8 ≤ length (spellBytes 8 w ++ rest) = omega (arith, length-append (spellBytes 8 w) rest, bytes-length 8 w) in
+    rw (d, le-ltb (length (spellBytes 8 w ++ rest)) 8 n, word-front w rest h)
+
+-- PARAMETERS
+pub record Stand (s : List ℕ) (at : ℕ) (flags : List Bool) (ws : List ℕ) (next : ℕ) : Type 0 where
+  pub spelled : drop at s ≡ spellWords ws ++ drop next s
+  pub fits : Fits flags ws
+
+module _ (s : List ℕ) (b : Below 256 s) where
+  parameter-spelled : (flag : Bool) (at w next : ℕ) (x : Word) → wordAt s at ≡ x → checked flag x ≡ Word·Read w next → (drop at s ≡ spellBytes 8 w ++ drop next s) × (w < 2 ^ 64) × (allowed flag w ≡ true)
+  parameter-spelled flag at w next (Word·Refused n) e p = let z : _≡_ {A = ℕ} 0 1 = cc in absurd (omega arith)
+  parameter-spelled flag at w next (Word·Read v to) e p =
+      either (allowed flag v) _ _ _ p
+      (λ t q.
+      let v-is : v ≡ w = cc in
+      let k = word-spelled s at w next b (e ∙ q) in
+      (k .0, k .1, rw v-is at t))
+      (λ t q. let z : _≡_ {A = ℕ} 0 1 = cc in absurd (omega arith))
+
+  module _ (flag : Bool) (flags : List Bool) (ih : (at : ℕ) (ws : List ℕ) (next : ℕ) → parametersAt flags s at ≡ Got ws next → Stand s at flags ws next) (at : ℕ) where
+    rest-spelled : (w to : ℕ) (ws : List ℕ) (next : ℕ) (f : Fields) → checked flag (wordAt s at) ≡ Word·Read w to → parametersAt flags s to ≡ f → before w f ≡ Got ws next → Stand s at (flag ∷ flags) ws next
+    unfolding spellWords
+    rest-spelled w to ws next (Stopped n) e g p = let z : _≡_ {A = ℕ} 0 1 = cc in absurd (omega arith)
+    rest-spelled w to ws next (Got vs end) e g p =
+        let ws-is : w ∷ vs ≡ ws = cc in
+        let next-is : end ≡ next = cc in
+        let k = parameter-spelled flag at w to (wordAt s at) refl e in
+        let r = ih to vs next (g ∙ ap (Got vs) next-is) in
+        rw (← ws-is) (record {
+          spelled = k .0 ∙ ap (λ (l : List ℕ). spellBytes 8 w ++ l) (r .spelled) ∙ sym (append-assoc (spellBytes 8 w) (spellWords vs) (drop next s));
+          fits = (k .1, k .2, r .fits);
+        })
+
+    more-spelled : (ws : List ℕ) (next : ℕ) (x : Word) → checked flag (wordAt s at) ≡ x → andThen x (λ to. parametersAt flags s to) ≡ Got ws next → Stand s at (flag ∷ flags) ws next
+    more-spelled ws next (Word·Refused n) e p = let z : _≡_ {A = ℕ} 0 1 = cc in absurd (omega arith)
+    more-spelled ws next (Word·Read w to) e p = rest-spelled w to ws next (parametersAt flags s to) e refl p
+
+  pub parameters-spelled : (flags : List Bool) (at : ℕ) (ws : List ℕ) (next : ℕ) → parametersAt flags s at ≡ Got ws next → Stand s at flags ws next
+  unfolding parametersAt parameterAt spellWords
+  parameters-spelled [] at ws next e =
+      let ws-is : [] ≡ ws = cc in
+      let next-is : at ≡ next = cc in
+      rw (← ws-is, ← next-is) (record { spelled = refl; fits = tt })
+  parameters-spelled (flag ∷ flags) at ws next e =
+      more-spelled flag flags (parameters-spelled flags) at ws next (checked flag (wordAt s at)) refl e
+
+pub parameters-read : (s : List ℕ) (flags : List Bool) (at : ℕ) (ws rest : List ℕ) → Fits flags ws → drop at s ≡ spellWords ws ++ rest → parametersAt flags s at ≡ Got ws (at + length (spellWords ws))
+unfolding parametersAt parameterAt spellWords
+parameters-read s [] at [] rest h d = let e : at + 0 ≡ at = omega arith in rw e
+parameters-read s [] at (w ∷ ws) rest h d = absurd h
+parameters-read s (flag ∷ flags) at [] rest h d = absurd h
+parameters-read s (flag ∷ flags) at (w ∷ ws) rest h d =
+    let f = d ∙ append-assoc (spellBytes 8 w) (spellWords ws) rest in
+    let r = word-read s at w (spellWords ws ++ rest) (h .0) f in
+    let g = after s at (spellBytes 8 w) (spellWords ws ++ rest) 8 f (bytes-length 8 w) in
+    let i = parameters-read s flags (at + 8) ws rest (h .2) g in
+    let n : at + 8 + length (spellWords ws) ≡ at + length (spellBytes 8 w ++ spellWords ws) = omega (arith, length-append (spellBytes 8 w) (spellWords ws), bytes-length 8 w) in
+    rw (r, h .1, i, n)
+
+pub fits-length : (flags : List Bool) (ws : List ℕ) → Fits flags ws → length ws ≡ length flags
+fits-length [] [] h = refl
+fits-length [] (w ∷ ws) h = absurd h
+fits-length (flag ∷ flags) [] h = absurd h
+fits-length (flag ∷ flags) (w ∷ ws) h = ap suc (fits-length flags ws (h .2))
+
+-- RECORDS
+pub spelled-length : (ws : List ℕ) → length (spellWords ws) ≡ length ws * 8
+unfolding spellWords
+spelled-length [] = refl
+spelled-length (w ∷ ws) = omega (arith, length-append (spellBytes 8 w) (spellWords ws), bytes-length 8 w, spelled-length ws)
+
+pub words-spelled : (n : ℕ) (l : List ℕ) → Below 256 l → length l ≡ n * 8 → spellWords (wordsOf n l) ≡ l
+unfolding spellWords wordsOf
+words-spelled zero [] b h = refl
+words-spelled zero (x ∷ l) b h = absurd (omega arith)
+words-spelled (suc n) l b h =
+    let i = words-spelled n (drop 8 l) (below-drop 256 8 l b) (omega (arith, length-drop 8 l)) in
+    rw i (sym (front-bytes l b (omega arith)))
+
+pub words-below : (n : ℕ) (l : List ℕ) → Below 256 l → length l ≡ n * 8 → Below (2 ^ 64) (wordsOf n l)
+unfolding wordsOf
+words-below zero l b h = tt
+words-below (suc n) l b h =
+    (front-below l b (omega arith), words-below n (drop 8 l) (below-drop 256 8 l b) (omega (arith, length-drop 8 l)))
+
+pub words-read : (ws : List ℕ) → Below (2 ^ 64) ws → wordsOf (length ws) (spellWords ws) ≡ ws
+unfolding spellWords wordsOf
+words-read [] b = refl
+words-read (w ∷ ws) b =
+    rw (word-front w (spellWords ws) (b .0), drop-at (spellBytes 8 w) (spellWords ws) 8 (bytes-length 8 w), words-read ws (b .1))
