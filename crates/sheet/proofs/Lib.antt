@@ -4,3 +4,4 @@ pub mod Bounds
 pub mod Taken
 pub mod Rooms
 pub mod Pieces
+pub mod Format
