@@ -9,6 +9,8 @@ use Rattle.sheet.specs.declared.Number.{Number}
 use Rattle.sheet.specs.declared.Number.the-variants.{Read as Number·Read, Refused as Number·Refused}
 use Rattle.sheet.specs.declared.Word.{Word}
 use Rattle.sheet.specs.declared.Word.the-variants.{Read as Word·Read, Refused as Word·Refused}
+use Rattle.sheet.specs.declared.Place.{Place}
+use Rattle.sheet.specs.declared.Place.the-variants.{Next as Place·Next, Refused as Place·Refused}
 use Rattle.sheet.specs.declared.Parameters.{Parameters}
 use Rattle.sheet.specs.declared.Header.{Header}
 
@@ -136,3 +138,17 @@ filled s room h =
 
 unfoldable pub roomOf : List ℕ → List ℕ → List ℕ
 roomOf s room = filled s room (readOf s (length room))
+
+-- One record by itself: 8 where the room is not of its size, then 4 where the sheet ends early.
+unfoldable pub recordAt : List ℕ → ℕ → ℕ → Place
+recordAt s at room =
+    cond (eqb room floats)
+    (cond (ltb (length s - at) (floats * 8)) (Place·Refused 4) (Place·Next (at + floats * 8)))
+    (Place·Refused 8)
+
+abbrev pub placed : Place → List ℕ → List ℕ → List ℕ
+placed (Place·Next n) new old = new
+placed (Place·Refused n) new old = old
+
+unfoldable pub roomAt : List ℕ → ℕ → List ℕ → List ℕ
+roomAt s at room = placed (recordAt s at (length room)) (wordsOf floats (drop at s)) room
