@@ -2,9 +2,11 @@
 // apart and calls the crate `sheet` on the slice and the place.
 use sheet::Header;
 use sheet::Number;
+use sheet::Place;
 use sheet::Word;
 ghost use mathlib.Core.Path.{_≡_};
-ghost use Rattle.sheet.specs.Sheet.{numberAt, wordAt, headerOf};
+ghost use lib.ListN.{length};
+ghost use Rattle.sheet.specs.Sheet.{numberAt, wordAt, headerOf, recordAt, roomAt};
 
 pub struct Reader<'a> {
     pub sheet: &'a [u8],
@@ -47,6 +49,13 @@ pub fn header<'a>(r: Reader<'a>) -> Header
     ensures { λ h. ⌜ h ≡ headerOf (now (r .entry .sheet)) ⌝ }
 {
     sheet::read_header(r.sheet)
+}
+
+// The record that stands at the place, into a room of its size, and the place of the next.
+pub fn read_record<'a, 'b>(r: Reader<'a>, room: &'b mut [u64]) -> Place
+    ensures { λ p. ⌜ (p ≡ recordAt (now (r .entry .sheet)) (r .entry .at) (length (now (room .entry)))) × (now (room .exit) ≡ roomAt (now (r .entry .sheet)) (r .entry .at) (now (room .entry))) ⌝ }
+{
+    sheet::record_at(r.sheet, r.at, room)
 }
 
 // The model number of a sheet: a reader made, and read once.
