@@ -5,3 +5,4 @@ pub mod Taken
 pub mod Rooms
 pub mod Pieces
 pub mod Format
+pub mod Refusals
