@@ -1,18 +1,17 @@
 -- A number that is read ends inside the sheet, and every refusal of a reading is one from 4 to 7.
-use mathlib.Core.Path.{_≡_, refl, sym, ap, _∙_, subst}
+use mathlib.Core.Path.{_≡_, sym, ap, _∙_, subst}
 use mathlib.Core.Bool.{Bool, true, false, cond}
 use mathlib.Core.List.{List, [], _∷_}
-use Prim.Native.Nat.{ℕ, zero, suc, _+_, _*_, _-_, _≤_, _<_}
+use Prim.Native.Nat.{ℕ, suc, _+_, _*_, _-_, _≤_, _<_}
 use native.Mathlib.Omega.{arith}
-use lib.ListN.{length, take, drop, length-drop}
+use lib.ListN.{length, drop, length-drop}
 use lib.Dec.{eqb, ltb, leb}
-use Rattle.sheet.specs.Sheet.{numberAt, firstGroup, secondGroup, wordAt, allowed, checked, parameterAt, Fields, Got, Stopped, before, andThen, parametersAt, struckOf, refusedBy, afterCount, afterParameters}
+use Rattle.sheet.specs.Sheet.{numberAt, firstGroup, secondGroup, wordAt, allowed, checked, parameterAt, Fields, Got, Stopped, before, andThen, parametersAt, asParameters, refusedBy, afterCount, afterParameters}
 use Rattle.sheet.specs.declared.Number.{Number}
 use Rattle.sheet.specs.declared.Number.the-variants.{Read as Number·Read, Refused as Number·Refused}
 use Rattle.sheet.specs.declared.Word.{Word}
 use Rattle.sheet.specs.declared.Word.the-variants.{Read as Word·Read, Refused as Word·Refused}
 use Rattle.sheet.specs.declared.Parameters.{Parameters}
-use Rattle.sheet.specs.declared.Header.{Header}
 
 -- the refusals of a sheet in document 01, section 6
 abbrev pub Refusal : ℕ → Type 0
@@ -106,14 +105,14 @@ pub stopped-not-0 : (flags : List Bool) (s : List ℕ) (at n : ℕ) → paramete
 stopped-not-0 flags s at n e = not-0 n (subst Stops e (stops flags s at))
 
 -- the two ways on from the parameters
-refusal-is : (f : Fields) (p : Parameters) → p ≡ struckOf f → p .refusal ≡ struckOf f .refusal
+refusal-is : (f : Fields) (p : Parameters) → p ≡ asParameters f → p .refusal ≡ asParameters f .refusal
 refusal-is f p e = ap (λ (q : Parameters). q .refusal) e
 
-pub parameters-refused : (s : List ℕ) (model : ℕ) (f : Fields) (p : Parameters) → p ≡ struckOf f → (p .refusal ≡ 0 → ⊥) → refusedBy (p .refusal) ≡ afterParameters s model f
+pub parameters-refused : (s : List ℕ) (model : ℕ) (f : Fields) (p : Parameters) → p ≡ asParameters f → (p .refusal ≡ 0 → ⊥) → refusedBy (p .refusal) ≡ afterParameters s model f
 parameters-refused s model (Got ws at) p e h = absurd (h (refusal-is (Got ws at) p e))
 parameters-refused s model (Stopped n) p e h = ap refusedBy (refusal-is (Stopped n) p e)
 
-pub parameters-read : (s : List ℕ) (model : ℕ) (f : Fields) (p : Parameters) → p ≡ struckOf f → p .refusal ≡ 0 → Stops f
+pub parameters-read : (s : List ℕ) (model : ℕ) (f : Fields) (p : Parameters) → p ≡ asParameters f → p .refusal ≡ 0 → Stops f
     → afterCount s model (p .bits) (numberAt s (p .at)) ≡ afterParameters s model f
 parameters-read s model (Got ws at) p e h k = ap (λ (q : Parameters). afterCount s model (q .bits) (numberAt s (q .at))) e
 parameters-read s model (Stopped n) p e h k = absurd (not-0 n k (sym (refusal-is (Stopped n) p e) ∙ h))

@@ -1,13 +1,13 @@
 -- What `headerOf` accepts is the format of specs/Spelling, and all of it.
 use mathlib.Core.Path.{_≡_, refl, sym, ap, _∙_, subst}
-use mathlib.Core.List.{List, [], _∷_, _++_, append-assoc, append-nil}
-use Prim.Native.Nat.{ℕ, zero, suc, _+_, _*_, _-_, _^_, _≤_, _<_}
+use mathlib.Core.List.{List, [], _∷_, _++_}
+use Prim.Native.Nat.{ℕ, suc, _+_, _*_, _-_, _<_}
 use native.Mathlib.Omega.{arith}
-use lib.ListN.{length, getD, take, drop, length-append, length-drop}
+use lib.ListN.{length, getD, take, drop, length-drop}
 use lib.Seq.{take-at}
 use borrow.Author.Tests.{le-ltb}
 use Rattle.record.specs.Layout.{floats}
-use Rattle.sheet.specs.Sheet.{numberAt, kindsOf, wordsOf, parametersAt, padded, recordsEnd, headerOf}
+use Rattle.sheet.specs.Sheet.{kindsOf, wordsOf, padded, recordsEnd, headerOf}
 use Rattle.sheet.specs.Spelling.{spellNumber, spellWords, spell, Below, Fits, Writable, parametersOf, recordsOf}
 use Rattle.sheet.specs.declared.Header.{Header}
 use Rattle.sheet.proofs.Taken.{Taken, taken}

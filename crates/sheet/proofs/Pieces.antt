@@ -1,18 +1,17 @@
 -- A number, a float and the parameters, read from the bytes that spell them and spelled by the bytes read.
-use mathlib.Core.Path.{_≡_, refl, sym, ap, _∙_, subst}
+use mathlib.Core.Path.{_≡_, refl, sym, ap, _∙_}
 use mathlib.Core.Bool.{Bool, true, false, cond}
-use mathlib.Core.List.{List, [], _∷_, _++_, append-assoc, append-nil}
+use mathlib.Core.List.{List, [], _∷_, _++_, append-assoc}
 use Prim.Native.Nat.{ℕ, zero, suc, _+_, _*_, _-_, _/_, _%_, _^_, _≤_, _<_}
 use native.Mathlib.Omega.{arith}
-use native.Mathlib.Nat.{pow-succ', div-lt-iff-lt-mul}
+use native.Mathlib.Nat.{pow-succ'}
 use lib.ListN.{length, take, drop, length-append, length-take, length-drop}
-use lib.Seq.{drop-drop, take-append-seam, drop-append-seam, take-at, drop-at}
+use lib.Seq.{drop-drop, take-at, drop-at}
 use lib.ListN.{take-append-drop}
 use lib.Dec.{ltb, leb, eqb}
-use borrow.Author.Tests.{leb-true, leb-false, ltb-true, ltb-false, eqb-true, eqb-false, lt-ltb, le-ltb, lt-leb, ne-eqb}
+use borrow.Author.Tests.{ltb-true, ltb-false, eqb-false, lt-ltb, le-ltb, lt-leb, ne-eqb}
 use Rattle.sheet.specs.Sheet.{numberAt, firstGroup, secondGroup, wordOf, wordAt, wordsOf, allowed, checked, parameterAt, Fields, Got, Stopped, before, andThen, parametersAt}
 use Rattle.sheet.specs.Spelling.{spellNumber, spellBytes, spellWords, Below, Fits}
-use Rattle.sheet.specs.declared.Number.{Number}
 use Rattle.sheet.specs.declared.Number.the-variants.{Read as Number·Read, Refused as Number·Refused}
 use Rattle.sheet.specs.declared.Word.{Word}
 use Rattle.sheet.specs.declared.Word.the-variants.{Read as Word·Read, Refused as Word·Refused}

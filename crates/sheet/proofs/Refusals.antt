@@ -1,5 +1,5 @@
 -- Which refusals a sheet can meet, and how a sheet's refusal changes where more bytes follow it: only from 4, and from none to 7.
-use mathlib.Core.Path.{_≡_, refl, sym, ap, _∙_}
+use mathlib.Core.Path.{_≡_, refl, sym, _∙_}
 use mathlib.Core.Logic.{_⊎_, inl, inr}
 use mathlib.Core.Bool.{Bool, true, false, cond}
 use mathlib.Core.List.{List, [], _∷_, _++_}
@@ -7,8 +7,8 @@ use Prim.Native.Nat.{ℕ, _+_, _*_, _-_, _≤_, _<_}
 use native.Mathlib.Omega.{arith}
 use lib.ListN.{length, take, drop, length-append, length-drop, drop-of-length-le}
 use lib.Seq.{drop-append-le, take-append-le}
-use lib.Dec.{ltb, leb, eqb}
-use borrow.Author.Tests.{leb-true, leb-false, ltb-true, ltb-false, lt-ltb, le-ltb}
+use lib.Dec.{ltb, leb}
+use borrow.Author.Tests.{leb-true, leb-false, ltb-false, lt-ltb, le-ltb}
 use Rattle.record.specs.Layout.{floats}
 use Rattle.sheet.specs.Sheet.{numberAt, firstGroup, secondGroup, wordOf, wordAt, checked, parameterAt, kindsOf, Fields, Got, Stopped, before, andThen, parametersAt, padded, refusedBy, recordsEnd, afterCount, afterParameters, afterModel, headerOf}
 use Rattle.sheet.specs.declared.Number.{Number}
@@ -16,7 +16,7 @@ use Rattle.sheet.specs.declared.Number.the-variants.{Read as Number·Rea
 use Rattle.sheet.specs.declared.Word.{Word}
 use Rattle.sheet.specs.declared.Word.the-variants.{Read as Word·Read, Refused as Word·Refused}
 use Rattle.sheet.specs.declared.Header.{Header}
-use Rattle.sheet.proofs.Bounds.{Refusal, not-0, is-4, is-5, is-6, is-7, Ends, ends, Stops, stops}
+use Rattle.sheet.proofs.Bounds.{Refusal, not-0, is-4, is-6, is-7, Ends, ends, Stops, stops}
 
 -- Each piece: it ends early, or what follows does not change it.
 second-stable : (low at : ℕ) (l r : List ℕ) → (secondGroup low l at ≡ Number·Refused 4) ⊎ (secondGroup low (l ++ r) at ≡ secondGroup low l at)

@@ -1,15 +1,13 @@
 -- `readOf` and `roomOf` case by case, each from the tests that lead to it.
-use mathlib.Core.Path.{_≡_, refl, sym, ap, _∙_, subst}
-use mathlib.Core.Bool.{Bool, true, false, cond}
-use mathlib.Core.List.{List, [], _++_, append-nil}
+use mathlib.Core.Path.{_≡_, refl, sym, ap, _∙_}
+use mathlib.Core.List.{List, _++_, append-nil}
 use Prim.Native.Nat.{ℕ, _+_, _*_, _-_, _%_, _≤_, _<_}
 use native.Mathlib.Omega.{arith}
 use lib.ListN.{length, drop}
 use lib.Seq.{drop-length}
-use lib.Dec.{eqb, ltb}
 use borrow.Author.Tests.{lt-ltb, le-ltb, eq-eqb, ne-eqb}
 use Rattle.record.specs.Layout.{floats}
-use Rattle.sheet.specs.Sheet.{refusedBy, headerOf, wordsOf, fitted, readOf, filled, roomOf, recordAt, placed, roomAt}
+use Rattle.sheet.specs.Sheet.{refusedBy, headerOf, wordsOf, fitted, readOf, roomOf, recordAt, placed, roomAt}
 use Rattle.sheet.specs.declared.Place.{Place}
 use Rattle.sheet.specs.declared.Place.the-variants.{Next as Place·Next, Refused as Place·Refused}
 use Rattle.sheet.specs.declared.Header.{Header}

@@ -90,9 +90,9 @@ parametersAt (flag ∷ flags) s at = andThen (parameterAt flag s at) (λ next. p
 abbrev pub padded : List ℕ → List ℕ
 padded ws = ws ++ replicate (8 - length ws) 0
 
-abbrev pub struckOf : Fields → Parameters
-struckOf (Got ws at) = record { refusal = 0; bits = padded ws; at = at }
-struckOf (Stopped n) = record { refusal = n; bits = padded []; at = 0 }
+abbrev pub asParameters : Fields → Parameters
+asParameters (Got ws at) = record { refusal = 0; bits = padded ws; at = at }
+asParameters (Stopped n) = record { refusal = n; bits = padded []; at = 0 }
 
 abbrev pub refusedBy : ℕ → Header
 refusedBy n = record { refusal = n; model = 0; parameters = padded []; count = 0; at = 0 }

@@ -7,7 +7,7 @@ use Prim.Native.Nat.{ℕ, zero, suc, _+_, _*_, _/_, _%_, _^_, _≤_, _<_}
 use lib.ListN.{length, take, drop}
 use lib.Dec.{ltb}
 use Rattle.record.specs.Layout.{floats}
-use Rattle.sheet.specs.Sheet.{allowed, kindsOf, wordsOf, padded}
+use Rattle.sheet.specs.Sheet.{allowed, kindsOf, wordsOf}
 use Rattle.sheet.specs.declared.Header.{Header}
 
 -- one group of seven bits, or two with the low one first; the top bit of a byte says that more follows

@@ -14,7 +14,7 @@ use record::FLOATS;
 ghost use mathlib.Core.Path.{_≡_};
 ghost use Prim.Native.Nat.{_≤_};
 ghost use lib.ListN.{length};
-ghost use Rattle.sheet.specs.Sheet.{numberAt, kindsOf, parametersAt, padded, refusedBy, recordsEnd, afterCount, afterParameters, headerOf, readOf, roomOf, recordAt, roomAt};
+ghost use Rattle.sheet.specs.Sheet.{numberAt, kindsOf, parametersAt, refusedBy, recordsEnd, afterCount, afterParameters, headerOf, readOf, roomOf, recordAt, roomAt};
 
 fn refused(n: u8) -> Header
     ensures { λ r. ⌜ r ≡ refusedBy n ⌝ }
