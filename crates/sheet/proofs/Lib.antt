@@ -6,3 +6,4 @@ pub mod Rooms
 pub mod Pieces
 pub mod Format
 pub mod Refusals
+pub mod Examples

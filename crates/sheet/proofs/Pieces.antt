@@ -12,13 +12,10 @@ use lib.Dec.{ltb, leb, eqb}
 use borrow.Author.Tests.{ltb-true, ltb-false, eqb-false, lt-ltb, le-ltb, lt-leb, ne-eqb}
 use Rattle.sheet.specs.Sheet.{numberAt, firstGroup, secondGroup, wordOf, wordAt, wordsOf, allowed, checked, parameterAt, Fields, Got, Stopped, before, andThen, parametersAt}
 use Rattle.sheet.specs.Spelling.{spellNumber, spellBytes, spellWords, Below, Fits}
+use Rattle.sheet.proofs.Taken.{either}
 use Rattle.sheet.specs.declared.Number.the-variants.{Read as Number·Read, Refused as Number·Refused}
 use Rattle.sheet.specs.declared.Word.{Word}
 use Rattle.sheet.specs.declared.Word.the-variants.{Read as Word·Read, Refused as Word·Refused}
-
-either : {A R : Type 0} (b : Bool) (x y z : A) → cond b x y ≡ z → (b ≡ true → x ≡ z → R) → (b ≡ false → y ≡ z → R) → R
-either true x y z e f g = f refl e
-either false x y z e f g = g refl e
 
 clash : {R : Type 0} (n v next : ℕ) → Number·Refused n ≡ Number·Read v next → R
 clash n v next e = let z : _≡_ {A = ℕ} 0 1 = cc in absurd (omega arith)
