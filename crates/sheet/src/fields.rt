@@ -70,9 +70,9 @@ pub fn parameters(s: &[u8], model: u64, at: usize) -> Parameters
     while i < n {
         let w = parameter_at(s, is_flag(model, i), next);
         match w {
-            Word::Refused(n) => {
+            Word::Refused(refusal) => {
                 return Parameters {
-                    refusal: n,
+                    refusal,
                     bits: [0u64; 8],
                     at: 0,
                 };

@@ -90,7 +90,7 @@ pub fn read_header(s: &[u8]) -> Header
     }
 }
 
-// The first count * 36 places of the room get the records' bits; the others, and all of them beside a refusal, keep theirs.
+// The records' bits go into the first places of the room; the others, and all of them beside a refusal, keep their bits.
 pub fn read(s: &[u8], room: &mut [u64]) -> Header
     ensures header { λ r. ⌜ r ≡ readOf (now (s .entry)) (length (now (room .entry))) ⌝ }
     ensures room { λ r. ⌜ now (room .exit) ≡ roomOf (now (s .entry)) (now (room .entry)) ⌝ }
