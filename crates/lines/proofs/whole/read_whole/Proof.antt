@@ -3,18 +3,18 @@ use Prim.Native.Nat.{_≤_, _-_}
 use native.Mathlib.Omega.{arith}
 use borrow.Author.Needs.{needs}
 use lib.ListN.{length}
-use Rattle.slope.proofs.read_whole.Statement.{statement}
-use Rattle.slope.proofs.read_whole.Tie as tie
-use Rattle.slope.proofs.read_whole.Reads as reads
-use Rattle.slope.proofs.read_whole.Lts as lts
+use Rattle.lines.proofs.whole.read_whole.Statement.{statement}
+use Rattle.lines.proofs.whole.read_whole.Tie as tie
+use Rattle.lines.proofs.whole.read_whole.Reads as reads
+use Rattle.lines.proofs.whole.read_whole.Lts as lts
 use Rattle.io.proofs.count.Reads as count-reads
 use Rattle.libc.proofs.read.Reads as read-reads
 
 abbrev Inv-loop : tie.InvT-loop
-Inv-loop room₀ at₀ room at = (at ≤ length room₀) × (length room ≡ length room₀)
+Inv-loop file room₀ at₀ room at = (at ≤ length room₀) × (length room ≡ length room₀)
 
 abbrev μ-loop : tie.MeasureT-loop
-μ-loop room₀ at₀ room at = length room₀ - at
+μ-loop file room₀ at₀ room at = length room₀ - at
 
 -- src/main.rt:18:5
 loop-holds : tie.Need-loop-holds Inv-loop μ-loop

@@ -1,13 +1,13 @@
 use lib.ListN.{length-take}
 use native.Mathlib.Omega.{arith}
 use borrow.Author.Needs.{needs}
-use Rattle.slope.proofs.answer.Statement.{statement}
-use Rattle.slope.proofs.answer.Tie as tie
-use Rattle.slope.proofs.answer.Reads as reads
-use Rattle.slope.proofs.answer.Lts as lts
+use Rattle.lines.proofs.print_answer.Statement.{statement}
+use Rattle.lines.proofs.print_answer.Tie as tie
+use Rattle.lines.proofs.print_answer.Reads as reads
+use Rattle.lines.proofs.print_answer.Lts as lts
 use Rattle.run.proofs.run_sheet.Reads as run-sheet-reads
-use Rattle.slope.proofs.print_refused.Reads as print-refused-reads
-use Rattle.slope.proofs.print_sheet.Reads as print-sheet-reads
+use Rattle.lines.proofs.print_refused.Reads as print-refused-reads
+use Rattle.lines.proofs.print_sheet.Reads as print-sheet-reads
 
 -- src/main.rt:82:9
 returns : tie.Need-returns
@@ -49,8 +49,8 @@ returns-2 c = search needs
 returns-3 : tie.Need-returns-3
 returns-3 c = search needs
 
-pub answer-spec : {M : Type 1} → statement M
-answer-spec =
+pub print-answer-spec : {M : Type 1} → statement M
+print-answer-spec =
     tie.close
     (tie.spec
     returns

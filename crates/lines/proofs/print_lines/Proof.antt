@@ -3,11 +3,11 @@ use Prim.Native.Nat.{_≤_, _-_}
 use native.Mathlib.Omega.{arith}
 use borrow.Author.Needs.{needs}
 use lib.ListN.{length}
-use Rattle.slope.proofs.print_lines.Statement.{statement}
-use Rattle.slope.proofs.print_lines.Tie as tie
-use Rattle.slope.proofs.print_lines.Reads as reads
-use Rattle.slope.proofs.print_lines.Lts as lts
-use Rattle.slope.proofs.print_line.Reads as print-line-reads
+use Rattle.lines.proofs.print_lines.Statement.{statement}
+use Rattle.lines.proofs.print_lines.Tie as tie
+use Rattle.lines.proofs.print_lines.Reads as reads
+use Rattle.lines.proofs.print_lines.Lts as lts
+use Rattle.lines.proofs.print_line.Reads as print-line-reads
 
 abbrev Inv-loop : tie.InvT-loop
 Inv-loop answers n i₀ i = i ≤ n
