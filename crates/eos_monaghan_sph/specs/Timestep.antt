@@ -9,7 +9,7 @@
 --   the velocity's square over 0.1
 --                      no NaN; infinite: the root's refusal
 --   the smaller step   not finite: 3
-use mathlib.Core.Bool.{Bool, cond, _&&_}
+use mathlib.Core.Bool.{cond, _&&_}
 use mathlib.Core.List.{List}
 use lib.Ieee as Ieee
 use lib.Ieee.{Float, binary64, ofBits}

@@ -3,8 +3,6 @@ use crate::Single;
 use crate::pressure;
 use numbers::Elementary;
 ghost use mathlib.Core.Path.{_≡_};
-ghost use Prim.Native.Nat.{ℕ};
-ghost use Rattle.tensor.specs.Matrix.{div};
 ghost use Rattle.eos_monaghan_sph.specs.Timestep.{argumentOf, steppedOf, singleOf, singleFrom, speedSquareOf, overRootOf, cflOf, smallerOf, bothOf, timestepBoundOf};
 
 // What the single-particle root is taken of. 6 is for quadratic splines, 3 the number of axes.

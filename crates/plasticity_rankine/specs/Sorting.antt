@@ -1,5 +1,5 @@
 -- Three strains sorted upwards and put back (document 01, section 5: equal ones keep index order).
-use mathlib.Core.Bool.{Bool, cond}
+use mathlib.Core.Bool.{cond}
 use mathlib.Core.List.{List}
 use lib.ListN.{getD}
 use lib.Ieee as Ieee

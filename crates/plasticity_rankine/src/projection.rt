@@ -131,7 +131,7 @@ impl RankinePlasticity {
     }
 
     // The projection of strains in index order, at any strength.
-    pub fn projected(self, e: [f64; 3], s: f64) -> Projected
+    pub(crate) fn projected(self, e: [f64; 3], s: f64) -> Projected
         ensures { λ r. ⌜ r ≡ projectedOf self e s ⌝ }
     {
         let k = sorting::rank(e);
@@ -142,13 +142,13 @@ impl RankinePlasticity {
         Projected { branch: b, strains }
     }
 
-    pub fn parameters_finite(self) -> bool
+    pub(crate) fn parameters_finite(self) -> bool
         ensures { λ r. ⌜ r ≡ parametersFinite self ⌝ }
     {
         numbers::is_finite(self.tensile_strength) & numbers::is_finite(self.softening_rate)
     }
 
-    pub fn moduli_finite(self) -> bool
+    pub(crate) fn moduli_finite(self) -> bool
         ensures { λ r. ⌜ r ≡ moduliFinite self ⌝ }
     {
         numbers::is_finite(self.lambda) & numbers::is_finite(self.mu)

@@ -53,7 +53,7 @@ fn squares(old: [f64; 3], new: [f64; 3]) -> f64
 
 impl RankinePlasticity {
     // The hardening starts from 1.
-    pub fn soft_strength(self, h: f64) -> f64
+    pub(crate) fn soft_strength(self, h: f64) -> f64
         ensures { λ r. ⌜ r ≡ softStrengthOf self h ⌝ }
     {
         self.tensile_strength - (h - 1.0)
@@ -77,7 +77,7 @@ impl RankinePlasticity {
     }
 
     // The new hardening, of the strains before and after.
-    pub fn hardening(self, h: f64, old: [f64; 3], new: [f64; 3]) -> Elementary
+    pub(crate) fn hardening(self, h: f64, old: [f64; 3], new: [f64; 3]) -> Elementary
         ensures { λ r. ⌜ r ≡ hardeningOf self h old new ⌝ }
     {
         self.grown(h, square_root::sqrt_on_path(squares(old, new)))

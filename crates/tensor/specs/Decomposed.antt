@@ -2,8 +2,7 @@
 use mathlib.Core.Bool.{Bool, cond, _&&_}
 use mathlib.Core.List.{List}
 use Prim.Native.Nat.{ℕ}
-use lib.ListN.{getD}
-use lib.Ieee.{Float, nan, binary64, ofBits}
+use lib.Ieee.{Float, binary64, ofBits}
 use Rattle.tensor.specs.Matrix.{add, sub, div, zero, three, at, traceOf, rowsOf, ofRows, rowAddOf, rowScaleOf, matAddOf, identityTimesOf, matVecOf}
 use Rattle.numbers.specs.Rules.{finite}
 use Rattle.tensor.specs.Finite.{rowsFinite}

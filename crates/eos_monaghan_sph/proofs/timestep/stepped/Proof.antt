@@ -22,14 +22,14 @@ enum-known-root-2 c = search needs
 returns : tie.Need-returns
 unfolding steppedOf
 returns c =
-    let t0 = simp (c .before .is-number .ensures, c .before .before .before .root .given .1) at (c .if1 .taken) in
+    let t0 = simp (c .before .is-number .ensures) at (c .if1 .taken) in
     simp (c .before .before .before .root .given .1, t0)
 
 -- src/timestep.rt:17:1
 returns-2 : tie.Need-returns-2
 unfolding steppedOf
 returns-2 c =
-    let t0 = simp (c .before .is-number .ensures, c .before .before .before .root .given .1) at (c .if1 .left) in
+    let t0 = simp (c .before .is-number .ensures) at (c .if1 .left) in
     simp (c .before .before .before .root .given .1, t0)
 
 -- src/timestep.rt:17:1

@@ -26,7 +26,7 @@ exceeds-requires c κs = search needs
 returns : tie.Need-returns
 unfolding verdictOf
 returns c =
-    let t0 = simp (c .before .exceeds .ensures, c .before .before .before .row-finite .ensures, c .before .before .before .before .limits-finite .ensures) at (c .if2 .taken) in
+    let t0 = simp (c .before .exceeds .ensures) at (c .if2 .taken) in
     let t1 = simp (c .before .before .before .row-finite .ensures, c .before .before .before .before .limits-finite .ensures) at (c .before .before .if1 .taken) in
     simp (t0, t1)
 
@@ -34,7 +34,7 @@ returns c =
 returns-2 : tie.Need-returns-2
 unfolding verdictOf
 returns-2 c =
-    let t0 = simp (c .before .exceeds .ensures, c .before .before .before .row-finite .ensures, c .before .before .before .before .limits-finite .ensures) at (c .if2 .left) in
+    let t0 = simp (c .before .exceeds .ensures) at (c .if2 .left) in
     let t1 = simp (c .before .before .before .row-finite .ensures, c .before .before .before .before .limits-finite .ensures) at (c .before .before .if1 .taken) in
     simp (t0, t1)
 

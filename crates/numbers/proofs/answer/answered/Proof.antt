@@ -13,13 +13,13 @@ is-finite-requires c κs = search needs
 returns : tie.Need-returns
 returns c =
     let t0 = simp (c .before .is-finite .ensures) at (c .if1 .taken) in
-    simp (c .before .is-finite .ensures, t0)
+    simp (t0)
 
 -- src/answer.rt:6:1
 returns-2 : tie.Need-returns-2
 returns-2 c =
     let t0 = simp (c .before .is-finite .ensures) at (c .if1 .left) in
-    simp (c .before .is-finite .ensures, t0)
+    simp (t0)
 
 pub answered-spec : {M : Type 1} → statement M
 answered-spec = tie.close (tie.spec is-finite-requires returns returns-2)
