@@ -1,9 +1,9 @@
 // What is printed of a sheet (document 01, section 7): the count, a line a particle, and "end"; or the refusal alone.
 mod whole;
 
+use libc::STDOUT_FILENO;
 pub use whole::Input;
 pub use whole::read_whole;
-use libc::STDOUT_FILENO;
 
 // One particle's line; whether all of it was written.
 fn print_line(i: usize, code: u64, value: u64) -> bool {

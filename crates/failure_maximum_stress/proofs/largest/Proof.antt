@@ -1,31 +1,22 @@
 use borrow.Author.Needs.{needs}
 use Rattle.failure_maximum_stress.proofs.largest.Statement.{statement}
 use Rattle.failure_maximum_stress.proofs.largest.Tie as tie
-use Rattle.failure_maximum_stress.proofs.largest.Reads as reads
-use Rattle.failure_maximum_stress.proofs.largest.Lts as lts
-use Rattle.numbers.proofs.max.Reads as max-reads
 
--- src/lib.rt:28:31
 array-read-max : tie.Need-array-read-max
 array-read-max c = search needs
 
--- src/lib.rt:28:37
 array-read-max-2 : tie.Need-array-read-max-2
 array-read-max-2 c = search needs
 
--- src/lib.rt:28:18
 max-requires : tie.Need-max-requires
 max-requires c κs = search needs
 
--- src/lib.rt:28:44
 array-read-max-3 : tie.Need-array-read-max-3
 array-read-max-3 c = search needs
 
--- src/lib.rt:28:5
 max-requires-2 : tie.Need-max-requires-2
 max-requires-2 c κs = search needs
 
--- src/lib.rt:25:1
 returns : tie.Need-returns
 returns c =
     simp (c .max2 .ensures, c .before .max .ensures)

@@ -1,31 +1,22 @@
 use borrow.Author.Needs.{needs}
 use Rattle.failure_maximum_stress.proofs.smallest.Statement.{statement}
 use Rattle.failure_maximum_stress.proofs.smallest.Tie as tie
-use Rattle.failure_maximum_stress.proofs.smallest.Reads as reads
-use Rattle.failure_maximum_stress.proofs.smallest.Lts as lts
-use Rattle.numbers.proofs.min.Reads as min-reads
 
--- src/lib.rt:34:31
 array-read-min : tie.Need-array-read-min
 array-read-min c = search needs
 
--- src/lib.rt:34:37
 array-read-min-2 : tie.Need-array-read-min-2
 array-read-min-2 c = search needs
 
--- src/lib.rt:34:18
 min-requires : tie.Need-min-requires
 min-requires c κs = search needs
 
--- src/lib.rt:34:44
 array-read-min-3 : tie.Need-array-read-min-3
 array-read-min-3 c = search needs
 
--- src/lib.rt:34:5
 min-requires-2 : tie.Need-min-requires-2
 min-requires-2 c κs = search needs
 
--- src/lib.rt:31:1
 returns : tie.Need-returns
 returns c =
     simp (c .min2 .ensures, c .before .min .ensures)

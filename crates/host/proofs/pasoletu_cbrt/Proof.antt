@@ -1,24 +1,16 @@
 use borrow.Author.Needs.{needs}
 use Rattle.host.proofs.pasoletu_cbrt.Statement.{statement}
 use Rattle.host.proofs.pasoletu_cbrt.Tie as tie
-use Rattle.host.proofs.pasoletu_cbrt.Reads as reads
-use Rattle.host.proofs.pasoletu_cbrt.Lts as lts
-use Rattle.host.proofs.numbers_out.put.Reads as put-reads
-use Rattle.thirds.proofs.cbrt.Reads as cbrt-reads
 
--- src/lib.rt:60:9
 cbrt-requires : tie.Need-cbrt-requires
 cbrt-requires c κs = search needs
 
--- src/lib.rt:60:5
 put-requires : tie.Need-put-requires
 put-requires c κs = search needs
 
--- src/lib.rt:55:1
 same-length : tie.Need-same-length
 same-length c = search needs
 
--- src/lib.rt:55:1
 returns : tie.Need-returns
 returns c =
     let p = c .before .before .put .ensures in

@@ -1,24 +1,16 @@
 use borrow.Author.Needs.{needs}
 use Rattle.host.proofs.pasoletu_inv_cbrt.Statement.{statement}
 use Rattle.host.proofs.pasoletu_inv_cbrt.Tie as tie
-use Rattle.host.proofs.pasoletu_inv_cbrt.Reads as reads
-use Rattle.host.proofs.pasoletu_inv_cbrt.Lts as lts
-use Rattle.host.proofs.numbers_out.put.Reads as put-reads
-use Rattle.thirds.proofs.inv_cbrt.Reads as inv-cbrt-reads
 
--- src/lib.rt:68:9
 inv-cbrt-requires : tie.Need-inv-cbrt-requires
 inv-cbrt-requires c κs = search needs
 
--- src/lib.rt:68:5
 put-requires : tie.Need-put-requires
 put-requires c κs = search needs
 
--- src/lib.rt:63:1
 same-length : tie.Need-same-length
 same-length c = search needs
 
--- src/lib.rt:63:1
 returns : tie.Need-returns
 returns c =
     let p = c .before .before .put .ensures in

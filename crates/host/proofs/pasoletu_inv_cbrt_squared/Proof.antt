@@ -1,24 +1,16 @@
 use borrow.Author.Needs.{needs}
 use Rattle.host.proofs.pasoletu_inv_cbrt_squared.Statement.{statement}
 use Rattle.host.proofs.pasoletu_inv_cbrt_squared.Tie as tie
-use Rattle.host.proofs.pasoletu_inv_cbrt_squared.Reads as reads
-use Rattle.host.proofs.pasoletu_inv_cbrt_squared.Lts as lts
-use Rattle.host.proofs.numbers_out.put.Reads as put-reads
-use Rattle.thirds.proofs.inv_cbrt_squared.Reads as inv-cbrt-squared-reads
 
--- src/lib.rt:84:9
 inv-cbrt-squared-requires : tie.Need-inv-cbrt-squared-requires
 inv-cbrt-squared-requires c κs = search needs
 
--- src/lib.rt:84:5
 put-requires : tie.Need-put-requires
 put-requires c κs = search needs
 
--- src/lib.rt:79:1
 same-length : tie.Need-same-length
 same-length c = search needs
 
--- src/lib.rt:79:1
 returns : tie.Need-returns
 returns c =
     let p = c .before .before .put .ensures in

@@ -1,24 +1,16 @@
 use borrow.Author.Needs.{needs}
 use Rattle.host.proofs.pasoletu_ln.Statement.{statement}
 use Rattle.host.proofs.pasoletu_ln.Tie as tie
-use Rattle.host.proofs.pasoletu_ln.Reads as reads
-use Rattle.host.proofs.pasoletu_ln.Lts as lts
-use Rattle.host.proofs.numbers_out.put.Reads as put-reads
-use Rattle.logarithm.proofs.ln.Reads as ln-reads
 
--- src/lib.rt:36:9
 ln-requires : tie.Need-ln-requires
 ln-requires c κs = search needs
 
--- src/lib.rt:36:5
 put-requires : tie.Need-put-requires
 put-requires c κs = search needs
 
--- src/lib.rt:31:1
 same-length : tie.Need-same-length
 same-length c = search needs
 
--- src/lib.rt:31:1
 returns : tie.Need-returns
 returns c =
     let p = c .before .before .put .ensures in

@@ -2,47 +2,31 @@ use borrow.Author.Needs.{needs}
 use Rattle.eos_monaghan_sph.specs.Stress.{kirchhoffStressOf}
 use Rattle.eos_monaghan_sph.proofs.MonaghanSphEos.kirchhoff_stress.Statement.{statement}
 use Rattle.eos_monaghan_sph.proofs.MonaghanSphEos.kirchhoff_stress.Tie as tie
-use Rattle.eos_monaghan_sph.proofs.MonaghanSphEos.kirchhoff_stress.Reads as reads
-use Rattle.eos_monaghan_sph.proofs.MonaghanSphEos.kirchhoff_stress.Lts as lts
-use Rattle.eos_monaghan_sph.proofs.MonaghanSphEos.stress_from.Reads as stress-from-reads
-use Rattle.eos_monaghan_sph.proofs.pressure.inputs_finite.Reads as inputs-finite-reads
-use Rattle.eos_monaghan_sph.proofs.pressure.worked_pressure.Reads as worked-pressure-reads
-use Rattle.numbers.proofs.is_finite.Reads as is-finite-reads
-use Rattle.tensor.proofs.refused_matrix.Reads as refused-matrix-reads
-use Rattle.tensor.proofs.mat_finite.Reads as mat-finite-reads
 
--- src/stress.rt:55:12
 inputs-finite-requires : tie.Need-inputs-finite-requires
 inputs-finite-requires c κs = search needs
 
--- src/stress.rt:56:15
 is-finite-requires : tie.Need-is-finite-requires
 is-finite-requires c κs = search needs
 
--- src/stress.rt:57:15
 mat-finite-requires : tie.Need-mat-finite-requires
 mat-finite-requires c κs = search needs
 
--- src/stress.rt:59:17
 worked-pressure-requires : tie.Need-worked-pressure-requires
 worked-pressure-requires c κs = search needs
 
--- src/stress.rt:60:13
 stress-from-requires : tie.Need-stress-from-requires
 stress-from-requires c κs = search needs
 
--- src/stress.rt:62:13
 refused-matrix-requires : tie.Need-refused-matrix-requires
 refused-matrix-requires c κs = search needs
 
--- src/stress.rt:45:5
 returns : tie.Need-returns
 unfolding kirchhoffStressOf
 returns c =
     let t0 = simp (c .before .before .before .mat-finite .ensures, c .before .before .before .before .is-finite .ensures, c .before .before .before .before .before .inputs-finite .ensures) at (c .before .before .if1 .taken) in
     simp (c .stress-from .ensures, c .before .worked-pressure .ensures, t0)
 
--- src/stress.rt:45:5
 returns-2 : tie.Need-returns-2
 unfolding kirchhoffStressOf
 returns-2 c =

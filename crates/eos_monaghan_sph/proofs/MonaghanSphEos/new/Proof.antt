@@ -2,26 +2,19 @@ use borrow.Author.Needs.{needs}
 use Rattle.eos_monaghan_sph.specs.Pressure.{newOf}
 use Rattle.eos_monaghan_sph.proofs.MonaghanSphEos.new.Statement.{statement}
 use Rattle.eos_monaghan_sph.proofs.MonaghanSphEos.new.Tie as tie
-use Rattle.eos_monaghan_sph.proofs.MonaghanSphEos.new.Reads as reads
-use Rattle.eos_monaghan_sph.proofs.MonaghanSphEos.new.Lts as lts
-use Rattle.numbers.proofs.is_finite.Reads as is-finite-reads
 
--- src/pressure.rt:20:12
 is-finite-requires : tie.Need-is-finite-requires
 is-finite-requires c κs = search needs
 
--- src/pressure.rt:20:43
 is-finite-requires-2 : tie.Need-is-finite-requires-2
 is-finite-requires-2 c κs = search needs
 
--- src/pressure.rt:17:5
 returns : tie.Need-returns
 unfolding newOf
 returns c =
     let t0 = simp (c .before .is-finite2 .ensures, c .before .before .is-finite .ensures) at (c .if1 .taken) in
     simp (t0)
 
--- src/pressure.rt:17:5
 returns-2 : tie.Need-returns-2
 unfolding newOf
 returns-2 c =

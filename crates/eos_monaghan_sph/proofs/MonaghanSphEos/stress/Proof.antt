@@ -2,36 +2,25 @@ use borrow.Author.Needs.{needs}
 use Rattle.eos_monaghan_sph.specs.Stress.{stressOf}
 use Rattle.eos_monaghan_sph.proofs.MonaghanSphEos.stress.Statement.{statement}
 use Rattle.eos_monaghan_sph.proofs.MonaghanSphEos.stress.Tie as tie
-use Rattle.eos_monaghan_sph.proofs.MonaghanSphEos.stress.Reads as reads
-use Rattle.eos_monaghan_sph.proofs.MonaghanSphEos.stress.Lts as lts
-use Rattle.eos_monaghan_sph.proofs.MonaghanSphEos.viscous_part.Reads as viscous-part-reads
-use Rattle.eos_monaghan_sph.proofs.stress.pressure_part.Reads as pressure-part-reads
-use Rattle.tensor.proofs.mat_add.Reads as mat-add-reads
 
--- src/stress.rt:25:13
 pressure-part-requires : tie.Need-pressure-part-requires
 pressure-part-requires c κs = search needs
 
--- src/stress.rt:27:29
 pressure-part-requires-2 : tie.Need-pressure-part-requires-2
 pressure-part-requires-2 c κs = search needs
 
--- src/stress.rt:27:52
 viscous-part-requires : tie.Need-viscous-part-requires
 viscous-part-requires c κs = search needs
 
--- src/stress.rt:27:13
 mat-add-requires : tie.Need-mat-add-requires
 mat-add-requires c κs = search needs
 
--- src/stress.rt:21:5
 returns : tie.Need-returns
 unfolding stressOf
 returns c =
     let t0 = c .before .if1 .taken in
     simp (c .pressure-part .ensures, t0)
 
--- src/stress.rt:21:5
 returns-2 : tie.Need-returns-2
 unfolding stressOf
 returns-2 c =

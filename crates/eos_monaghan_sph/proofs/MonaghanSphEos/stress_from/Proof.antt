@@ -2,39 +2,27 @@ use borrow.Author.Needs.{needs}
 use Rattle.eos_monaghan_sph.specs.Stress.{stressFrom}
 use Rattle.eos_monaghan_sph.proofs.MonaghanSphEos.stress_from.Statement.{statement}
 use Rattle.eos_monaghan_sph.proofs.MonaghanSphEos.stress_from.Tie as tie
-use Rattle.eos_monaghan_sph.proofs.MonaghanSphEos.stress_from.Reads as reads
-use Rattle.eos_monaghan_sph.proofs.MonaghanSphEos.stress_from.Lts as lts
-use Rattle.eos_monaghan_sph.proofs.MonaghanSphEos.stress.Reads as stress-reads
-use Rattle.tensor.proofs.answered.Reads as answered-reads
-use Rattle.tensor.proofs.refused_matrix.Reads as refused-matrix-reads
 
--- src/stress.rt:35:31
 enum-known-pressure : tie.Need-enum-known-pressure
 enum-known-pressure c = search needs
 
--- src/stress.rt:35:54
 stress-requires : tie.Need-stress-requires
 stress-requires c κs = search needs
 
--- src/stress.rt:35:37
 answered-requires : tie.Need-answered-requires
 answered-requires c κs = search needs
 
--- src/stress.rt:36:33
 enum-known-pressure-2 : tie.Need-enum-known-pressure-2
 enum-known-pressure-2 c = search needs
 
--- src/stress.rt:36:39
 refused-matrix-requires : tie.Need-refused-matrix-requires
 refused-matrix-requires c κs = search needs
 
--- src/stress.rt:31:5
 returns : tie.Need-returns
 unfolding stressFrom
 returns c =
     simp (c .answered .ensures, c .before .stress .ensures, c .before .before .before .pressure .given .1)
 
--- src/stress.rt:31:5
 returns-2 : tie.Need-returns-2
 unfolding stressFrom
 returns-2 c =

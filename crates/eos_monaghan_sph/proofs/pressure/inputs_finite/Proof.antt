@@ -1,35 +1,25 @@
 use borrow.Author.Needs.{needs}
 use Rattle.eos_monaghan_sph.proofs.pressure.inputs_finite.Statement.{statement}
 use Rattle.eos_monaghan_sph.proofs.pressure.inputs_finite.Tie as tie
-use Rattle.eos_monaghan_sph.proofs.pressure.inputs_finite.Reads as reads
-use Rattle.eos_monaghan_sph.proofs.pressure.inputs_finite.Lts as lts
-use Rattle.numbers.proofs.is_finite.Reads as is-finite-reads
 
--- src/pressure.rt:19:5
 is-finite-requires : tie.Need-is-finite-requires
 is-finite-requires c κs = search needs
 
--- src/pressure.rt:20:11
 is-finite-requires-2 : tie.Need-is-finite-requires-2
 is-finite-requires-2 c κs = search needs
 
--- src/pressure.rt:21:11
 is-finite-requires-3 : tie.Need-is-finite-requires-3
 is-finite-requires-3 c κs = search needs
 
--- src/pressure.rt:22:11
 is-finite-requires-4 : tie.Need-is-finite-requires-4
 is-finite-requires-4 c κs = search needs
 
--- src/pressure.rt:23:11
 is-finite-requires-5 : tie.Need-is-finite-requires-5
 is-finite-requires-5 c κs = search needs
 
--- src/pressure.rt:24:11
 is-finite-requires-6 : tie.Need-is-finite-requires-6
 is-finite-requires-6 c κs = search needs
 
--- src/pressure.rt:16:1
 returns : tie.Need-returns
 returns c =
     simp (c .is-finite6 .ensures, c .before .is-finite5 .ensures, c .before .before .is-finite4 .ensures, c .before .before .before .is-finite3 .ensures, c .before .before .before .before .is-finite2 .ensures, c .before .before .before .before .before .is-finite .ensures)

@@ -2,10 +2,7 @@ use mathlib.Core.Path.{refl}
 use Rattle.eos_monaghan_sph.specs.Pressure.{ratioOf}
 use Rattle.eos_monaghan_sph.proofs.pressure.ratio.Statement.{statement}
 use Rattle.eos_monaghan_sph.proofs.pressure.ratio.Tie as tie
-use Rattle.eos_monaghan_sph.proofs.pressure.ratio.Reads as reads
-use Rattle.eos_monaghan_sph.proofs.pressure.ratio.Lts as lts
 
--- src/pressure.rt:9:1
 returns : tie.Need-returns
 unfolding ratioOf
 returns c = refl

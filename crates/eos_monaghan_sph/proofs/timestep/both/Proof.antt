@@ -2,44 +2,32 @@ use borrow.Author.Needs.{needs}
 use Rattle.eos_monaghan_sph.specs.Timestep.{bothOf}
 use Rattle.eos_monaghan_sph.proofs.timestep.both.Statement.{statement}
 use Rattle.eos_monaghan_sph.proofs.timestep.both.Tie as tie
-use Rattle.eos_monaghan_sph.proofs.timestep.both.Reads as reads
-use Rattle.eos_monaghan_sph.proofs.timestep.both.Lts as lts
-use Rattle.eos_monaghan_sph.proofs.timestep.smaller.Reads as smaller-reads
-use Rattle.numbers.proofs.finite_answer.Reads as finite-answer-reads
 
--- src/timestep.rt:92:22
 enum-known-single : tie.Need-enum-known-single
 enum-known-single c = search needs
 
--- src/timestep.rt:92:28
 smaller-requires : tie.Need-smaller-requires
 smaller-requires c κs = search needs
 
--- src/timestep.rt:93:28
 enum-told : tie.Need-enum-told
 enum-told c = search needs
 
--- src/timestep.rt:93:28
 finite-answer-requires : tie.Need-finite-answer-requires
 finite-answer-requires c κs = search needs
 
--- src/timestep.rt:94:25
 enum-known-single-2 : tie.Need-enum-known-single-2
 enum-known-single-2 c = search needs
 
--- src/timestep.rt:88:1
 returns : tie.Need-returns
 unfolding bothOf
 returns c =
     simp (c .smaller .ensures, c .before .before .single .given .1)
 
--- src/timestep.rt:88:1
 returns-2 : tie.Need-returns-2
 unfolding bothOf
 returns-2 c =
     simp (c .finite-answer .ensures, c .before .enum-told .given .1)
 
--- src/timestep.rt:88:1
 returns-3 : tie.Need-returns-3
 unfolding bothOf
 returns-3 c =

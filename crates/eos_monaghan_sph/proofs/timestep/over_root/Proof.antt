@@ -2,24 +2,18 @@ use borrow.Author.Needs.{needs}
 use Rattle.eos_monaghan_sph.specs.Timestep.{overRootOf}
 use Rattle.eos_monaghan_sph.proofs.timestep.over_root.Statement.{statement}
 use Rattle.eos_monaghan_sph.proofs.timestep.over_root.Tie as tie
-use Rattle.eos_monaghan_sph.proofs.timestep.over_root.Reads as reads
-use Rattle.eos_monaghan_sph.proofs.timestep.over_root.Lts as lts
 
--- src/timestep.rt:67:27
 enum-known-root : tie.Need-enum-known-root
 enum-known-root c = search needs
 
--- src/timestep.rt:68:29
 enum-known-root-2 : tie.Need-enum-known-root-2
 enum-known-root-2 c = search needs
 
--- src/timestep.rt:63:1
 returns : tie.Need-returns
 unfolding overRootOf
 returns c =
     simp (c .before .root .given .1)
 
--- src/timestep.rt:63:1
 returns-2 : tie.Need-returns-2
 unfolding overRootOf
 returns-2 c =

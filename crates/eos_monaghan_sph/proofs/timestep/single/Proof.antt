@@ -2,25 +2,16 @@ use borrow.Author.Needs.{needs}
 use Rattle.eos_monaghan_sph.specs.Timestep.{singleOf}
 use Rattle.eos_monaghan_sph.proofs.timestep.single.Statement.{statement}
 use Rattle.eos_monaghan_sph.proofs.timestep.single.Tie as tie
-use Rattle.eos_monaghan_sph.proofs.timestep.single.Reads as reads
-use Rattle.eos_monaghan_sph.proofs.timestep.single.Lts as lts
-use Rattle.eos_monaghan_sph.proofs.timestep.stepped.Reads as stepped-reads
-use Rattle.numbers.proofs.is_number.Reads as is-number-reads
-use Rattle.square_root.proofs.sqrt_on_path.Reads as sqrt-on-path-reads
 
--- src/timestep.rt:37:8
 is-number-requires : tie.Need-is-number-requires
 is-number-requires c κs = search needs
 
--- src/timestep.rt:39:27
 sqrt-on-path-requires : tie.Need-sqrt-on-path-requires
 sqrt-on-path-requires c κs = search needs
 
--- src/timestep.rt:39:13
 stepped-requires : tie.Need-stepped-requires
 stepped-requires c κs = search needs
 
--- src/timestep.rt:34:1
 returns : tie.Need-returns
 unfolding singleOf
 returns c =
@@ -28,7 +19,6 @@ returns c =
     let t1 = simp (c .before .before .before .before .is-number .ensures) at (c .before .before .before .if1 .taken) in
     simp (c .stepped .ensures, c .before .sqrt-on-path .ensures, t0, t1)
 
--- src/timestep.rt:34:1
 returns-2 : tie.Need-returns-2
 unfolding singleOf
 returns-2 c =
@@ -36,7 +26,6 @@ returns-2 c =
     let t1 = simp (c .before .before .is-number .ensures) at (c .before .if1 .taken) in
     simp (t0, t1)
 
--- src/timestep.rt:34:1
 returns-3 : tie.Need-returns-3
 unfolding singleOf
 returns-3 c =

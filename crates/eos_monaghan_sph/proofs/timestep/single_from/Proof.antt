@@ -2,34 +2,24 @@ use borrow.Author.Needs.{needs}
 use Rattle.eos_monaghan_sph.specs.Timestep.{singleFrom}
 use Rattle.eos_monaghan_sph.proofs.timestep.single_from.Statement.{statement}
 use Rattle.eos_monaghan_sph.proofs.timestep.single_from.Tie as tie
-use Rattle.eos_monaghan_sph.proofs.timestep.single_from.Reads as reads
-use Rattle.eos_monaghan_sph.proofs.timestep.single_from.Lts as lts
-use Rattle.eos_monaghan_sph.proofs.timestep.argument.Reads as argument-reads
-use Rattle.eos_monaghan_sph.proofs.timestep.single.Reads as single-reads
 
--- src/timestep.rt:52:27
 enum-known-pressure : tie.Need-enum-known-pressure
 enum-known-pressure c = search needs
 
--- src/timestep.rt:52:51
 argument-requires : tie.Need-argument-requires
 argument-requires c κs = search needs
 
--- src/timestep.rt:52:33
 single-requires : tie.Need-single-requires
 single-requires c κs = search needs
 
--- src/timestep.rt:53:29
 enum-known-pressure-2 : tie.Need-enum-known-pressure-2
 enum-known-pressure-2 c = search needs
 
--- src/timestep.rt:48:1
 returns : tie.Need-returns
 unfolding singleFrom
 returns c =
     simp (c .single .ensures, c .before .argument .ensures, c .before .before .before .pressure .given .1)
 
--- src/timestep.rt:48:1
 returns-2 : tie.Need-returns-2
 unfolding singleFrom
 returns-2 c =

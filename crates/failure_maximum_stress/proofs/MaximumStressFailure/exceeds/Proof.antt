@@ -2,20 +2,13 @@ use borrow.Author.Needs.{needs}
 use Rattle.failure_maximum_stress.specs.Failure.{overLimit}
 use Rattle.failure_maximum_stress.proofs.MaximumStressFailure.exceeds.Statement.{statement}
 use Rattle.failure_maximum_stress.proofs.MaximumStressFailure.exceeds.Tie as tie
-use Rattle.failure_maximum_stress.proofs.MaximumStressFailure.exceeds.Reads as reads
-use Rattle.failure_maximum_stress.proofs.MaximumStressFailure.exceeds.Lts as lts
-use Rattle.failure_maximum_stress.proofs.largest.Reads as largest-reads
-use Rattle.failure_maximum_stress.proofs.smallest.Reads as smallest-reads
 
--- src/lib.rt:62:13
 largest-requires : tie.Need-largest-requires
 largest-requires c κs = search needs
 
--- src/lib.rt:63:13
 smallest-requires : tie.Need-smallest-requires
 smallest-requires c κs = search needs
 
--- src/lib.rt:59:5
 returns : tie.Need-returns
 unfolding overLimit
 returns c =

@@ -3,19 +3,13 @@ use Rattle.failure_maximum_stress.proofs.MaximumStressFailure.limits_fi
   statement,
 }
 use Rattle.failure_maximum_stress.proofs.MaximumStressFailure.limits_finite.Tie as tie
-use Rattle.failure_maximum_stress.proofs.MaximumStressFailure.limits_finite.Reads as reads
-use Rattle.failure_maximum_stress.proofs.MaximumStressFailure.limits_finite.Lts as lts
-use Rattle.numbers.proofs.is_finite.Reads as is-finite-reads
 
--- src/lib.rt:55:9
 is-finite-requires : tie.Need-is-finite-requires
 is-finite-requires c κs = search needs
 
--- src/lib.rt:55:57
 is-finite-requires-2 : tie.Need-is-finite-requires-2
 is-finite-requires-2 c κs = search needs
 
--- src/lib.rt:52:5
 returns : tie.Need-returns
 returns c =
     simp (c .is-finite2 .ensures, c .before .is-finite .ensures)

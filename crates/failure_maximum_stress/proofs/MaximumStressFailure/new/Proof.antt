@@ -2,26 +2,19 @@ use borrow.Author.Needs.{needs}
 use Rattle.failure_maximum_stress.specs.Failure.{limitsOf}
 use Rattle.failure_maximum_stress.proofs.MaximumStressFailure.new.Statement.{statement}
 use Rattle.failure_maximum_stress.proofs.MaximumStressFailure.new.Tie as tie
-use Rattle.failure_maximum_stress.proofs.MaximumStressFailure.new.Reads as reads
-use Rattle.failure_maximum_stress.proofs.MaximumStressFailure.new.Lts as lts
-use Rattle.numbers.proofs.is_finite.Reads as is-finite-reads
 
--- src/lib.rt:41:12
 is-finite-requires : tie.Need-is-finite-requires
 is-finite-requires c κs = search needs
 
--- src/lib.rt:41:44
 is-finite-requires-2 : tie.Need-is-finite-requires-2
 is-finite-requires-2 c κs = search needs
 
--- src/lib.rt:38:5
 returns : tie.Need-returns
 unfolding limitsOf
 returns c =
     let t0 = simp (c .before .is-finite2 .ensures, c .before .before .is-finite .ensures) at (c .if1 .taken) in
     simp (t0)
 
--- src/lib.rt:38:5
 returns-2 : tie.Need-returns-2
 unfolding limitsOf
 returns-2 c =

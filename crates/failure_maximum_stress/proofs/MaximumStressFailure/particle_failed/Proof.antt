@@ -4,25 +4,16 @@ use Rattle.failure_maximum_stress.proofs.MaximumStressFailure.particle_
   statement,
 }
 use Rattle.failure_maximum_stress.proofs.MaximumStressFailure.particle_failed.Tie as tie
-use Rattle.failure_maximum_stress.proofs.MaximumStressFailure.particle_failed.Reads as reads
-use Rattle.failure_maximum_stress.proofs.MaximumStressFailure.particle_failed.Lts as lts
-use Rattle.failure_maximum_stress.proofs.MaximumStressFailure.exceeds.Reads as exceeds-reads
-use Rattle.failure_maximum_stress.proofs.MaximumStressFailure.limits_finite.Reads as limits-finite-reads
-use Rattle.tensor.proofs.row_finite.Reads as row-finite-reads
 
--- src/lib.rt:70:12
 limits-finite-requires : tie.Need-limits-finite-requires
 limits-finite-requires c κs = search needs
 
--- src/lib.rt:70:35
 row-finite-requires : tie.Need-row-finite-requires
 row-finite-requires c κs = search needs
 
--- src/lib.rt:71:16
 exceeds-requires : tie.Need-exceeds-requires
 exceeds-requires c κs = search needs
 
--- src/lib.rt:67:5
 returns : tie.Need-returns
 unfolding verdictOf
 returns c =
@@ -30,7 +21,6 @@ returns c =
     let t1 = simp (c .before .before .before .row-finite .ensures, c .before .before .before .before .limits-finite .ensures) at (c .before .before .if1 .taken) in
     simp (t0, t1)
 
--- src/lib.rt:67:5
 returns-2 : tie.Need-returns-2
 unfolding verdictOf
 returns-2 c =
@@ -38,7 +28,6 @@ returns-2 c =
     let t1 = simp (c .before .before .before .row-finite .ensures, c .before .before .before .before .limits-finite .ensures) at (c .before .before .if1 .taken) in
     simp (t0, t1)
 
--- src/lib.rt:67:5
 returns-3 : tie.Need-returns-3
 unfolding verdictOf
 returns-3 c =

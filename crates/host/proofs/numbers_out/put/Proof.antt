@@ -2,44 +2,33 @@ use borrow.Author.Tests.{eq-eqb, ne-eqb}
 use borrow.Author.Needs.{needs}
 use Rattle.host.proofs.numbers_out.put.Statement.{statement}
 use Rattle.host.proofs.numbers_out.put.Tie as tie
-use Rattle.host.proofs.numbers_out.put.Reads as reads
-use Rattle.host.proofs.numbers_out.put.Lts as lts
-use Rattle.numbers.proofs.bits_of.Reads as bits-of-reads
 
--- src/numbers_out.rt:11:9
 returns : tie.Need-returns
 returns c =
     let e = ne-eqb _ _ (c .if1 .taken) in
     (simp e, simp e)
 
--- src/numbers_out.rt:14:27
 enum-known-a : tie.Need-enum-known-a
 enum-known-a c = search needs
 
--- src/numbers_out.rt:15:22
 bits-of-requires : tie.Need-bits-of-requires
 bits-of-requires c κs = search needs
 
--- src/numbers_out.rt:15:13
 slice-write-out : tie.Need-slice-write-out
 slice-write-out c = search needs
 
--- src/numbers_out.rt:18:29
 enum-known-a-2 : tie.Need-enum-known-a-2
 enum-known-a-2 c = search needs
 
--- src/numbers_out.rt:6:1
 same-length : tie.Need-same-length
 same-length c = search needs
 
--- src/numbers_out.rt:6:1
 returns-2 : tie.Need-returns-2
 returns-2 c =
     let e = eq-eqb _ _ (c .before .before .before .before .if1 .left) in
     let t = c .before .before .a .given .1 in
     (simp (e, t), simp (e, t, c .bits-of .ensures))
 
--- src/numbers_out.rt:6:1
 returns-3 : tie.Need-returns-3
 returns-3 c =
     let e = eq-eqb _ _ (c .before .before .before .if1 .left) in

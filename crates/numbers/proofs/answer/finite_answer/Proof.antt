@@ -1,28 +1,20 @@
 use borrow.Author.Needs.{needs}
 use Rattle.numbers.proofs.answer.finite_answer.Statement.{statement}
 use Rattle.numbers.proofs.answer.finite_answer.Tie as tie
-use Rattle.numbers.proofs.answer.finite_answer.Reads as reads
-use Rattle.numbers.proofs.answer.finite_answer.Lts as lts
-use Rattle.numbers.proofs.answer.answered.Reads as answered-reads
 
--- src/answer.rt:21:27
 enum-known-e : tie.Need-enum-known-e
 enum-known-e c = search needs
 
--- src/answer.rt:21:33
 answered-requires : tie.Need-answered-requires
 answered-requires c κs = search needs
 
--- src/answer.rt:22:29
 enum-known-e-2 : tie.Need-enum-known-e-2
 enum-known-e-2 c = search needs
 
--- src/answer.rt:17:1
 returns : tie.Need-returns
 returns c =
     simp (c .answered .ensures, c .before .before .e .given .1)
 
--- src/answer.rt:17:1
 returns-2 : tie.Need-returns-2
 returns-2 c =
     simp (c .before .e2 .given .1)

@@ -1,31 +1,21 @@
 use borrow.Author.Needs.{needs}
 use Rattle.physics.proofs.moduli.inv_exact.Statement.{statement}
 use Rattle.physics.proofs.moduli.inv_exact.Tie as tie
-use Rattle.physics.proofs.moduli.inv_exact.Reads as reads
-use Rattle.physics.proofs.moduli.inv_exact.Lts as lts
-use Rattle.numbers.proofs.answered.Reads as answered-reads
-use Rattle.numbers.proofs.is_finite.Reads as is-finite-reads
-use Rattle.physics.proofs.plain.inv_exact.Reads as inv-exact-reads
 
--- src/moduli.rt:15:8
 is-finite-requires : tie.Need-is-finite-requires
 is-finite-requires c κs = search needs
 
--- src/moduli.rt:16:27
 inv-exact-requires : tie.Need-inv-exact-requires
 inv-exact-requires c κs = search needs
 
--- src/moduli.rt:16:9
 answered-requires : tie.Need-answered-requires
 answered-requires c κs = search needs
 
--- src/moduli.rt:12:1
 returns : tie.Need-returns
 returns c =
     let t0 = simp (c .before .before .before .is-finite .ensures) at (c .before .before .if1 .taken) in
     simp (c .answered .ensures, c .before .inv-exact .ensures, t0)
 
--- src/moduli.rt:12:1
 returns-2 : tie.Need-returns-2
 returns-2 c =
     let t0 = simp (c .before .is-finite .ensures) at (c .if1 .left) in

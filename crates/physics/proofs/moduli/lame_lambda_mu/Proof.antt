@@ -1,35 +1,24 @@
 use borrow.Author.Needs.{needs}
 use Rattle.physics.proofs.moduli.lame_lambda_mu.Statement.{statement}
 use Rattle.physics.proofs.moduli.lame_lambda_mu.Tie as tie
-use Rattle.physics.proofs.moduli.lame_lambda_mu.Reads as reads
-use Rattle.physics.proofs.moduli.lame_lambda_mu.Lts as lts
-use Rattle.numbers.proofs.is_finite.Reads as is-finite-reads
-use Rattle.physics.proofs.plain.lame_lambda_mu.Reads as lame-lambda-mu-reads
-use Rattle.physics.proofs.quadratic.pair.Reads as pair-reads
 
--- src/moduli.rt:26:8
 is-finite-requires : tie.Need-is-finite-requires
 is-finite-requires c κs = search needs
 
--- src/moduli.rt:26:36
 is-finite-requires-2 : tie.Need-is-finite-requires-2
 is-finite-requires-2 c κs = search needs
 
--- src/moduli.rt:27:13
 lame-lambda-mu-requires : tie.Need-lame-lambda-mu-requires
 lame-lambda-mu-requires c κs = search needs
 
--- src/moduli.rt:28:9
 pair-requires : tie.Need-pair-requires
 pair-requires c κs = search needs
 
--- src/moduli.rt:23:1
 returns : tie.Need-returns
 returns c =
     let t0 = simp (c .before .before .before .is-finite2 .ensures, c .before .before .before .before .is-finite .ensures) at (c .before .before .if1 .taken) in
     simp (c .pair .ensures, c .before .lame-lambda-mu .ensures, t0)
 
--- src/moduli.rt:23:1
 returns-2 : tie.Need-returns-2
 returns-2 c =
     let t0 = simp (c .before .is-finite2 .ensures, c .before .before .is-finite .ensures) at (c .if1 .left) in

@@ -1,35 +1,24 @@
 use borrow.Author.Needs.{needs}
 use Rattle.physics.proofs.moduli.shear_modulus.Statement.{statement}
 use Rattle.physics.proofs.moduli.shear_modulus.Tie as tie
-use Rattle.physics.proofs.moduli.shear_modulus.Reads as reads
-use Rattle.physics.proofs.moduli.shear_modulus.Lts as lts
-use Rattle.numbers.proofs.answered.Reads as answered-reads
-use Rattle.numbers.proofs.is_finite.Reads as is-finite-reads
-use Rattle.physics.proofs.plain.shear_modulus.Reads as shear-modulus-reads
 
--- src/moduli.rt:37:8
 is-finite-requires : tie.Need-is-finite-requires
 is-finite-requires c κs = search needs
 
--- src/moduli.rt:37:36
 is-finite-requires-2 : tie.Need-is-finite-requires-2
 is-finite-requires-2 c κs = search needs
 
--- src/moduli.rt:38:27
 shear-modulus-requires : tie.Need-shear-modulus-requires
 shear-modulus-requires c κs = search needs
 
--- src/moduli.rt:38:9
 answered-requires : tie.Need-answered-requires
 answered-requires c κs = search needs
 
--- src/moduli.rt:34:1
 returns : tie.Need-returns
 returns c =
     let t0 = simp (c .before .before .before .is-finite2 .ensures, c .before .before .before .before .is-finite .ensures) at (c .before .before .if1 .taken) in
     simp (c .answered .ensures, c .before .shear-modulus .ensures, t0)
 
--- src/moduli.rt:34:1
 returns-2 : tie.Need-returns-2
 returns-2 c =
     let t0 = simp (c .before .is-finite2 .ensures, c .before .before .is-finite .ensures) at (c .if1 .left) in

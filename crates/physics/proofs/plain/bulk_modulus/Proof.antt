@@ -2,10 +2,7 @@ use mathlib.Core.Path.{refl}
 use Rattle.physics.specs.Physics.{bulkModulusOf}
 use Rattle.physics.proofs.plain.bulk_modulus.Statement.{statement}
 use Rattle.physics.proofs.plain.bulk_modulus.Tie as tie
-use Rattle.physics.proofs.plain.bulk_modulus.Reads as reads
-use Rattle.physics.proofs.plain.bulk_modulus.Lts as lts
 
--- src/plain.rt:34:1
 returns : tie.Need-returns
 unfolding bulkModulusOf
 returns c = refl

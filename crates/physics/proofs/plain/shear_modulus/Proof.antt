@@ -2,10 +2,7 @@ use mathlib.Core.Path.{refl}
 use Rattle.physics.specs.Physics.{shearModulusOf}
 use Rattle.physics.proofs.plain.shear_modulus.Statement.{statement}
 use Rattle.physics.proofs.plain.shear_modulus.Tie as tie
-use Rattle.physics.proofs.plain.shear_modulus.Reads as reads
-use Rattle.physics.proofs.plain.shear_modulus.Lts as lts
 
--- src/plain.rt:28:1
 returns : tie.Need-returns
 unfolding shearModulusOf
 returns c = refl

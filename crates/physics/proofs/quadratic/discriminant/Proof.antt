@@ -2,10 +2,7 @@ use mathlib.Core.Path.{refl}
 use Rattle.physics.specs.Quadratic.{discriminantOf}
 use Rattle.physics.proofs.quadratic.discriminant.Statement.{statement}
 use Rattle.physics.proofs.quadratic.discriminant.Tie as tie
-use Rattle.physics.proofs.quadratic.discriminant.Reads as reads
-use Rattle.physics.proofs.quadratic.discriminant.Lts as lts
 
--- src/quadratic.rt:17:1
 returns : tie.Need-returns
 unfolding discriminantOf
 returns c = refl

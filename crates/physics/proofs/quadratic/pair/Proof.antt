@@ -1,25 +1,18 @@
 use borrow.Author.Needs.{needs}
 use Rattle.physics.proofs.quadratic.pair.Statement.{statement}
 use Rattle.physics.proofs.quadratic.pair.Tie as tie
-use Rattle.physics.proofs.quadratic.pair.Reads as reads
-use Rattle.physics.proofs.quadratic.pair.Lts as lts
-use Rattle.numbers.proofs.is_finite.Reads as is-finite-reads
 
--- src/quadratic.rt:10:8
 is-finite-requires : tie.Need-is-finite-requires
 is-finite-requires c κs = search needs
 
--- src/quadratic.rt:10:32
 is-finite-requires-2 : tie.Need-is-finite-requires-2
 is-finite-requires-2 c κs = search needs
 
--- src/quadratic.rt:7:1
 returns : tie.Need-returns
 returns c =
     let t0 = simp (c .before .is-finite2 .ensures, c .before .before .is-finite .ensures) at (c .if1 .taken) in
     simp (t0)
 
--- src/quadratic.rt:7:1
 returns-2 : tie.Need-returns-2
 returns-2 c =
     let t0 = simp (c .before .is-finite2 .ensures, c .before .before .is-finite .ensures) at (c .if1 .left) in

@@ -1,19 +1,13 @@
 use borrow.Author.Needs.{needs}
 use Rattle.plasticity_rankine.proofs.RankineArguments.elastic_finite.Statement.{statement}
 use Rattle.plasticity_rankine.proofs.RankineArguments.elastic_finite.Tie as tie
-use Rattle.plasticity_rankine.proofs.RankineArguments.elastic_finite.Reads as reads
-use Rattle.plasticity_rankine.proofs.RankineArguments.elastic_finite.Lts as lts
-use Rattle.numbers.proofs.is_finite.Reads as is-finite-reads
 
--- src/arguments.rt:26:9
 is-finite-requires : tie.Need-is-finite-requires
 is-finite-requires c κs = search needs
 
--- src/arguments.rt:26:50
 is-finite-requires-2 : tie.Need-is-finite-requires-2
 is-finite-requires-2 c κs = search needs
 
--- src/arguments.rt:23:5
 returns : tie.Need-returns
 returns c =
     simp (c .is-finite2 .ensures, c .before .is-finite .ensures)

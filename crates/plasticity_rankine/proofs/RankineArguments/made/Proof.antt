@@ -2,30 +2,19 @@ use borrow.Author.Needs.{needs}
 use Rattle.plasticity_rankine.specs.Rankine.{madeOf}
 use Rattle.plasticity_rankine.proofs.RankineArguments.made.Statement.{statement}
 use Rattle.plasticity_rankine.proofs.RankineArguments.made.Tie as tie
-use Rattle.plasticity_rankine.proofs.RankineArguments.made.Reads as reads
-use Rattle.plasticity_rankine.proofs.RankineArguments.made.Lts as lts
-use Rattle.plasticity_rankine.proofs.RankineArguments.elastic_finite.Reads as elastic-finite-reads
-use Rattle.plasticity_rankine.proofs.RankineArguments.law.Reads as law-reads
-use Rattle.plasticity_rankine.proofs.RankinePlasticity.moduli_finite.Reads as moduli-finite-reads
-use Rattle.plasticity_rankine.proofs.RankinePlasticity.parameters_finite.Reads as parameters-finite-reads
 
--- src/arguments.rt:32:13
 law-requires : tie.Need-law-requires
 law-requires c κs = search needs
 
--- src/arguments.rt:33:12
 elastic-finite-requires : tie.Need-elastic-finite-requires
 elastic-finite-requires c κs = search needs
 
--- src/arguments.rt:33:36
 parameters-finite-requires : tie.Need-parameters-finite-requires
 parameters-finite-requires c κs = search needs
 
--- src/arguments.rt:34:16
 moduli-finite-requires : tie.Need-moduli-finite-requires
 moduli-finite-requires c κs = search needs
 
--- src/arguments.rt:29:5
 returns : tie.Need-returns
 unfolding madeOf
 returns c =
@@ -33,7 +22,6 @@ returns c =
     let t1 = simp (c .before .before .before .parameters-finite .ensures, c .before .before .before .before .elastic-finite .ensures, c .before .before .before .before .before .law .ensures) at (c .before .before .if1 .taken) in
     simp (c .before .moduli-finite .ensures, c .before .before .before .parameters-finite .ensures, c .before .before .before .before .elastic-finite .ensures, c .before .before .before .before .before .law .ensures, t0, t1)
 
--- src/arguments.rt:29:5
 returns-2 : tie.Need-returns-2
 unfolding madeOf
 returns-2 c =
@@ -41,7 +29,6 @@ returns-2 c =
     let t1 = simp (c .before .before .before .parameters-finite .ensures, c .before .before .before .before .elastic-finite .ensures, c .before .before .before .before .before .law .ensures) at (c .before .before .if1 .taken) in
     simp (c .before .moduli-finite .ensures, c .before .before .before .parameters-finite .ensures, c .before .before .before .before .elastic-finite .ensures, c .before .before .before .before .before .law .ensures, t0, t1)
 
--- src/arguments.rt:29:5
 returns-3 : tie.Need-returns-3
 unfolding madeOf
 returns-3 c =

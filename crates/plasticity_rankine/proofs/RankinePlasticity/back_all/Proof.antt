@@ -2,10 +2,7 @@ use mathlib.Core.Path.{refl}
 use Rattle.plasticity_rankine.specs.Projection.{backAll}
 use Rattle.plasticity_rankine.proofs.RankinePlasticity.back_all.Statement.{statement}
 use Rattle.plasticity_rankine.proofs.RankinePlasticity.back_all.Tie as tie
-use Rattle.plasticity_rankine.proofs.RankinePlasticity.back_all.Reads as reads
-use Rattle.plasticity_rankine.proofs.RankinePlasticity.back_all.Lts as lts
 
--- src/projection.rt:60:5
 returns : tie.Need-returns
 unfolding backAll
 returns c = refl

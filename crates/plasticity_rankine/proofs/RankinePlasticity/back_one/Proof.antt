@@ -2,10 +2,7 @@ use mathlib.Core.Path.{refl}
 use Rattle.plasticity_rankine.specs.Projection.{backOne}
 use Rattle.plasticity_rankine.proofs.RankinePlasticity.back_one.Statement.{statement}
 use Rattle.plasticity_rankine.proofs.RankinePlasticity.back_one.Tie as tie
-use Rattle.plasticity_rankine.proofs.RankinePlasticity.back_one.Reads as reads
-use Rattle.plasticity_rankine.proofs.RankinePlasticity.back_one.Lts as lts
 
--- src/projection.rt:48:5
 returns : tie.Need-returns
 unfolding backOne
 returns c = refl

@@ -2,10 +2,7 @@ use mathlib.Core.Path.{refl}
 use Rattle.plasticity_rankine.specs.Projection.{backTwo}
 use Rattle.plasticity_rankine.proofs.RankinePlasticity.back_two.Statement.{statement}
 use Rattle.plasticity_rankine.proofs.RankinePlasticity.back_two.Tie as tie
-use Rattle.plasticity_rankine.proofs.RankinePlasticity.back_two.Reads as reads
-use Rattle.plasticity_rankine.proofs.RankinePlasticity.back_two.Lts as lts
 
--- src/projection.rt:54:5
 returns : tie.Need-returns
 unfolding backTwo
 returns c = refl

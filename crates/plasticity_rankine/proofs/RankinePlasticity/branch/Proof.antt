@@ -1,77 +1,57 @@
 use borrow.Author.Needs.{needs}
 use Rattle.plasticity_rankine.proofs.RankinePlasticity.branch.Statement.{statement}
 use Rattle.plasticity_rankine.proofs.RankinePlasticity.branch.Tie as tie
-use Rattle.plasticity_rankine.proofs.RankinePlasticity.branch.Reads as reads
-use Rattle.plasticity_rankine.proofs.RankinePlasticity.branch.Lts as lts
-use Rattle.law.proofs.refuse.Reads as refuse-reads
-use Rattle.plasticity_rankine.proofs.RankinePlasticity.moved.Reads as moved-reads
-use Rattle.plasticity_rankine.proofs.update.untouched.Reads as untouched-reads
 
--- src/update.rt:33:40
 enum-told : tie.Need-enum-told
 enum-told c = search needs
 
--- src/update.rt:33:40
 untouched-requires : tie.Need-untouched-requires
 untouched-requires c κs = search needs
 
--- src/update.rt:34:34
 enum-told-2 : tie.Need-enum-told-2
 enum-told-2 c = search needs
 
--- src/update.rt:34:34
 moved-requires : tie.Need-moved-requires
 moved-requires c κs = search needs
 
--- src/update.rt:35:34
 enum-told-3 : tie.Need-enum-told-3
 enum-told-3 c = search needs
 
--- src/update.rt:35:34
 moved-requires-2 : tie.Need-moved-requires-2
 moved-requires-2 c κs = search needs
 
--- src/update.rt:36:34
 enum-told-4 : tie.Need-enum-told-4
 enum-told-4 c = search needs
 
--- src/update.rt:36:34
 moved-requires-3 : tie.Need-moved-requires-3
 moved-requires-3 c κs = search needs
 
--- src/update.rt:37:29
 enum-known-b : tie.Need-enum-known-b
 enum-known-b c = search needs
 
--- src/update.rt:37:35
 refuse-requires : tie.Need-refuse-requires
 refuse-requires c κs = search needs
 
--- src/update.rt:29:5
 returns : tie.Need-returns
 returns c =
     let t0 = c .before .enum-told .given .1 in
     simp (c .untouched .ensures, t0)
 
--- src/update.rt:29:5
 returns-2 : tie.Need-returns-2
 returns-2 c =
     let t0 = c .before .enum-told2 .given .1 in
     simp (c .moved .ensures, t0)
 
--- src/update.rt:29:5
 returns-3 : tie.Need-returns-3
 returns-3 c =
     let t0 = c .before .enum-told3 .given .1 in
     simp (c .moved2 .ensures, t0)
 
--- src/update.rt:29:5
 returns-4 : tie.Need-returns-4
 returns-4 c =
     let t0 = c .before .enum-told4 .given .1 in
     simp (c .moved3 .ensures, t0)
 
--- src/update.rt:29:5
 returns-5 : tie.Need-returns-5
 returns-5 c =
     let t0 = c .before .before .b .given .1 in

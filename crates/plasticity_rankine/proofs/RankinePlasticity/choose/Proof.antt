@@ -2,25 +2,16 @@ use borrow.Author.Needs.{needs}
 use Rattle.plasticity_rankine.specs.Projection.{choiceOf}
 use Rattle.plasticity_rankine.proofs.RankinePlasticity.choose.Statement.{statement}
 use Rattle.plasticity_rankine.proofs.RankinePlasticity.choose.Tie as tie
-use Rattle.plasticity_rankine.proofs.RankinePlasticity.choose.Reads as reads
-use Rattle.plasticity_rankine.proofs.RankinePlasticity.choose.Lts as lts
-use Rattle.numbers.proofs.is_number.Reads as is-number-reads
-use Rattle.plasticity_rankine.proofs.RankinePlasticity.choose_next.Reads as choose-next-reads
-use Rattle.plasticity_rankine.proofs.RankinePlasticity.first_side.Reads as first-side-reads
 
--- src/projection.rt:102:13
 first-side-requires : tie.Need-first-side-requires
 first-side-requires c κs = search needs
 
--- src/projection.rt:103:12
 is-number-requires : tie.Need-is-number-requires
 is-number-requires c κs = search needs
 
--- src/projection.rt:107:17
 choose-next-requires : tie.Need-choose-next-requires
 choose-next-requires c κs = search needs
 
--- src/projection.rt:99:5
 returns : tie.Need-returns
 unfolding choiceOf
 returns c =
@@ -28,7 +19,6 @@ returns c =
     let t1 = simp (c .before .before .is-number .ensures, c .before .before .before .first-side .ensures) at (c .before .if1 .taken) in
     simp (c .before .before .is-number .ensures, c .before .before .before .first-side .ensures, t0, t1)
 
--- src/projection.rt:99:5
 returns-2 : tie.Need-returns-2
 unfolding choiceOf
 returns-2 c =
@@ -36,7 +26,6 @@ returns-2 c =
     let t1 = simp (c .before .before .before .is-number .ensures, c .before .before .before .before .first-side .ensures) at (c .before .before .if1 .taken) in
     simp (c .choose-next .ensures, c .before .before .before .is-number .ensures, c .before .before .before .before .first-side .ensures, t0, t1)
 
--- src/projection.rt:99:5
 returns-3 : tie.Need-returns-3
 unfolding choiceOf
 returns-3 c =

@@ -2,20 +2,13 @@ use borrow.Author.Needs.{needs}
 use Rattle.plasticity_rankine.specs.Projection.{lastChoice}
 use Rattle.plasticity_rankine.proofs.RankinePlasticity.choose_last.Statement.{statement}
 use Rattle.plasticity_rankine.proofs.RankinePlasticity.choose_last.Tie as tie
-use Rattle.plasticity_rankine.proofs.RankinePlasticity.choose_last.Reads as reads
-use Rattle.plasticity_rankine.proofs.RankinePlasticity.choose_last.Lts as lts
-use Rattle.numbers.proofs.is_number.Reads as is-number-reads
-use Rattle.plasticity_rankine.proofs.RankinePlasticity.third_side.Reads as third-side-reads
 
--- src/projection.rt:70:13
 third-side-requires : tie.Need-third-side-requires
 third-side-requires c κs = search needs
 
--- src/projection.rt:71:12
 is-number-requires : tie.Need-is-number-requires
 is-number-requires c κs = search needs
 
--- src/projection.rt:67:5
 returns : tie.Need-returns
 unfolding lastChoice
 returns c =
@@ -23,7 +16,6 @@ returns c =
     let t1 = simp (c .before .before .is-number .ensures, c .before .before .before .third-side .ensures) at (c .before .if1 .taken) in
     simp (c .before .before .is-number .ensures, c .before .before .before .third-side .ensures, t0, t1)
 
--- src/projection.rt:67:5
 returns-2 : tie.Need-returns-2
 unfolding lastChoice
 returns-2 c =
@@ -31,7 +23,6 @@ returns-2 c =
     let t1 = simp (c .before .before .is-number .ensures, c .before .before .before .third-side .ensures) at (c .before .if1 .taken) in
     simp (c .before .before .is-number .ensures, c .before .before .before .third-side .ensures, t0, t1)
 
--- src/projection.rt:67:5
 returns-3 : tie.Need-returns-3
 unfolding lastChoice
 returns-3 c =

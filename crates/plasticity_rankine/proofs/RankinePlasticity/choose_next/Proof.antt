@@ -2,25 +2,16 @@ use borrow.Author.Needs.{needs}
 use Rattle.plasticity_rankine.specs.Projection.{nextChoice}
 use Rattle.plasticity_rankine.proofs.RankinePlasticity.choose_next.Statement.{statement}
 use Rattle.plasticity_rankine.proofs.RankinePlasticity.choose_next.Tie as tie
-use Rattle.plasticity_rankine.proofs.RankinePlasticity.choose_next.Reads as reads
-use Rattle.plasticity_rankine.proofs.RankinePlasticity.choose_next.Lts as lts
-use Rattle.numbers.proofs.is_number.Reads as is-number-reads
-use Rattle.plasticity_rankine.proofs.RankinePlasticity.choose_last.Reads as choose-last-reads
-use Rattle.plasticity_rankine.proofs.RankinePlasticity.second_side.Reads as second-side-reads
 
--- src/projection.rt:86:13
 second-side-requires : tie.Need-second-side-requires
 second-side-requires c κs = search needs
 
--- src/projection.rt:87:12
 is-number-requires : tie.Need-is-number-requires
 is-number-requires c κs = search needs
 
--- src/projection.rt:91:17
 choose-last-requires : tie.Need-choose-last-requires
 choose-last-requires c κs = search needs
 
--- src/projection.rt:83:5
 returns : tie.Need-returns
 unfolding nextChoice
 returns c =
@@ -28,7 +19,6 @@ returns c =
     let t1 = simp (c .before .before .is-number .ensures, c .before .before .before .second-side .ensures) at (c .before .if1 .taken) in
     simp (c .before .before .is-number .ensures, c .before .before .before .second-side .ensures, t0, t1)
 
--- src/projection.rt:83:5
 returns-2 : tie.Need-returns-2
 unfolding nextChoice
 returns-2 c =
@@ -36,7 +26,6 @@ returns-2 c =
     let t1 = simp (c .before .before .before .is-number .ensures, c .before .before .before .before .second-side .ensures) at (c .before .before .if1 .taken) in
     simp (c .choose-last .ensures, c .before .before .before .is-number .ensures, c .before .before .before .before .second-side .ensures, t0, t1)
 
--- src/projection.rt:83:5
 returns-3 : tie.Need-returns-3
 unfolding nextChoice
 returns-3 c =

@@ -2,10 +2,7 @@ use mathlib.Core.Path.{refl}
 use Rattle.plasticity_rankine.specs.Projection.{firstSide}
 use Rattle.plasticity_rankine.proofs.RankinePlasticity.first_side.Statement.{statement}
 use Rattle.plasticity_rankine.proofs.RankinePlasticity.first_side.Tie as tie
-use Rattle.plasticity_rankine.proofs.RankinePlasticity.first_side.Reads as reads
-use Rattle.plasticity_rankine.proofs.RankinePlasticity.first_side.Lts as lts
 
--- src/projection.rt:29:5
 returns : tie.Need-returns
 unfolding firstSide
 returns c = refl

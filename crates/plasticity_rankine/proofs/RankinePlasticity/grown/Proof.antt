@@ -1,42 +1,31 @@
 use borrow.Author.Needs.{needs}
 use Rattle.plasticity_rankine.proofs.RankinePlasticity.grown.Statement.{statement}
 use Rattle.plasticity_rankine.proofs.RankinePlasticity.grown.Tie as tie
-use Rattle.plasticity_rankine.proofs.RankinePlasticity.grown.Reads as reads
-use Rattle.plasticity_rankine.proofs.RankinePlasticity.grown.Lts as lts
-use Rattle.numbers.proofs.is_number.Reads as is-number-reads
-use Rattle.numbers.proofs.min.Reads as min-reads
 
--- src/steps.rt:67:31
 enum-known-norm : tie.Need-enum-known-norm
 enum-known-norm c = search needs
 
--- src/steps.rt:69:20
 is-number-requires : tie.Need-is-number-requires
 is-number-requires c κs = search needs
 
--- src/steps.rt:70:39
 min-requires : tie.Need-min-requires
 min-requires c κs = search needs
 
--- src/steps.rt:75:33
 enum-known-norm-2 : tie.Need-enum-known-norm-2
 enum-known-norm-2 c = search needs
 
--- src/steps.rt:63:5
 returns : tie.Need-returns
 returns c =
     let t0 = simp (c .before .before .is-number .ensures) at (c .before .if1 .taken) in
     let t1 = c .before .before .before .before .before .norm .given .1 in
     simp (c .min .ensures, c .before .before .is-number .ensures, t0, t1)
 
--- src/steps.rt:63:5
 returns-2 : tie.Need-returns-2
 returns-2 c =
     let t0 = simp (c .before .is-number .ensures) at (c .if1 .left) in
     let t1 = c .before .before .before .before .norm .given .1 in
     simp (c .before .is-number .ensures, t0, t1)
 
--- src/steps.rt:63:5
 returns-3 : tie.Need-returns-3
 returns-3 c =
     let t0 = c .before .norm2 .given .1 in

@@ -2,45 +2,31 @@ use borrow.Author.Needs.{needs}
 use Rattle.plasticity_rankine.specs.Rankine.{rankineLogged}
 use Rattle.plasticity_rankine.proofs.RankinePlasticity.logged.Statement.{statement}
 use Rattle.plasticity_rankine.proofs.RankinePlasticity.logged.Tie as tie
-use Rattle.plasticity_rankine.proofs.RankinePlasticity.logged.Reads as reads
-use Rattle.plasticity_rankine.proofs.RankinePlasticity.logged.Lts as lts
-use Rattle.law.proofs.refuse.Reads as refuse-reads
-use Rattle.plasticity_rankine.proofs.RankinePlasticity.branch.Reads as branch-reads
-use Rattle.plasticity_rankine.proofs.RankinePlasticity.projected.Reads as projected-reads
-use Rattle.plasticity_rankine.proofs.RankinePlasticity.soft_strength.Reads as soft-strength-reads
 
--- src/update.rt:46:28
 enum-known-t : tie.Need-enum-known-t
 enum-known-t c = search needs
 
--- src/update.rt:48:43
 soft-strength-requires : tie.Need-soft-strength-requires
 soft-strength-requires c κs = search needs
 
--- src/update.rt:48:21
 projected-requires : tie.Need-projected-requires
 projected-requires c κs = search needs
 
--- src/update.rt:51:17
 branch-requires : tie.Need-branch-requires
 branch-requires c κs = search needs
 
--- src/update.rt:53:29
 enum-known-t-2 : tie.Need-enum-known-t-2
 enum-known-t-2 c = search needs
 
--- src/update.rt:53:35
 refuse-requires : tie.Need-refuse-requires
 refuse-requires c κs = search needs
 
--- src/update.rt:42:5
 returns : tie.Need-returns
 unfolding rankineLogged
 returns c =
     let t0 = c .before .before .before .before .before .t .given .1 in
     simp (c .branch .ensures, c .before .before .projected .ensures, c .before .before .before .soft-strength .ensures, t0)
 
--- src/update.rt:42:5
 returns-2 : tie.Need-returns-2
 unfolding rankineLogged
 returns-2 c =

@@ -2,52 +2,34 @@ use borrow.Author.Needs.{needs}
 use Rattle.plasticity_rankine.specs.Projection.{projectOf}
 use Rattle.plasticity_rankine.proofs.RankinePlasticity.project.Statement.{statement}
 use Rattle.plasticity_rankine.proofs.RankinePlasticity.project.Tie as tie
-use Rattle.plasticity_rankine.proofs.RankinePlasticity.project.Reads as reads
-use Rattle.plasticity_rankine.proofs.RankinePlasticity.project.Lts as lts
-use Rattle.numbers.proofs.is_finite.Reads as is-finite-reads
-use Rattle.plasticity_rankine.proofs.RankinePlasticity.moduli_finite.Reads as moduli-finite-reads
-use Rattle.plasticity_rankine.proofs.RankinePlasticity.parameters_finite.Reads as parameters-finite-reads
-use Rattle.plasticity_rankine.proofs.RankinePlasticity.projected.Reads as projected-reads
-use Rattle.plasticity_rankine.proofs.projection.refused_strains.Reads as refused-strains-reads
-use Rattle.tensor.proofs.row_finite.Reads as row-finite-reads
 
--- src/projection.rt:163:12
 parameters-finite-requires : tie.Need-parameters-finite-requires
 parameters-finite-requires c κs = search needs
 
--- src/projection.rt:163:39
 row-finite-requires : tie.Need-row-finite-requires
 row-finite-requires c κs = search needs
 
--- src/projection.rt:163:69
 is-finite-requires : tie.Need-is-finite-requires
 is-finite-requires c κs = search needs
 
--- src/projection.rt:164:16
 moduli-finite-requires : tie.Need-moduli-finite-requires
 moduli-finite-requires c κs = search needs
 
--- src/projection.rt:165:21
 projected-requires : tie.Need-projected-requires
 projected-requires c κs = search needs
 
--- src/projection.rt:167:20
 row-finite-requires-2 : tie.Need-row-finite-requires-2
 row-finite-requires-2 c κs = search needs
 
--- src/projection.rt:170:21
 refused-strains-requires : tie.Need-refused-strains-requires
 refused-strains-requires c κs = search needs
 
--- src/projection.rt:173:17
 refused-strains-requires-2 : tie.Need-refused-strains-requires-2
 refused-strains-requires-2 c κs = search needs
 
--- src/projection.rt:176:13
 refused-strains-requires-3 : tie.Need-refused-strains-requires-3
 refused-strains-requires-3 c κs = search needs
 
--- src/projection.rt:160:5
 returns : tie.Need-returns
 unfolding projectOf
 returns c =
@@ -56,7 +38,6 @@ returns c =
     let t2 = simp (c .before .before .before .before .before .before .before .is-finite .ensures, c .before .before .before .before .before .before .before .before .row-finite .ensures, c .before .before .before .before .before .before .before .before .before .parameters-finite .ensures) at (c .before .before .before .before .before .before .if1 .taken) in
     simp (c .before .row-finite2 .ensures, c .before .before .before .projected .ensures, c .before .before .before .before .before .moduli-finite .ensures, c .before .before .before .before .before .before .before .is-finite .ensures, c .before .before .before .before .before .before .before .before .row-finite .ensures, c .before .before .before .before .before .before .before .before .before .parameters-finite .ensures, t0, t1, t2)
 
--- src/projection.rt:160:5
 returns-2 : tie.Need-returns-2
 unfolding projectOf
 returns-2 c =
@@ -65,7 +46,6 @@ returns-2 c =
     let t2 = simp (c .before .before .before .before .before .before .before .before .is-finite .ensures, c .before .before .before .before .before .before .before .before .before .row-finite .ensures, c .before .before .before .before .before .before .before .before .before .before .parameters-finite .ensures) at (c .before .before .before .before .before .before .before .if1 .taken) in
     simp (c .refused-strains .ensures, c .before .before .row-finite2 .ensures, c .before .before .before .before .projected .ensures, c .before .before .before .before .before .before .moduli-finite .ensures, c .before .before .before .before .before .before .before .before .is-finite .ensures, c .before .before .before .before .before .before .before .before .before .row-finite .ensures, c .before .before .before .before .before .before .before .before .before .before .parameters-finite .ensures, t0, t1, t2)
 
--- src/projection.rt:160:5
 returns-3 : tie.Need-returns-3
 unfolding projectOf
 returns-3 c =
@@ -73,7 +53,6 @@ returns-3 c =
     let t1 = simp (c .before .before .before .before .is-finite .ensures, c .before .before .before .before .before .row-finite .ensures, c .before .before .before .before .before .before .parameters-finite .ensures) at (c .before .before .before .if1 .taken) in
     simp (c .refused-strains2 .ensures, c .before .before .moduli-finite .ensures, c .before .before .before .before .is-finite .ensures, c .before .before .before .before .before .row-finite .ensures, c .before .before .before .before .before .before .parameters-finite .ensures, t0, t1)
 
--- src/projection.rt:160:5
 returns-4 : tie.Need-returns-4
 unfolding projectOf
 returns-4 c =

@@ -1,86 +1,63 @@
 use borrow.Author.Needs.{needs}
 use Rattle.plasticity_rankine.proofs.RankinePlasticity.returned.Statement.{statement}
 use Rattle.plasticity_rankine.proofs.RankinePlasticity.returned.Tie as tie
-use Rattle.plasticity_rankine.proofs.RankinePlasticity.returned.Reads as reads
-use Rattle.plasticity_rankine.proofs.RankinePlasticity.returned.Lts as lts
-use Rattle.plasticity_rankine.proofs.RankinePlasticity.back_all.Reads as back-all-reads
-use Rattle.plasticity_rankine.proofs.RankinePlasticity.back_one.Reads as back-one-reads
-use Rattle.plasticity_rankine.proofs.RankinePlasticity.back_two.Reads as back-two-reads
-use Rattle.plasticity_rankine.proofs.sorting.sorted.Reads as sorted-reads
 
--- src/projection.rt:119:40
 enum-told : tie.Need-enum-told
 enum-told c = search needs
 
--- src/projection.rt:121:47
 enum-told-2 : tie.Need-enum-told-2
 enum-told-2 c = search needs
 
--- src/projection.rt:121:47
 back-one-requires : tie.Need-back-one-requires
 back-one-requires c κs = search needs
 
--- src/projection.rt:121:17
 sorted-requires : tie.Need-sorted-requires
 sorted-requires c κs = search needs
 
--- src/projection.rt:124:21
 enum-told-3 : tie.Need-enum-told-3
 enum-told-3 c = search needs
 
--- src/projection.rt:124:21
 back-two-requires : tie.Need-back-two-requires
 back-two-requires c κs = search needs
 
--- src/projection.rt:125:17
 sorted-requires-2 : tie.Need-sorted-requires-2
 sorted-requires-2 c κs = search needs
 
--- src/projection.rt:128:21
 enum-told-4 : tie.Need-enum-told-4
 enum-told-4 c = search needs
 
--- src/projection.rt:128:21
 back-all-requires : tie.Need-back-all-requires
 back-all-requires c κs = search needs
 
--- src/projection.rt:129:17
 sorted-requires-3 : tie.Need-sorted-requires-3
 sorted-requires-3 c κs = search needs
 
--- src/projection.rt:131:35
 enum-told-5 : tie.Need-enum-told-5
 enum-told-5 c = search needs
 
--- src/projection.rt:131:35
 sorted-requires-4 : tie.Need-sorted-requires-4
 sorted-requires-4 c κs = search needs
 
--- src/projection.rt:115:5
 returns : tie.Need-returns
 returns c =
     let t0 = c .enum-told .given .1 in
     simp (t0)
 
--- src/projection.rt:115:5
 returns-2 : tie.Need-returns-2
 returns-2 c =
     let t0 = c .before .before .enum-told2 .given .1 in
     simp (c .sorted .ensures, c .before .back-one .ensures, t0)
 
--- src/projection.rt:115:5
 returns-3 : tie.Need-returns-3
 returns-3 c =
     let t0 = c .before .before .enum-told3 .given .1 in
     simp (c .sorted2 .ensures, c .before .back-two .ensures, t0)
 
--- src/projection.rt:115:5
 returns-4 : tie.Need-returns-4
 returns-4 c =
     let t0 = c .before .before .enum-told4 .given .1 in
     simp (c .sorted3 .ensures, c .before .back-all .ensures, t0)
 
--- src/projection.rt:115:5
 returns-5 : tie.Need-returns-5
 returns-5 c =
     let t0 = c .before .enum-told5 .given .1 in

@@ -2,10 +2,7 @@ use mathlib.Core.Path.{refl}
 use Rattle.plasticity_rankine.specs.Projection.{secondSide}
 use Rattle.plasticity_rankine.proofs.RankinePlasticity.second_side.Statement.{statement}
 use Rattle.plasticity_rankine.proofs.RankinePlasticity.second_side.Tie as tie
-use Rattle.plasticity_rankine.proofs.RankinePlasticity.second_side.Reads as reads
-use Rattle.plasticity_rankine.proofs.RankinePlasticity.second_side.Lts as lts
 
--- src/projection.rt:35:5
 returns : tie.Need-returns
 unfolding secondSide
 returns c = refl

@@ -2,10 +2,7 @@ use mathlib.Core.Path.{refl}
 use Rattle.plasticity_rankine.specs.Projection.{thirdSide}
 use Rattle.plasticity_rankine.proofs.RankinePlasticity.third_side.Statement.{statement}
 use Rattle.plasticity_rankine.proofs.RankinePlasticity.third_side.Tie as tie
-use Rattle.plasticity_rankine.proofs.RankinePlasticity.third_side.Reads as reads
-use Rattle.plasticity_rankine.proofs.RankinePlasticity.third_side.Lts as lts
 
--- src/projection.rt:41:5
 returns : tie.Need-returns
 unfolding thirdSide
 returns c = refl

@@ -1,161 +1,122 @@
 use borrow.Author.Needs.{needs}
 use Rattle.plasticity_rankine.proofs.sorting.arrange.Statement.{statement}
 use Rattle.plasticity_rankine.proofs.sorting.arrange.Tie as tie
-use Rattle.plasticity_rankine.proofs.sorting.arrange.Reads as reads
-use Rattle.plasticity_rankine.proofs.sorting.arrange.Lts as lts
-use Rattle.plasticity_rankine.proofs.sorting.sorted.Reads as sorted-reads
 
--- src/sorting.rt:37:30
 enum-told : tie.Need-enum-told
 enum-told c = search needs
 
--- src/sorting.rt:37:30
 array-read-sorted : tie.Need-array-read-sorted
 array-read-sorted c = search needs
 
--- src/sorting.rt:37:36
 array-read-sorted-2 : tie.Need-array-read-sorted-2
 array-read-sorted-2 c = search needs
 
--- src/sorting.rt:37:42
 array-read-sorted-3 : tie.Need-array-read-sorted-3
 array-read-sorted-3 c = search needs
 
--- src/sorting.rt:37:23
 sorted-requires : tie.Need-sorted-requires
 sorted-requires c κs = search needs
 
--- src/sorting.rt:38:30
 enum-told-2 : tie.Need-enum-told-2
 enum-told-2 c = search needs
 
--- src/sorting.rt:38:30
 array-read-sorted-4 : tie.Need-array-read-sorted-4
 array-read-sorted-4 c = search needs
 
--- src/sorting.rt:38:36
 array-read-sorted-5 : tie.Need-array-read-sorted-5
 array-read-sorted-5 c = search needs
 
--- src/sorting.rt:38:42
 array-read-sorted-6 : tie.Need-array-read-sorted-6
 array-read-sorted-6 c = search needs
 
--- src/sorting.rt:38:23
 sorted-requires-2 : tie.Need-sorted-requires-2
 sorted-requires-2 c κs = search needs
 
--- src/sorting.rt:39:30
 enum-told-3 : tie.Need-enum-told-3
 enum-told-3 c = search needs
 
--- src/sorting.rt:39:30
 array-read-sorted-7 : tie.Need-array-read-sorted-7
 array-read-sorted-7 c = search needs
 
--- src/sorting.rt:39:36
 array-read-sorted-8 : tie.Need-array-read-sorted-8
 array-read-sorted-8 c = search needs
 
--- src/sorting.rt:39:42
 array-read-sorted-9 : tie.Need-array-read-sorted-9
 array-read-sorted-9 c = search needs
 
--- src/sorting.rt:39:23
 sorted-requires-3 : tie.Need-sorted-requires-3
 sorted-requires-3 c κs = search needs
 
--- src/sorting.rt:40:30
 enum-told-4 : tie.Need-enum-told-4
 enum-told-4 c = search needs
 
--- src/sorting.rt:40:30
 array-read-sorted-10 : tie.Need-array-read-sorted-10
 array-read-sorted-10 c = search needs
 
--- src/sorting.rt:40:36
 array-read-sorted-11 : tie.Need-array-read-sorted-11
 array-read-sorted-11 c = search needs
 
--- src/sorting.rt:40:42
 array-read-sorted-12 : tie.Need-array-read-sorted-12
 array-read-sorted-12 c = search needs
 
--- src/sorting.rt:40:23
 sorted-requires-4 : tie.Need-sorted-requires-4
 sorted-requires-4 c κs = search needs
 
--- src/sorting.rt:41:30
 enum-told-5 : tie.Need-enum-told-5
 enum-told-5 c = search needs
 
--- src/sorting.rt:41:30
 array-read-sorted-13 : tie.Need-array-read-sorted-13
 array-read-sorted-13 c = search needs
 
--- src/sorting.rt:41:36
 array-read-sorted-14 : tie.Need-array-read-sorted-14
 array-read-sorted-14 c = search needs
 
--- src/sorting.rt:41:42
 array-read-sorted-15 : tie.Need-array-read-sorted-15
 array-read-sorted-15 c = search needs
 
--- src/sorting.rt:41:23
 sorted-requires-5 : tie.Need-sorted-requires-5
 sorted-requires-5 c κs = search needs
 
--- src/sorting.rt:42:30
 enum-told-6 : tie.Need-enum-told-6
 enum-told-6 c = search needs
 
--- src/sorting.rt:42:30
 array-read-sorted-16 : tie.Need-array-read-sorted-16
 array-read-sorted-16 c = search needs
 
--- src/sorting.rt:42:36
 array-read-sorted-17 : tie.Need-array-read-sorted-17
 array-read-sorted-17 c = search needs
 
--- src/sorting.rt:42:42
 array-read-sorted-18 : tie.Need-array-read-sorted-18
 array-read-sorted-18 c = search needs
 
--- src/sorting.rt:42:23
 sorted-requires-6 : tie.Need-sorted-requires-6
 sorted-requires-6 c κs = search needs
 
--- src/sorting.rt:33:1
 returns : tie.Need-returns
 returns c =
     let t0 = c .before .enum-told .given .1 in
     simp (c .sorted .ensures, t0)
 
--- src/sorting.rt:33:1
 returns-2 : tie.Need-returns-2
 returns-2 c =
     let t0 = c .before .enum-told2 .given .1 in
     simp (c .sorted2 .ensures, t0)
 
--- src/sorting.rt:33:1
 returns-3 : tie.Need-returns-3
 returns-3 c =
     let t0 = c .before .enum-told3 .given .1 in
     simp (c .sorted3 .ensures, t0)
 
--- src/sorting.rt:33:1
 returns-4 : tie.Need-returns-4
 returns-4 c =
     let t0 = c .before .enum-told4 .given .1 in
     simp (c .sorted4 .ensures, t0)
 
--- src/sorting.rt:33:1
 returns-5 : tie.Need-returns-5
 returns-5 c =
     let t0 = c .before .enum-told5 .given .1 in
     simp (c .sorted5 .ensures, t0)
 
--- src/sorting.rt:33:1
 returns-6 : tie.Need-returns-6
 returns-6 c =
     let t0 = c .before .enum-told6 .given .1 in

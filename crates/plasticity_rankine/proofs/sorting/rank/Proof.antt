@@ -2,50 +2,37 @@ use borrow.Author.Needs.{needs}
 use Rattle.plasticity_rankine.specs.Sorting.{rankOf}
 use Rattle.plasticity_rankine.proofs.sorting.rank.Statement.{statement}
 use Rattle.plasticity_rankine.proofs.sorting.rank.Tie as tie
-use Rattle.plasticity_rankine.proofs.sorting.rank.Reads as reads
-use Rattle.plasticity_rankine.proofs.sorting.rank.Lts as lts
 
--- src/sorting.rt:10:8
 array-read-if1 : tie.Need-array-read-if1
 array-read-if1 c = search needs
 
--- src/sorting.rt:10:16
 array-read-if1-2 : tie.Need-array-read-if1-2
 array-read-if1-2 c = search needs
 
--- src/sorting.rt:11:12
 array-read-if2 : tie.Need-array-read-if2
 array-read-if2 c = search needs
 
--- src/sorting.rt:11:20
 array-read-if2-2 : tie.Need-array-read-if2-2
 array-read-if2-2 c = search needs
 
--- src/sorting.rt:13:19
 array-read-if3 : tie.Need-array-read-if3
 array-read-if3 c = search needs
 
--- src/sorting.rt:13:27
 array-read-if3-2 : tie.Need-array-read-if3-2
 array-read-if3-2 c = search needs
 
--- src/sorting.rt:18:15
 array-read-if4 : tie.Need-array-read-if4
 array-read-if4 c = search needs
 
--- src/sorting.rt:18:23
 array-read-if4-2 : tie.Need-array-read-if4-2
 array-read-if4-2 c = search needs
 
--- src/sorting.rt:20:15
 array-read-if5 : tie.Need-array-read-if5
 array-read-if5 c = search needs
 
--- src/sorting.rt:20:23
 array-read-if5-2 : tie.Need-array-read-if5-2
 array-read-if5-2 c = search needs
 
--- src/sorting.rt:7:1
 returns : tie.Need-returns
 unfolding rankOf
 returns c =
@@ -53,7 +40,6 @@ returns c =
     let t1 = c .before .if1 .taken in
     simp (t0, t1)
 
--- src/sorting.rt:7:1
 returns-2 : tie.Need-returns-2
 unfolding rankOf
 returns-2 c =
@@ -62,7 +48,6 @@ returns-2 c =
     let t2 = c .before .before .if1 .taken in
     simp (t0, t1, t2)
 
--- src/sorting.rt:7:1
 returns-3 : tie.Need-returns-3
 unfolding rankOf
 returns-3 c =
@@ -71,7 +56,6 @@ returns-3 c =
     let t2 = c .before .before .if1 .taken in
     simp (t0, t1, t2)
 
--- src/sorting.rt:7:1
 returns-4 : tie.Need-returns-4
 unfolding rankOf
 returns-4 c =
@@ -79,7 +63,6 @@ returns-4 c =
     let t1 = c .before .if1 .left in
     simp (t0, t1)
 
--- src/sorting.rt:7:1
 returns-5 : tie.Need-returns-5
 unfolding rankOf
 returns-5 c =
@@ -88,7 +71,6 @@ returns-5 c =
     let t2 = c .before .before .if1 .left in
     simp (t0, t1, t2)
 
--- src/sorting.rt:7:1
 returns-6 : tie.Need-returns-6
 unfolding rankOf
 returns-6 c =

@@ -1,34 +1,25 @@
 use borrow.Author.Needs.{needs}
 use Rattle.plasticity_rankine.proofs.steps.joined.Statement.{statement}
 use Rattle.plasticity_rankine.proofs.steps.joined.Tie as tie
-use Rattle.plasticity_rankine.proofs.steps.joined.Reads as reads
-use Rattle.plasticity_rankine.proofs.steps.joined.Lts as lts
 
--- src/steps.rt:16:27
 enum-known-a : tie.Need-enum-known-a
 enum-known-a c = search needs
 
--- src/steps.rt:17:31
 enum-known-b : tie.Need-enum-known-b
 enum-known-b c = search needs
 
--- src/steps.rt:18:35
 enum-known-c : tie.Need-enum-known-c
 enum-known-c c = search needs
 
--- src/steps.rt:19:37
 enum-known-c-2 : tie.Need-enum-known-c-2
 enum-known-c-2 c = search needs
 
--- src/steps.rt:21:33
 enum-known-b-2 : tie.Need-enum-known-b-2
 enum-known-b-2 c = search needs
 
--- src/steps.rt:23:29
 enum-known-a-2 : tie.Need-enum-known-a-2
 enum-known-a-2 c = search needs
 
--- src/steps.rt:12:1
 returns : tie.Need-returns
 returns c =
     let t0 = c .before .c .given .1 in
@@ -36,7 +27,6 @@ returns c =
     let t2 = c .before .before .before .before .before .before .before .a .given .1 in
     simp (t0, t1, t2)
 
--- src/steps.rt:12:1
 returns-2 : tie.Need-returns-2
 returns-2 c =
     let t0 = c .before .c2 .given .1 in
@@ -44,14 +34,12 @@ returns-2 c =
     let t2 = c .before .before .before .before .before .before .before .a .given .1 in
     simp (t0, t1, t2)
 
--- src/steps.rt:12:1
 returns-3 : tie.Need-returns-3
 returns-3 c =
     let t0 = c .before .b2 .given .1 in
     let t1 = c .before .before .before .before .a .given .1 in
     simp (t0, t1)
 
--- src/steps.rt:12:1
 returns-4 : tie.Need-returns-4
 returns-4 c =
     let t0 = c .before .a2 .given .1 in

@@ -2,40 +2,28 @@ use borrow.Author.Needs.{needs}
 use Rattle.plasticity_rankine.specs.Rankine.{logsOf}
 use Rattle.plasticity_rankine.proofs.steps.logs.Statement.{statement}
 use Rattle.plasticity_rankine.proofs.steps.logs.Tie as tie
-use Rattle.plasticity_rankine.proofs.steps.logs.Reads as reads
-use Rattle.plasticity_rankine.proofs.steps.logs.Lts as lts
-use Rattle.logarithm.proofs.ln_on_path.Reads as ln-on-path-reads
-use Rattle.plasticity_rankine.proofs.steps.joined.Reads as joined-reads
 
--- src/steps.rt:31:31
 array-read-ln-on-path : tie.Need-array-read-ln-on-path
 array-read-ln-on-path c = search needs
 
--- src/steps.rt:31:9
 ln-on-path-requires : tie.Need-ln-on-path-requires
 ln-on-path-requires c κs = search needs
 
--- src/steps.rt:32:31
 array-read-ln-on-path-2 : tie.Need-array-read-ln-on-path-2
 array-read-ln-on-path-2 c = search needs
 
--- src/steps.rt:32:9
 ln-on-path-requires-2 : tie.Need-ln-on-path-requires-2
 ln-on-path-requires-2 c κs = search needs
 
--- src/steps.rt:33:31
 array-read-ln-on-path-3 : tie.Need-array-read-ln-on-path-3
 array-read-ln-on-path-3 c = search needs
 
--- src/steps.rt:33:9
 ln-on-path-requires-3 : tie.Need-ln-on-path-requires-3
 ln-on-path-requires-3 c κs = search needs
 
--- src/steps.rt:30:5
 joined-requires : tie.Need-joined-requires
 joined-requires c κs = search needs
 
--- src/steps.rt:27:1
 returns : tie.Need-returns
 unfolding logsOf
 returns c =

@@ -2,32 +2,22 @@ use borrow.Author.Needs.{needs}
 use Rattle.tensor.specs.Answer.{answered}
 use Rattle.tensor.proofs.answer.answered.Statement.{statement}
 use Rattle.tensor.proofs.answer.answered.Tie as tie
-use Rattle.tensor.proofs.answer.answered.Reads as reads
-use Rattle.tensor.proofs.answer.answered.Lts as lts
-use Rattle.tensor.proofs.answer.refused_matrix.Reads as refused-matrix-reads
-use Rattle.tensor.proofs.matrix.mat_finite.Reads as mat-finite-reads
-use Rattle.tensor.proofs.matrix.to_rows.Reads as to-rows-reads
 
--- src/answer.rt:34:8
 mat-finite-requires : tie.Need-mat-finite-requires
 mat-finite-requires c κs = search needs
 
--- src/answer.rt:35:13
 to-rows-requires : tie.Need-to-rows-requires
 to-rows-requires c κs = search needs
 
--- src/answer.rt:41:9
 refused-matrix-requires : tie.Need-refused-matrix-requires
 refused-matrix-requires c κs = search needs
 
--- src/answer.rt:31:1
 returns : tie.Need-returns
 unfolding answered
 returns c =
     let t0 = simp (c .before .before .mat-finite .ensures) at (c .before .if1 .taken) in
     simp (c .to-rows .ensures, t0)
 
--- src/answer.rt:31:1
 returns-2 : tie.Need-returns-2
 unfolding answered
 returns-2 c =

@@ -2,27 +2,19 @@ use borrow.Author.Needs.{needs}
 use Rattle.tensor.specs.Decomposed.{answeredTensor}
 use Rattle.tensor.proofs.decomposed.answered_tensor.Statement.{statement}
 use Rattle.tensor.proofs.decomposed.answered_tensor.Tie as tie
-use Rattle.tensor.proofs.decomposed.answered_tensor.Reads as reads
-use Rattle.tensor.proofs.decomposed.answered_tensor.Lts as lts
-use Rattle.tensor.proofs.decomposed.refused_tensor.Reads as refused-tensor-reads
-use Rattle.tensor.proofs.decomposed.tensor_finite.Reads as tensor-finite-reads
 
--- src/decomposed.rt:37:8
 tensor-finite-requires : tie.Need-tensor-finite-requires
 tensor-finite-requires c κs = search needs
 
--- src/decomposed.rt:43:9
 refused-tensor-requires : tie.Need-refused-tensor-requires
 refused-tensor-requires c κs = search needs
 
--- src/decomposed.rt:34:1
 returns : tie.Need-returns
 unfolding answeredTensor
 returns c =
     let t0 = simp (c .before .tensor-finite .ensures) at (c .if1 .taken) in
     simp (t0)
 
--- src/decomposed.rt:34:1
 returns-2 : tie.Need-returns-2
 unfolding answeredTensor
 returns-2 c =

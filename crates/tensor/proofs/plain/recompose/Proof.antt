@@ -2,25 +2,16 @@ use borrow.Author.Needs.{needs}
 use Rattle.tensor.specs.Decomposed.{recomposedOf}
 use Rattle.tensor.proofs.plain.recompose.Statement.{statement}
 use Rattle.tensor.proofs.plain.recompose.Tie as tie
-use Rattle.tensor.proofs.plain.recompose.Reads as reads
-use Rattle.tensor.proofs.plain.recompose.Lts as lts
-use Rattle.tensor.proofs.matrix.identity_times.Reads as identity-times-reads
-use Rattle.tensor.proofs.matrix.mat_add.Reads as mat-add-reads
-use Rattle.tensor.proofs.matrix.of_rows.Reads as of-rows-reads
 
--- src/plain.rt:58:21
 of-rows-requires : tie.Need-of-rows-requires
 of-rows-requires c κs = search needs
 
--- src/plain.rt:58:44
 identity-times-requires : tie.Need-identity-times-requires
 identity-times-requires c κs = search needs
 
--- src/plain.rt:58:5
 mat-add-requires : tie.Need-mat-add-requires
 mat-add-requires c κs = search needs
 
--- src/plain.rt:54:1
 returns : tie.Need-returns
 unfolding recomposedOf
 returns c =
