@@ -19,13 +19,13 @@ returns : tie.Need-returns
 unfolding argumentsUpdate
 returns c =
     let t0 = simp (c .before .before .before .elastic-finite .ensures) at (c .before .before .if1 .taken) in
-    simp (c .update-particle .ensures, c .before .law .ensures, c .before .before .before .elastic-finite .ensures, t0)
+    simp (c .update-particle .ensures, c .before .law .ensures, t0)
 
 returns-2 : tie.Need-returns-2
 unfolding argumentsUpdate
 returns-2 c =
     let t0 = simp (c .before .before .elastic-finite .ensures) at (c .before .if1 .left) in
-    simp (c .refuse .ensures, c .before .before .elastic-finite .ensures, t0)
+    simp (c .refuse .ensures, t0)
 
 pub update-particle-spec : {M : Type 1} → statement M
 update-particle-spec =

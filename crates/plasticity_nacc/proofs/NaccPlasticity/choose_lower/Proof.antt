@@ -15,22 +15,22 @@ choose-yield-requires c κs = search needs
 returns : tie.Need-returns
 unfolding lowerChoice
 returns c =
-    let t0 = simp (c .before .before .before .is-number .ensures, c .before .before .before .before .low .ensures) at (c .if2 .taken) in
+    let t0 = simp (c .before .before .before .before .low .ensures) at (c .if2 .taken) in
     let t1 = simp (c .before .before .before .is-number .ensures, c .before .before .before .before .low .ensures) at (c .before .before .if1 .taken) in
-    simp (c .before .before .before .is-number .ensures, c .before .before .before .before .low .ensures, t0, t1)
+    simp (c .before .before .before .before .low .ensures, t0, t1)
 
 returns-2 : tie.Need-returns-2
 unfolding lowerChoice
 returns-2 c =
-    let t0 = simp (c .before .before .before .before .is-number .ensures, c .before .before .before .before .before .low .ensures) at (c .before .if2 .left) in
+    let t0 = simp (c .before .before .before .before .before .low .ensures) at (c .before .if2 .left) in
     let t1 = simp (c .before .before .before .before .is-number .ensures, c .before .before .before .before .before .low .ensures) at (c .before .before .before .if1 .taken) in
-    simp (c .choose-yield .ensures, c .before .before .before .before .is-number .ensures, c .before .before .before .before .before .low .ensures, t0, t1)
+    simp (c .choose-yield .ensures, t0, t1)
 
 returns-3 : tie.Need-returns-3
 unfolding lowerChoice
 returns-3 c =
     let t0 = simp (c .before .is-number .ensures, c .before .before .low .ensures) at (c .if1 .left) in
-    simp (c .before .is-number .ensures, c .before .before .low .ensures, t0)
+    simp (t0)
 
 pub choose-lower-spec : {M : Type 1} → statement M
 choose-lower-spec =

@@ -13,13 +13,13 @@ returns : tie.Need-returns
 unfolding hardenedOf
 returns c =
     let t0 = simp (c .before .before .hardens .ensures) at (c .before .if1 .taken) in
-    simp (c .hardening-step .ensures, c .before .before .hardens .ensures, t0)
+    simp (c .hardening-step .ensures, t0)
 
 returns-2 : tie.Need-returns-2
 unfolding hardenedOf
 returns-2 c =
     let t0 = simp (c .before .hardens .ensures) at (c .if1 .left) in
-    simp (c .before .hardens .ensures, t0)
+    simp (t0)
 
 pub hardened-spec : {M : Type 1} → statement M
 hardened-spec = tie.close (tie.spec hardens-requires hardening-step-requires returns returns-2)

@@ -19,13 +19,13 @@ returns : tie.Need-returns
 unfolding hardeningStep
 returns c =
     let t0 = simp (c .before .before .before .is-number .ensures, c .before .before .before .before .centre .ensures) at (c .before .before .if1 .taken) in
-    simp (c .directed .ensures, c .before .direction .ensures, c .before .before .before .is-number .ensures, c .before .before .before .before .centre .ensures, t0)
+    simp (c .directed .ensures, c .before .direction .ensures, c .before .before .before .before .centre .ensures, t0)
 
 returns-2 : tie.Need-returns-2
 unfolding hardeningStep
 returns-2 c =
     let t0 = simp (c .before .is-number .ensures, c .before .before .centre .ensures) at (c .if1 .left) in
-    simp (c .before .is-number .ensures, c .before .before .centre .ensures, t0)
+    simp (t0)
 
 pub hardening-step-spec : {M : Type 1} → statement M
 hardening-step-spec =

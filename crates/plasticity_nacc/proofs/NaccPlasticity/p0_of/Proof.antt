@@ -20,14 +20,14 @@ unfolding p0Of
 returns c =
     let t0 = simp (c .before .is-number .ensures, c .before .before .p0-from .ensures) at (c .if1 .taken) in
     let t1 = c .before .before .before .before .sinh .given .1 in
-    simp (c .before .is-number .ensures, c .before .before .p0-from .ensures, t0, t1)
+    simp (c .before .before .p0-from .ensures, t0, t1)
 
 returns-2 : tie.Need-returns-2
 unfolding p0Of
 returns-2 c =
     let t0 = simp (c .before .is-number .ensures, c .before .before .p0-from .ensures) at (c .if1 .left) in
     let t1 = c .before .before .before .before .sinh .given .1 in
-    simp (c .before .is-number .ensures, c .before .before .p0-from .ensures, t0, t1)
+    simp (t0, t1)
 
 returns-3 : tie.Need-returns-3
 unfolding p0Of

@@ -29,22 +29,22 @@ refused-projection-requires-2 c κs = search needs
 returns : tie.Need-returns
 unfolding projectOf
 returns c =
-    let t0 = simp (c .before .before .before .before .moduli-finite .ensures, c .before .before .before .before .before .before .projection-inputs .ensures) at (c .before .before .before .if2 .taken) in
+    let t0 = simp (c .before .before .before .before .moduli-finite .ensures) at (c .before .before .before .if2 .taken) in
     let t1 = simp (c .before .before .before .before .before .before .projection-inputs .ensures) at (c .before .before .before .before .before .if1 .taken) in
-    simp (c .projected .ensures, c .before .to-rows .ensures, c .before .before .steps .ensures, c .before .before .before .before .moduli-finite .ensures, c .before .before .before .before .before .before .projection-inputs .ensures, t0, t1)
+    simp (c .projected .ensures, c .before .to-rows .ensures, c .before .before .steps .ensures, t0, t1)
 
 returns-2 : tie.Need-returns-2
 unfolding projectOf
 returns-2 c =
-    let t0 = simp (c .before .before .moduli-finite .ensures, c .before .before .before .before .projection-inputs .ensures) at (c .before .if2 .left) in
+    let t0 = simp (c .before .before .moduli-finite .ensures) at (c .before .if2 .left) in
     let t1 = simp (c .before .before .before .before .projection-inputs .ensures) at (c .before .before .before .if1 .taken) in
-    simp (c .refused-projection .ensures, c .before .before .moduli-finite .ensures, c .before .before .before .before .projection-inputs .ensures, t0, t1)
+    simp (c .refused-projection .ensures, t0, t1)
 
 returns-3 : tie.Need-returns-3
 unfolding projectOf
 returns-3 c =
     let t0 = simp (c .before .before .projection-inputs .ensures) at (c .before .if1 .left) in
-    simp (c .refused-projection2 .ensures, c .before .before .projection-inputs .ensures, t0)
+    simp (c .refused-projection2 .ensures, t0)
 
 pub project-deformation-gradient-spec : {M : Type 1} → statement M
 project-deformation-gradient-spec =

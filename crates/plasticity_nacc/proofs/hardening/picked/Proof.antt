@@ -17,20 +17,20 @@ unfolding pickedOf
 returns c =
     let t0 = c .if2 .taken in
     let t1 = simp (c .before .before .is-number3 .ensures, c .before .before .before .is-number2 .ensures, c .before .before .before .before .is-number .ensures) at (c .before .if1 .taken) in
-    simp (c .before .before .is-number3 .ensures, c .before .before .before .is-number2 .ensures, c .before .before .before .before .is-number .ensures, t0, t1)
+    simp (t0, t1)
 
 returns-2 : tie.Need-returns-2
 unfolding pickedOf
 returns-2 c =
     let t0 = c .if2 .left in
     let t1 = simp (c .before .before .is-number3 .ensures, c .before .before .before .is-number2 .ensures, c .before .before .before .before .is-number .ensures) at (c .before .if1 .taken) in
-    simp (c .before .before .is-number3 .ensures, c .before .before .before .is-number2 .ensures, c .before .before .before .before .is-number .ensures, t0, t1)
+    simp (t0, t1)
 
 returns-3 : tie.Need-returns-3
 unfolding pickedOf
 returns-3 c =
     let t0 = simp (c .before .is-number3 .ensures, c .before .before .is-number2 .ensures, c .before .before .before .is-number .ensures) at (c .if1 .left) in
-    simp (c .before .is-number3 .ensures, c .before .before .is-number2 .ensures, c .before .before .before .is-number .ensures, t0)
+    simp (t0)
 
 pub picked-spec : {M : Type 1} → statement M
 picked-spec =

@@ -34,13 +34,13 @@ returns : tie.Need-returns
 unfolding rootsOf
 returns c =
     let t0 = simp (c .before .before .before .before .before .is-number .ensures, c .before .before .before .before .before .before .dot .ensures) at (c .before .before .before .before .if1 .taken) in
-    simp (c .joined .ensures, c .before .sqrt-on-path3 .ensures, c .before .before .sqrt-on-path2 .ensures, c .before .before .before .sqrt-on-path .ensures, c .before .before .before .before .before .is-number .ensures, c .before .before .before .before .before .before .dot .ensures, t0)
+    simp (c .joined .ensures, c .before .sqrt-on-path3 .ensures, c .before .before .sqrt-on-path2 .ensures, c .before .before .before .sqrt-on-path .ensures, t0)
 
 returns-2 : tie.Need-returns-2
 unfolding rootsOf
 returns-2 c =
     let t0 = simp (c .before .is-number .ensures, c .before .before .dot .ensures) at (c .if1 .left) in
-    simp (c .before .is-number .ensures, c .before .before .dot .ensures, t0)
+    simp (t0)
 
 pub roots-spec : {M : Type 1} → statement M
 roots-spec =

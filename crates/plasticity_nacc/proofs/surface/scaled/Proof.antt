@@ -29,14 +29,14 @@ unfolding scaledOf
 returns c =
     let t0 = simp (c .before .before .before .is-number .ensures) at (c .before .before .if1 .taken) in
     let t1 = c .before .before .before .before .before .scale .given .1 in
-    simp (c .normed .ensures, c .before .sqrt-on-path .ensures, c .before .before .before .is-number .ensures, t0, t1)
+    simp (c .normed .ensures, c .before .sqrt-on-path .ensures, t0, t1)
 
 returns-2 : tie.Need-returns-2
 unfolding scaledOf
 returns-2 c =
     let t0 = simp (c .before .before .is-number .ensures) at (c .before .if1 .left) in
     let t1 = c .before .before .before .before .scale .given .1 in
-    simp (c .refused-step .ensures, c .before .before .is-number .ensures, t0, t1)
+    simp (c .refused-step .ensures, t0, t1)
 
 returns-3 : tie.Need-returns-3
 unfolding scaledOf

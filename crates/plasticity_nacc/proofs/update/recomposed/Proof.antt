@@ -25,13 +25,13 @@ returns : tie.Need-returns
 unfolding recomposedOf
 returns c =
     let t0 = simp (c .before .before .is-finite .ensures, c .before .before .before .row-finite .ensures, c .before .before .before .before .mat-finite .ensures, c .before .before .before .before .before .recompose .ensures) at (c .before .if1 .taken) in
-    simp (c .to-rows .ensures, c .before .before .is-finite .ensures, c .before .before .before .row-finite .ensures, c .before .before .before .before .mat-finite .ensures, c .before .before .before .before .before .recompose .ensures, t0)
+    simp (c .to-rows .ensures, c .before .before .before .before .before .recompose .ensures, t0)
 
 returns-2 : tie.Need-returns-2
 unfolding recomposedOf
 returns-2 c =
     let t0 = simp (c .before .before .is-finite .ensures, c .before .before .before .row-finite .ensures, c .before .before .before .before .mat-finite .ensures, c .before .before .before .before .before .recompose .ensures) at (c .before .if1 .left) in
-    simp (c .refused-projection .ensures, c .before .before .is-finite .ensures, c .before .before .before .row-finite .ensures, c .before .before .before .before .mat-finite .ensures, c .before .before .before .before .before .recompose .ensures, t0)
+    simp (c .refused-projection .ensures, t0)
 
 pub recomposed-spec : {M : Type 1} → statement M
 recomposed-spec =
