@@ -6,8 +6,8 @@ use lib.Ieee as Ieee
 use lib.Ieee.{Float, binary64, ofBits}
 use Rattle.numbers.specs.Rules.{finite, isNumber}
 use Rattle.numbers.specs.declared.Elementary.the-variants.{Value}
-use Rattle.logarithm.specs.Ln.{lnOf}
-use Rattle.square_root.specs.Sqrt.{sqrtOf}
+use Rattle.logarithm.specs.Worked.{lnOf}
+use Rattle.exact.specs.RootOf.{sqrtOf}
 use Rattle.tensor.specs.Matrix.{mul, div, zero, one, three, rowsOf}
 use Rattle.law.specs.declared.Outcome.the-variants.{Stored}
 use Rattle.law.specs.declared.State.{State}

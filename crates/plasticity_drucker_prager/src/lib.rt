@@ -5,12 +5,8 @@ mod projection;
 mod update;
 
 use physics::Pair;
-ghost use mathlib.Core.Bool.{_&&_};
 ghost use mathlib.Core.Path.{_≡_};
-ghost use Rattle.numbers.specs.Rules.{finite};
-ghost use Rattle.physics.specs.Physics.{lambdaOf, shearModulusOf};
-ghost use Rattle.physics.specs.Quadratic.{pairOf, givenPair};
-ghost use Rattle.plasticity_drucker_prager.specs.Law.{defaultsOf, madeOf, parametersFinite};
+ghost use Rattle.plasticity_drucker_prager.specs.Law.{defaultsOf, madeOf, newOf, parametersFinite};
 
 pub struct DruckerPragerPlasticity {
     pub h0: f64,
@@ -98,7 +94,7 @@ impl DruckerPragerPlasticity {
     }
 
     pub fn new(young_modulus: f64, poisson_ratio: f64) -> Made
-        ensures { λ r. ⌜ r ≡ madeOf (givenPair (finite «young_modulus» && finite «poisson_ratio») (pairOf (lambdaOf «young_modulus» «poisson_ratio») (shearModulusOf «young_modulus» «poisson_ratio»))) ⌝ }
+        ensures { λ r. ⌜ r ≡ newOf «young_modulus» «poisson_ratio» ⌝ }
     {
         DruckerPragerPlasticity::made(physics::lame_lambda_mu(young_modulus, poisson_ratio))
     }

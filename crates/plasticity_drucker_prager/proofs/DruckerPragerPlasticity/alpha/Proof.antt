@@ -21,13 +21,13 @@ returns : tie.Need-returns
 unfolding alphaOf
 returns c =
     let t0 = simp (c .before .before .before .is-finite .ensures, c .before .before .before .before .parameters-finite .ensures) at (c .before .before .if1 .taken) in
-    simp (c .returned-number .ensures, c .before .alpha-on-path .ensures, c .before .before .before .is-finite .ensures, c .before .before .before .before .parameters-finite .ensures, t0)
+    simp (c .returned-number .ensures, c .before .alpha-on-path .ensures, t0)
 
 returns-2 : tie.Need-returns-2
 unfolding alphaOf
 returns-2 c =
     let t0 = simp (c .before .is-finite .ensures, c .before .before .parameters-finite .ensures) at (c .if1 .left) in
-    simp (c .before .is-finite .ensures, c .before .before .parameters-finite .ensures, t0)
+    simp (t0)
 
 pub alpha-spec : {M : Type 1} → statement M
 alpha-spec =

@@ -26,31 +26,31 @@ choose-yield-requires c κs = search needs
 returns : tie.Need-returns
 unfolding choiceOf
 returns c =
-    let t0 = simp (c .before .all-zero .ensures, c .before .before .before .is-number .ensures, c .before .before .before .before .dot .ensures) at (c .if2 .taken) in
+    let t0 = simp (c .before .all-zero .ensures) at (c .if2 .taken) in
     let t1 = simp (c .before .before .before .is-number .ensures, c .before .before .before .before .dot .ensures) at (c .before .before .if1 .taken) in
-    simp (c .before .all-zero .ensures, c .before .before .before .is-number .ensures, c .before .before .before .before .dot .ensures, t0, t1)
+    simp (t0, t1)
 
 returns-2 : tie.Need-returns-2
 unfolding choiceOf
 returns-2 c =
     let t0 = c .if3 .taken in
-    let t1 = simp (c .before .before .all-zero .ensures, c .before .before .before .before .is-number .ensures, c .before .before .before .before .before .dot .ensures) at (c .before .if2 .left) in
+    let t1 = simp (c .before .before .all-zero .ensures) at (c .before .if2 .left) in
     let t2 = simp (c .before .before .before .before .is-number .ensures, c .before .before .before .before .before .dot .ensures) at (c .before .before .before .if1 .taken) in
-    simp (c .before .before .all-zero .ensures, c .before .before .before .before .is-number .ensures, c .before .before .before .before .before .dot .ensures, t0, t1, t2)
+    simp (t0, t1, t2)
 
 returns-3 : tie.Need-returns-3
 unfolding choiceOf
 returns-3 c =
     let t0 = c .before .before .if3 .left in
-    let t1 = simp (c .before .before .before .before .all-zero .ensures, c .before .before .before .before .before .before .is-number .ensures, c .before .before .before .before .before .before .before .dot .ensures) at (c .before .before .before .if2 .left) in
+    let t1 = simp (c .before .before .before .before .all-zero .ensures) at (c .before .before .before .if2 .left) in
     let t2 = simp (c .before .before .before .before .before .before .is-number .ensures, c .before .before .before .before .before .before .before .dot .ensures) at (c .before .before .before .before .before .if1 .taken) in
-    simp (c .choose-yield .ensures, c .before .norm .ensures, c .before .before .before .before .all-zero .ensures, c .before .before .before .before .before .before .is-number .ensures, c .before .before .before .before .before .before .before .dot .ensures, t0, t1, t2)
+    simp (c .choose-yield .ensures, c .before .norm .ensures, t0, t1, t2)
 
 returns-4 : tie.Need-returns-4
 unfolding choiceOf
 returns-4 c =
     let t0 = simp (c .before .is-number .ensures, c .before .before .dot .ensures) at (c .if1 .left) in
-    simp (c .before .is-number .ensures, c .before .before .dot .ensures, t0)
+    simp (t0)
 
 pub choose-spec : {M : Type 1} → statement M
 choose-spec =

@@ -20,25 +20,25 @@ enum-known-norm-2 c = search needs
 returns : tie.Need-returns
 unfolding yieldChoice
 returns c =
-    let t0 = simp (c .before .before .is-number .ensures, c .before .before .before .gamma .ensures) at (c .if2 .taken) in
+    let t0 = simp (c .before .before .before .gamma .ensures) at (c .if2 .taken) in
     let t1 = simp (c .before .before .is-number .ensures, c .before .before .before .gamma .ensures) at (c .before .if1 .taken) in
     let t2 = c .before .before .before .before .before .norm .given .1 in
-    simp (c .before .before .is-number .ensures, c .before .before .before .gamma .ensures, t0, t1, t2)
+    simp (c .before .before .before .gamma .ensures, t0, t1, t2)
 
 returns-2 : tie.Need-returns-2
 unfolding yieldChoice
 returns-2 c =
-    let t0 = simp (c .before .before .is-number .ensures, c .before .before .before .gamma .ensures) at (c .if2 .left) in
+    let t0 = simp (c .before .before .before .gamma .ensures) at (c .if2 .left) in
     let t1 = simp (c .before .before .is-number .ensures, c .before .before .before .gamma .ensures) at (c .before .if1 .taken) in
     let t2 = c .before .before .before .before .before .norm .given .1 in
-    simp (c .before .before .is-number .ensures, c .before .before .before .gamma .ensures, t0, t1, t2)
+    simp (c .before .before .before .gamma .ensures, t0, t1, t2)
 
 returns-3 : tie.Need-returns-3
 unfolding yieldChoice
 returns-3 c =
     let t0 = simp (c .before .is-number .ensures, c .before .before .gamma .ensures) at (c .if1 .left) in
     let t1 = c .before .before .before .before .norm .given .1 in
-    simp (c .before .is-number .ensures, c .before .before .gamma .ensures, t0, t1)
+    simp (t0, t1)
 
 returns-4 : tie.Need-returns-4
 unfolding yieldChoice

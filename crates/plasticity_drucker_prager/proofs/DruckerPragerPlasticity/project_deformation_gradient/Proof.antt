@@ -30,13 +30,13 @@ returns : tie.Need-returns
 unfolding projectOf
 returns c =
     let t0 = simp (c .before .before .before .is-finite2 .ensures, c .before .before .before .before .is-finite .ensures, c .before .before .before .before .before .row-finite .ensures, c .before .before .before .before .before .before .parameters-finite .ensures) at (c .before .before .if1 .taken) in
-    simp (c .returned-projection .ensures, c .before .projected .ensures, c .before .before .before .is-finite2 .ensures, c .before .before .before .before .is-finite .ensures, c .before .before .before .before .before .row-finite .ensures, c .before .before .before .before .before .before .parameters-finite .ensures, t0)
+    simp (c .returned-projection .ensures, c .before .projected .ensures, t0)
 
 returns-2 : tie.Need-returns-2
 unfolding projectOf
 returns-2 c =
     let t0 = simp (c .before .before .is-finite2 .ensures, c .before .before .before .is-finite .ensures, c .before .before .before .before .row-finite .ensures, c .before .before .before .before .before .parameters-finite .ensures) at (c .before .if1 .left) in
-    simp (c .refused-projection .ensures, c .before .before .is-finite2 .ensures, c .before .before .before .is-finite .ensures, c .before .before .before .before .row-finite .ensures, c .before .before .before .before .before .parameters-finite .ensures, t0)
+    simp (c .refused-projection .ensures, t0)
 
 pub project-deformation-gradient-spec : {M : Type 1} → statement M
 project-deformation-gradient-spec =

@@ -21,13 +21,13 @@ returns : tie.Need-returns
 unfolding druckerRun
 returns c =
     let t0 = simp (c .before .before .stays .ensures) at (c .before .if1 .taken) in
-    simp (c .untouched .ensures, c .before .before .stays .ensures, t0)
+    simp (c .untouched .ensures, t0)
 
 returns-2 : tie.Need-returns-2
 unfolding druckerRun
 returns-2 c =
     let t0 = simp (c .before .before .before .stays .ensures) at (c .before .before .if1 .left) in
-    simp (c .sloped .ensures, c .before .alpha-on-path .ensures, c .before .before .before .stays .ensures, t0)
+    simp (c .sloped .ensures, c .before .alpha-on-path .ensures, t0)
 
 pub run-spec : {M : Type 1} → statement M
 run-spec =

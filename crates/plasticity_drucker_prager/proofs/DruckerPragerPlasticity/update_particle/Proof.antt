@@ -21,13 +21,13 @@ returns : tie.Need-returns
 unfolding druckerUpdate
 returns c =
     let t0 = simp (c .before .before .inputs-finite .ensures, c .before .before .before .parameters-finite .ensures) at (c .before .if1 .taken) in
-    simp (c .run .ensures, c .before .before .inputs-finite .ensures, c .before .before .before .parameters-finite .ensures, t0)
+    simp (c .run .ensures, t0)
 
 returns-2 : tie.Need-returns-2
 unfolding druckerUpdate
 returns-2 c =
     let t0 = simp (c .before .before .inputs-finite .ensures, c .before .before .before .parameters-finite .ensures) at (c .before .if1 .left) in
-    simp (c .refuse .ensures, c .before .before .inputs-finite .ensures, c .before .before .before .parameters-finite .ensures, t0)
+    simp (c .refuse .ensures, t0)
 
 pub update-particle-spec : {M : Type 1} → statement M
 update-particle-spec =

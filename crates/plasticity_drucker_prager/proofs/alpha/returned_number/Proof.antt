@@ -17,14 +17,14 @@ unfolding returnedNumber
 returns c =
     let t0 = simp (c .before .is-finite .ensures) at (c .if1 .taken) in
     let t1 = c .before .before .before .x .given .1 in
-    simp (c .before .is-finite .ensures, t0, t1)
+    simp (t0, t1)
 
 returns-2 : tie.Need-returns-2
 unfolding returnedNumber
 returns-2 c =
     let t0 = simp (c .before .is-finite .ensures) at (c .if1 .left) in
     let t1 = c .before .before .before .x .given .1 in
-    simp (c .before .is-finite .ensures, t0, t1)
+    simp (t0, t1)
 
 returns-3 : tie.Need-returns-3
 unfolding returnedNumber

@@ -20,14 +20,14 @@ unfolding rootedOf
 returns c =
     let t0 = simp (c .before .is-number .ensures, c .before .before .slope .ensures) at (c .if1 .taken) in
     let t1 = c .before .before .before .before .root .given .1 in
-    simp (c .before .is-number .ensures, c .before .before .slope .ensures, t0, t1)
+    simp (c .before .before .slope .ensures, t0, t1)
 
 returns-2 : tie.Need-returns-2
 unfolding rootedOf
 returns-2 c =
     let t0 = simp (c .before .is-number .ensures, c .before .before .slope .ensures) at (c .if1 .left) in
     let t1 = c .before .before .before .before .root .given .1 in
-    simp (c .before .is-number .ensures, c .before .before .slope .ensures, t0, t1)
+    simp (t0, t1)
 
 returns-3 : tie.Need-returns-3
 unfolding rootedOf

@@ -18,13 +18,13 @@ returns : tie.Need-returns
 unfolding returnedProjection
 returns c =
     let t0 = simp (c .before .is-finite .ensures, c .before .before .row-finite .ensures) at (c .if1 .taken) in
-    simp (c .before .is-finite .ensures, c .before .before .row-finite .ensures, t0)
+    simp (t0)
 
 returns-2 : tie.Need-returns-2
 unfolding returnedProjection
 returns-2 c =
     let t0 = simp (c .before .before .is-finite .ensures, c .before .before .before .row-finite .ensures) at (c .before .if1 .left) in
-    simp (c .refused-projection .ensures, c .before .before .is-finite .ensures, c .before .before .before .row-finite .ensures, t0)
+    simp (c .refused-projection .ensures, t0)
 
 pub returned-projection-spec : {M : Type 1} → statement M
 returned-projection-spec =

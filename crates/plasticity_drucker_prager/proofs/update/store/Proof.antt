@@ -28,13 +28,13 @@ returns : tie.Need-returns
 unfolding druckerStore
 returns c =
     let t0 = simp (c .before .before .is-finite3 .ensures, c .before .before .before .is-finite2 .ensures, c .before .before .before .before .is-finite .ensures, c .before .before .before .before .before .row-finite .ensures, c .before .before .before .before .before .before .mat-finite .ensures) at (c .before .if1 .taken) in
-    simp (c .state-of .ensures, c .before .before .is-finite3 .ensures, c .before .before .before .is-finite2 .ensures, c .before .before .before .before .is-finite .ensures, c .before .before .before .before .before .row-finite .ensures, c .before .before .before .before .before .before .mat-finite .ensures, t0)
+    simp (c .state-of .ensures, t0)
 
 returns-2 : tie.Need-returns-2
 unfolding druckerStore
 returns-2 c =
     let t0 = simp (c .before .before .is-finite3 .ensures, c .before .before .before .is-finite2 .ensures, c .before .before .before .before .is-finite .ensures, c .before .before .before .before .before .row-finite .ensures, c .before .before .before .before .before .before .mat-finite .ensures) at (c .before .if1 .left) in
-    simp (c .refuse .ensures, c .before .before .is-finite3 .ensures, c .before .before .before .is-finite2 .ensures, c .before .before .before .before .is-finite .ensures, c .before .before .before .before .before .row-finite .ensures, c .before .before .before .before .before .before .mat-finite .ensures, t0)
+    simp (c .refuse .ensures, t0)
 
 pub store-spec : {M : Type 1} → statement M
 store-spec =
