@@ -5,6 +5,11 @@ mod stress;
 use numbers::Elementary;
 use physics::Lame;
 use tensor::MatrixAnswer;
+
+pub use stress::less_one;
+pub use stress::negative;
+pub use stress::phase_coeff;
+pub use stress::positive;
 ghost use mathlib.Core.Path.{_≡_};
 ghost use mathlib.Core.Bool.{false};
 ghost use Rattle.elasticity_corotated_linear.specs.Law.{lawFinite, lawOf, fromLame, newOf};
@@ -56,7 +61,7 @@ impl CorotatedLinearElasticity {
         }
     }
 
-    fn law_finite(self) -> bool
+    pub fn law_finite(self) -> bool
         ensures { λ r. ⌜ r ≡ lawFinite self ⌝ }
     {
         numbers::is_finite(self.cfl_coeff)

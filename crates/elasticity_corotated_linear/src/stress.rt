@@ -50,7 +50,7 @@ fn spherical_stress(p: CorotatedLinearElasticity, hardening: f64, j: f64) -> [[f
 }
 
 // What the tensile part is multiplied by.
-fn phase_coeff(p: CorotatedLinearElasticity, phase: f64) -> f64
+pub fn phase_coeff(p: CorotatedLinearElasticity, phase: f64) -> f64
     ensures { λ r. ⌜ r ≡ phaseCoeff p phase ⌝ }
 {
     if p.split_stress_on_failure & (phase == 0.0) {

@@ -48,7 +48,7 @@ impl MaximumStressFailure {
         }
     }
 
-    fn limits_finite(self) -> bool
+    pub fn limits_finite(self) -> bool
         ensures { λ r. ⌜ r ≡ limitsFinite self ⌝ }
     {
         numbers::is_finite(self.max_principal_stress) & numbers::is_finite(self.max_shear_stress)

@@ -50,6 +50,9 @@ lawOf a =
 abbrev pub elasticFinite : NaccArguments → Bool
 elasticFinite a = finite (a .«young_modulus») && finite (a .«poisson_ratio»)
 
+abbrev pub argumentsFinite : NaccArguments → Bool
+argumentsFinite a = elasticFinite a && finite (a .cohesion) && finite (a .«hardening_factor») && finite (a .m)
+
 abbrev pub parametersFinite : NaccPlasticity → Bool
 parametersFinite p = finite (p .«hardening_factor») && finite (p .cohesion) && finite (p .friction)
 

@@ -7,7 +7,7 @@ use law::Updated;
 use numbers::Elementary;
 ghost use mathlib.Core.Bool.{Bool};
 ghost use mathlib.Core.Path.{_≡_};
-ghost use Rattle.plasticity_nacc.specs.Law.{argumentsOf, lawOf, elasticFinite, parametersFinite, moduliFinite, madeOf, frictionOf, frictionRooted, frictionSined, framedOf, angledOf};
+ghost use Rattle.plasticity_nacc.specs.Law.{argumentsOf, lawOf, elasticFinite, argumentsFinite, parametersFinite, moduliFinite, madeOf, frictionOf, frictionRooted, frictionSined, framedOf, angledOf};
 ghost use Rattle.plasticity_nacc.specs.Nacc.{argumentsUpdate};
 
 // s is the sine of the friction angle, r the root of 2/3, which is the root of 2/(6 - 3) too.
@@ -90,6 +90,16 @@ impl NaccArguments {
         ensures { λ r. ⌜ r ≡ elasticFinite self ⌝ }
     {
         numbers::is_finite(self.young_modulus) & numbers::is_finite(self.poisson_ratio)
+    }
+
+    // Whether all five floats are finite.
+    pub fn parameters_finite(self) -> bool
+        ensures { λ r. ⌜ r ≡ argumentsFinite self ⌝ }
+    {
+        self.elastic_finite()
+            & numbers::is_finite(self.cohesion)
+            & numbers::is_finite(self.hardening_factor)
+            & numbers::is_finite(self.m)
     }
 
     fn made(self) -> Made

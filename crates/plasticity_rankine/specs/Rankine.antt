@@ -143,6 +143,9 @@ lawOf a =
 abbrev pub elasticFinite : RankineArguments → Bool
 elasticFinite a = finite (a .«young_modulus») && finite (a .«poisson_ratio»)
 
+abbrev pub argumentsFinite : RankineArguments → Bool
+argumentsFinite a = elasticFinite a && finite (a .«tensile_strength») && finite (a .«softening_rate»)
+
 -- `new`: 1 for an argument, then 3 for the moduli
 unfoldable pub madeOf : RankineArguments → Made
 madeOf a =

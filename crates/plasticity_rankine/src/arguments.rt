@@ -4,7 +4,7 @@ use crate::RankinePlasticity;
 use law::State;
 use law::Updated;
 ghost use mathlib.Core.Path.{_≡_};
-ghost use Rattle.plasticity_rankine.specs.Rankine.{argumentsOf, lawOf, elasticFinite, madeOf, argumentsUpdate};
+ghost use Rattle.plasticity_rankine.specs.Rankine.{argumentsOf, lawOf, elasticFinite, argumentsFinite, madeOf, argumentsUpdate};
 
 impl RankineArguments {
     // The law with the Lamé parameters of these arguments.
@@ -24,6 +24,15 @@ impl RankineArguments {
         ensures { λ r. ⌜ r ≡ elasticFinite self ⌝ }
     {
         numbers::is_finite(self.young_modulus) & numbers::is_finite(self.poisson_ratio)
+    }
+
+    // Whether all four arguments are finite.
+    pub fn parameters_finite(self) -> bool
+        ensures { λ r. ⌜ r ≡ argumentsFinite self ⌝ }
+    {
+        self.elastic_finite()
+            & numbers::is_finite(self.tensile_strength)
+            & numbers::is_finite(self.softening_rate)
     }
 
     fn made(self) -> Made
