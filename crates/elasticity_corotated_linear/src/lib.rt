@@ -4,12 +4,11 @@ mod stress;
 
 use numbers::Elementary;
 use physics::Lame;
-use tensor::MatrixAnswer;
-
 pub use stress::less_one;
 pub use stress::negative;
 pub use stress::phase_coeff;
 pub use stress::positive;
+use tensor::MatrixAnswer;
 ghost use mathlib.Core.Path.{_≡_};
 ghost use mathlib.Core.Bool.{false};
 ghost use Rattle.elasticity_corotated_linear.specs.Law.{lawFinite, lawOf, fromLame, newOf};

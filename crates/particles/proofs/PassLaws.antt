@@ -1,5 +1,6 @@
 -- Laws of a pass by any law that keeps a record's length: what record i adds to the records, the answers and the counts.
 -- Assumes nothing.
+use mathlib.Core.Bool.{Bool, true, false}
 use mathlib.Core.Path.{_≡_, refl, sym, ap, _∙_}
 use mathlib.Core.List.{List, [], _∷_, _++_, append-assoc, append-nil}
 use Prim.Native.Nat.{ℕ, zero, suc, _+_, _*_, _≤_, _<_}
@@ -12,10 +13,10 @@ use Rattle.law.specs.declared.Outcome.the-variants.{Untouched, Stored, Refused}
 use Rattle.law.specs.declared.State.{State}
 use Rattle.record.specs.Layout.{floats}
 use Rattle.particles.specs.declared.choice.Model.{Model}
-use Rattle.particles.specs.declared.choice.Model.the-variants.{Snow, Unknown}
+use Rattle.particles.specs.declared.choice.Model.the-variants.{Snow, Rankine, DruckerPrager, Nacc}
 use Rattle.particles.specs.declared.list.Counts.{Counts}
 use Rattle.particles.specs.Model.{recordLaw, kept, updatedAt, putState}
-use Rattle.particles.specs.Pass.{Worked, recordAt, worked, answers, counted, counts, codeOf, valueOf}
+use Rattle.particles.specs.Pass.{Worked, answered, recordAt, replaced, worked, answers, counted, counts, countedIf, failures}
 
 -- a law keeps a record's length
 abbrev pub Keeps : (List ℕ → Worked) → Type 0
@@ -23,7 +24,9 @@ Keeps law = (r : List ℕ) → length (law r .after) ≡ length r
 
 put-length : (m : Model) (r : List ℕ) (s : State) → length (putState m r s) ≡ length r
 put-length (Snow p) r s = simp length-set
-put-length Unknown r s = simp length-set
+put-length (Rankine a) r s = simp length-set
+put-length (DruckerPrager p) r s = simp length-set
+put-length (Nacc a) r s = simp length-set
 
 kept-length : (m : Model) (o : Outcome) (r : List ℕ) (s : State) → length (kept m o r s) ≡ length r
 kept-length m Untouched r s = refl
@@ -44,7 +47,7 @@ module _ (law : List ℕ → Worked) (k : Keeps law) (l : List ℕ) where
       simp (length-append, k, length-take, length-drop) (omega arith)
 
   pub worked-step : (i : ℕ) → i * floats + floats ≤ length l → (xs : List ℕ) → xs ≡ worked law l i ++ drop (i * floats) l
-      → take (i * floats) xs ++ (law (recordAt xs i) .after ++ drop floats (drop (i * floats) xs)) ≡ worked law l (i + 1) ++ drop ((i + 1) * floats) l
+      → replaced xs i (law (recordAt xs i) .after) ≡ worked law l (i + 1) ++ drop ((i + 1) * floats) l
   unfolding worked
   worked-step i h xs e =
       let n : length (worked law l i) ≡ i * floats = worked-length i (omega arith) in
@@ -103,7 +106,7 @@ module _ (law : List ℕ → Worked) (l : List ℕ) where
       ap length e ∙ simp (length-append, length-drop) (omega arith)
 
   pub answers-step : (i : ℕ) (a : List ℕ) → i * 2 + 2 ≤ length a → (out : List ℕ) → out ≡ answers law l i ++ drop (i * 2) a
-      → (o : Outcome) → o ≡ law (recordAt l i) .outcome → set (set out (i * 2) (codeOf o)) (i * 2 + 1) (valueOf o) ≡ answers law l (i + 1) ++ drop ((i + 1) * 2) a
+      → (o : Outcome) → o ≡ law (recordAt l i) .outcome → answered out i o ≡ answers law l (i + 1) ++ drop ((i + 1) * 2) a
   unfolding answers
   answers-step i a h out e o f =
       let k : suc i * 2 ≡ i * 2 + 2 = omega arith in
@@ -117,6 +120,21 @@ module _ (law : List ℕ → Worked) (l : List ℕ) where
   pub counts-step : (i : ℕ) (c : Counts) (o : Outcome) → c ≡ counts law l i → o ≡ law (recordAt l i) .outcome → counted c o ≡ counts law l (i + 1)
   unfolding counts
   counts-step i c o e f = rw (add-one i, e, f)
+
+-- the fourth count
+counted-if-most : (n i : ℕ) (b : Bool) → n ≤ i → countedIf n b ≤ suc i
+counted-if-most n i true h = omega arith
+counted-if-most n i false h = omega arith
+
+module _ (failed : List ℕ → Bool) (l : List ℕ) where
+  pub failures-most : (i : ℕ) → failures failed l i ≤ i
+  unfolding failures
+  failures-most zero = omega arith
+  failures-most (suc i) = counted-if-most (failures failed l i) i (failed (recordAt l i)) (failures-most i)
+
+  pub failures-step : (i n : ℕ) (b : Bool) → n ≡ failures failed l i → b ≡ failed (recordAt l i) → countedIf n b ≡ failures failed l (i + 1)
+  unfolding failures
+  failures-step i n b e f = rw (add-one i, e, f)
 
 -- at the end nothing is left of the old list
 pub all-done : (q l : List ℕ) (k : ℕ) → length l ≡ k → q ++ drop k l ≡ q

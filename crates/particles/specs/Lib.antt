@@ -1,2 +1,4 @@
+pub mod Judged
 pub mod Model
 pub mod Pass
+pub mod Principal

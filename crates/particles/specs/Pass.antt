@@ -3,7 +3,7 @@ use mathlib.Core.Bool.{Bool, cond, _&&_}
 use mathlib.Core.List.{List, [], _∷_, _++_}
 use Prim.Native.Nat.{ℕ, zero, suc, _+_, _*_, _/_}
 use lib.Dec.{eqb}
-use lib.ListN.{length, take, drop}
+use lib.ListN.{length, set, take, drop}
 use lib.Ieee as Ieee
 use lib.Ieee.{binary64}
 use Rattle.law.specs.declared.Outcome.{Outcome}
@@ -12,6 +12,9 @@ use Rattle.record.specs.Layout.{floats}
 use Rattle.particles.specs.declared.list.Counts.{Counts}
 use Rattle.particles.specs.declared.list.Passed.{Passed}
 use Rattle.particles.specs.declared.list.Passed.the-variants as passed-variants
+use Rattle.particles.specs.declared.failure.FailureCounts.{FailureCounts}
+use Rattle.particles.specs.declared.failure.PassedWithFailure.{PassedWithFailure}
+use Rattle.particles.specs.declared.failure.PassedWithFailure.the-variants as failure-variants
 
 -- what a law makes of one record: the outcome, and the record afterwards
 pub record Worked : Type 0 where
@@ -29,9 +32,17 @@ valueOf Untouched = 0
 valueOf (Stored a) = Ieee.toBits binary64 a
 valueOf (Refused n) = n
 
+-- the two answers of record i are written
+abbrev pub answered : List ℕ → ℕ → Outcome → List ℕ
+answered out i o = set (set out (i * 2) (codeOf o)) (i * 2 + 1) (valueOf o)
+
 -- record i
 abbrev pub recordAt : List ℕ → ℕ → List ℕ
 recordAt l i = take floats (drop (i * floats) l)
+
+-- the list with r in its place
+abbrev pub replaced : List ℕ → ℕ → List ℕ → List ℕ
+replaced l i r = take (i * floats) l ++ (r ++ drop floats (drop (i * floats) l))
 
 -- the first i records, each worked by itself
 unfoldable pub worked : (List ℕ → Worked) → List ℕ → ℕ → List ℕ
@@ -66,3 +77,20 @@ passRecords law xs out = cond (wellSized xs out) (worked law xs (length xs / flo
 
 abbrev pub passAnswers : (List ℕ → Worked) → List ℕ → List ℕ → List ℕ
 passAnswers law xs out = cond (wellSized xs out) (answers law xs (length xs / floats)) out
+
+-- the pass with failure counts a fourth: how many of the first i records failed
+abbrev pub countedIf : ℕ → Bool → ℕ
+countedIf n b = cond b (n + 1) n
+
+unfoldable pub failures : (List ℕ → Bool) → List ℕ → ℕ → ℕ
+failures failed l zero = 0
+failures failed l (suc i) = countedIf (failures failed l i) (failed (recordAt l i))
+
+abbrev pub withFailures : Counts → ℕ → FailureCounts
+withFailures c n = record { untouched = c .untouched; stored = c .stored; refused = c .refused; failed = n }
+
+abbrev pub passedWithFailure : (List ℕ → Worked) → (List ℕ → Bool) → List ℕ → List ℕ → PassedWithFailure
+passedWithFailure law failed xs out =
+    cond (wellSized xs out)
+    (failure-variants.Done (withFailures (counts law xs (length xs / floats)) (failures failed xs (length xs / floats))))
+    (failure-variants.Refused 8)

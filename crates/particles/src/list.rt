@@ -3,12 +3,11 @@ use crate::choice::Model;
 use law::Outcome;
 use law::Updated;
 ghost use mathlib.Core.Path.{_≡_};
-ghost use mathlib.Core.List.{_++_};
 ghost use Prim.Native.Nat.{_+_, _*_, _^_, _≤_, _<_};
-ghost use lib.ListN.{length, set, take, drop};
+ghost use lib.ListN.{length};
 ghost use Rattle.record.specs.Layout.{floats};
 ghost use Rattle.particles.specs.Model.{updatedAt, recordLaw};
-ghost use Rattle.particles.specs.Pass.{codeOf, valueOf, recordAt, worked, answers, counted, counts, passed, passRecords, passAnswers};
+ghost use Rattle.particles.specs.Pass.{codeOf, valueOf, answered, recordAt, replaced, worked, answers, counted, counts, passed, passRecords, passAnswers};
 
 // How many records were left untouched, stored and refused.
 pub struct Counts {
@@ -74,7 +73,7 @@ fn value(o: Outcome) -> u64
     }
 }
 
-fn count_one(c: Counts, o: Outcome) -> Counts
+pub fn count_one(c: Counts, o: Outcome) -> Counts
     requires { ⌜ (c .untouched < 2 ^ 63) × (c .stored < 2 ^ 63) × (c .refused < 2 ^ 63) ⌝ }
     ensures { λ r. ⌜ r ≡ counted c o ⌝ }
 {
@@ -97,19 +96,27 @@ fn count_one(c: Counts, o: Outcome) -> Counts
     }
 }
 
+// The two answers of record i.
+pub fn write_answer(out: &mut [u64], i: usize, o: Outcome)
+    requires { ⌜ i * 2 + 2 ≤ length (now out) ⌝ }
+    ensures { λ _. ⌜ now (out .exit) ≡ answered (now (out .entry)) i o ⌝ }
+{
+    let k = i * 2;
+    out[k] = code(o);
+    out[k + 1] = value(o);
+}
+
 // Record i, and its two answers.
 fn one(m: Model, xs: &mut [u64], out: &mut [u64], i: usize) -> Outcome
     requires { ⌜ (i * floats + floats ≤ length (now xs)) × (i * 2 + 2 ≤ length (now out)) ⌝ }
     ensures outcome { λ o. ⌜ o ≡ recordLaw m (recordAt (now (xs .entry)) i) .outcome ⌝ }
-    ensures record { λ o. ⌜ now (xs .exit) ≡ take (i * floats) (now (xs .entry)) ++ (recordLaw m (recordAt (now (xs .entry)) i) .after ++ drop floats (drop (i * floats) (now (xs .entry)))) ⌝ }
-    ensures answer { λ o. ⌜ now (out .exit) ≡ set (set (now (out .entry)) (i * 2) (codeOf o)) (i * 2 + 1) (valueOf o) ⌝ }
+    ensures record { λ o. ⌜ now (xs .exit) ≡ replaced (now (xs .entry)) i (recordLaw m (recordAt (now (xs .entry)) i) .after) ⌝ }
+    ensures answer { λ o. ⌜ now (out .exit) ≡ answered (now (out .entry)) i o ⌝ }
 {
     let a = i * record::FLOATS;
     let e = a + record::FLOATS;
     let o = step(m, &mut xs[a..e]);
-    let k = i * 2;
-    out[k] = code(o);
-    out[k + 1] = value(o);
+    write_answer(out, i, o);
     o
 }
 

@@ -2,13 +2,16 @@
 use particles::Counts;
 use particles::Model;
 use particles::Passed;
+use plasticity_drucker_prager::DruckerPragerPlasticity;
+use plasticity_nacc::NaccArguments;
+use plasticity_rankine::RankineArguments;
 use plasticity_snow::SnowPlasticity;
 use sheet::Header;
 ghost use mathlib.Core.Path.{_≡_};
 ghost use Prim.Native.Nat.{_*_, _≤_};
 ghost use lib.ListN.{length};
 ghost use Rattle.record.specs.Layout.{floats};
-ghost use Rattle.run.specs.Run.{modelOf, stopped, finished, frontOf, frontRecords, frontAnswers, ranOf, ranRecords, ranAnswers};
+ghost use Rattle.run.specs.Run.{snowOf, rankineOf, druckerPragerOf, naccOf, modelOf, stopped, finished, frontOf, frontRecords, frontAnswers, ranOf, ranRecords, ranAnswers};
 
 // Refusal 0 where the sheet was read: how many particles it has, and the counts of their outcomes. Beside
 // a refusal all else is 0.
@@ -18,18 +21,67 @@ pub struct Ran {
     pub counts: Counts,
 }
 
-// The law that a sheet's model number and parameters name.
-fn model_of(model: u64, parameters: [u64; 8]) -> Model
+fn snow_of(p: [u64; 8]) -> SnowPlasticity
+    ensures { λ r. ⌜ r ≡ snowOf p ⌝ }
+{
+    SnowPlasticity {
+        min_epsilon: numbers::float_of(p[0]),
+        max_epsilon: numbers::float_of(p[1]),
+        hardening_coeff: numbers::float_of(p[2]),
+    }
+}
+
+fn rankine_of(p: [u64; 8]) -> RankineArguments
+    ensures { λ r. ⌜ r ≡ rankineOf p ⌝ }
+{
+    RankineArguments {
+        young_modulus: numbers::float_of(p[0]),
+        poisson_ratio: numbers::float_of(p[1]),
+        tensile_strength: numbers::float_of(p[2]),
+        softening_rate: numbers::float_of(p[3]),
+    }
+}
+
+fn drucker_prager_of(p: [u64; 8]) -> DruckerPragerPlasticity
+    ensures { λ r. ⌜ r ≡ druckerPragerOf p ⌝ }
+{
+    DruckerPragerPlasticity {
+        h0: numbers::float_of(p[0]),
+        h1: numbers::float_of(p[1]),
+        h2: numbers::float_of(p[2]),
+        h3: numbers::float_of(p[3]),
+        lambda: numbers::float_of(p[4]),
+        mu: numbers::float_of(p[5]),
+        only_active_when_failed: p[6] != 0,
+        volume_correction: numbers::float_of(p[7]),
+    }
+}
+
+fn nacc_of(p: [u64; 8]) -> NaccArguments
+    ensures { λ r. ⌜ r ≡ naccOf p ⌝ }
+{
+    NaccArguments {
+        young_modulus: numbers::float_of(p[0]),
+        poisson_ratio: numbers::float_of(p[1]),
+        cohesion: numbers::float_of(p[2]),
+        hardening_enabled: p[3] != 0,
+        hardening_factor: numbers::float_of(p[4]),
+        m: numbers::float_of(p[5]),
+    }
+}
+
+// The law that a sheet's model number, at most 3, and parameters name.
+pub fn model_of(model: u64, parameters: [u64; 8]) -> Model
     ensures { λ r. ⌜ r ≡ modelOf model parameters ⌝ }
 {
     if model == 0 {
-        Model::Snow(SnowPlasticity {
-            min_epsilon: numbers::float_of(parameters[0]),
-            max_epsilon: numbers::float_of(parameters[1]),
-            hardening_coeff: numbers::float_of(parameters[2]),
-        })
+        Model::Snow(snow_of(parameters))
+    } else if model == 1 {
+        Model::Rankine(rankine_of(parameters))
+    } else if model == 2 {
+        Model::DruckerPrager(drucker_prager_of(parameters))
     } else {
-        Model::Unknown
+        Model::Nacc(nacc_of(parameters))
     }
 }
 

@@ -1,46 +1,35 @@
 use borrow.Author.Needs.{needs}
 use Rattle.particles.proofs.list.count_one.Statement.{statement}
 use Rattle.particles.proofs.list.count_one.Tie as tie
-use Rattle.particles.proofs.list.count_one.Reads as reads
-use Rattle.particles.proofs.list.count_one.Lts as lts
 
--- src/list.rt:83:24
 enum-told : tie.Need-enum-told
 enum-told c = search needs
 
--- src/list.rt:83:24
 add-t4 : tie.Need-add-t4
 add-t4 c = search needs
 
--- src/list.rt:89:21
 enum-told-2 : tie.Need-enum-told-2
 enum-told-2 c = search needs
 
--- src/list.rt:89:21
 add-t5 : tie.Need-add-t5
 add-t5 c = search needs
 
--- src/list.rt:95:22
 enum-told-3 : tie.Need-enum-told-3
 enum-told-3 c = search needs
 
--- src/list.rt:95:22
 add-t6 : tie.Need-add-t6
 add-t6 c = search needs
 
--- src/list.rt:77:1
 returns : tie.Need-returns
 returns c =
     let t0 = c .before .enum-told .given .1 in
     simp (t0)
 
--- src/list.rt:77:1
 returns-2 : tie.Need-returns-2
 returns-2 c =
     let t0 = c .before .enum-told2 .given .1 in
     simp (t0)
 
--- src/list.rt:77:1
 returns-3 : tie.Need-returns-3
 returns-3 c =
     let t0 = c .before .enum-told3 .given .1 in

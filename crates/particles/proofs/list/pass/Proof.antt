@@ -8,41 +8,31 @@ use Rattle.record.specs.Layout.{floats}
 use borrow.Author.Needs.{needs}
 use Rattle.particles.proofs.list.pass.Statement.{statement}
 use Rattle.particles.proofs.list.pass.Tie as tie
-use Rattle.particles.proofs.list.pass.Reads as reads
-use Rattle.particles.proofs.list.pass.Lts as lts
-use Rattle.particles.proofs.list.pass_all.Reads as pass-all-reads
 
--- src/list.rt:145:9
 mul-if1 : tie.Need-mul-if1
 mul-if1 c = search needs
 
--- src/list.rt:145:44
 mul-if1-2 : tie.Need-mul-if1-2
 mul-if1-2 c = search needs
 
--- src/list.rt:146:22
 pass-all-requires : tie.Need-pass-all-requires
 pass-all-requires c κs =
     let a = c .before .before .before .before .before .args in
     let t = and-both (eqb (length (a .xs .now) / floats * floats) (length (a .xs .now))) (eqb (length (a .xs .now) / floats * 2) (length (a .out .now))) (c .before .before .if1 .taken) in
     (sym (eqb-true _ _ (t .0)), sym (eqb-true _ _ (t .1)))
 
--- src/list.rt:139:1
 same-length : tie.Need-same-length
 same-length c = search needs
 
--- src/list.rt:139:1
 same-length-2 : tie.Need-same-length-2
 same-length-2 c = search needs
 
--- src/list.rt:139:1
 returns : tie.Need-returns
 returns c =
     let e = c .before .before .before .before .pass-all .ensures in
     let t = c .before .before .before .before .before .before .before .if1 .taken in
     (simp (e .0, t), (simp (e .1 .0, t), simp (e .1 .1, t)))
 
--- src/list.rt:139:1
 returns-2 : tie.Need-returns-2
 returns-2 c = (simp (c .if1 .left), (simp (c .if1 .left), simp (c .if1 .left)))
 

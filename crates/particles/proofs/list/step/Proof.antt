@@ -2,34 +2,25 @@ use Rattle.particles.specs.Model.{recordLaw}
 use borrow.Author.Needs.{needs}
 use Rattle.particles.proofs.list.step.Statement.{statement}
 use Rattle.particles.proofs.list.step.Tie as tie
-use Rattle.particles.proofs.list.step.Reads as reads
-use Rattle.particles.proofs.list.step.Lts as lts
-use Rattle.particles.proofs.choice.write_state.Reads as write-state-reads
-use Rattle.particles.proofs.list.updated.Reads as updated-reads
 
--- src/list.rt:42:9
 updated-requires : tie.Need-updated-requires
 updated-requires c κs = search needs
 
 enum-told : tie.Need-enum-told
 enum-told c = search needs
 
--- src/list.rt:47:17
 enum-told-2 : tie.Need-enum-told-2
 enum-told-2 c = search needs
 
--- src/list.rt:48:13
 write-state-requires : tie.Need-write-state-requires
 write-state-requires c κs = search needs
 
 enum-told-3 : tie.Need-enum-told-3
 enum-told-3 c = search needs
 
--- src/list.rt:38:1
 same-length : tie.Need-same-length
 same-length c = search needs
 
--- src/list.rt:38:1
 returns : tie.Need-returns
 unfolding recordLaw
 returns c =
@@ -37,11 +28,9 @@ returns c =
     let t = rw u at (c .enum-told .given .1) in
     (simp u, simp t)
 
--- src/list.rt:38:1
 same-length-2 : tie.Need-same-length-2
 same-length-2 c = search needs
 
--- src/list.rt:38:1
 returns-2 : tie.Need-returns-2
 unfolding recordLaw
 returns-2 c =
@@ -49,11 +38,9 @@ returns-2 c =
     let t = rw u at (c .before .before .before .before .before .enum-told2 .given .1) in
     (simp u, simp (c .before .before .write-state .ensures, u, t))
 
--- src/list.rt:38:1
 same-length-3 : tie.Need-same-length-3
 same-length-3 c = search needs
 
--- src/list.rt:38:1
 returns-3 : tie.Need-returns-3
 unfolding recordLaw
 returns-3 c =

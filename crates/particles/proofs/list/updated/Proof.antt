@@ -2,29 +2,19 @@ use Rattle.particles.specs.Model.{updatedAt}
 use borrow.Author.Needs.{needs}
 use Rattle.particles.proofs.list.updated.Statement.{statement}
 use Rattle.particles.proofs.list.updated.Tie as tie
-use Rattle.particles.proofs.list.updated.Reads as reads
-use Rattle.particles.proofs.list.updated.Lts as lts
-use Rattle.particles.proofs.choice.update.Reads as update-reads
-use Rattle.record.proofs.read_mat.Reads as read-mat-reads
-use Rattle.record.proofs.read_state.Reads as read-state-reads
 
--- src/list.rt:31:9
 read-mat-requires : tie.Need-read-mat-requires
 read-mat-requires c κs = search needs
 
--- src/list.rt:32:9
 read-mat-requires-2 : tie.Need-read-mat-requires-2
 read-mat-requires-2 c κs = search needs
 
--- src/list.rt:33:9
 read-state-requires : tie.Need-read-state-requires
 read-state-requires c κs = search needs
 
--- src/list.rt:29:5
 update-requires : tie.Need-update-requires
 update-requires c κs = search needs
 
--- src/list.rt:25:1
 returns : tie.Need-returns
 unfolding updatedAt
 returns c =

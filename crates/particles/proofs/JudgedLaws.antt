@@ -1,0 +1,55 @@
+-- The pass with failure keeps a record's length, and a record that the law refuses after a yes is as it came. Assumes nothing.
+use mathlib.Core.Path.{_≡_, refl, _∙_}
+use mathlib.Core.List.{List}
+use Prim.Native.Nat.{ℕ}
+use lib.ListN.{length, set, getD, length-set}
+use lib.Seq.{set-set, set-getD}
+use Rattle.tensor.specs.Matrix.{zero}
+use Rattle.law.specs.declared.Outcome.{Outcome}
+use Rattle.law.specs.declared.Outcome.the-variants as outcome
+use Rattle.record.specs.Layout.{putPhase}
+use Rattle.failure_maximum_stress.specs.declared.MaximumStressFailure.{MaximumStressFailure}
+use Rattle.failure_maximum_stress.specs.declared.Verdict.{Verdict}
+use Rattle.failure_maximum_stress.specs.declared.Verdict.the-variants.{No, Yes, Refused}
+use Rattle.elasticity_corotated_linear.specs.declared.CorotatedLinearElasticity.{CorotatedLinearElasticity}
+use Rattle.particles.specs.declared.choice.Model.{Model}
+use Rattle.particles.specs.Model.{recordLaw}
+use Rattle.particles.specs.Judged.{judgedAt, unlessRefused, failedLaw, byVerdict, failureLaw}
+use Rattle.particles.proofs.PassLaws.{Keeps, record-keeps}
+
+unless-length : (o : Outcome) (r a : List ℕ) → length a ≡ length r → length (unlessRefused o r a) ≡ length r
+unless-length outcome.Untouched r a h = h
+unless-length (outcome.Stored x) r a h = h
+unless-length (outcome.Refused n) r a h = refl
+
+-- the law on a record of which one place was written
+pub written-length : (m : Model) (r : List ℕ) (i x : ℕ) → length (recordLaw m (set r i x) .after) ≡ length r
+written-length m r i x = record-keeps m (set r i x) ∙ length-set r i x
+
+-- and of which one place is written after it
+pub back-length : (m : Model) (r : List ℕ) (i x j y : ℕ) → length (set (recordLaw m (set r i x) .after) j y) ≡ length r
+back-length m r i x j y = length-set (recordLaw m (set r i x) .after) j y ∙ written-length m r i x
+
+failed-keeps : (m : Model) → Keeps (failedLaw m)
+unfolding failedLaw
+failed-keeps m r =
+    let w = recordLaw m (putPhase r zero) in
+    unless-length (w .outcome) r (w .after) (written-length m r _ _)
+
+by-verdict-length : (v : Verdict) (m : Model) (r : List ℕ) → length (byVerdict v m r .after) ≡ length r
+by-verdict-length No m r = record-keeps m r
+by-verdict-length Yes m r = failed-keeps m r
+by-verdict-length (Refused n) m r = refl
+
+pub failure-keeps : (m : Model) (l : MaximumStressFailure) (e : CorotatedLinearElasticity) → Keeps (failureLaw m l e)
+unfolding failureLaw
+failure-keeps m l e r = by-verdict-length (judgedAt m l e r) m r
+
+-- what the law refuses it does not write
+pub refused-after : (m : Model) (r : List ℕ) (n : ℕ) → recordLaw m r .outcome ≡ outcome.Refused n → recordLaw m r .after ≡ r
+unfolding recordLaw
+refused-after m r n e = simp e
+
+-- a place written and then put back
+pub put-back : (r : List ℕ) (i x : ℕ) → set (set r i x) i (getD r i 0) ≡ r
+put-back r i x = set-set r i x (getD r i 0) ∙ set-getD r i 0

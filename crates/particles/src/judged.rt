@@ -1,0 +1,142 @@
+// One record of the pass with failure: the verdict, and then the law.
+use crate::choice;
+use crate::choice::Model;
+use crate::list;
+use crate::principal;
+use elasticity_corotated_linear::CorotatedLinearElasticity;
+use failure_maximum_stress::MaximumStressFailure;
+use failure_maximum_stress::Verdict;
+use law::Outcome;
+use law::State;
+ghost use mathlib.Core.Path.{_≡_};
+ghost use lib.ListN.{length};
+ghost use Rattle.record.specs.Layout.{floats};
+ghost use Rattle.particles.specs.Judged.{verdictOn, judgedInputs, judgedOf, judgedAt, failedLaw, failureLaw, standing, failedAt};
+
+// The law's outcome, and whether the record failed and was not refused.
+pub struct Judged {
+    pub outcome: Outcome,
+    pub failed: bool,
+}
+
+fn verdict_on(l: MaximumStressFailure, stresses: [f64; 3]) -> Verdict
+    ensures { λ r. ⌜ r ≡ verdictOn l stresses ⌝ }
+{
+    if tensor::row_finite(stresses) {
+        l.particle_failed(stresses)
+    } else {
+        Verdict::Refused(3)
+    }
+}
+
+fn inputs_finite(
+    m: Model,
+    l: MaximumStressFailure,
+    e: CorotatedLinearElasticity,
+    u: [[f64; 3]; 3],
+    vt: [[f64; 3]; 3],
+    s: State,
+) -> bool
+    ensures { λ r. ⌜ r ≡ judgedInputs m l e u vt s ⌝ }
+{
+    choice::model_finite(m) & l.limits_finite() & e.law_finite() & law::inputs_finite(u, vt, s)
+}
+
+fn verdict(
+    m: Model,
+    l: MaximumStressFailure,
+    e: CorotatedLinearElasticity,
+    u: [[f64; 3]; 3],
+    vt: [[f64; 3]; 3],
+    s: State,
+) -> Verdict
+    ensures { λ r. ⌜ r ≡ judgedOf m l e u vt s ⌝ }
+{
+    if inputs_finite(m, l, e, u, vt, s) {
+        let sigma = s.sigma;
+        verdict_on(
+            l,
+            principal::stresses(e, s.phase, s.elastic_hardening, sigma),
+        )
+    } else {
+        Verdict::Refused(1)
+    }
+}
+
+// The verdict on the record as it stands.
+fn judge(m: Model, l: MaximumStressFailure, e: CorotatedLinearElasticity, r: &[u64]) -> Verdict
+    requires { ⌜ length (now r) ≡ floats ⌝ }
+    ensures { λ x. ⌜ x ≡ judgedAt m l e (now (r .entry)) ⌝ }
+{
+    verdict(
+        m,
+        l,
+        e,
+        record::read_mat(r, record::U),
+        record::read_mat(r, record::VT),
+        record::read_state(r),
+    )
+}
+
+// The law on a record that failed: phase is 0.0, but if the law refuses it is as it came.
+fn failed_step(m: Model, r: &mut [u64]) -> Outcome
+    requires { ⌜ length (now r) ≡ floats ⌝ }
+    ensures { λ x. ⌜ (x ≡ failedLaw m (now (r .entry)) .outcome) × (now (r .exit) ≡ failedLaw m (now (r .entry)) .after) ⌝ }
+{
+    let phase = r[record::PHASE];
+    r[record::PHASE] = numbers::bits_of(0.0);
+    let o = list::step(m, r);
+    match o {
+        Outcome::Untouched => {}
+        Outcome::Stored(_) => {}
+        Outcome::Refused(_) => {
+            r[record::PHASE] = phase;
+        }
+    }
+    o
+}
+
+fn not_refused(o: Outcome) -> bool
+    ensures { λ r. ⌜ r ≡ standing o ⌝ }
+{
+    match o {
+        Outcome::Untouched => true,
+        Outcome::Stored(_) => true,
+        Outcome::Refused(_) => false,
+    }
+}
+
+// One record: a refused stress skips the law.
+pub fn step(
+    m: Model,
+    l: MaximumStressFailure,
+    e: CorotatedLinearElasticity,
+    r: &mut [u64],
+) -> Judged
+    requires { ⌜ length (now r) ≡ floats ⌝ }
+    ensures outcome { λ x. ⌜ x .outcome ≡ failureLaw m l e (now (r .entry)) .outcome ⌝ }
+    ensures failed { λ x. ⌜ x .failed ≡ failedAt m l e (now (r .entry)) ⌝ }
+    ensures record { λ x. ⌜ now (r .exit) ≡ failureLaw m l e (now (r .entry)) .after ⌝ }
+{
+    let v = judge(m, l, e, &r[..]);
+    match v {
+        Verdict::No => {
+            let o = list::step(m, r);
+            Judged {
+                outcome: o,
+                failed: false,
+            }
+        }
+        Verdict::Yes => {
+            let o = failed_step(m, r);
+            Judged {
+                outcome: o,
+                failed: not_refused(o),
+            }
+        }
+        Verdict::Refused(n) => Judged {
+            outcome: Outcome::Refused(n),
+            failed: false,
+        },
+    }
+}
