@@ -2,8 +2,8 @@
 """Writes the sheets that the crate slope_cases runs, and checks its expected output by a second reading.
 
   tools/cases.py write   the sheets, as crates/slope_cases/data/00, 01, ..
-  tools/cases.py check   reads the sheets again, works each Snow record with Python's own floats, and compares with
-                         crates/slope_cases/stdout: the refusals exactly, an amount within 2^-44 of itself
+  tools/cases.py check   reads the sheets again, works each record with Python's own floats, and compares with
+                         crates/slope_cases/stdout: outcomes and refusals exactly, an amount within 2^-30 of itself and of 1
 """
 import math
 import pathlib
@@ -63,6 +63,30 @@ def cases():
     yield b"\x80\x80\1" + good[1:]
     yield number(4) + good[1:]
     yield number(200) + good[1:]
+    # Rankine: each branch, ties, both kinds of refusal on the path, a modulus that is not finite
+    strong, weak = [1e5, 0.3, 1e6, 2.0], [1e5, 0.3, 500.0, 2.0]
+    yield sheet([record(), record((1.1, 0.9, 1.05)), record((1.1, 0.9, 1.05), phard=999990.0)], strong, 1)
+    yield sheet([
+        record((1.2, 0.7, 0.8)), record((1.2, 1.19, 0.5)), record((1.2, 1.2, 0.5)), record((1.3, 1.2, 1.1)), record((1.2, 1.2, 1.2)),
+        record((0.9, 0.9, 0.9)), record((0.0, 1.0, 1.0)), record((1.0, -1.0, 1.0)), record((1e19, 1.0, 1.0)), broken(32, INF)], weak, 1)
+    yield sheet([record(), broken(0, NAN)], [1e5, 0.5, 500.0, 2.0], 1)
+    yield sheet([record()], [INF, 0.3, 500.0, 2.0], 1)
+    # Drucker-Prager: the flag, the zero test (P12), the trace, inside, the surface; a volume that shrinks
+    lame = [1e5 * 0.3 / (1.3 * 0.4), 1e5 / 2.6]
+    sand = [0.6108652381980153, 0.15707963267948966, 0.2, 0.17453292519943295] + lame
+    yield sheet([record(), record((1.1, 1.0, 1.0)), record((0.8, 0.81, 0.79)), record((0.6, 1.2, 0.9)), record((0.6, 1.2, 0.9), gain=0.05),
+                 record((0.9, 0.9, 0.9)), record((1e-19, 1.0, 1.0)), record(phard=1e5), broken(34, NAN)], sand + [0.0, 1.0], 2)
+    yield sheet([record(), record(phase=0.0), record((0.6, 1.2, 0.9), phase=-0.0)], sand + [1.0, 0.5], 2)
+    yield sheet([record()], sand[:5] + [NAN, 0.0, 1.0], 2)
+    yield number(2) + floats(sand + [-0.0, 1.0]) + number(0)
+    yield number(2) + floats(sand + [2.0, 1.0]) + number(0)
+    yield (number(2) + floats(sand + [2.0]))[:57]
+    # NACC: both tips, inside, the surface with and without the hardening step
+    clay = [1e4, 0.3, 0.05, 1.0, 3.0, 2.36]
+    yield sheet([record(alpha=-0.01), record((0.5, 0.5, 0.5), alpha=-0.01), record((1.5, 1.5, 1.5), alpha=-0.01), record((0.9, 1.1, 1.0), alpha=-0.05),
+                 record((0.8, 1.1, 1.1), alpha=-0.05), record(alpha=1.0), record((0.99, 1.0, 1.0), alpha=-300.0), record((0.0, 1.0, 1.0))], clay, 3)
+    yield sheet([record((0.8, 1.1, 1.1), alpha=-0.05), record((0.5, 0.5, 0.5), alpha=-0.01)], clay[:3] + [0.0] + clay[4:], 3)
+    yield number(3) + floats(clay[:3] + [0.5]) + number(0)
 
 
 def words(b):
@@ -89,10 +113,15 @@ def read(b):
     model, at = read_number(b, 0)
     if model > 3:
         raise Refused(6)
-    n = (3, 4, 8, 6)[model]
-    if len(b) < at + 8 * n:
-        raise Refused(4)
-    parameters, at = words(b[at:at + 8 * n]), at + 8 * n
+    parameters = []
+    for k in range((3, 4, 8, 6)[model]):
+        if len(b) < at + 8:
+            raise Refused(4)
+        bits = b[at:at + 8]
+        if (model, k) in ((2, 6), (3, 3)) and bits not in (floats([0.0]), floats([1.0])):
+            raise Refused(6)
+        parameters += words(bits)
+        at += 8
     count, at = read_number(b, at)
     if count > 200:
         raise Refused(7)
@@ -111,8 +140,6 @@ def rust_min(a, b):
 
 def snow(p, r):
     """The amount, or the refusal's number."""
-    if not all(map(math.isfinite, p + r)):
-        raise Refused(1)
     old = r[18:21]
     new = [rust_min(rust_max(e, 1.0 - p[0]), 1.0 + p[1]) for e in old]
     d = r[31] * ((old[0] * old[1] * old[2]) / (new[0] * new[1] * new[2]))
@@ -127,6 +154,152 @@ def snow(p, r):
     return h
 
 
+def ranged(f, low, high, x):
+    if x != x:
+        raise Refused(3)
+    if not low <= x <= high:
+        raise Refused(2)
+    return f(x)
+
+
+def ln(x):
+    return ranged(math.log, 2.0 ** -60, 2.0 ** 60, x)
+
+
+def exp(x):
+    return ranged(math.exp, -700.0, 700.0, x)
+
+
+def root(x):
+    return ranged(math.sqrt, 0.0, sys.float_info.max, x)
+
+
+def third(x, k):
+    return ranged(lambda x: x ** (k / 3), 2.0 ** -60, 2.0 ** 60, x)
+
+
+def divide(a, b):
+    return a / b if b else NAN if a == 0 or a != a else math.copysign(INF, a) * math.copysign(1.0, b)
+
+
+def tell(*xs):
+    if any(x != x for x in xs):
+        raise Refused(3)
+
+
+def moduli(young, poisson):
+    lame = divide(young * poisson, (1.0 + poisson) * (1.0 - 2.0 * poisson))
+    return lame, divide(young, 2.0 * (1.0 + poisson)), divide(young, 3.0 * (1.0 - 2.0 * poisson))
+
+
+def finite(*xs):
+    if not all(map(math.isfinite, xs)):
+        raise Refused(3)
+
+
+def norm(e):
+    return root(e[0] * e[0] + e[1] * e[1] + e[2] * e[2])
+
+
+def rankine(p, r):
+    lame, mu, _ = moduli(p[0], p[1])
+    finite(lame, mu)
+    e = [ln(x) for x in r[18:21]]
+    order = sorted(range(3), key=lambda i: e[i])
+    c, b, a = (e[i] for i in order)
+    total = e[0] + e[1] + e[2]
+    s = p[2] - (r[32] - 1.0)
+    new = list(e)
+    if lame * total + 2.0 * mu * a <= s:
+        return None
+    if (2.0 * mu + lame) * b + lame * (total - a) <= s:
+        new[order[2]] = (s - lame * (total - a)) / (2.0 * mu + lame)
+    elif (2.0 * mu + 3.0 * lame) * c <= s:
+        new[order[2]] = new[order[1]] = (s - lame * (total - a - b)) / (2.0 * mu + 2.0 * lame)
+    else:
+        new = [s / (2.0 * mu + 3.0 * lame)] * 3
+    h = r[32] + p[3] * norm([x - y for x, y in zip(e, new)])
+    tell(h)
+    finite(*[exp(x) for x in new])
+    return min(h, p[2])
+
+
+def drucker_prager(p, r):
+    h0, h1, h2, h3, lame, mu, flag, correction = p
+    if flag and r[30] != 0.0:
+        return None
+    q = r[32]
+    angle = h0 + (h1 * q - h3) * exp(-h2 * q)
+    s = ranged(math.sin, -8.0, 8.0, angle)
+    alpha = math.sqrt(2.0 / 3.0) * (2.0 * s) / (3.0 - s)
+    e = [ln(x) + r[34] / 3.0 for x in r[18:21]]
+    trace = e[0] + e[1] + e[2]
+    dev = [x - trace / 3.0 for x in e]
+    if dev == [0.0] * 3 or trace > 0.0:
+        new, dq = [1.0] * 3, norm(e)
+    else:
+        n = norm(dev)
+        dq = n + divide(3.0 * lame + 2.0 * mu, 2.0 * mu) * trace * alpha
+        tell(dq)
+        if dq <= 0.0:
+            return None
+        new = [exp(x - dq * divide(d, n)) for x, d in zip(e, dev)]
+    before, after = r[18] * r[19] * r[20], new[0] * new[1] * new[2]
+    if not after - before > 0.0:
+        after = before + (after - before) * correction
+    finite(r[31] * divide(before, after), r[34] + (ln(before) - ln(after)), q + dq)
+    return dq
+
+
+def nacc(p, r):
+    _, mu, kappa = moduli(p[0], p[1])
+    finite(mu, kappa)
+    beta, hardens, xi, m = p[2], p[3], p[4], p[5]
+    alpha, v = r[35], r[18:21]
+    p0 = kappa * (1.0e-5 + ranged(math.sinh, -700.0, 700.0, xi * max(-alpha, 0.0)))
+    squares = [x * x for x in v]
+    total = squares[0] + squares[1] + squares[2]
+    j = v[0] * v[1] * v[2]
+    shear = [mu * third(j, -2) * (x - total / 3.0) for x in squares]
+    pressure = -(kappa / 2.0 * (j - divide(1.0, j))) * j
+    tell(p0, pressure, *shear)
+    if pressure > p0 or pressure < -beta * p0:
+        tip = root((-2.0 * p0 if pressure > p0 else 2.0 * beta * p0) / kappa + 1.0)
+        third(tip, 1)
+        return alpha + ln(j / tip) if hardens else alpha
+    y0 = (1.0 + 2.0 * beta) * 1.5
+    y1 = m * m * (pressure + beta * p0) * (pressure - p0)
+    if y0 * (shear[0] ** 2 + shear[1] ** 2 + shear[2] ** 2) + y1 < 1.0e-4:
+        return None
+    if hardens and p0 > 1.0e-4 and pressure < p0 - 1.0e-4 and pressure > -beta * p0 + 1.0e-4:
+        pc = (1.0 - beta) * p0 / 2.0
+        d = [pc - pressure, -(math.sqrt(1.5) * norm(shear))]
+        size = math.hypot(*d)
+        d = [d[0] / size, d[1] / size]
+        c = m * m * (pc + beta * p0) * (pc - p0)
+        b = m * m * d[0] * (2.0 * pc - p0 + beta * p0)
+        a = m * m * d[0] * d[0] + (1.0 + 2.0 * beta) * d[1] * d[1]
+        root_of = root(b * b - 4.0 * a * c)
+        p1, p2 = pc + (-b + root_of) / (2.0 * a) * d[0], pc + (-b - root_of) / (2.0 * a) * d[0]
+        px = p1 if (pressure - pc) * (p1 - pc) > 0.0 else p2
+        jx = math.sqrt(abs(-2.0 * px / kappa + 1.0))
+        if jx > 1.0e-4:
+            alpha += ln(j / jx)
+    scale = root(-y1 / y0) * (third(j, 2) / mu)
+    for x in shear:
+        root(scale * x / norm(shear) + total / 3.0)
+    return alpha
+
+
+LAWS = [snow, rankine, drucker_prager, nacc]
+
+
+def worked(model, p, r):
+    if not all(map(math.isfinite, p + r)):
+        raise Refused(1)
+    return LAWS[model](p, r)
+
+
 def expected(b):
     try:
         model, parameters, records = read(b)
@@ -135,7 +308,8 @@ def expected(b):
     lines = ["particles %d" % len(records)]
     for k, r in enumerate(records):
         try:
-            lines.append("%d stored %r" % (k, snow(parameters, r)))
+            amount = worked(model, parameters, r)
+            lines.append("%d untouched" % k if amount is None else "%d stored %r" % (k, amount))
         except Refused as e:
             lines.append("%d refused %d" % (k, e.args[0]))
     return lines + ["end"]
@@ -148,7 +322,7 @@ def same(want, got):
     if len(w) != 3 or w[:2] != g[:2] or w[1] != "stored":
         return False
     a, b = float(w[2]), struct.unpack(">d", bytes.fromhex(g[2]))[0]
-    return abs(a - b) <= 2.0 ** -44 * abs(a)
+    return abs(a - b) <= 2.0 ** -30 * min(abs(a), 1.0) + 2.0 ** -44
 
 
 def main():

@@ -5,7 +5,6 @@ pub mod Powers
 pub mod Bounds
 pub mod Tested
 pub mod Alternate
-pub mod LogTail
 pub mod Sine
 pub mod SinNear
 pub mod SinSure

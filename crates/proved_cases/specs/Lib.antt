@@ -1,0 +1,2 @@
+pub mod Alpha
+pub mod Table

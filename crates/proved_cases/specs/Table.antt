@@ -1,0 +1,113 @@
+-- Document 01, section 8, line by line: the twelve cases over the definitions that the contracts cite, proved by computation.
+use mathlib.Core.Bool.{true}
+use mathlib.Core.List.{List}
+use mathlib.Core.Path.{_≡_}
+use Prim.Native.Nat.{ℕ}
+use lib.Ieee as Ieee
+use lib.Ieee.{Float, nan, binary64, ofBits}
+use Rattle.numbers.specs.Rules.{finite}
+use Rattle.numbers.specs.Answer.{answeredOf, given}
+use Rattle.numbers.specs.declared.Elementary.{Elementary}
+use Rattle.numbers.specs.declared.Elementary.the-variants.{Value}
+use Rattle.tensor.specs.Matrix.{add, sub, zero, one, three, rowsOf}
+use Rattle.law.specs.declared.Outcome.the-variants.{Stored}
+use Rattle.law.specs.declared.State.{State}
+use Rattle.plasticity_snow.specs.Snow.{defaults, clampOf}
+use Rattle.plasticity_snow.proofs.Cases as snow
+use Rattle.physics.specs.Physics.{invExactOf}
+use Rattle.physics.proofs.Cases as physics
+use Rattle.elasticity_neo_hookean.specs.Law.{phaseCoeff}
+use Rattle.elasticity_neo_hookean.proofs.Cases as neo-hookean
+use Rattle.eos_monaghan_sph.specs.Pressure.{pressureOf}
+use Rattle.eos_monaghan_sph.proofs.Cases as monaghan
+use Rattle.failure_maximum_stress.specs.Failure.{verdictOf}
+use Rattle.failure_maximum_stress.specs.declared.MaximumStressFailure.{MaximumStressFailure}
+use Rattle.failure_maximum_stress.specs.declared.Verdict.the-variants.{No, Yes}
+use Rattle.failure_maximum_stress.proofs.Cases as failure
+use Rattle.logarithm.proofs.Laws.{ln-one}
+use Rattle.plasticity_drucker_prager.specs.Law.{defaultsOf}
+use Rattle.plasticity_drucker_prager.specs.DruckerPrager.{druckerUpdate}
+use Rattle.plasticity_drucker_prager.proofs.Cases as drucker-prager
+use Rattle.proved_cases.specs.Alpha.{root-zero, slope}
+
+abbrev two : Float
+two = ofBits binary64 0x4000_0000_0000_0000
+
+abbrev half : Float
+half = ofBits binary64 0x3fe0_0000_0000_0000
+
+abbrev four : Float
+four = ofBits binary64 0x4010_0000_0000_0000
+
+abbrev five : Float
+five = ofBits binary64 0x4014_0000_0000_0000
+
+abbrev nine : Float
+nine = ofBits binary64 0x4022_0000_0000_0000
+
+abbrev pressureAt : ℕ → Float → Elementary
+pressureAt gamma density =
+    pressureOf (record { pressure0 = ofBits binary64 0x4024_0000_0000_0000; gamma = gamma; viscosity = zero; «max_neg_pressure» = one }) one one density
+
+abbrev limits : Float → Float → MaximumStressFailure
+limits principal shear = record { «max_principal_stress» = principal; «max_shear_stress» = shear }
+
+abbrev identity : List (List Float)
+identity = three (three one zero zero) (three zero one zero) (three zero zero one)
+
+-- sigma all 1, gain 0: the record of section 7's example
+abbrev rested : State
+rested =
+    record {
+      f = rowsOf identity;
+      sigma = three one one one;
+      phase = one;
+      «plastic_determinant» = one;
+      «plastic_hardening» = one;
+      «elastic_hardening» = one;
+      «log_gain» = zero;
+      alpha = zero;
+    }
+
+pub record Twelve : Type 0 where
+  -- snow sigma 1 gives 1
+  pub p1 : clampOf defaults one ≡ one
+  -- the clamp of NaN gives 1 - 0.025
+  pub p2 : clampOf defaults nan ≡ sub one (ofBits binary64 0x3f99_9999_9999_999a)
+  -- sigma 2 gives 1 + 0.0045
+  pub p3 : clampOf defaults two ≡ add one (ofBits binary64 0x3f72_6e97_8d4f_df3b)
+  -- `inv_exact(0.0)` is 0.0
+  pub p4 : given (finite zero) (answeredOf (invExactOf zero)) ≡ Value zero
+  -- `phase_coeff(0.0)` is 0.001
+  pub p5 : phaseCoeff zero ≡ Value (ofBits binary64 0x3f50_624d_d2f1_a9fc)
+  -- Monaghan with pressure0 10, mass and volume 1, largest negative 1: gamma 2, density 2 gives 30
+  pub p6 : pressureAt 2 two ≡ Value (ofBits binary64 0x403e_0000_0000_0000)
+  -- gamma 2, density 0 gives -1
+  pub p7 : pressureAt 2 zero ≡ Value (Ieee.neg one)
+  -- gamma 0, density 2 gives 0
+  pub p8 : pressureAt 0 two ≡ Value zero
+  -- gamma 4,294,967,295, density 0.5 gives 10
+  pub p9 : pressureAt 4294967295 half ≡ Value (ofBits binary64 0x4024_0000_0000_0000)
+  -- limits 5 and 9, stresses 5, 0, 0: no failure
+  pub p10 : verdictOf (limits five nine) (three five zero zero) ≡ No
+  -- limits 5 and 2, stresses 4, 0, -1: failure
+  pub p11 : verdictOf (limits five two) (three four zero (Ieee.neg one)) ≡ Yes
+  -- Drucker-Prager sigma all 1, gain 0: stored, dq 0
+  pub p12 : (l m : Float) → finite l ≡ true → finite m ≡ true → druckerUpdate (defaultsOf l m) identity identity rested .outcome ≡ Stored zero
+
+pub twelve : Twelve
+twelve =
+    record {
+      p1 = snow.p1;
+      p2 = snow.p2;
+      p3 = snow.p3;
+      p4 = physics.P4;
+      p5 = neo-hookean.phase-zero;
+      p6 = monaghan.P6;
+      p7 = monaghan.P7;
+      p8 = monaghan.P8;
+      p9 = monaghan.P9;
+      p10 = failure.P10;
+      p11 = failure.P11;
+      p12 = λ l m f g. drucker-prager.p12 l m (slope l m .0) f g ln-one root-zero (slope l m .1);
+    }
