@@ -1,29 +1,21 @@
 use borrow.Author.Needs.{needs}
 use Rattle.run.proofs.outcome.Statement.{statement}
 use Rattle.run.proofs.outcome.Tie as tie
-use Rattle.run.proofs.outcome.Reads as reads
-use Rattle.run.proofs.outcome.Lts as lts
-use Rattle.run.proofs.refused.Reads as refused-reads
 
--- src/lib.rt:53:22
 enum-known-passed : tie.Need-enum-known-passed
 enum-known-passed c = search needs
 
--- src/lib.rt:58:25
 enum-known-passed-2 : tie.Need-enum-known-passed-2
 enum-known-passed-2 c = search needs
 
--- src/lib.rt:58:31
 refused-requires : tie.Need-refused-requires
 refused-requires c κs = search needs
 
--- src/lib.rt:49:1
 returns : tie.Need-returns
 returns c =
     let t0 = c .before .passed .given .1 in
     simp (t0)
 
--- src/lib.rt:49:1
 returns-2 : tie.Need-returns-2
 returns-2 c =
     let t0 = c .before .before .passed2 .given .1 in

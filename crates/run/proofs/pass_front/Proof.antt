@@ -4,61 +4,44 @@ use Rattle.run.specs.Run.{frontOf, frontRecords, frontAnswers}
 use borrow.Author.Needs.{needs}
 use Rattle.run.proofs.pass_front.Statement.{statement}
 use Rattle.run.proofs.pass_front.Tie as tie
-use Rattle.run.proofs.pass_front.Reads as reads
-use Rattle.run.proofs.pass_front.Lts as lts
-use Rattle.particles.proofs.pass.Reads as pass-reads
-use Rattle.run.proofs.model_of.Reads as model-of-reads
-use Rattle.run.proofs.outcome.Reads as outcome-reads
 
--- src/lib.rt:71:9
 model-of-requires : tie.Need-model-of-requires
 model-of-requires c κs = search needs
 
--- src/lib.rt:72:13
 mul-a : tie.Need-mul-a
 mul-a c = search needs
 
--- src/lib.rt:73:13
 mul-b : tie.Need-mul-b
 mul-b c = search needs
 
--- src/lib.rt:74:37
 slice-relend-prefix-pass : tie.Need-slice-relend-prefix-pass
 slice-relend-prefix-pass c = search needs
 
--- src/lib.rt:74:37
 slice-aggregate-pass : tie.Need-slice-aggregate-pass
 slice-aggregate-pass c =
     let h = c .before .before .before .before .before .pre in
     simp length-take (omega arith)
 
--- src/lib.rt:74:56
 slice-relend-prefix-pass-2 : tie.Need-slice-relend-prefix-pass-2
 slice-relend-prefix-pass-2 c = search needs
 
--- src/lib.rt:74:56
 slice-aggregate-pass-2 : tie.Need-slice-aggregate-pass-2
 slice-aggregate-pass-2 c =
     let h = c .before .before .before .before .before .before .pre in
     simp length-take (omega arith)
 
--- src/lib.rt:74:9
 pass-requires : tie.Need-pass-requires
 pass-requires c κs = search needs
 
--- src/lib.rt:75:5
 outcome-requires : tie.Need-outcome-requires
 outcome-requires c κs = search needs
 
--- src/lib.rt:63:1
 same-length : tie.Need-same-length
 same-length c = search needs
 
--- src/lib.rt:63:1
 same-length-2 : tie.Need-same-length-2
 same-length-2 c = search needs
 
--- src/lib.rt:63:1
 returns : tie.Need-returns
 unfolding frontOf frontRecords frontAnswers
 returns c =

@@ -11,33 +11,22 @@ use Rattle.run.proofs.Rooms.{read-fits, room-length}
 use borrow.Author.Needs.{needs}
 use Rattle.run.proofs.run_sheet.Statement.{statement}
 use Rattle.run.proofs.run_sheet.Tie as tie
-use Rattle.run.proofs.run_sheet.Reads as reads
-use Rattle.run.proofs.run_sheet.Lts as lts
-use Rattle.run.proofs.pass_front.Reads as pass-front-reads
-use Rattle.run.proofs.refused.Reads as refused-reads
-use Rattle.sheet.proofs.read.Reads as read-reads
 
--- src/lib.rt:87:9
 mul-if1 : tie.Need-mul-if1
 mul-if1 c = search needs
 
--- src/lib.rt:87:52
 mul-if1-2 : tie.Need-mul-if1-2
 mul-if1-2 c = search needs
 
--- src/lib.rt:88:13
 read-requires : tie.Need-read-requires
 read-requires c κs = search needs
 
--- src/lib.rt:90:13
 refused-requires : tie.Need-refused-requires
 refused-requires c κs = search needs
 
--- src/lib.rt:90:13
 same-length : tie.Need-same-length
 same-length c = search needs
 
--- src/lib.rt:90:13
 returns : tie.Need-returns
 returns c =
     let r = c .before .before .before .before .before .read .ensures in
@@ -45,7 +34,6 @@ returns c =
     let z = simp (r .0) at (ne-eqb _ _ (c .before .if2 .taken)) in
     (simp (c .refused .ensures, r .0, t, z), (simp (r .1, t, z), simp (t, z)))
 
--- src/lib.rt:92:9
 pass-front-requires : tie.Need-pass-front-requires
 pass-front-requires c κs =
     let a = c .before .before .before .before .before .before .before .before .before .before .before .before .args in
@@ -56,15 +44,12 @@ pass-front-requires c κs =
     let f = read-fits (a .s .now) (length (a .records .now)) z in
     (rw (r .0, r .1, room-length (a .s .now) (a .records .now)) f, rw (r .0) (omega arith))
 
--- src/lib.rt:92:9
 same-length-2 : tie.Need-same-length-2
 same-length-2 c = search needs
 
--- src/lib.rt:92:9
 same-length-3 : tie.Need-same-length-3
 same-length-3 c = search needs
 
--- src/lib.rt:92:9
 returns-2 : tie.Need-returns-2
 returns-2 c =
     let b = c .before .before .before .before in
@@ -75,11 +60,9 @@ returns-2 c =
     let z = simp (r .0) at (eq-eqb _ _ (b .before .before .before .if2 .left)) in
     (simp (f .0, r .0, r .1, t, z), (simp (f .1 .0, r .0, r .1, t, z), simp (f .1 .1, r .0, r .1, t, z)))
 
--- src/lib.rt:94:5
 refused-requires-2 : tie.Need-refused-requires-2
 refused-requires-2 c κs = search needs
 
--- src/lib.rt:81:1
 returns-3 : tie.Need-returns-3
 returns-3 c = (simp (c .refused2 .ensures, c .before .if1 .left), (simp (c .before .if1 .left), simp (c .before .if1 .left)))
 
