@@ -1,0 +1,2 @@
+//! The fixed list for the program `replay`.
+pub fn write(_file: &str, _seed: u64) {}
