@@ -1,15 +1,13 @@
 -- A finite value in units of 2^-53, rounded to 0, from its pattern: digits with the leading one, shifted by the exponent's field.
 -- Assumes nothing.
 use mathlib.Core.Path.{_≡_, refl, sym, ap, _∙_, subst}
-use mathlib.Core.Bool.{Bool, true, false, not}
-use Prim.Native.Nat.{ℕ, zero, suc, _+_, _-_, _*_, _/_, _%_, _^_, _≤_, _<_}
-use native.Mathlib.Nat.{div-eq-of-lt, mul-div-mul-right, mul-assoc, mul-one, pow-zero, pow-suc, lt-of-lt-of-le, lt-of-le-of-lt, le-trans, mul-le-mul, lt-irrefl, le-of-eq}
-use native.Mathlib.Omega.{arith, by-contra}
-use native.Mathlib.Bridge.{le-by-compare, IsLe}
+use Prim.Native.Nat.{ℕ, zero, suc, _+_, _*_, _/_, _^_, _≤_, _<_}
+use native.Mathlib.Nat.{div-eq-of-lt, mul-div-mul-right, mul-assoc, mul-one, pow-zero, pow-suc, lt-of-lt-of-le, mul-le-mul}
+use native.Mathlib.Omega.{arith}
 use lib.Pow.{pow-pos, pow-mono}
-use lib.Ieee.{Float, binary64, ofBits, toBits, fits}
-use Rattle.exact.specs.Units.{L, mag, sgn, Fin64}
-use Rattle.exact.specs.Fields.{Has, signAt, exponentAt, digitsAt, normal-units, small-units}
+use lib.Ieee.{binary64, ofBits}
+use Rattle.exact.specs.Units.{mag, sgn}
+use Rattle.exact.specs.Fields.{signAt, exponentAt, digitsAt, normal-units, small-units}
 
 within-53 : (t : ℕ) → t < 2 ^ 52 → 2 ^ 52 + t < 2 ^ 53
 within-53 t h = omega arith

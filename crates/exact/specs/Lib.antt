@@ -15,3 +15,14 @@ pub mod Fields
 pub mod OrderLe
 pub mod Cut
 pub mod Normal
+pub mod Positives
+pub mod Patterns
+pub mod Symmetric
+pub mod Midpoints
+pub mod RootOf
+pub mod WholeRoot
+pub mod RootDigits
+pub mod RootNearest
+pub mod RootZero
+pub mod RootLaws
+pub mod RootCases

@@ -5,3 +5,6 @@ pub mod Packed
 pub mod Quotients
 pub mod Near
 pub mod Unpacking
+pub mod HalfDifference
+pub mod SinhClose
+pub mod Laws

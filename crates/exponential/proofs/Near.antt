@@ -1,28 +1,27 @@
 -- The exponential is as near as document 01, section 3, asks: exp-near. And exactly 1 at 0: exp-zero. Assumes nothing.
-use mathlib.Core.Path.{_≡_, refl, sym, ap, _∙_, subst}
-use mathlib.Core.Bool.{Bool, true, false, not, cond, _&&_}
-use Prim.Native.Nat.{ℕ, zero, suc, _+_, _-_, _*_, _/_, _%_, _^_, _≤_, _<_}
-use native.Mathlib.Nat.{div-le-of-le-mul, le-trans, le-of-eq}
+use mathlib.Core.Path.{_≡_, refl, sym, subst}
+use mathlib.Core.Bool.{Bool, true, false, cond}
+use Prim.Native.Nat.{ℕ, zero, suc, _+_, _-_, _*_, _/_, _^_, _≤_, _<_}
+use native.Mathlib.Nat.{div-le-of-le-mul, le-trans}
 use native.Mathlib.Omega.{arith}
 use native.Mathlib.Bridge.{le-by-compare, IsLe}
 use lib.Dec.{T}
 use lib.IntN.{ℤ, pos, negsuc, negℤ}
 use lib.Ieee as Ieee
 use lib.Ieee.{Float, binary64, ofBits, fits}
-use lib.Ieee.Scale as Scale
 use Rattle.exact.specs.Units.{L, mag, sgn, Fin64}
 use Rattle.exact.specs.Integers.{p, n, abs, abs-is, _≤ᶻ_}
 use Rattle.exact.specs.Value.{val, abs-val}
 use Rattle.exact.specs.OrderLe.{le-val, between-finite}
 use Rattle.series.specs.Exponential.{num, den}
-use Rattle.series.specs.Remainder.{Above, Within}
+use Rattle.series.specs.Remainder.{Above}
 use Rattle.series.specs.ExpNear.{ExpNear}
 use Rattle.numbers.specs.Range.{inRange}
 use Rattle.numbers.proofs.Laws.{and-both}
-use Rattle.exponential.specs.Worked.{low, high, partOf, timesOf, belowOf, aboveOf, tailOf, packOf, expBits, cutOf, expOf}
+use Rattle.exponential.specs.Worked.{low, high, partOf, timesOf, belowOf, aboveOf, tailOf, packOf, expBits, expOf}
 use Rattle.exponential.proofs.Parts.{part-within, part-lt}
-use Rattle.exponential.proofs.Quotients.{Below, below-facts, Over, above-facts}
-use Rattle.exponential.proofs.Packed.{Scaled, scaled-plus, scaled-minus, packed}
+use Rattle.exponential.proofs.Quotients.{below-facts, above-facts}
+use Rattle.exponential.proofs.Packed.{Scaled, scaled-plus, scaled-minus, Packed, packed, exp-near-of}
 
 -- ---- within the range
 true-T : (b : Bool) → b ≡ true → T b
@@ -68,9 +67,8 @@ part-ge r h = at-least r (partOf r) (part-within r h .above)
 positive : (b : ℕ) → 2 ^ 61 ≤ b + 40 → 0 < b
 positive b h = omega arith
 
-near-of : (x : Float) (e r : ℕ) → Scaled (val x) e (partOf r) → r < 90 * 2 ^ 46 → 0 < e → e ≤ 2033 → ExpNear x (ofBits binary64 (packOf e (partOf r)))
-near-of x zero r S h lo hi = absurd (omega arith)
-near-of x (suc f) r S h lo hi = packed x f (partOf r) S (omega arith) (part-ge r h) (part-lt r h)
+near-of : (z : ℤ) (e r : ℕ) → Scaled z e (partOf r) → r < 90 * 2 ^ 46 → 0 < e → e ≤ 2033 → Packed z e (ofBits binary64 (packOf e (partOf r)))
+near-of z e r S h lo hi = packed z e (partOf r) S lo hi (part-ge r h) (part-lt r h)
 
 joined : (t u : ℕ) → t ≤ u → t + (u - t) ≡ u
 joined t u h = omega arith
@@ -84,42 +82,41 @@ field-plus k h = (omega arith, omega arith)
 pub field-minus : (k : ℕ) → k ≤ 1010 → (0 < 1023 - k) × (1023 - k ≤ 2033) × (1023 - k + k ≡ 1023)
 field-minus k h = (omega arith, omega arith, omega arith)
 
-module _ (x : Float) (a : ℕ) (u1 : a / 2 ^ 1021 ≤ 700 * 2 ^ 53) where
-  near-plus : val x ≡ pos a → ExpNear x (ofBits binary64 (expBits false (a / 2 ^ 1021)))
-  unfolding expBits
-  near-plus v =
-      let u = a / 2 ^ 1021 in
-      let k = belowOf u in
-      let B = below-facts u u1 in
-      let r = u - timesOf k in
-      let k1 = B .few in
-      near-of x (1023 + k) r
-      (subst (λ (z : ℤ). Scaled z (1023 + k) (partOf r)) (sym v) (scaled-plus a k r (partOf r) k1 (positive (partOf r) (part-ge r (B .rest))) (part-within r (B .rest)) (joined (timesOf k) u (B .fits))))
-      (B .rest) (field-plus k k1 .0) (field-plus k k1 .1)
+pub near-plus : (a : ℕ) → a / 2 ^ 1021 ≤ 700 * 2 ^ 53 → Packed (pos a) (1023 + belowOf (a / 2 ^ 1021)) (ofBits binary64 (expBits false (a / 2 ^ 1021)))
+unfolding expBits
+near-plus a u1 =
+    let u = a / 2 ^ 1021 in
+    let k = belowOf u in
+    let B = below-facts u u1 in
+    let r = u - timesOf k in
+    let F = field-plus k (B .few) in
+    near-of (pos a) (1023 + k) r (scaled-plus a k r (partOf r) (B .few) (positive (partOf r) (part-ge r (B .rest))) (part-within r (B .rest)) (joined (timesOf k) u (B .fits)))
+    (B .rest) (F .0) (F .1)
 
-module _ (x : Float) (a' : ℕ) (u1 : suc a' / 2 ^ 1021 ≤ 700 * 2 ^ 53) where
-  near-minus : val x ≡ negsuc a' → ExpNear x (ofBits binary64 (expBits true (suc a' / 2 ^ 1021)))
-  unfolding expBits
-  near-minus v =
-      let u = suc a' / 2 ^ 1021 in
-      let k = aboveOf u in
-      let B = above-facts u u1 in
-      let r = timesOf k - u in
-      let k1 = B .few in
-      near-of x (1023 - k) r
-      (subst (λ (z : ℤ). Scaled z (1023 - k) (partOf r)) (sym v)
-      (scaled-minus a' k (1023 - k) r (partOf r) k1 (positive (partOf r) (part-ge r (B .rest))) (part-within r (B .rest)) (field-minus k k1 .2) (apart (timesOf k) u (B .fits))))
-      (B .rest) (field-minus k k1 .0) (field-minus k k1 .1)
+near-minus : (a' : ℕ) → suc a' / 2 ^ 1021 ≤ 700 * 2 ^ 53 → Packed (negsuc a') (1023 - aboveOf (suc a' / 2 ^ 1021)) (ofBits binary64 (expBits true (suc a' / 2 ^ 1021)))
+unfolding expBits
+near-minus a' u1 =
+    let u = suc a' / 2 ^ 1021 in
+    let k = aboveOf u in
+    let B = above-facts u u1 in
+    let r = timesOf k - u in
+    let F = field-minus k (B .few) in
+    near-of (negsuc a') (1023 - k) r
+    (scaled-minus a' k (1023 - k) r (partOf r) (B .few) (positive (partOf r) (part-ge r (B .rest))) (part-within r (B .rest)) (F .2) (apart (timesOf k) u (B .fits)))
+    (B .rest) (F .0) (F .1)
 
 -- -0 is worked as 0
 zeros : expBits true (0 / 2 ^ 1021) ≡ expBits false (0 / 2 ^ 1021)
 unfolding expBits packOf partOf
 zeros = refl
 
+near-at : (x r : Float) (z : ℤ) (e : ℕ) → val x ≡ z → Packed z e r → ExpNear x r
+near-at x r z e v K = exp-near-of x r e (subst (λ (w : ℤ). Packed w e r) (sym v) K)
+
 near-sign : (x : Float) (s : Bool) (a : ℕ) → a / 2 ^ 1021 ≤ 700 * 2 ^ 53 → val x ≡ cond s (negℤ (pos a)) (pos a) → ExpNear x (ofBits binary64 (expBits s (a / 2 ^ 1021)))
-near-sign x false a u1 v = near-plus x a u1 v
-near-sign x true zero u1 v = rw zeros (near-plus x 0 u1 v)
-near-sign x true (suc a') u1 v = near-minus x a' u1 v
+near-sign x false a u1 v = near-at x (ofBits binary64 (expBits false (a / 2 ^ 1021))) (pos a) (1023 + belowOf (a / 2 ^ 1021)) v (near-plus a u1)
+near-sign x true zero u1 v = rw zeros (near-at x (ofBits binary64 (expBits false (0 / 2 ^ 1021))) (pos 0) (1023 + belowOf (0 / 2 ^ 1021)) v (near-plus 0 u1))
+near-sign x true (suc a) u1 v = near-at x (ofBits binary64 (expBits true (suc a / 2 ^ 1021))) (negsuc a) (1023 - aboveOf (suc a / 2 ^ 1021)) v (near-minus a u1)
 
 val-is : (x : Float) → val x ≡ cond (sgn x) (negℤ (pos (mag x))) (pos (mag x))
 unfolding val

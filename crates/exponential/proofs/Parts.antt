@@ -1,8 +1,8 @@
 -- The part of the exponential that the tables and the four terms give: a product of three, each rounded down. Assumes nothing.
-use mathlib.Core.Path.{_≡_, sym, subst, subst₂}
+use mathlib.Core.Path.{_≡_, subst, subst₂}
 use mathlib.Core.Bool.{Bool}
 use Prim.Native.Nat.{ℕ, _+_, _*_, _/_, _%_, _^_, _≤_, _<_}
-use native.Mathlib.Nat.{mul-le-mul, mul-le-mul-right, le-trans, le-of-lt, lt-of-le-of-lt, mul-assoc, mod-lt, div-mul-le-self, lt-div-mul-add, div-le-of-le-mul}
+use native.Mathlib.Nat.{mul-le-mul, mul-le-mul-right, le-trans, le-of-lt, lt-of-le-of-lt, mul-assoc, div-mul-le-self, lt-div-mul-add, div-le-of-le-mul}
 use native.Mathlib.Omega.{arith}
 use native.Mathlib.Bridge.{le-by-compare, IsLe}
 use lib.Dec.{lit<}

@@ -1,5 +1,4 @@
 -- How often ln 2 goes into u, from below and from above: the rest lies within the tables. Assumes nothing.
-use mathlib.Core.Path.{_≡_}
 use Prim.Native.Nat.{ℕ, _+_, _-_, _*_, _/_, _^_, _≤_, _<_}
 use native.Mathlib.Omega.{arith}
 use Rattle.exponential.specs.Worked.{timesOf, belowOf, aboveOf}

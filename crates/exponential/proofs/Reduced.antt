@@ -1,15 +1,14 @@
 -- The exponential of x from 2^k and the part of a rest: exp x = 2^k exp r, or exp (- x) = exp r / 2^k. Assumes nothing.
-use mathlib.Core.Path.{_≡_, refl, sym, ap, _∙_, subst}
-use Prim.Native.Nat.{ℕ, zero, suc, _+_, _-_, _*_, _/_, _%_, _^_, _≤_, _<_}
-use native.Mathlib.Nat.{mul-suc, div-mul-le-self, lt-div-mul-add, mul-le-mul-right, le-trans, le-of-eq, le-of-lt, mul-pos, add-comm, mul-comm}
+use mathlib.Core.Path.{_≡_, refl, sym, subst}
+use Prim.Native.Nat.{ℕ, suc, _+_, _*_, _/_, _^_, _≤_, _<_}
+use native.Mathlib.Nat.{mul-suc, div-mul-le-self, lt-div-mul-add}
 use native.Mathlib.Omega.{arith}
 use native.Mathlib.Bridge.{le-by-compare, IsLe}
-use lib.Dec.{lit<}
-use lib.Pow.{pow-pos, pow-add}
+use lib.Pow.{pow-pos}
 use Rattle.exact.specs.Units.{L}
 use Rattle.series.specs.Exponential.{num, den}
 use Rattle.series.specs.Remainder.{Above, Under, Within, above}
-use Rattle.series.specs.Bounds.{above-add, under-add, above-weak, under-weak, above-mono, under-mono, above-cancel, under-cancel}
+use Rattle.series.specs.Bounds.{above-add, under-add, above-mono, under-mono, above-cancel, under-cancel}
 use Rattle.series.specs.Scale.{above-scale, above-unscale, under-scale, under-unscale}
 use Rattle.series.specs.Ln2.{ln2, two-above, two-under}
 use Rattle.exponential.specs.Worked.{timesOf}

@@ -1,23 +1,20 @@
 -- What the pattern of an argument within the range says of it. Assumes nothing.
 use mathlib.Core.Path.{_≡_, refl, sym, ap, _∙_, subst}
-use mathlib.Core.Bool.{Bool, true, false, not}
-use Prim.Native.Nat.{ℕ, suc, _+_, _*_, _/_, _%_, _^_, _≤_, _<_}
-use native.Mathlib.Nat.{lt-irrefl, lt-of-le-of-lt, lt-of-lt-of-le, le-trans}
+use mathlib.Core.Bool.{Bool, true, not}
+use Prim.Native.Nat.{ℕ, suc, _+_, _*_, _/_, _^_, _≤_, _<_}
+use native.Mathlib.Nat.{lt-irrefl, lt-of-le-of-lt, le-trans}
 use native.Mathlib.Omega.{arith, by-contra}
 use native.Mathlib.Bridge.{le-by-compare, IsLe}
 use borrow.Author.Tests.{eq-eqb}
 use lib.Dec.{T, eqb}
-use lib.Ieee as Ieee
 use lib.Ieee.{Float, nan, inf, fin, binary64, ofBits, toBits, fits, isNan, nanBits}
 use lib.Ieee.Bits.{nanBits-is}
 use lib.Ieee.Scale as Scale
-use Rattle.exact.specs.Units.{mag, sgn, Fin64}
+use Rattle.exact.specs.Units.{mag, sgn}
 use Rattle.exact.specs.Fields.{signAt, exponentAt, digitsAt, of-own}
 use Rattle.exact.specs.Cut.{Unpacked, unpacked}
-use Rattle.numbers.specs.Rules as Rules
 use Rattle.numbers.specs.Range.{inRange}
 use Rattle.numbers.proofs.Laws.{finite-bits, finite-is}
-use Rattle.series.specs.ExpNear.{ExpNear}
 use Rattle.exponential.specs.Worked.{low, high, expBits, cutOf, expOf}
 use Rattle.exponential.proofs.Near.{ranged-finite, ranged-mag, cut-le, exp-near}
 

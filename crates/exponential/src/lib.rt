@@ -1,17 +1,22 @@
-// The exponential (document 01, section 3), in fixed point: 2^k times a part from two tables and four terms of the series.
+// The exponential and the hyperbolic sine (document 01, section 3). The exponential is worked in fixed point: 2^k times a part from two
+// tables and four terms of the series.
 mod entries;
+mod hyperbolic;
 mod part;
 
 use fixed_point::fixed;
+pub use hyperbolic::sinh;
+pub use hyperbolic::sinh_on_path;
 use numbers::Elementary;
 use part::exp_part;
 ghost use mathlib.Core.Path.{_≡_};
 ghost use mathlib.Core.Bool.{true};
 ghost use Prim.Native.Nat.{_+_, _*_, _^_, _≤_, _<_};
+ghost use Rattle.exact.specs.Units.{sgn};
 ghost use Rattle.series.specs.ExpNear.{ExpNear};
 ghost use Rattle.numbers.specs.Range.{inRange, bare, onPath};
 ghost use Rattle.exponential.specs.Exp.{expRanged};
-ghost use Rattle.exponential.specs.Worked.{low, high, timesOf, belowOf, aboveOf, raisedOf, packOf, expBits, expOf};
+ghost use Rattle.exponential.specs.Worked.{low, high, timesOf, raisedOf, packOf, expBits, cutOf, expOf};
 
 // k ln 2, in units of 2^-53.
 fn times(k: u64) -> u64
@@ -60,17 +65,32 @@ fn exp_bits(negative: bool, u: u64) -> u64
     }
 }
 
+// The size of x in units of 2^-53, rounded down.
+fn cut(x: f64) -> u64
+    requires { ⌜ inRange low high x ≡ true ⌝ }
+    ensures { λ u. ⌜ u ≡ cutOf x ⌝ }
+{
+    let n = f64::to_bits(x);
+    fixed(
+        n % 0x8000_0000_0000_0000 / 0x10_0000_0000_0000,
+        0x10_0000_0000_0000 + n % 0x10_0000_0000_0000,
+    )
+}
+
+// Whether x has the sign.
+fn negative(x: f64) -> bool
+    requires { ⌜ inRange low high x ≡ true ⌝ }
+    ensures { λ s. ⌜ s ≡ sgn x ⌝ }
+{
+    0x8000_0000_0000_0000 <= f64::to_bits(x)
+}
+
 // exp x, for an x within the range: within 2^-45 of the exact value, times that value.
 fn exp_value(x: f64) -> f64
     requires { ⌜ inRange low high x ≡ true ⌝ }
     ensures { λ r. ⌜ (r ≡ expOf x) × ExpNear x r ⌝ }
 {
-    let n = f64::to_bits(x);
-    let u = fixed(
-        n % 0x8000_0000_0000_0000 / 0x10_0000_0000_0000,
-        0x10_0000_0000_0000 + n % 0x10_0000_0000_0000,
-    );
-    f64::from_bits(exp_bits(0x8000_0000_0000_0000 <= n, u))
+    f64::from_bits(exp_bits(negative(x), cut(x)))
 }
 
 // exp x within the range; outside it a refusal by 2.

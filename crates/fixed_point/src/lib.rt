@@ -1,4 +1,7 @@
 // Numbers as whole multiples of a power of two in a u64: what the elementary functions work in.
+mod float;
+
+pub use float::to_float;
 ghost use mathlib.Core.Path.{_≡_};
 ghost use Prim.Native.Nat.{_*_, _/_, _^_, _<_};
 

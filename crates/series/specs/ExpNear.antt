@@ -1,8 +1,8 @@
 -- What document 01, section 3, asks of the exponential: within 2^-45 of the exact value, times that value. The exact value at a signed
 -- fraction z / q is the series of NIST DLMF 4.2.19, and at a negative one the reciprocal.
-use mathlib.Core.Path.{_≡_, refl, sym, subst}
-use mathlib.Core.Bool.{Bool, true, false}
-use Prim.Native.Nat.{ℕ, zero, suc, _+_, _-_, _*_, _^_, _≤_, _<_}
+use mathlib.Core.Path.{_≡_, refl}
+use mathlib.Core.Bool.{false}
+use Prim.Native.Nat.{ℕ, suc, _+_, _-_, _*_, _^_, _≤_, _<_}
 use native.Mathlib.Nat.{le-of-mul-le-mul-right, mul-le-mul-right, mul-pos}
 use native.Mathlib.Omega.{arith}
 use lib.IntN.{ℤ, pos, negsuc}
@@ -23,7 +23,8 @@ abbrev pub AtLeast : (z : ℤ) (q x y : ℕ) → Type 0
 AtLeast (pos p) q x y = Under p q x y
 AtLeast (negsuc k) q x y = Above (suc k) q y x
 
--- r is positive and r / (1 + 2^-45) ≤ exp x ≤ r / (1 - 2^-45), where x is `val x` and r is `mag r` units of 1 / L
+-- r is positive and within 2^-45 exp x of exp x: r / (1 + 2^-45) ≤ exp x ≤ r / (1 - 2^-45), where x is `val x` and r is `mag r` units
+-- of 1 / L, which is 2^-1074
 pub record ExpNear (x r : Float) : Type 0 where
   pub fine : Fin64 r
   pub sign : sgn r ≡ false

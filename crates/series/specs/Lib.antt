@@ -6,7 +6,15 @@ pub mod Bounds
 pub mod Tested
 pub mod Alternate
 pub mod LogTail
+pub mod Sine
+pub mod SinNear
+pub mod SinSure
+pub mod SinNarrow
+pub mod SineNest
 pub mod ExpNear
 pub mod Scale
+pub mod LogNear
+pub mod Logs
 pub mod Ln2
 pub mod ThirdsNear
+pub mod SinhNear

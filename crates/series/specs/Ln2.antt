@@ -1,6 +1,6 @@
 -- The natural logarithm of 2 to 85 places: exp (k ln 2) against 2^k. Assumes nothing.
 use mathlib.Core.Path.{_≡_, _∙_, subst}
-use Prim.Native.Nat.{ℕ, zero, suc, _+_, _*_, _^_, _≤_, _<_}
+use Prim.Native.Nat.{ℕ, zero, suc, _+_, _*_, _^_}
 use native.Mathlib.Nat.{pow-suc, pow-zero, mul-one}
 use native.Mathlib.Bridge.{le-by-compare, IsLe}
 use lib.Pow.{pow-pos}

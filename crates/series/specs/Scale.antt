@@ -1,6 +1,6 @@
 -- Bounds on the exponential of a fraction that is written over another denominator. Assumes nothing.
 use mathlib.Core.Path.{_≡_, ap}
-use Prim.Native.Nat.{ℕ, zero, suc, _+_, _*_, _^_, _≤_, _<_}
+use Prim.Native.Nat.{ℕ, zero, suc, _*_, _^_, _<_}
 use native.Mathlib.Nat.{mul-le-mul-right, le-of-mul-le-mul-right, pow-suc, pow-zero, one-le-pow}
 use native.Mathlib.Omega.{arith}
 use Rattle.series.specs.Exponential.{num, den}

@@ -3,3 +3,7 @@ pub mod Steps
 pub mod Bounds
 pub mod Taken
 pub mod Rooms
+pub mod Pieces
+pub mod Format
+pub mod Refusals
+pub mod Examples

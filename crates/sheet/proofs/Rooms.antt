@@ -1,14 +1,15 @@
 -- `readOf` and `roomOf` case by case, each from the tests that lead to it.
-use mathlib.Core.Path.{_≡_, refl, sym, ap, _∙_, subst}
-use mathlib.Core.Bool.{Bool, true, false, cond}
-use mathlib.Core.List.{List, _++_}
-use Prim.Native.Nat.{ℕ, _+_, _*_, _%_, _≤_, _<_}
+use mathlib.Core.Path.{_≡_, refl, sym, ap, _∙_}
+use mathlib.Core.List.{List, _++_, append-nil}
+use Prim.Native.Nat.{ℕ, _+_, _*_, _-_, _%_, _≤_, _<_}
 use native.Mathlib.Omega.{arith}
 use lib.ListN.{length, drop}
-use lib.Dec.{eqb, ltb}
+use lib.Seq.{drop-length}
 use borrow.Author.Tests.{lt-ltb, le-ltb, eq-eqb, ne-eqb}
 use Rattle.record.specs.Layout.{floats}
-use Rattle.sheet.specs.Sheet.{refusedBy, headerOf, wordsOf, fitted, readOf, filled, roomOf}
+use Rattle.sheet.specs.Sheet.{refusedBy, headerOf, wordsOf, fitted, readOf, roomOf, recordAt, placed, roomAt}
+use Rattle.sheet.specs.declared.Place.{Place}
+use Rattle.sheet.specs.declared.Place.the-variants.{Next as Place·Next, Refused as Place·Refused}
 use Rattle.sheet.specs.declared.Header.{Header}
 
 module _ (s room : List ℕ) where
@@ -44,3 +45,28 @@ module _ (s room : List ℕ) where
       good out l q =
           let f : h ≡ readOf s (length room) = rw (even, eq-eqb (h .refusal) 0 z, le-ltb (length room) (h .count * floats) l) in
           (f, rw (← f, eq-eqb (h .refusal) 0 z) q)
+
+-- one record
+module _ (s : List ℕ) (at : ℕ) (room : List ℕ) where
+  settled : (p : Place) (out : List ℕ) → p ≡ recordAt s at (length room) → out ≡ placed p (wordsOf floats (drop at s)) room → (p ≡ recordAt s at (length room)) × (out ≡ roomAt s at room)
+  unfolding roomAt
+  settled p out e f = (e, rw (← e) f)
+
+  pub other-size : (length room ≡ floats → ⊥) → (Place·Refused 8 ≡ recordAt s at (length room)) × (room ≡ roomAt s at room)
+  unfolding recordAt
+  other-size n = settled (Place·Refused 8) room (rw (ne-eqb (length room) floats n)) refl
+
+  module _ (m : length room ≡ floats) where
+    pub record-short : length s - at < floats * 8 → (Place·Refused 4 ≡ recordAt s at (length room)) × (room ≡ roomAt s at room)
+    unfolding recordAt
+    record-short l = settled (Place·Refused 4) room (rw (eq-eqb (length room) floats m, lt-ltb (length s - at) (floats * 8) l)) refl
+
+    pub record-late : length s < at → (Place·Refused 4 ≡ recordAt s at (length room)) × (room ≡ roomAt s at room)
+    record-late l = record-short (omega arith)
+
+    pub record-read : (out : List ℕ) → floats * 8 ≤ length s - at → out ≡ wordsOf floats (drop at s) ++ drop floats room
+        → (Place·Next (at + floats * 8) ≡ recordAt s at (length room)) × (out ≡ roomAt s at room)
+    unfolding recordAt
+    record-read out l e =
+        settled (Place·Next (at + floats * 8)) out (rw (eq-eqb (length room) floats m, le-ltb (length s - at) (floats * 8) l))
+        (e ∙ ap (λ (k : ℕ). wordsOf floats (drop at s) ++ drop k room) (sym m) ∙ ap (λ (t : List ℕ). wordsOf floats (drop at s) ++ t) (drop-length room) ∙ append-nil (wordsOf floats (drop at s)))

@@ -1,15 +1,14 @@
 -- What one more float adds to the words read, and one more parameter to those read.
-use mathlib.Core.Path.{_≡_, refl, sym, ap, _∙_, subst}
+use mathlib.Core.Path.{_≡_, refl, sym, ap, _∙_}
 use mathlib.Core.Bool.{Bool, true, false, cond}
 use mathlib.Core.List.{List, [], _∷_, _++_, append-assoc, append-nil}
 use Prim.Native.Nat.{ℕ, zero, suc, _+_, _*_, _-_, _≤_, _<_}
 use native.Mathlib.Omega.{arith}
 use native.Mathlib.Numerals.{add-one}
-use lib.ListN.{length, getD, take, drop, set, replicate, length-append, length-drop, length-take, length-set, take-append-drop}
+use lib.ListN.{length, getD, take, drop, set, replicate, length-append, length-drop, length-take, take-append-drop}
 use lib.Seq.{drop-cons, drop-drop, set-at, drop-length, take-suc-set, drop-set-lt}
-use lib.Dec.{eqb, ltb, leb}
-use Rattle.sheet.specs.Sheet.{wordOf, wordAt, wordsOf, allowed, checked, parameterAt, kindsOf, Fields, Got, Stopped, before, andThen, parametersAt, padded, struckOf}
-use Rattle.sheet.specs.declared.Parameters.{Parameters}
+use lib.Dec.{eqb}
+use Rattle.sheet.specs.Sheet.{wordOf, wordsOf, parameterAt, kindsOf, Fields, Got, Stopped, before, andThen, parametersAt, padded, asParameters}
 use Rattle.sheet.specs.declared.Word.{Word}
 use Rattle.sheet.specs.declared.Word.the-variants.{Read as Word·Read, Refused as Word·Refused}
 
@@ -61,9 +60,9 @@ module _ (K : List Bool) (s : List ℕ) (next i : ℕ) (h : i < length K) where
         ∙ prefixed-more (take i bits) w (parametersAt (drop (i + 1) K) s to)
         ∙ ap (λ (l : List ℕ). prefixed l (parametersAt (drop (i + 1) K) s to)) (sym (take-suc-set bits i w b) ∙ ap (λ (k : ℕ). take k (set bits i w)) (sym (add-one i)))
 
-    pub parameter-refused : (n : ℕ) → Word·Refused n ≡ parameterAt (getD K i false) s next → record { refusal = n; bits = padded []; at = 0 } ≡ struckOf (parametersAt K s at)
+    pub parameter-refused : (n : ℕ) → Word·Refused n ≡ parameterAt (getD K i false) s next → record { refusal = n; bits = padded []; at = 0 } ≡ asParameters (parametersAt K s at)
     parameter-refused n r =
-        sym (ap struckOf (e ∙ ap (prefixed (take i bits)) (one-more ∙ ap (λ (x : Word). andThen x (λ to. parametersAt (drop (i + 1) K) s to)) (sym r))))
+        sym (ap asParameters (e ∙ ap (prefixed (take i bits)) (one-more ∙ ap (λ (x : Word). andThen x (λ to. parametersAt (drop (i + 1) K) s to)) (sym r))))
 
 -- the places past the last are still 0
 pub rest-zero : (bits : List ℕ) (i w : ℕ) → i < 8 → drop i bits ≡ replicate (8 - i) 0 → drop (i + 1) (set bits i w) ≡ replicate (8 - (i + 1)) 0
@@ -72,14 +71,14 @@ rest-zero bits i w h e =
     drop-set-lt (i + 1) bits i w (omega arith) ∙ sym (drop-drop 1 i bits) ∙ ap (drop 1) (e ∙ ap (λ (m : ℕ). replicate m 0) k)
 
 pub all-read : (K : List Bool) (s : List ℕ) (at next i : ℕ) (bits : List ℕ) → i ≡ length K → i ≤ 8 → length bits ≡ 8 → drop i bits ≡ replicate (8 - i) 0
-    → parametersAt K s at ≡ prefixed (take i bits) (parametersAt (drop i K) s next) → record { refusal = 0; bits = bits; at = next } ≡ struckOf (parametersAt K s at)
+    → parametersAt K s at ≡ prefixed (take i bits) (parametersAt (drop i K) s next) → record { refusal = 0; bits = bits; at = next } ≡ asParameters (parametersAt K s at)
 unfolding parametersAt
 all-read K s at next i bits k h l z e =
     let d : drop i K ≡ [] = ap (λ (j : ℕ). drop j K) k ∙ drop-length K in
     let m : length (take i bits) ≡ i = simp length-take (omega arith) in
     let p : padded (take i bits ++ []) ≡ bits =
     ap padded (append-nil (take i bits)) ∙ ap (λ (j : ℕ). take i bits ++ replicate (8 - j) 0) m ∙ ap (λ (t : List ℕ). take i bits ++ t) (sym z) ∙ take-append-drop i bits in
-    sym (ap struckOf (e ∙ ap (λ (t : List Bool). prefixed (take i bits) (parametersAt t s next)) d) ∙ ap (λ (b : List ℕ). record { refusal = 0; bits = b; at = next }) p)
+    sym (ap asParameters (e ∙ ap (λ (t : List Bool). prefixed (take i bits) (parametersAt t s next)) d) ∙ ap (λ (b : List ℕ). record { refusal = 0; bits = b; at = next }) p)
 
 pub kinds-most : (model : ℕ) → length (kindsOf model) ≤ 8
 unfolding kindsOf

@@ -29,7 +29,8 @@ pub record Taken (s : List ℕ) (h : Header) : Type 0 where
   pub ends : at + count * floats * 8 ≡ length s
   pub is : record { refusal = 0; model = model; parameters = padded words; count = count; at = at } ≡ h
 
-either : {A R : Type 0} (b : Bool) (x y z : A) → cond b x y ≡ z → (b ≡ true → x ≡ z → R) → (b ≡ false → y ≡ z → R) → R
+-- the two ways of a test
+pub either : {A R : Type 0} (b : Bool) (x y z : A) → cond b x y ≡ z → (b ≡ true → x ≡ z → R) → (b ≡ false → y ≡ z → R) → R
 either true x y z e f g = f refl e
 either false x y z e f g = g refl e
 

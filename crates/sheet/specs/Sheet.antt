@@ -9,6 +9,8 @@ use Rattle.sheet.specs.declared.Number.{Number}
 use Rattle.sheet.specs.declared.Number.the-variants.{Read as Number·Read, Refused as Number·Refused}
 use Rattle.sheet.specs.declared.Word.{Word}
 use Rattle.sheet.specs.declared.Word.the-variants.{Read as Word·Read, Refused as Word·Refused}
+use Rattle.sheet.specs.declared.Place.{Place}
+use Rattle.sheet.specs.declared.Place.the-variants.{Next as Place·Next, Refused as Place·Refused}
 use Rattle.sheet.specs.declared.Parameters.{Parameters}
 use Rattle.sheet.specs.declared.Header.{Header}
 
@@ -88,9 +90,9 @@ parametersAt (flag ∷ flags) s at = andThen (parameterAt flag s at) (λ next. p
 abbrev pub padded : List ℕ → List ℕ
 padded ws = ws ++ replicate (8 - length ws) 0
 
-abbrev pub struckOf : Fields → Parameters
-struckOf (Got ws at) = record { refusal = 0; bits = padded ws; at = at }
-struckOf (Stopped n) = record { refusal = n; bits = padded []; at = 0 }
+abbrev pub asParameters : Fields → Parameters
+asParameters (Got ws at) = record { refusal = 0; bits = padded ws; at = at }
+asParameters (Stopped n) = record { refusal = n; bits = padded []; at = 0 }
 
 abbrev pub refusedBy : ℕ → Header
 refusedBy n = record { refusal = n; model = 0; parameters = padded []; count = 0; at = 0 }
@@ -136,3 +138,17 @@ filled s room h =
 
 unfoldable pub roomOf : List ℕ → List ℕ → List ℕ
 roomOf s room = filled s room (readOf s (length room))
+
+-- One record by itself: 8 where the room is not of its size, then 4 where the sheet ends early.
+unfoldable pub recordAt : List ℕ → ℕ → ℕ → Place
+recordAt s at room =
+    cond (eqb room floats)
+    (cond (ltb (length s - at) (floats * 8)) (Place·Refused 4) (Place·Next (at + floats * 8)))
+    (Place·Refused 8)
+
+abbrev pub placed : Place → List ℕ → List ℕ → List ℕ
+placed (Place·Next n) new old = new
+placed (Place·Refused n) new old = old
+
+unfoldable pub roomAt : List ℕ → ℕ → List ℕ → List ℕ
+roomAt s at room = placed (recordAt s at (length room)) (wordsOf floats (drop at s)) room

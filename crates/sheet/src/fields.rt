@@ -7,7 +7,7 @@ use crate::words::word_at;
 ghost use mathlib.Core.Path.{_≡_};
 ghost use mathlib.Core.Bool.{false};
 ghost use lib.ListN.{length, getD};
-ghost use Rattle.sheet.specs.Sheet.{allowed, parameterAt, kindsOf, parametersAt, struckOf};
+ghost use Rattle.sheet.specs.Sheet.{allowed, parameterAt, kindsOf, parametersAt, asParameters};
 
 // A flag is told by its bits, so -0.0 is none.
 fn allows(flag: bool, bits: u64) -> bool
@@ -61,7 +61,7 @@ fn is_flag(model: u64, i: usize) -> bool
 }
 
 pub fn parameters(s: &[u8], model: u64, at: usize) -> Parameters
-    ensures { λ r. ⌜ r ≡ struckOf (parametersAt (kindsOf model) (now (s .entry)) at) ⌝ }
+    ensures { λ r. ⌜ r ≡ asParameters (parametersAt (kindsOf model) (now (s .entry)) at) ⌝ }
 {
     let n = fields(model);
     let mut bits = [0u64; 8];
@@ -70,9 +70,9 @@ pub fn parameters(s: &[u8], model: u64, at: usize) -> Parameters
     while i < n {
         let w = parameter_at(s, is_flag(model, i), next);
         match w {
-            Word::Refused(n) => {
+            Word::Refused(refusal) => {
                 return Parameters {
-                    refusal: n,
+                    refusal,
                     bits: [0u64; 8],
                     at: 0,
                 };

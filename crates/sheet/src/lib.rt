@@ -8,6 +8,7 @@ mod words;
 pub use groups::number_at;
 pub use reading::read;
 pub use reading::read_header;
+pub use reading::record_at;
 pub use words::word_at;
 
 // A number of one or two groups and the place after it, or why there is none.
@@ -19,6 +20,12 @@ pub enum Number {
 // A float's bits and the place after them, or why there are none.
 pub enum Word {
     Read(u64, usize),
+    Refused(u8),
+}
+
+// Where the next record begins, or why this one was not read.
+pub enum Place {
+    Next(usize),
     Refused(u8),
 }
 

@@ -5,6 +5,7 @@ use crate::Header;
 use crate::LENGTH;
 use crate::MOST;
 use crate::Number;
+use crate::Place;
 use crate::UNKNOWN;
 use crate::fields::parameters;
 use crate::groups::number_at;
@@ -13,7 +14,7 @@ use record::FLOATS;
 ghost use mathlib.Core.Path.{_≡_};
 ghost use Prim.Native.Nat.{_≤_};
 ghost use lib.ListN.{length};
-ghost use Rattle.sheet.specs.Sheet.{numberAt, kindsOf, parametersAt, padded, refusedBy, recordsEnd, afterCount, afterParameters, headerOf, readOf, roomOf};
+ghost use Rattle.sheet.specs.Sheet.{numberAt, kindsOf, parametersAt, refusedBy, recordsEnd, afterCount, afterParameters, headerOf, readOf, roomOf, recordAt, roomAt};
 
 fn refused(n: u8) -> Header
     ensures { λ r. ⌜ r ≡ refusedBy n ⌝ }
@@ -89,7 +90,7 @@ pub fn read_header(s: &[u8]) -> Header
     }
 }
 
-// The first count * 36 places of the room get the records' bits; the others, and all of them beside a refusal, keep theirs.
+// The records' bits go into the first places of the room; the others, and all of them beside a refusal, keep their bits.
 pub fn read(s: &[u8], room: &mut [u64]) -> Header
     ensures header { λ r. ⌜ r ≡ readOf (now (s .entry)) (length (now (room .entry))) ⌝ }
     ensures room { λ r. ⌜ now (room .exit) ≡ roomOf (now (s .entry)) (now (room .entry)) ⌝ }
@@ -107,4 +108,21 @@ pub fn read(s: &[u8], room: &mut [u64]) -> Header
     }
     fill(s, h.at, n, room);
     h
+}
+
+// The record that stands at a place, into a room of its size; beside a refusal the room keeps its bits.
+pub fn record_at(s: &[u8], at: usize, room: &mut [u64]) -> Place
+    ensures { λ r. ⌜ (r ≡ recordAt (now (s .entry)) at (length (now (room .entry)))) × (now (room .exit) ≡ roomAt (now (s .entry)) at (now (room .entry))) ⌝ }
+{
+    if room.len() != FLOATS {
+        return Place::Refused(LENGTH);
+    }
+    if s.len() < at {
+        return Place::Refused(ENDED);
+    }
+    if s.len() - at < FLOATS * 8 {
+        return Place::Refused(ENDED);
+    }
+    fill(s, at, FLOATS, room);
+    Place::Next(at + FLOATS * 8)
 }

@@ -1,5 +1,5 @@
 -- `exponential::exp` meets its contract. Assumes nothing.
-use mathlib.Core.Path.{_≡_, sym, _∙_}
+use mathlib.Core.Path.{sym, _∙_}
 use borrow.Author.Needs.{needs}
 use Rattle.exponential.proofs.exp.Statement.{statement}
 use Rattle.exponential.proofs.exp.Tie as tie

@@ -1,12 +1,12 @@
 -- `exponential::exp_bits` meets its contract. Assumes nothing.
-use mathlib.Core.Path.{_≡_, sym, ap, _∙_, subst}
+use mathlib.Core.Path.{sym, ap, _∙_, subst}
 use mathlib.Core.Bool.{Bool}
 use Prim.Native.Nat.{ℕ, _+_, _-_, _*_, _^_, _≤_, _<_}
 use native.Mathlib.Omega.{arith}
 use borrow.Author.Needs.{needs}
 use Rattle.exponential.specs.Worked.{partOf, packOf, belowOf, aboveOf, expBits}
 use Rattle.exponential.proofs.Parts.{part-lt}
-use Rattle.exponential.proofs.Quotients.{Below, below-facts, Over, above-facts}
+use Rattle.exponential.proofs.Quotients.{below-facts, above-facts}
 use Rattle.exponential.proofs.Near.{field-plus, field-minus}
 use Rattle.exponential.proofs.exp_bits.Statement.{statement}
 use Rattle.exponential.proofs.exp_bits.Tie as tie

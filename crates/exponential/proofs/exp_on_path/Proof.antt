@@ -1,5 +1,5 @@
 -- `exponential::exp_on_path` meets its contract. Assumes nothing.
-use mathlib.Core.Path.{_≡_, sym, _∙_}
+use mathlib.Core.Path.{sym, _∙_}
 use borrow.Author.Needs.{needs}
 use Rattle.exponential.proofs.exp_on_path.Statement.{statement}
 use Rattle.exponential.proofs.exp_on_path.Tie as tie

@@ -1,5 +1,5 @@
 -- `exponential::part::exp_part` meets its contract. Assumes nothing.
-use mathlib.Core.Path.{_≡_, sym, ap₂, _∙_, subst}
+use mathlib.Core.Path.{sym, ap₂, _∙_, subst}
 use Prim.Native.Nat.{ℕ, _*_, _/_, _^_, _<_}
 use borrow.Author.Needs.{needs}
 use Rattle.exponential.specs.Worked.{partOf}

@@ -1,14 +1,11 @@
+-- `sheet::fields::allows` meets its contract: by the flag.
 use borrow.Author.Needs.{needs}
 use Rattle.sheet.proofs.fields.allows.Statement.{statement}
 use Rattle.sheet.proofs.fields.allows.Tie as tie
-use Rattle.sheet.proofs.fields.allows.Reads as reads
-use Rattle.sheet.proofs.fields.allows.Lts as lts
 
--- src/fields.rt:13:1
 returns : tie.Need-returns
 returns c = rw (c .if1 .taken)
 
--- src/fields.rt:13:1
 returns-2 : tie.Need-returns-2
 returns-2 c = search needs
 

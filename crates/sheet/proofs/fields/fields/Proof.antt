@@ -1,26 +1,21 @@
+-- `sheet::fields::fields` meets its contract: by the model.
 use Rattle.sheet.specs.Sheet.{kindsOf}
 use borrow.Author.Tests.{ne-eqb}
 use Rattle.sheet.proofs.fields.fields.Statement.{statement}
 use Rattle.sheet.proofs.fields.fields.Tie as tie
-use Rattle.sheet.proofs.fields.fields.Reads as reads
-use Rattle.sheet.proofs.fields.fields.Lts as lts
 
--- src/fields.rt:36:1
 returns : tie.Need-returns
 unfolding kindsOf
 returns c = rw (c .match .keys1)
 
--- src/fields.rt:36:1
 returns-2 : tie.Need-returns-2
 unfolding kindsOf
 returns-2 c = rw (c .match .keys2)
 
--- src/fields.rt:36:1
 returns-3 : tie.Need-returns-3
 unfolding kindsOf
 returns-3 c = rw (c .match .keys3)
 
--- src/fields.rt:36:1
 returns-4 : tie.Need-returns-4
 unfolding kindsOf
 returns-4 c = rw (ne-eqb _ _ (c .match .rest .0 .0 .1), ne-eqb _ _ (c .match .rest .0 .1), ne-eqb _ _ (c .match .rest .1))

@@ -1,3 +1,4 @@
+-- `sheet::fields::parameters` meets its contract: the loop's invariant: the parameters before i, in front of what is read from next on, are those of the whole reading; the places from i on are still 0.
 use Rattle.sheet.proofs.Steps.{prefixed, prefixed-nil, parameter-read, parameter-refused, rest-zero, all-read, kinds-most}
 use Rattle.sheet.specs.Sheet.{kindsOf, parameterAt, parametersAt}
 use borrow.Author.Needs.{needs}
@@ -8,11 +9,6 @@ use mathlib.Core.Bool.{Bool}
 use mathlib.Core.Path.{_≡_, refl, sym, ap, _∙_}
 use Rattle.sheet.proofs.fields.parameters.Statement.{statement}
 use Rattle.sheet.proofs.fields.parameters.Tie as tie
-use Rattle.sheet.proofs.fields.parameters.Reads as reads
-use Rattle.sheet.proofs.fields.parameters.Lts as lts
-use Rattle.sheet.proofs.fields.fields.Reads as fields-reads
-use Rattle.sheet.proofs.fields.is_flag.Reads as is-flag-reads
-use Rattle.sheet.proofs.fields.parameter_at.Reads as parameter-at-reads
 
 abbrev Inv-loop : tie.InvT-loop
 Inv-loop s model at n bits₀ next₀ i₀ bits next i =
@@ -21,27 +17,21 @@ Inv-loop s model at n bits₀ next₀ i₀ bits next i =
 abbrev μ-loop : tie.MeasureT-loop
 μ-loop s model at n bits₀ next₀ i₀ bits next i = n - i
 
--- src/fields.rt:62:9
 fields-requires : tie.Need-fields-requires Inv-loop μ-loop
 fields-requires c κs = search needs
 
--- src/fields.rt:66:5
 loop-holds : tie.Need-loop-holds Inv-loop μ-loop
 loop-holds c = (omega arith, refl, refl, prefixed-nil _)
 
--- src/fields.rt:67:33
 is-flag-requires : tie.Need-is-flag-requires Inv-loop μ-loop
 is-flag-requires c κs = search needs
 
--- src/fields.rt:67:13
 parameter-at-requires : tie.Need-parameter-at-requires Inv-loop μ-loop
 parameter-at-requires c κs = search needs
 
--- src/fields.rt:69:27
 enum-known-w : tie.Need-enum-known-w Inv-loop μ-loop
 enum-known-w c = search needs
 
--- src/fields.rt:70:17
 returns : tie.Need-returns Inv-loop μ-loop
 returns c =
     let s = c .before .before .before .before .before .before .before .before .before in
@@ -50,11 +40,9 @@ returns c =
     let r = sym (c .before .w .given .1) ∙ c .before .before .before .parameter-at .ensures ∙ ap (λ (f : Bool). parameterAt f (s .args .s .now) (l .next)) (c .before .before .before .before .is-flag .ensures) in
     parameter-refused (kindsOf (s .args .model)) (s .args .s .now) (l .next) (l .i) h (s .args .at) (l .bits) (l .inv .3) _ r
 
--- src/fields.rt:76:24
 enum-known-w-2 : tie.Need-enum-known-w-2 Inv-loop μ-loop
 enum-known-w-2 c = search needs
 
--- src/fields.rt:77:17
 mul-bits : tie.Need-mul-bits Inv-loop μ-loop
 mul-bits c =
     let m = kinds-most (c .before .before .before .before .before .before .before .before .before .args .model) in
@@ -62,7 +50,6 @@ mul-bits c =
     let t = c .before .before .before .before .before .loop-test .taken in
     omega arith
 
--- src/fields.rt:77:17
 array-write-bits : tie.Need-array-write-bits Inv-loop μ-loop
 array-write-bits c =
     let m = kinds-most (c .before .before .before .before .before .before .before .before .before .args .model) in
@@ -71,15 +58,12 @@ array-write-bits c =
     let v = c .before .before .before .before .before .before .loop .inv in
     omega arith
 
--- src/fields.rt:81:9
 add-i : tie.Need-add-i Inv-loop μ-loop
 add-i c = search needs
 
--- src/fields.rt:66:5
 loop-less : tie.Need-loop-less Inv-loop μ-loop
 loop-less c = search needs
 
--- src/fields.rt:66:5
 loop-again : tie.Need-loop-again Inv-loop μ-loop
 loop-again c =
     let s = c .before .before .before .before .before .before .before .before .before in
@@ -93,7 +77,6 @@ loop-again c =
     let r = sym (c .before .w2 .given .1) ∙ c .before .before .before .parameter-at .ensures ∙ ap (λ (f : Bool). parameterAt f (s .args .s .now) (l .next)) (c .before .before .before .before .is-flag .ensures) in
     (omega arith, simp length-set (l .inv .1), rest-zero (l .bits) (l .i) _ k (l .inv .2), parameter-read (kindsOf (s .args .model)) (s .args .s .now) (l .next) (l .i) h (s .args .at) (l .bits) (l .inv .3) _ _ g r)
 
--- src/fields.rt:59:1
 returns-2 : tie.Need-returns-2 Inv-loop μ-loop
 returns-2 c =
     let s = c .before .before .before .before in

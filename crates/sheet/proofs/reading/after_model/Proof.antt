@@ -1,34 +1,25 @@
+-- `sheet::reading::after_model` meets its contract: each return is a case of `afterParameters`.
 use Rattle.sheet.specs.Sheet.{kindsOf, parametersAt}
 use Rattle.sheet.proofs.Bounds.{stops, parameters-refused, parameters-read}
 use mathlib.Core.Path.{_∙_}
 use borrow.Author.Needs.{needs}
 use Rattle.sheet.proofs.reading.after_model.Statement.{statement}
 use Rattle.sheet.proofs.reading.after_model.Tie as tie
-use Rattle.sheet.proofs.reading.after_model.Reads as reads
-use Rattle.sheet.proofs.reading.after_model.Lts as lts
-use Rattle.sheet.proofs.fields.parameters.Reads as parameters-reads
-use Rattle.sheet.proofs.reading.after_parameters.Reads as after-parameters-reads
-use Rattle.sheet.proofs.reading.refused.Reads as refused-reads
 
--- src/reading.rt:69:9
 parameters-requires : tie.Need-parameters-requires
 parameters-requires c κs = search needs
 
--- src/reading.rt:71:9
 refused-requires : tie.Need-refused-requires
 refused-requires c κs = search needs
 
--- src/reading.rt:71:9
 returns : tie.Need-returns
 returns c =
     let a = c .before .before .before .before .before .args in
     c .refused .ensures ∙ parameters-refused (a .s .now) (a .model) (parametersAt (kindsOf (a .model)) (a .s .now) (a .at)) _ (c .before .before .before .parameters .ensures) (c .before .if1 .taken)
 
--- src/reading.rt:74:5
 after-parameters-requires : tie.Need-after-parameters-requires
 after-parameters-requires c κs = search needs
 
--- src/reading.rt:66:1
 returns-2 : tie.Need-returns-2
 returns-2 c =
     let a = c .before .before .before .before .before .before .args in

@@ -1,48 +1,35 @@
+-- `sheet::reading::after_parameters` meets its contract: each return is a case of `afterCount`.
 use Rattle.sheet.proofs.Bounds.{number-inside}
 use mathlib.Core.Path.{sym, _∙_}
 use borrow.Author.Tests.{lt-ltb, le-ltb}
 use borrow.Author.Needs.{needs}
 use Rattle.sheet.proofs.reading.after_parameters.Statement.{statement}
 use Rattle.sheet.proofs.reading.after_parameters.Tie as tie
-use Rattle.sheet.proofs.reading.after_parameters.Reads as reads
-use Rattle.sheet.proofs.reading.after_parameters.Lts as lts
-use Rattle.sheet.proofs.groups.number_at.Reads as number-at-reads
-use Rattle.sheet.proofs.reading.records_end.Reads as records-end-reads
-use Rattle.sheet.proofs.reading.refused.Reads as refused-reads
 
--- src/reading.rt:54:9
 number-at-requires : tie.Need-number-at-requires
 number-at-requires c κs = search needs
 
--- src/reading.rt:56:25
 enum-known-n : tie.Need-enum-known-n
 enum-known-n c = search needs
 
--- src/reading.rt:56:31
 refused-requires : tie.Need-refused-requires
 refused-requires c κs = search needs
 
--- src/reading.rt:57:22
 enum-known-n-2 : tie.Need-enum-known-n-2
 enum-known-n-2 c = search needs
 
--- src/reading.rt:59:17
 refused-requires-2 : tie.Need-refused-requires-2
 refused-requires-2 c κs = search needs
 
--- src/reading.rt:59:17
 returns : tie.Need-returns
 returns c = simp (← c .before .before .before .before .before .number-at .ensures, c .before .before .before .n2 .given .1, lt-ltb _ _ (c .before .if1 .taken)) (c .refused2 .ensures)
 
--- src/reading.rt:61:13
 records-end-requires : tie.Need-records-end-requires
 records-end-requires c κs = (number-inside _ _ _ _ (sym (c .before .before .before .before .number-at .ensures) ∙ c .before .before .n2 .given .1), c .if1 .left)
 
--- src/reading.rt:51:1
 returns-2 : tie.Need-returns-2
 returns-2 c = simp (← c .before .before .before .before .number-at .ensures, c .before .before .n .given .1) (c .refused .ensures)
 
--- src/reading.rt:51:1
 returns-3 : tie.Need-returns-3
 returns-3 c = simp (← c .before .before .before .before .before .number-at .ensures, c .before .before .before .n2 .given .1, le-ltb _ _ (c .before .if1 .left)) (c .records-end .ensures)
 

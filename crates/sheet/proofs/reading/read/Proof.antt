@@ -1,54 +1,40 @@
+-- `sheet::reading::read` meets its contract: each return is a case of `readOf` and `roomOf`.
 use Rattle.sheet.proofs.Rooms.{odd, bad, narrow, good}
 use Rattle.sheet.proofs.Taken.{few, within}
 use native.Mathlib.Omega.{arith}
 use borrow.Author.Needs.{needs}
 use Rattle.sheet.proofs.reading.read.Statement.{statement}
 use Rattle.sheet.proofs.reading.read.Tie as tie
-use Rattle.sheet.proofs.reading.read.Reads as reads
-use Rattle.sheet.proofs.reading.read.Lts as lts
-use Rattle.sheet.proofs.reading.read_header.Reads as read-header-reads
-use Rattle.sheet.proofs.reading.refused.Reads as refused-reads
-use Rattle.sheet.proofs.words.fill.Reads as fill-reads
 
--- src/reading.rt:98:9
 refused-requires : tie.Need-refused-requires
 refused-requires c κs = search needs
 
--- src/reading.rt:98:9
 returns : tie.Need-returns
 returns c = odd _ _ _ (c .refused .ensures) (c .before .if1 .taken)
 
--- src/reading.rt:100:9
 read-header-requires : tie.Need-read-header-requires
 read-header-requires c κs = search needs
 
--- src/reading.rt:102:9
 returns-2 : tie.Need-returns-2
 returns-2 c = bad _ _ _ (c .before .before .read-header .ensures) (c .before .before .before .if1 .left) (c .if2 .taken)
 
--- src/reading.rt:104:13
 mul-n : tie.Need-mul-n
 mul-n c =
     let l = few _ _ (c .before .before .before .read-header .ensures) (c .before .if2 .left) in
     omega arith
 
--- src/reading.rt:106:9
 refused-requires-2 : tie.Need-refused-requires-2
 refused-requires-2 c κs = search needs
 
--- src/reading.rt:106:9
 returns-3 : tie.Need-returns-3
 returns-3 c = narrow _ _ _ (c .before .before .before .before .before .read-header .ensures) (c .before .before .before .before .before .before .if1 .left) (c .before .before .before .if2 .left) _ (c .refused2 .ensures) (c .before .if3 .taken)
 
--- src/reading.rt:108:5
 fill-requires : tie.Need-fill-requires
 fill-requires c κs = (within _ _ (c .before .before .before .before .before .read-header .ensures) (c .before .before .before .if2 .left), c .before .if3 .left)
 
--- src/reading.rt:93:1
 same-length : tie.Need-same-length
 same-length c = search needs
 
--- src/reading.rt:93:1
 returns-4 : tie.Need-returns-4
 returns-4 c = good _ _ _ (c .before .before .before .before .before .before .before .before .read-header .ensures) (c .before .before .before .before .before .before .before .before .before .if1 .left) (c .before .before .before .before .before .before .if2 .left) _ (c .before .before .before .before .if3 .left) (c .before .before .fill .ensures)
 

@@ -1,49 +1,36 @@
+-- `sheet::reading::read_header` meets its contract: each return is a case of `afterModel`.
 use Rattle.sheet.specs.Sheet.{headerOf}
 use borrow.Author.Tests.{lt-ltb, le-ltb}
 use borrow.Author.Needs.{needs}
 use Rattle.sheet.proofs.reading.read_header.Statement.{statement}
 use Rattle.sheet.proofs.reading.read_header.Tie as tie
-use Rattle.sheet.proofs.reading.read_header.Reads as reads
-use Rattle.sheet.proofs.reading.read_header.Lts as lts
-use Rattle.sheet.proofs.groups.number_at.Reads as number-at-reads
-use Rattle.sheet.proofs.reading.after_model.Reads as after-model-reads
-use Rattle.sheet.proofs.reading.refused.Reads as refused-reads
 
--- src/reading.rt:80:9
 number-at-requires : tie.Need-number-at-requires
 number-at-requires c κs = search needs
 
--- src/reading.rt:82:25
 enum-known-n : tie.Need-enum-known-n
 enum-known-n c = search needs
 
--- src/reading.rt:82:31
 refused-requires : tie.Need-refused-requires
 refused-requires c κs = search needs
 
--- src/reading.rt:83:22
 enum-known-n-2 : tie.Need-enum-known-n-2
 enum-known-n-2 c = search needs
 
--- src/reading.rt:85:17
 refused-requires-2 : tie.Need-refused-requires-2
 refused-requires-2 c κs = search needs
 
--- src/reading.rt:85:17
 returns : tie.Need-returns
 unfolding headerOf
 returns c = simp (← c .before .before .before .before .before .number-at .ensures, c .before .before .before .n2 .given .1, lt-ltb _ _ (c .before .if1 .taken)) (c .refused2 .ensures)
 
--- src/reading.rt:87:13
 after-model-requires : tie.Need-after-model-requires
 after-model-requires c κs = search needs
 
--- src/reading.rt:77:1
 returns-2 : tie.Need-returns-2
 unfolding headerOf
 returns-2 c = simp (← c .before .before .before .before .number-at .ensures, c .before .before .n .given .1) (c .refused .ensures)
 
--- src/reading.rt:77:1
 returns-3 : tie.Need-returns-3
 unfolding headerOf
 returns-3 c = simp (← c .before .before .before .before .before .number-at .ensures, c .before .before .before .n2 .given .1, le-ltb _ _ (c .before .if1 .left)) (c .after-model .ensures)

@@ -1,3 +1,4 @@
+-- `sheet::words::fill` meets its contract: the loop's invariant: the places before i hold the words read, the others what they held.
 use Rattle.sheet.proofs.Steps.{fill-step, fill-length}
 use Rattle.sheet.specs.Sheet.{wordsOf}
 use borrow.Author.Needs.{needs}
@@ -8,9 +9,6 @@ use mathlib.Core.List.{_++_}
 use mathlib.Core.Path.{_≡_, refl}
 use Rattle.sheet.proofs.words.fill.Statement.{statement}
 use Rattle.sheet.proofs.words.fill.Tie as tie
-use Rattle.sheet.proofs.words.fill.Reads as reads
-use Rattle.sheet.proofs.words.fill.Lts as lts
-use Rattle.sheet.proofs.words.word.Reads as word-reads
 
 abbrev Inv-loop : tie.InvT-loop
 Inv-loop s at n room₀ i₀ room i = (i ≤ n) × (room ≡ wordsOf i (drop at s) ++ drop i room₀)
@@ -18,24 +16,19 @@ Inv-loop s at n room₀ i₀ room i = (i ≤ n) × (room ≡ wordsOf i (drop at 
 abbrev μ-loop : tie.MeasureT-loop
 μ-loop s at n room₀ i₀ room i = n - i
 
--- src/words.rt:58:5
 loop-holds : tie.Need-loop-holds Inv-loop μ-loop
 unfolding wordsOf
 loop-holds c = (omega arith, refl)
 
--- src/words.rt:59:32
 mul-word : tie.Need-mul-word Inv-loop μ-loop
 mul-word c = omega arith
 
--- src/words.rt:59:27
 add-word : tie.Need-add-word Inv-loop μ-loop
 add-word c = let q = c .before .before .before .before .pre in omega arith
 
--- src/words.rt:59:19
 word-requires : tie.Need-word-requires Inv-loop μ-loop
 word-requires c κs = let q = c .before .before .before .before .pre in omega arith
 
--- src/words.rt:59:9
 mul-room : tie.Need-mul-room Inv-loop μ-loop
 mul-room c =
     let q = c .before .before .before .before .before .pre in
@@ -43,7 +36,6 @@ mul-room c =
     let e = fill-length (drop (c .before .before .before .before .before .args .at) (c .before .before .before .before .before .args .s .now)) (c .before .before .before .before .before .args .room .now) (l .room) (l .i) (omega arith) (l .inv .1) in
     omega arith
 
--- src/words.rt:59:9
 slice-write-room : tie.Need-slice-write-room Inv-loop μ-loop
 slice-write-room c =
     let q = c .before .before .before .before .before .pre in
@@ -51,15 +43,12 @@ slice-write-room c =
     let e = fill-length (drop (c .before .before .before .before .before .args .at) (c .before .before .before .before .before .args .s .now)) (c .before .before .before .before .before .args .room .now) (l .room) (l .i) (omega arith) (l .inv .1) in
     omega arith
 
--- src/words.rt:60:9
 add-i : tie.Need-add-i Inv-loop μ-loop
 add-i c = search needs
 
--- src/words.rt:58:5
 loop-less : tie.Need-loop-less Inv-loop μ-loop
 loop-less c = search needs
 
--- src/words.rt:58:5
 loop-again : tie.Need-loop-again Inv-loop μ-loop
 loop-again c =
     let q = c .before .before .before .before .before .pre in
@@ -68,14 +57,12 @@ loop-again c =
     let h : l .i < length (c .before .before .before .before .before .args .room .now) = omega arith in
     (omega arith, fill-step (c .before .before .before .before .before .args .s .now) (c .before .before .before .before .before .args .at) (c .before .before .before .before .before .args .room .now) (l .room) (l .i) _ h (l .inv .1) (c .word .ensures))
 
--- src/words.rt:53:1
 same-length : tie.Need-same-length Inv-loop μ-loop
 same-length c =
     let q = c .before .before .before .before .pre in
     let l = c .before .loop in
     fill-length (drop (c .before .before .before .before .args .at) (c .before .before .before .before .args .s .now)) (c .before .before .before .before .args .room .now) (l .room) (l .i) (omega arith) (l .inv .1)
 
--- src/words.rt:53:1
 returns : tie.Need-returns Inv-loop μ-loop
 returns c =
     let l = c .before .loop in

@@ -1,102 +1,75 @@
+-- `sheet::words::word` meets its contract: the eight bytes are joined in pairs.
 use Rattle.sheet.proofs.Cases.{joined}
 use borrow.Author.Needs.{needs}
 use Rattle.sheet.proofs.words.word.Statement.{statement}
 use Rattle.sheet.proofs.words.word.Tie as tie
-use Rattle.sheet.proofs.words.word.Reads as reads
-use Rattle.sheet.proofs.words.word.Lts as lts
-use Rattle.sheet.proofs.words.eight.Reads as eight-reads
-use Rattle.sheet.proofs.words.four.Reads as four-reads
-use Rattle.sheet.proofs.words.pair.Reads as pair-reads
 
--- src/words.rt:33:18
 shared-slice-read-pair : tie.Need-shared-slice-read-pair
 shared-slice-read-pair c = search needs
 
--- src/words.rt:33:27
 add-pair : tie.Need-add-pair
 add-pair c = search needs
 
--- src/words.rt:33:25
 shared-slice-read-pair-2 : tie.Need-shared-slice-read-pair-2
 shared-slice-read-pair-2 c = search needs
 
--- src/words.rt:33:9
 pair-requires : tie.Need-pair-requires
 pair-requires c κs = search needs
 
--- src/words.rt:34:20
 add-pair-2 : tie.Need-add-pair-2
 add-pair-2 c = search needs
 
--- src/words.rt:34:18
 shared-slice-read-pair-3 : tie.Need-shared-slice-read-pair-3
 shared-slice-read-pair-3 c = search needs
 
--- src/words.rt:34:31
 add-pair-3 : tie.Need-add-pair-3
 add-pair-3 c = search needs
 
--- src/words.rt:34:29
 shared-slice-read-pair-4 : tie.Need-shared-slice-read-pair-4
 shared-slice-read-pair-4 c = search needs
 
--- src/words.rt:34:9
 pair-requires-2 : tie.Need-pair-requires-2
 pair-requires-2 c κs = search needs
 
--- src/words.rt:35:20
 add-pair-4 : tie.Need-add-pair-4
 add-pair-4 c = search needs
 
--- src/words.rt:35:18
 shared-slice-read-pair-5 : tie.Need-shared-slice-read-pair-5
 shared-slice-read-pair-5 c = search needs
 
--- src/words.rt:35:31
 add-pair-5 : tie.Need-add-pair-5
 add-pair-5 c = search needs
 
--- src/words.rt:35:29
 shared-slice-read-pair-6 : tie.Need-shared-slice-read-pair-6
 shared-slice-read-pair-6 c = search needs
 
--- src/words.rt:35:9
 pair-requires-3 : tie.Need-pair-requires-3
 pair-requires-3 c κs = search needs
 
--- src/words.rt:36:20
 add-pair-6 : tie.Need-add-pair-6
 add-pair-6 c = search needs
 
--- src/words.rt:36:18
 shared-slice-read-pair-7 : tie.Need-shared-slice-read-pair-7
 shared-slice-read-pair-7 c = search needs
 
--- src/words.rt:36:31
 add-pair-7 : tie.Need-add-pair-7
 add-pair-7 c = search needs
 
--- src/words.rt:36:29
 shared-slice-read-pair-8 : tie.Need-shared-slice-read-pair-8
 shared-slice-read-pair-8 c = search needs
 
--- src/words.rt:36:9
 pair-requires-4 : tie.Need-pair-requires-4
 pair-requires-4 c κs = search needs
 
--- src/words.rt:37:11
 four-requires : tie.Need-four-requires
 four-requires c κs = search needs
 
--- src/words.rt:37:23
 four-requires-2 : tie.Need-four-requires-2
 four-requires-2 c κs = search needs
 
--- src/words.rt:37:5
 eight-requires : tie.Need-eight-requires
 eight-requires c κs = search needs
 
--- src/words.rt:29:1
 returns : tie.Need-returns
 returns c = joined _ _ _ _ _ _ _ _ _ (c .before .before .before .before .before .before .before .before .before .before .before .before .before .before .before .before .pre) (c .before .before .before .before .before .before .before .before .before .before .before .before .pair .ensures) (c .before .before .before .before .before .before .before .before .before .pair2 .ensures) (c .before .before .before .before .before .before .pair3 .ensures) (c .before .before .before .pair4 .ensures) (c .before .before .four .ensures) (c .before .four2 .ensures) (c .eight .ensures)
 

@@ -1,0 +1,27 @@
+-- What the hyperbolic sine works (document 01, section 3): half of exp |x| less its reciprocal, with the sign of x, so that -0 gives -0.
+-- How near it is stands in `series`, SinhNear; that it is so near, in proofs/SinhClose.
+use mathlib.Core.Bool.{false, cond}
+use lib.Ieee as Ieee
+use lib.Ieee.{Float, binary64, ofBits}
+use Rattle.exact.specs.Units.{sgn}
+use Rattle.numbers.specs.Power.{one}
+use Rattle.numbers.specs.Range.{ranged}
+use Rattle.numbers.specs.declared.Elementary.{Elementary}
+use Rattle.exponential.specs.Worked.{low, high, expBits, cutOf}
+
+abbrev pub half : Float
+half = ofBits binary64 0x3fe0_0000_0000_0000
+
+-- exp |x|
+unfoldable pub growthOf : Float → Float
+growthOf x = ofBits binary64 (expBits false (cutOf x))
+
+unfoldable pub halfOf : Float → Float
+halfOf e = Ieee.mul binary64 (Ieee.sub binary64 e (Ieee.div binary64 one e)) half
+
+unfoldable pub sinhOf : Float → Float
+sinhOf x = cond (sgn x) (Ieee.neg (halfOf (growthOf x))) (halfOf (growthOf x))
+
+-- within its range
+abbrev pub sinhRanged : Float → Elementary
+sinhRanged x = ranged low high x (sinhOf x)

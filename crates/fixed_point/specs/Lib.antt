@@ -1,0 +1,2 @@
+pub mod ToFloat
+pub mod FloatOfLaw

@@ -1,0 +1,68 @@
+// The logarithm (document 01, section 3): the exponent times log 2, and in fixed point what three factors from tables and two
+// terms of the series give.
+mod entries;
+mod part;
+
+use numbers::Elementary;
+use part::log_part;
+ghost use mathlib.Core.Path.{_≡_};
+ghost use mathlib.Core.Bool.{true};
+ghost use Rattle.numbers.specs.Range.{inRange, ranged, bare, onPath};
+ghost use Rattle.series.specs.LogNear.{LogNear};
+ghost use Rattle.logarithm.specs.Worked.{low, high, exponentOf, fractionOf, lnOf};
+
+// The exponent of a positive number with the bits n. The last digits of 2^52 + e are those of e: no cast, and no branch on the
+// sign, which near 1 no processor foresees.
+fn exponent(n: u64) -> f64
+    ensures { λ r. ⌜ r ≡ exponentOf n ⌝ }
+{
+    f64::from_bits(0x4330_0000_0000_0000 + n / 0x10_0000_0000_0000) - 4503599627371519.0
+}
+
+// The logarithm of what the exponent leaves of that number, a number from 1 to 2.
+fn fraction(n: u64) -> f64
+    ensures { λ r. ⌜ r ≡ fractionOf n ⌝ }
+{
+    f64::from_bits(0x3ff0_0000_0000_0000 + log_part(n % 0x10_0000_0000_0000) / 32) - 1.0
+}
+
+// ln x, for an x within the range.
+fn ln_value(x: f64) -> f64
+    requires { ⌜ inRange low high x ≡ true ⌝ }
+    ensures { λ r. ⌜ (r ≡ lnOf x) × LogNear x r ⌝ }
+{
+    let n = f64::to_bits(x);
+    exponent(n) * 0.6931471805599453 + fraction(n)
+}
+
+fn ln_ranged(x: f64) -> Elementary
+    ensures { λ r. ⌜ r ≡ ranged low high x (lnOf x) ⌝ }
+{
+    if numbers::in_range(8.673617379884035e-19, 1152921504606846976.0, x) {
+        Elementary::Value(ln_value(x))
+    } else {
+        numbers::outside(8.673617379884035e-19, 1152921504606846976.0, x)
+    }
+}
+
+// ln x: a NaN or an infinity is refused by 1, a number outside the range by 2.
+pub fn ln(x: f64) -> Elementary
+    ensures { λ r. ⌜ r ≡ bare x (ranged low high x (lnOf x)) ⌝ }
+{
+    if numbers::is_finite(x) {
+        ln_ranged(x)
+    } else {
+        Elementary::Refused(1)
+    }
+}
+
+// ln x within a law: a NaN is refused by 3, an infinity and a number outside the range by 2.
+pub fn ln_on_path(x: f64) -> Elementary
+    ensures { λ r. ⌜ r ≡ onPath x (ranged low high x (lnOf x)) ⌝ }
+{
+    if numbers::is_number(x) {
+        ln_ranged(x)
+    } else {
+        Elementary::Refused(3)
+    }
+}

@@ -1,0 +1,66 @@
+// A reader keeps the lent sheet and a reading place in it (document 01, section 7). Its functions are thin: each takes it
+// apart and calls the crate `sheet` on the slice and the place.
+use sheet::Header;
+use sheet::Number;
+use sheet::Place;
+use sheet::Word;
+ghost use mathlib.Core.Path.{_≡_};
+ghost use lib.ListN.{length};
+ghost use Rattle.sheet.specs.Sheet.{numberAt, wordAt, headerOf, recordAt, roomAt};
+
+pub struct Reader<'a> {
+    pub sheet: &'a [u8],
+    pub at: usize,
+}
+
+// At the start of a sheet.
+pub fn new<'a>(sheet: &'a [u8]) -> Reader<'a>
+    ensures { λ r. ⌜ (r .sheet ≡ sheet .entry) × (r .at ≡ 0) ⌝ }
+{
+    Reader { sheet, at: 0 }
+}
+
+// At another place of the same sheet.
+pub fn advanced<'a>(r: Reader<'a>, next: usize) -> Reader<'a>
+    ensures { λ q. ⌜ (q .sheet ≡ r .entry .sheet) × (q .at ≡ next) ⌝ }
+{
+    Reader {
+        sheet: r.sheet,
+        at: next,
+    }
+}
+
+// The number in groups of seven bits that stands at the place.
+pub fn read_number<'a>(r: Reader<'a>) -> Number
+    ensures { λ n. ⌜ n ≡ numberAt (now (r .entry .sheet)) (r .entry .at) ⌝ }
+{
+    sheet::number_at(r.sheet, r.at)
+}
+
+// The bits of the float that stands at the place.
+pub fn read_word<'a>(r: Reader<'a>) -> Word
+    ensures { λ w. ⌜ w ≡ wordAt (now (r .entry .sheet)) (r .entry .at) ⌝ }
+{
+    sheet::word_at(r.sheet, r.at)
+}
+
+// The header of the sheet, wherever the place is.
+pub fn header<'a>(r: Reader<'a>) -> Header
+    ensures { λ h. ⌜ h ≡ headerOf (now (r .entry .sheet)) ⌝ }
+{
+    sheet::read_header(r.sheet)
+}
+
+// The record that stands at the place, into a room of its size, and the place of the next.
+pub fn read_record<'a, 'b>(r: Reader<'a>, room: &'b mut [u64]) -> Place
+    ensures { λ p. ⌜ (p ≡ recordAt (now (r .entry .sheet)) (r .entry .at) (length (now (room .entry)))) × (now (room .exit) ≡ roomAt (now (r .entry .sheet)) (r .entry .at) (now (room .entry))) ⌝ }
+{
+    sheet::record_at(r.sheet, r.at, room)
+}
+
+// The model number of a sheet: a reader made, and read once.
+pub fn model_number(s: &[u8]) -> Number
+    ensures { λ r. ⌜ r ≡ numberAt (now (s .entry)) 0 ⌝ }
+{
+    read_number(new(s))
+}

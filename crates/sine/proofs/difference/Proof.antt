@@ -1,0 +1,25 @@
+-- `sine::difference` meets its contract. Assumes nothing.
+use mathlib.Core.Path.{_∙_}
+use Rattle.sine.proofs.Laws.{plus-difference, minus-difference}
+use borrow.Author.Needs.{needs}
+use Rattle.sine.proofs.difference.Statement.{statement}
+use Rattle.sine.proofs.difference.Tie as tie
+
+to-float-requires : tie.Need-to-float-requires
+to-float-requires c κs = search needs
+
+sub-to-float : tie.Need-sub-to-float
+sub-to-float c = search needs
+
+to-float-requires-2 : tie.Need-to-float-requires-2
+to-float-requires-2 c κs = search needs
+
+returns : tie.Need-returns
+returns c = c .to-float .ensures .is ∙ plus-difference (c .before .before .args .a) (c .before .before .args .c) (c .before .before .args .negative) (c .before .if1 .taken)
+
+returns-2 : tie.Need-returns-2
+returns-2 c = c .to-float2 .ensures .is ∙ minus-difference (c .before .before .args .a) (c .before .before .args .c) (c .before .before .args .negative) (c .before .if1 .left)
+
+pub difference-spec : {M : Type 1} → statement M
+difference-spec =
+    tie.close (tie.spec to-float-requires sub-to-float to-float-requires-2 returns returns-2)
