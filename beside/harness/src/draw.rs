@@ -221,9 +221,25 @@ impl Draw {
             }
             // Near the surface's tips, and well inside.
             1 => vec![self.scale(-6.0, -2.0), n, beta, hardening, xi, m],
+            3 | 4 => return self.near_a_tip(r),
             2 => vec![e, n, self.pick(&[0.0, 1.0, -0.5, -0.25]), hardening, xi, m],
             _ => vec![e, n, beta, hardening, xi, m],
         }
+    }
+
+    /// p_tr within 1e-4 of p0 or of -beta p0, where the surface is still left through its side.
+    fn near_a_tip(&mut self, r: &mut [f64]) -> Vec<f64> {
+        let (e, n, beta, m) = (self.between(1.0, 30.0), self.between(0.0, 0.3), self.between(0.1, 1.0), self.between(0.2, 2.0));
+        let kappa = e / (3.0 * (1.0 - 2.0 * n));
+        let hard = self.scale(-4.0, -1.0);
+        r[35] = -hard;
+        let p0 = kappa * (1e-5 + hard.sinh());
+        let off = 1e-4 * self.unit();
+        let p_tr = if self.one_in(2) { p0 - off } else { -beta * p0 + off };
+        let j = (1.0 - 2.0 * p_tr / kappa).max(0.01).sqrt();
+        let (a, b) = (1.0 + 0.3 * self.unit(), 1.0 - 0.3 * self.unit());
+        r[18..21].copy_from_slice(&[a, b, j / (a * b)]);
+        vec![e, n, beta, 1.0, 1.0, m]
     }
 
     fn matrix(&mut self) -> Vec<f64> {

@@ -148,8 +148,10 @@ fn compare(a: &Arguments, u: Option<&sites::Untouched>) -> Run {
                 continue;
             }
             let want = inside::expected(n, &i);
-            sites::beside(u, &mut r.sites);
             if want.status == 0 {
+                if inside::watch().mode == inside::Mode::Ours {
+                    sites::beside(u, &mut r.sites);
+                }
                 names.clear();
                 branches::taken(n, &i, &want, &mut names);
                 for b in &names {

@@ -1,2 +1,67 @@
-//! The fixed list for the program `replay`.
-pub fn write(_file: &str, _seed: u64) {}
+//! The fixed list for the program `replay`: calls with the answers of build 2. An entry is the call's number in a byte, the refusal's number
+//! or 0 in a byte, the inputs as 8 bytes each, low byte first, and after a 0 the outputs likewise. Of an update the outputs are the two places
+//! of the answer and, where it is stored, F, sigma and the six scalars. A byte 255 ends the list.
+use crate::branches;
+use crate::calls::{self, CALLS};
+use crate::draw::Draw;
+use crate::inside::{self, Answer};
+use crate::listed;
+use std::collections::BTreeMap;
+
+fn outputs(n: usize, a: &Answer) -> Vec<u64> {
+    if !(calls::UPDATE..calls::UPDATE + 4).contains(&n) {
+        return a.out.clone();
+    }
+    let mut w = a.out[36..].to_vec();
+    if a.out[36] == 1 {
+        w.extend(&a.out[..9]);
+        w.extend(&a.out[18..21]);
+        w.extend(&a.out[30..36]);
+    }
+    w
+}
+
+pub fn write(file: &str, seed: u64) {
+    let mut bytes = Vec::new();
+    let mut total = 0;
+    let mut classes = 0;
+    for n in 0..CALLS.len() {
+        // A few of each kind: the refusal, or the branches taken together.
+        let mut kinds: BTreeMap<(u8, Vec<&'static str>), u64> = BTreeMap::new();
+        let mut d = Draw(seed.wrapping_mul(0x4000).wrapping_add(n as u64));
+        for _ in 0..40_000 {
+            let i = d.inputs(n);
+            let a = if n < 9 { crate::ours::call(n, &i) } else { inside::expected(n, &i) };
+            let nan = a.status == 0 && !a.out.iter().all(|x| inside::finite(*x) || n == calls::FAILED);
+            if nan || listed::why(n, &i).is_some() {
+                continue;
+            }
+            let a = if n < 9 { a } else { inside::expected(n, &i) };
+            let mut names = Vec::new();
+            if a.status == 0 {
+                branches::taken(n, &i, &a, &mut names);
+                names.sort();
+            }
+            let most = if names.is_empty() && a.status == 0 { 40 } else { 8 };
+            let c = kinds.entry((a.status, names)).or_default();
+            if *c >= most {
+                continue;
+            }
+            *c += 1;
+            total += 1;
+            bytes.extend([n as u8, a.status]);
+            for x in &i {
+                bytes.extend(x.to_le_bytes());
+            }
+            if a.status == 0 {
+                for x in outputs(n, &a) {
+                    bytes.extend(x.to_le_bytes());
+                }
+            }
+        }
+        classes += kinds.len();
+    }
+    bytes.push(255);
+    std::fs::write(file, &bytes).expect("the list cannot be written");
+    println!("{file}: {total} entries of {classes} kinds, {} bytes", bytes.len());
+}
