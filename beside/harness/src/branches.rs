@@ -40,7 +40,7 @@ pub const ALL: &[(usize, &str, &str)] = &[
     (23, "surface, p0 at most 1e-4", ""),
     (23, "surface, p_tr near p0", ""),
     (23, "surface, p_tr near -beta p0", ""),
-    (23, "surface, p_x = p1", "l1 is never negative where y >= 1e-4: docs/SITES.md"),
+    (23, "surface, p_x = p1", "p1 lies on the other side: beside/README.md"),
     (23, "surface, p_x = p2", ""),
     (23, "surface, j_e_x at most 1e-4", ""),
     (23, "surface, alpha stepped", ""),

@@ -231,10 +231,11 @@ impl Draw {
     fn near_a_tip(&mut self, r: &mut [f64]) -> Vec<f64> {
         let (e, n, beta, m) = (self.between(1.0, 30.0), self.between(0.0, 0.3), self.between(0.1, 1.0), self.between(0.2, 2.0));
         let kappa = e / (3.0 * (1.0 - 2.0 * n));
-        let hard = self.scale(-4.0, -1.0);
+        let soft = self.one_in(4);
+        let hard = if soft { 0.0 } else { self.scale(-4.0, -1.0) };
         r[35] = -hard;
         let p0 = kappa * (1e-5 + hard.sinh());
-        let off = 1e-4 * self.unit();
+        let off = self.unit() * if soft { p0 } else { 1e-4 };
         let p_tr = if self.one_in(2) { p0 - off } else { -beta * p0 + off };
         let j = (1.0 - 2.0 * p_tr / kappa).max(0.01).sqrt();
         let (a, b) = (1.0 + 0.3 * self.unit(), 1.0 - 0.3 * self.unit());

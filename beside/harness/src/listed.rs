@@ -1,8 +1,8 @@
-//! The differences that docs/DIFFERENCES.md lists: inputs at which ours and the Rust may differ, and why.
+//! The differences that docs/DIFFERENCES.md lists. Where one may show, what document 01 has ours answer instead of the Rust.
 use crate::calls;
-use crate::inside;
+use crate::inside::{self, Answer};
 
-const ZEROS: &str = "minimum or maximum of two zeros: ours takes the second, the Rust as built here the first";
+pub const ZEROS: &str = "minimum or maximum of two zeros: ours takes the second, the Rust as built here the first";
 
 fn f(i: &[u64], k: usize) -> f64 {
     f64::from_bits(i[k])
@@ -13,28 +13,64 @@ fn zeros(a: f64, b: f64) -> bool {
     a == 0.0 && b == 0.0 && a.is_sign_negative() != b.is_sign_negative()
 }
 
-fn clamp_zeros(i: &[u64], sigma: usize) -> bool {
-    let (low, high) = (1.0 - f(i, 0), 1.0 + f(i, 1));
-    (sigma..sigma + 3).any(|k| zeros(f(i, k), low) || zeros(f(i, k).max(low), high) || zeros(low, high))
+fn second_max(a: f64, b: f64) -> f64 {
+    if a > b || b.is_nan() {
+        a
+    } else {
+        b
+    }
 }
 
-/// Monaghan's pressure before its maximum.
-fn pressure_zeros(p: &[u64]) -> bool {
-    let mut bare = p.to_vec();
-    bare[3] = f64::MAX.to_bits();
-    let mut o = [0];
-    inside::run(calls::MONAGHAN, &bare, &mut o, inside::Mode::Ours);
-    zeros(f64::from_bits(o[0]), -f(p, 3))
+fn second_min(a: f64, b: f64) -> f64 {
+    if a < b || b.is_nan() {
+        a
+    } else {
+        b
+    }
 }
 
-pub fn why(n: usize, i: &[u64]) -> Option<&'static str> {
-    let met = match n {
-        20 => clamp_zeros(i, 3 + 18),
-        36 => clamp_zeros(i, 3),
-        21 => f(i, 2) == 0.0,
-        32 | 33 => pressure_zeros(&i[..7]),
-        34 => f(i, 11) == 0.0 || pressure_zeros(&[i[0], i[1], i[2], i[3], i[5], i[6], i[7]]),
-        _ => false,
+/// The same inputs with a pressure0 of 0 that makes the bare pressure the very zero that the largest negative is, where the two are zeros
+/// of unlike sign. `at` are the places of mass, volume and density.
+fn one_zero(i: &[u64], at: usize) -> Option<Vec<u64>> {
+    let bare = |pressure0: u64| {
+        let largest = f64::MAX.to_bits();
+        let mut o = [0];
+        inside::run(calls::MONAGHAN, &[pressure0, i[1], i[2], largest, i[at], i[at + 1], i[at + 2]], &mut o, inside::Mode::Ours);
+        f64::from_bits(o[0])
     };
-    met.then_some(ZEROS)
+    let second = -f(i, 3);
+    if !zeros(bare(i[0]), second) {
+        return None;
+    }
+    let same = [0.0f64, -0.0].into_iter().find(|z| bare(z.to_bits()).to_bits() == second.to_bits())?;
+    let mut w = i.to_vec();
+    w[0] = same.to_bits();
+    Some(w)
+}
+
+/// What document 01 has ours answer where the Rust's zeros differ; nothing where they can't.
+pub fn by_document(n: usize, i: &[u64], rust: &Answer) -> Option<Answer> {
+    let mut a = rust.clone();
+    match n {
+        36 => {
+            for k in 0..3 {
+                a.out[k] = second_min(second_max(f(i, 3 + k), 1.0 - f(i, 0)), 1.0 + f(i, 1)).to_bits();
+            }
+        }
+        21 if a.status == 0 && a.out[36] == 1 && zeros(f(&a.out, 32), f(i, 2)) => {
+            a.out[32] = i[2];
+            a.out[37] = i[2];
+        }
+        32 | 33 => a = inside::expected(n, &one_zero(i, 4)?),
+        34 => {
+            if let Some(w) = one_zero(i, 5) {
+                a = inside::expected(n, &w);
+            }
+            if a.status == 0 && zeros(f(&a.out, 0), f(i, 11)) {
+                a.out[0] = i[11];
+            }
+        }
+        _ => return None,
+    }
+    (a != *rust).then_some(a)
 }

@@ -112,9 +112,19 @@ pub struct Far {
     pub refused: u64,
 }
 
-fn distance(a: &[u64], b: &[u64]) -> f64 {
+/// The hardened moduli, for the energies: their terms cancel near rest, so the result alone is no measure.
+fn moduli(n: usize, i: &[u64]) -> f64 {
+    let f = |k: usize| f64::from_bits(i[k]);
+    match n {
+        26 | 27 => (f(1).abs() + f(2).abs()) * f(4).abs(),
+        30 | 31 => (f(2).abs() + f(3).abs()) * f(4).abs(),
+        _ => 0.0,
+    }
+}
+
+fn distance(a: &[u64], b: &[u64], beside: f64) -> f64 {
     let f = |x: &u64| f64::from_bits(*x);
-    let largest = b.iter().map(|x| f(x).abs()).fold(0.0, f64::max);
+    let largest = b.iter().map(|x| f(x).abs()).fold(0.0, f64::max) + beside;
     let off = a.iter().zip(b).map(|(x, y)| if x == y { 0.0 } else { (f(x) - f(y)).abs() }).fold(0.0, f64::max);
     if off == 0.0 {
         0.0
@@ -167,14 +177,17 @@ pub fn far(u: &Untouched, n: usize, d: &mut Draw, count: u64) -> Far {
                 far.other_branch += 1;
                 continue;
             }
-            let mut worst = distance(&a.out[..9], &o[..9]);
+            let mut worst = distance(&a.out[..9], &o[..9], 0.0);
             for s in 30..36 {
                 let (x, y) = (f64::from_bits(a.out[s]), f64::from_bits(o[s]));
                 worst = worst.max((x - y).abs() / y.abs().max(1.0));
             }
             far.distances.push(worst);
+        } else if n == calls::FAILED {
+            far.other_branch += (a.out != o) as u64;
+            far.distances.push(0.0);
         } else {
-            far.distances.push(distance(&a.out, &o));
+            far.distances.push(distance(&a.out, &o, moduli(n, &i)));
         }
     }
     far
