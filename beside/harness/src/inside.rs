@@ -405,6 +405,9 @@ fn updated(n: usize, i: &[u64], mut o: Vec<u64>) -> Answer {
     Answer { status: 0, out: o }
 }
 
+pub const FINITE: &str = "gave finite numbers";
+pub const UNTOUCHED: &str = "left untouched";
+
 /// What the Rust did with inputs that ours refuses, with the machine's own elementary functions.
 pub fn instead(n: usize, i: &[u64]) -> &'static str {
     if n < 9 || n == calls::PROJECT || n == calls::ALPHA {
@@ -414,7 +417,7 @@ pub fn instead(n: usize, i: &[u64]) -> &'static str {
     run(n, i, &mut o, Mode::Machine);
     let update = (calls::UPDATE..calls::UPDATE + 4).contains(&n);
     if update && !watch().met.iter().any(|m| m.op == Op::Recompose) {
-        return "left untouched";
+        return UNTOUCHED;
     }
     let words = if update {
         let mut w = o[..9].to_vec();
@@ -432,6 +435,6 @@ pub fn instead(n: usize, i: &[u64]) -> &'static str {
     } else if f.iter().any(|x| x.is_infinite()) {
         "gave an infinity"
     } else {
-        "gave finite numbers"
+        FINITE
     }
 }

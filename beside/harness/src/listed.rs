@@ -66,8 +66,12 @@ pub fn by_document(n: usize, i: &[u64], rust: &Answer) -> Option<Answer> {
             if let Some(w) = one_zero(i, 5) {
                 a = inside::expected(n, &w);
             }
-            if a.status == 0 && zeros(f(&a.out, 0), f(i, 11)) {
-                a.out[0] = i[11];
+            // The other step is the minimum's second operand.
+            inside::expected(n, i);
+            let root = inside::watch().asked.last().map_or(f64::NAN, |x| x.result);
+            let other = f(i, 11) / root;
+            if a.status == 0 && zeros(f(&a.out, 0), other) {
+                a.out[0] = other.to_bits();
             }
         }
         _ => return None,

@@ -60,12 +60,8 @@ fn same(n: usize, a: &Answer, e: &Answer) -> bool {
         && (a.status != 0 || a.out.iter().zip(&e.out).all(|(x, y)| x == y || (n == calls::CLAMP && nan(*x) && nan(*y))))
 }
 
-/// Simpler inputs that still differ and are not listed: each word replaced by 0 or 1 where that keeps the difference.
-fn shrink(n: usize, i: &[u64]) -> Vec<u64> {
-    let differs = |w: &[u64]| {
-        let (e, a) = (inside::expected(n, w), ours::call(n, w));
-        !same(n, &a, &e) && listed::by_document(n, w, &e).is_none_or(|d| !same(n, &a, &d))
-    };
+/// Each word replaced by 0 or 1 where that keeps what is asked.
+fn simpler(i: &[u64], keeps: impl Fn(&[u64]) -> bool) -> Vec<u64> {
     let mut w = i.to_vec();
     for _ in 0..2 {
         for k in 0..w.len() {
@@ -75,7 +71,7 @@ fn shrink(n: usize, i: &[u64]) -> Vec<u64> {
                     break;
                 }
                 w[k] = simple;
-                if differs(&w) {
+                if keeps(&w) {
                     break;
                 }
                 w[k] = was;
@@ -85,18 +81,28 @@ fn shrink(n: usize, i: &[u64]) -> Vec<u64> {
     w
 }
 
-fn shown(n: usize, i: &[u64]) -> String {
-    let word = |(k, x): (usize, &u64)| {
-        let f = f64::from_bits(*x);
-        if !inside::float_at(n, k) && matches!(n, 32..=34) {
-            format!("{x}")
-        } else if *x == 0 || f == 1.0 {
-            format!("{f}")
-        } else {
-            format!("{f:e}={x:016x}")
-        }
+/// Simpler inputs that still differ and are not listed.
+fn shrink(n: usize, i: &[u64]) -> Vec<u64> {
+    let differs = |w: &[u64]| {
+        let (e, a) = (inside::expected(n, w), ours::call(n, w));
+        !same(n, &a, &e) && listed::by_document(n, w, &e).is_none_or(|d| !same(n, &a, &d))
     };
-    i.iter().enumerate().map(word).collect::<Vec<_>>().join(" ")
+    simpler(i, differs)
+}
+
+fn shown_word(n: usize, k: usize, x: u64) -> String {
+    let f = f64::from_bits(x);
+    if !inside::float_at(n, k) && matches!(n, 32..=34) {
+        format!("{x}")
+    } else if x == 0 || f == 1.0 {
+        format!("{f}")
+    } else {
+        format!("{f:e}={x:016x}")
+    }
+}
+
+fn shown(n: usize, i: &[u64]) -> String {
+    i.iter().enumerate().map(|(k, x)| shown_word(n, k, *x)).collect::<Vec<_>>().join(" ")
 }
 
 fn short(a: &Answer) -> String {
@@ -115,11 +121,13 @@ struct Run {
     tallies: Vec<Tally>,
     branches: BTreeMap<(usize, &'static str), u64>,
     instead: BTreeMap<(usize, u8), BTreeMap<&'static str, u64>>,
+    /// For each of them an input at which the Rust went on with finite numbers.
+    went_on: BTreeMap<(usize, u8), Vec<u64>>,
     sites: sites::Sites,
 }
 
 fn compare(a: &Arguments, u: Option<&sites::Untouched>) -> Run {
-    let mut r = Run { tallies: Vec::new(), branches: BTreeMap::new(), instead: BTreeMap::new(), sites: BTreeMap::new() };
+    let mut r = Run { tallies: Vec::new(), branches: BTreeMap::new(), instead: BTreeMap::new(), went_on: BTreeMap::new(), sites: BTreeMap::new() };
     let mut names = Vec::new();
     for n in 0..CALLS.len() {
         let mut t = Tally { missing: !ours::has(n), ..Tally::default() };
@@ -170,7 +178,13 @@ fn compare(a: &Arguments, u: Option<&sites::Untouched>) -> Run {
                 }
             }
             if got.status != 0 {
-                *r.instead.entry((n, got.status)).or_default().entry(inside::instead(n, &i)).or_default() += 1;
+                let did = inside::instead(n, &i);
+                *r.instead.entry((n, got.status)).or_default().entry(did).or_default() += 1;
+                if matches!(did, inside::FINITE | inside::UNTOUCHED) && !t.missing {
+                    r.went_on.entry((n, got.status)).or_insert_with(|| {
+                        simpler(&i, |w| ours::call(n, w).status == got.status && inside::instead(n, w) == did)
+                    });
+                }
             }
         }
         r.tallies.push(t);
@@ -222,6 +236,12 @@ fn table(r: &Run, failed: &mut bool) {
     for ((n, s), did) in &r.instead {
         let did: Vec<String> = did.iter().map(|(w, c)| format!("{w} {c}")).collect();
         println!("{:<36} {s:>3}  {}", CALLS[*n].name, did.join(", "));
+    }
+    println!("\nOf these, the Rust going on with finite numbers, for instance (words that are not 0, by place)");
+    for ((n, s), i) in &r.went_on {
+        let some: Vec<String> =
+            i.iter().enumerate().filter(|(_, x)| **x != 0).map(|(k, x)| format!("{k}: {}", shown_word(*n, k, *x))).collect();
+        println!("{:<36} {s:>3}  {}", CALLS[*n].name, some.join(", "));
     }
 }
 
@@ -282,6 +302,26 @@ fn far_table(a: &Arguments, u: &sites::Untouched) {
     }
 }
 
+/// The clamp hides a NaN: the best known place where ours refuses and the Rust goes on.
+fn clamp_case() {
+    let mut i = vec![0u64; 39];
+    let one = 1f64.to_bits();
+    i[..3].copy_from_slice(&[0.025f64.to_bits(), 0.0045f64.to_bits(), 10f64.to_bits()]);
+    for k in [0, 4, 8, 9, 13, 17, 19, 20, 21, 25, 29, 30, 31, 32, 33] {
+        i[3 + k] = one;
+    }
+    i[3 + 18] = f64::NAN.to_bits();
+    let mut o = vec![0; 38];
+    inside::run(calls::UPDATE, &i, &mut o, inside::Mode::Machine);
+    let met = inside::watch().met.iter().rfind(|m| m.op == nalgebra::hooks::Op::Recompose);
+    let sigma = met.map_or(vec![], |m| m.input[9..12].to_vec());
+    let ours = if ours::has(calls::UPDATE) { format!("{}", ours::call(calls::UPDATE, &i).status) } else { "(missing)".into() };
+    println!(
+        "\nSnow with sigma NaN, 1, 1: ours refuses by {ours}; the Rust goes on with sigma {sigma:?}, plastic determinant {}, elastic hardening {}",
+        f64::from_bits(o[31]), f64::from_bits(o[33])
+    );
+}
+
 fn main() {
     let a = arguments();
     let missing = ours::open(&format!("{}/libours.so", a.work));
@@ -294,6 +334,7 @@ fn main() {
     let mut failed = !missing.is_empty();
     let mut r = compare(&a, u.as_ref());
     table(&r, &mut failed);
+    clamp_case();
     lists::compare(a.seed, a.count, &mut failed);
     site_table(&mut r, u.is_some(), &mut failed);
     listed_sites(&a.sites, &r, &mut failed);

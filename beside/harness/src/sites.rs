@@ -155,6 +155,12 @@ pub fn far(u: &Untouched, n: usize, d: &mut Draw, count: u64) -> Far {
                 i[at + k] = o[k].to_bits();
             }
         }
+        if n == 30 {
+            // Singular values are not negative.
+            for x in &mut i[5..8] {
+                *x &= !(1 << 63);
+            }
+        }
         if n == 31 {
             let m: Vec<f64> = i[5..14].iter().map(|x| f64::from_bits(*x)).collect();
             let mut o = [0.0; 21];
