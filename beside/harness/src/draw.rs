@@ -244,7 +244,9 @@ impl Draw {
     }
 
     fn matrix(&mut self) -> Vec<f64> {
-        if self.one_in(3) {
+        if self.one_in(12) {
+            (0..9).map(|_| self.pick(&[0.0, -0.0, -0.0, 1.0, -1.0])).collect()
+        } else if self.one_in(3) {
             self.factored()[..9].to_vec()
         } else {
             (0..9).map(|_| self.number()).collect()
