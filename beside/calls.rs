@@ -104,8 +104,11 @@ fn update(model: usize, p: &[u64], o: &mut [u64]) {
     let s: Vec<f64> = (30..36).map(|k| f(o, k)).collect();
     let (phase, mut det, mut plastic, mut elastic, mut gain, mut alpha) = (s[0], s[1], s[2], s[3], s[4], s[5]);
     match model {
-        0 => SnowPlasticity { min_epsilon: f(p, 0), max_epsilon: f(p, 1), hardening_coeff: f(p, 2) }
-            .update_particle(&mut m, &mut elastic, &mut det),
+        0 => SnowPlasticity { min_epsilon: f(p, 0), max_epsilon: f(p, 1), hardening_coeff: f(p, 2) }.update_particle(
+            &mut m,
+            &mut elastic,
+            &mut det,
+        ),
         1 => RankinePlasticity::new(f(p, 0), f(p, 1), f(p, 2), f(p, 3)).update_particle(&mut m, &mut plastic),
         2 => drucker_prager(p).update_particle(phase, &mut m, &mut det, &mut plastic, &mut gain),
         _ => NaccPlasticity::with_m(f(p, 0), f(p, 1), f(p, 2), f(p, 3) == 1.0, f(p, 4), f(p, 5))
@@ -184,10 +187,7 @@ pub fn call(n: usize, i: &[u64], o: &mut [u64]) {
         31 => put(o, corotated().pos_energy(matrix(i, 5), f(i, 4))),
         32 => put(o, monaghan(i).pressure(f(i, 4), f(i, 5), f(i, 6))),
         33 => put_matrix(o, monaghan(i).kirchhoff_stress(f(i, 4), f(i, 5), f(i, 6), f(i, 7), &matrix(i, 8))),
-        34 => put(
-            o,
-            monaghan(i).timestep_bound(f(i, 4), f(i, 5), f(i, 6), f(i, 7), &vector(i, 8), f(i, 11)),
-        ),
+        34 => put(o, monaghan(i).timestep_bound(f(i, 4), f(i, 5), f(i, 6), f(i, 7), &vector(i, 8), f(i, 11))),
         35 => o[0] = MaximumStressFailure::new(f(i, 0), f(i, 1)).particle_failed(&diagonal(i, 2)) as u64,
         36 => {
             let law = SnowPlasticity { min_epsilon: f(i, 0), max_epsilon: f(i, 1), hardening_coeff: f(i, 2) };

@@ -95,7 +95,7 @@ pub fn taken(n: usize, i: &[u64], a: &Answer, out: &mut Vec<&'static str>) {
         20 => (0..3).for_each(|k| clamped(f(i, 3 + 18 + k), o(18 + k), out)),
         36 => (0..3).for_each(|k| clamped(f(i, 3 + k), o(k), out)),
         21 | 37 => rankine(n, i, a, out),
-        22 => drucker_prager(i, a, out),
+        22 => drucker_prager(a, out),
         23 => nacc(i, a, out),
         24 => out.push("inverse"),
         25..=27 => out.push(if determinant() >= 1.0 { "j at least 1" } else { "j below 1" }),
@@ -157,7 +157,7 @@ fn rankine(n: usize, i: &[u64], a: &Answer, out: &mut Vec<&'static str>) {
     }
 }
 
-fn drucker_prager(i: &[u64], a: &Answer, out: &mut Vec<&'static str>) {
+fn drucker_prager(a: &Answer, out: &mut Vec<&'static str>) {
     if watch().asked.is_empty() {
         out.push("not active");
         return;
@@ -174,7 +174,6 @@ fn drucker_prager(i: &[u64], a: &Answer, out: &mut Vec<&'static str>) {
         let diff = result(89, Op::Product) - result(87, Op::Product);
         out.push(if diff > 0.0 { "new determinant stands" } else { "previous plus correction" });
     }
-    let _ = i;
 }
 
 fn nacc(i: &[u64], a: &Answer, out: &mut Vec<&'static str>) {

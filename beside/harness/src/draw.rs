@@ -7,8 +7,29 @@ pub struct Draw(pub u64);
 /// Ends of every range of section 3, both sides of them, and the edges of the format.
 fn edges() -> Vec<f64> {
     let mut e = vec![
-        0.0, f64::from_bits(1), f64::from_bits(0x000f_ffff_ffff_ffff), f64::MIN_POSITIVE, f64::MAX, 1e154, 1e-154, 1e-200, 1e200,
-        0.5, 1.0, 2.0, 3.0, 1.0 / 3.0, 1e-4, 1e-5, 0.001, 0.025, 0.0045, 0.975, 1.0045, 10.0, f64::EPSILON,
+        0.0,
+        f64::from_bits(1),
+        f64::from_bits(0x000f_ffff_ffff_ffff),
+        f64::MIN_POSITIVE,
+        f64::MAX,
+        1e154,
+        1e-154,
+        1e-200,
+        1e200,
+        0.5,
+        1.0,
+        2.0,
+        3.0,
+        1.0 / 3.0,
+        1e-4,
+        1e-5,
+        0.001,
+        0.025,
+        0.0045,
+        0.975,
+        1.0045,
+        10.0,
+        f64::EPSILON,
     ];
     for end in [2f64.powi(-60), 2f64.powi(60), 700.0, 8.0, 1.0, 0.975, 1.0045, 709.782712893384, 745.1332191019412] {
         e.extend([end, f64::from_bits(end.to_bits() - 1), f64::from_bits(end.to_bits() + 1)]);
@@ -107,9 +128,15 @@ impl Draw {
                 let n = q.iter().map(|x| x * x).sum::<f64>().sqrt();
                 let (w, x, y, z) = (q[0] / n, q[1] / n, q[2] / n, q[3] / n);
                 [
-                    1.0 - 2.0 * (y * y + z * z), 2.0 * (x * y - w * z), 2.0 * (x * z + w * y),
-                    2.0 * (x * y + w * z), 1.0 - 2.0 * (x * x + z * z), 2.0 * (y * z - w * x),
-                    2.0 * (x * z - w * y), 2.0 * (y * z + w * x), 1.0 - 2.0 * (x * x + y * y),
+                    1.0 - 2.0 * (y * y + z * z),
+                    2.0 * (x * y - w * z),
+                    2.0 * (x * z + w * y),
+                    2.0 * (x * y + w * z),
+                    1.0 - 2.0 * (x * x + z * z),
+                    2.0 * (y * z - w * x),
+                    2.0 * (x * z - w * y),
+                    2.0 * (y * z + w * x),
+                    1.0 - 2.0 * (x * x + y * y),
                 ]
             }
         }

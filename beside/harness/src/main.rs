@@ -127,7 +127,13 @@ struct Run {
 }
 
 fn compare(a: &Arguments, u: Option<&sites::Untouched>) -> Run {
-    let mut r = Run { tallies: Vec::new(), branches: BTreeMap::new(), instead: BTreeMap::new(), went_on: BTreeMap::new(), sites: BTreeMap::new() };
+    let mut r = Run {
+        tallies: Vec::new(),
+        branches: BTreeMap::new(),
+        instead: BTreeMap::new(),
+        went_on: BTreeMap::new(),
+        sites: BTreeMap::new(),
+    };
     let mut names = Vec::new();
     for n in 0..CALLS.len() {
         let mut t = Tally { missing: !ours::has(n), ..Tally::default() };
@@ -261,7 +267,9 @@ fn listed_sites(page: &str, r: &Run, failed: &mut bool) {
         .collect();
     let met: std::collections::BTreeSet<(String, String, String)> =
         r.sites.keys().map(|(f, l, o)| (f.clone(), l.to_string(), format!("{o:?}"))).collect();
-    for (what, set) in [("met, but not in the page", met.difference(&named)), ("in the page, but never met", named.difference(&met))] {
+    for (what, set) in
+        [("met, but not in the page", met.difference(&named)), ("in the page, but never met", named.difference(&met))]
+    {
         for s in set {
             *failed = true;
             println!("{what}: {s:?}");
@@ -271,7 +279,10 @@ fn listed_sites(page: &str, r: &Run, failed: &mut bool) {
 
 fn site_table(r: &mut Run, with_nalgebra: bool, failed: &mut bool) {
     println!("\nSection 4's sites (sums: worst difference over the terms' summed sizes, in units of 2^-45; others over the largest entry)");
-    println!("{:<34} {:>4} {:<14} {:>9} {:>8} {:>9} {:>10} {:>10}", "file", "line", "operation", "met", "beside", "in bits", "worst", "median");
+    println!(
+        "{:<34} {:>4} {:<14} {:>9} {:>8} {:>9} {:>10} {:>10}",
+        "file", "line", "operation", "met", "beside", "in bits", "worst", "median"
+    );
     for ((file, line, op), s) in r.sites.iter_mut() {
         let (w, m) = sites::worst_and_median(&mut s.ratios);
         let b = sites::SUM_BOUND;
@@ -279,14 +290,23 @@ fn site_table(r: &mut Run, with_nalgebra: bool, failed: &mut bool) {
         *failed |= over;
         println!(
             "{file:<34} {line:>4} {:<14} {:>9} {:>8} {:>9} {:>10.3e} {:>10.3e}{}",
-            format!("{op:?}"), s.times, s.beside, s.other_bits, w / b, m / b, if over { "  OVER 2^-45" } else { "" }
+            format!("{op:?}"),
+            s.times,
+            s.beside,
+            s.other_bits,
+            w / b,
+            m / b,
+            if over { "  OVER 2^-45" } else { "" }
         );
     }
 }
 
 fn far_table(a: &Arguments, u: &sites::Untouched) {
     println!("\nThe untouched Rust (build 1) from ours, on nalgebra's factors: distance over the largest entry (of energies: plus the hardened moduli)");
-    println!("{:<36} {:>8} {:>8} {:>8} {:>10} {:>10} {:>10}", "call", "beside", "refused", "branch", "worst", "99 of 100", "median");
+    println!(
+        "{:<36} {:>8} {:>8} {:>8} {:>10} {:>10} {:>10}",
+        "call", "beside", "refused", "branch", "worst", "99 of 100", "median"
+    );
     for n in 9..calls::PROJECT {
         if !ours::has(n) {
             continue;
@@ -298,7 +318,10 @@ fn far_table(a: &Arguments, u: &sites::Untouched) {
         let (w, m) = sites::worst_and_median(&mut f.distances);
         let most = f.distances.get(beside * 99 / 100).copied().unwrap_or(0.0);
         progress("");
-        println!("{:<36} {:>8} {:>8} {:>8} {:>10.3e} {:>10.3e} {:>10.3e}", CALLS[n].name, beside, f.refused, f.other_branch, w, most, m);
+        println!(
+            "{:<36} {:>8} {:>8} {:>8} {:>10.3e} {:>10.3e} {:>10.3e}",
+            CALLS[n].name, beside, f.refused, f.other_branch, w, most, m
+        );
     }
 }
 

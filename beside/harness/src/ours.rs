@@ -125,24 +125,58 @@ pub fn call(n: usize, i: &[u64]) -> Answer {
         29 => c_call!(
             p,
             (P, usize, f64, f64, P, usize, P, usize, P, usize, P, usize, M, usize),
-            at(0), 4, f(4), f(5), at(6), 9, at(15), 9, at(24), 3, at(27), 9, o, words
+            at(0),
+            4,
+            f(4),
+            f(5),
+            at(6),
+            9,
+            at(15),
+            9,
+            at(24),
+            3,
+            at(27),
+            9,
+            o,
+            words
         ),
         30 => c_call!(p, (P, usize, f64, P, usize, M, usize), at(0), 4, f(4), at(5), 3, o, words),
         31 => c_call!(p, (P, usize, f64, P, usize, P, usize, M, usize), at(0), 4, f(4), at(5), 9, at(14), 3, o, words),
-        32 => c_call!(
-            p,
-            (f64, u32, f64, f64, f64, f64, f64, M, usize),
-            f(0), i[1] as u32, f(2), f(3), f(4), f(5), f(6), o, words
-        ),
+        32 => {
+            c_call!(p, (f64, u32, f64, f64, f64, f64, f64, M, usize), f(0), i[1] as u32, f(2), f(3), f(4), f(5), f(6), o, words)
+        }
         33 => c_call!(
             p,
             (f64, u32, f64, f64, f64, f64, f64, f64, P, usize, M, usize),
-            f(0), i[1] as u32, f(2), f(3), f(4), f(5), f(6), f(7), at(8), 9, o, words
+            f(0),
+            i[1] as u32,
+            f(2),
+            f(3),
+            f(4),
+            f(5),
+            f(6),
+            f(7),
+            at(8),
+            9,
+            o,
+            words
         ),
         34 => c_call!(
             p,
             (f64, u32, f64, f64, f64, f64, f64, f64, P, usize, f64, M, usize),
-            f(0), i[1] as u32, f(2), f(3), f(4), f(5), f(6), f(7), at(8), 3, f(11), o, words
+            f(0),
+            i[1] as u32,
+            f(2),
+            f(3),
+            f(4),
+            f(5),
+            f(6),
+            f(7),
+            at(8),
+            3,
+            f(11),
+            o,
+            words
         ),
         35 => c_call!(p, (f64, f64, P, usize, M, usize), f(0), f(1), at(2), 3, o, words),
         36 => c_call!(p, (f64, f64, f64, P, usize, M, usize), f(0), f(1), f(2), at(3), 3, o, words),
@@ -167,7 +201,13 @@ fn update(model: usize, i: &[u64]) -> Answer {
     let status = c_call!(
         ours().update.unwrap(),
         (u64, P, usize, M, usize, M, usize),
-        model as u64, i.as_ptr(), k, record.as_mut_ptr(), 36, answer.as_mut_ptr(), 2
+        model as u64,
+        i.as_ptr(),
+        k,
+        record.as_mut_ptr(),
+        36,
+        answer.as_mut_ptr(),
+        2
     );
     let refused = |n: u8, kept: bool| Answer { status: if kept { n } else { 254 }, out: vec![0; 38] };
     if status != 0 {
@@ -184,8 +224,15 @@ pub fn pass(model: u64, p: &[u64], records: &mut [u64], answers: &mut [u64], cou
     c_call!(
         ours().pass.unwrap(),
         (u64, P, usize, M, usize, M, usize, M, usize),
-        model, p.as_ptr(), p.len(), records.as_mut_ptr(), records.len(), answers.as_mut_ptr(), answers.len(),
-        counts.as_mut_ptr(), counts.len()
+        model,
+        p.as_ptr(),
+        p.len(),
+        records.as_mut_ptr(),
+        records.len(),
+        answers.as_mut_ptr(),
+        answers.len(),
+        counts.as_mut_ptr(),
+        counts.len()
     )
 }
 
@@ -202,8 +249,19 @@ pub fn pass_with_failure(
     c_call!(
         ours().pass_with_failure.unwrap(),
         (u64, P, usize, P, usize, P, usize, M, usize, M, usize, M, usize),
-        model, p.as_ptr(), p.len(), limits.as_ptr(), limits.len(), law.as_ptr(), law.len(),
-        records.as_mut_ptr(), records.len(), answers.as_mut_ptr(), answers.len(), counts.as_mut_ptr(), counts.len()
+        model,
+        p.as_ptr(),
+        p.len(),
+        limits.as_ptr(),
+        limits.len(),
+        law.as_ptr(),
+        law.len(),
+        records.as_mut_ptr(),
+        records.len(),
+        answers.as_mut_ptr(),
+        answers.len(),
+        counts.as_mut_ptr(),
+        counts.len()
     )
 }
 
@@ -211,7 +269,12 @@ pub fn read_sheet(bytes: &[u8], header: &mut [u64], records: &mut [u64]) -> u8 {
     c_call!(
         ours().read_sheet.unwrap(),
         (*const u8, usize, M, usize, M, usize),
-        bytes.as_ptr(), bytes.len(), header.as_mut_ptr(), header.len(), records.as_mut_ptr(), records.len()
+        bytes.as_ptr(),
+        bytes.len(),
+        header.as_mut_ptr(),
+        header.len(),
+        records.as_mut_ptr(),
+        records.len()
     )
 }
 
@@ -219,7 +282,13 @@ pub fn run_sheet(bytes: &[u8], records: &mut [u64], answers: &mut [u64], counts:
     c_call!(
         ours().run_sheet.unwrap(),
         (*const u8, usize, M, usize, M, usize, M, usize),
-        bytes.as_ptr(), bytes.len(), records.as_mut_ptr(), records.len(), answers.as_mut_ptr(), answers.len(),
-        counts.as_mut_ptr(), counts.len()
+        bytes.as_ptr(),
+        bytes.len(),
+        records.as_mut_ptr(),
+        records.len(),
+        answers.as_mut_ptr(),
+        answers.len(),
+        counts.as_mut_ptr(),
+        counts.len()
     )
 }

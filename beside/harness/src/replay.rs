@@ -1,25 +1,12 @@
 //! The fixed list for the program `replay`: calls with the answers of build 2. An entry is the call's number in a byte, the refusal's number
-//! or 0 in a byte, the inputs as 8 bytes each, low byte first, and after a 0 the outputs likewise. Of an update the outputs are the two places
-//! of the answer and, where it is stored, F, sigma and the six scalars. A byte 255 ends the list.
+//! or 0 in a byte, the inputs as 8 bytes each, low byte first, and after a 0 the outputs likewise: of an update the record after it and the two
+//! places of the answer. A byte 255 ends the list.
 use crate::branches;
 use crate::calls::{self, CALLS};
 use crate::draw::Draw;
-use crate::inside::{self, Answer};
+use crate::inside;
 use crate::listed;
 use std::collections::BTreeMap;
-
-fn outputs(n: usize, a: &Answer) -> Vec<u64> {
-    if !(calls::UPDATE..calls::UPDATE + 4).contains(&n) {
-        return a.out.clone();
-    }
-    let mut w = a.out[36..].to_vec();
-    if a.out[36] == 1 {
-        w.extend(&a.out[..9]);
-        w.extend(&a.out[18..21]);
-        w.extend(&a.out[30..36]);
-    }
-    w
-}
 
 pub fn write(file: &str, seed: u64) {
     let mut bytes = Vec::new();
@@ -54,7 +41,7 @@ pub fn write(file: &str, seed: u64) {
                 bytes.extend(x.to_le_bytes());
             }
             if a.status == 0 {
-                for x in outputs(n, &a) {
+                for x in &a.out {
                     bytes.extend(x.to_le_bytes());
                 }
             }

@@ -283,9 +283,8 @@ impl Matrix3<f64> {
 
     pub fn svd_unordered(&self, _: bool, _: bool) -> Factors {
         let f = unsafe { hooks::beside_factors() };
-        let nine = |k: usize| {
-            SMatrix([[f[k], f[k + 1], f[k + 2]], [f[k + 3], f[k + 4], f[k + 5]], [f[k + 6], f[k + 7], f[k + 8]]])
-        };
+        let nine =
+            |k: usize| SMatrix([[f[k], f[k + 1], f[k + 2]], [f[k + 3], f[k + 4], f[k + 5]], [f[k + 6], f[k + 7], f[k + 8]]]);
         Factors { u: nine(0), singular_values: Vector3::new(f[9], f[10], f[11]), v_t: nine(12) }
     }
 
