@@ -26,3 +26,4 @@ pub mod RootNearest
 pub mod RootZero
 pub mod RootLaws
 pub mod RootCases
+pub mod Distances

@@ -7,7 +7,8 @@ use numbers::Elementary;
 use part::log_part;
 ghost use mathlib.Core.Path.{_≡_};
 ghost use mathlib.Core.Bool.{true};
-ghost use Rattle.numbers.specs.Range.{inRange, ranged, bare, onPath};
+ghost use Rattle.numbers.specs.Range.{inRange, bare, onPath};
+ghost use Rattle.logarithm.specs.Ln.{lnRanged};
 ghost use Rattle.series.specs.LogNear.{LogNear};
 ghost use Rattle.logarithm.specs.Worked.{low, high, exponentOf, fractionOf, lnOf};
 
@@ -36,7 +37,7 @@ fn ln_value(x: f64) -> f64
 }
 
 fn ln_ranged(x: f64) -> Elementary
-    ensures { λ r. ⌜ r ≡ ranged low high x (lnOf x) ⌝ }
+    ensures { λ r. ⌜ r ≡ lnRanged x ⌝ }
 {
     if numbers::in_range(8.673617379884035e-19, 1152921504606846976.0, x) {
         Elementary::Value(ln_value(x))
@@ -47,7 +48,7 @@ fn ln_ranged(x: f64) -> Elementary
 
 // ln x: a NaN or an infinity is refused by 1, a number outside the range by 2.
 pub fn ln(x: f64) -> Elementary
-    ensures { λ r. ⌜ r ≡ bare x (ranged low high x (lnOf x)) ⌝ }
+    ensures { λ r. ⌜ r ≡ bare x (lnRanged x) ⌝ }
 {
     if numbers::is_finite(x) {
         ln_ranged(x)
@@ -58,7 +59,7 @@ pub fn ln(x: f64) -> Elementary
 
 // ln x within a law: a NaN is refused by 3, an infinity and a number outside the range by 2.
 pub fn ln_on_path(x: f64) -> Elementary
-    ensures { λ r. ⌜ r ≡ onPath x (ranged low high x (lnOf x)) ⌝ }
+    ensures { λ r. ⌜ r ≡ onPath x (lnRanged x) ⌝ }
 {
     if numbers::is_number(x) {
         ln_ranged(x)

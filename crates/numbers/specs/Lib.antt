@@ -1,3 +1,4 @@
 pub mod Rules
 pub mod Range
 pub mod Power
+pub mod Answer

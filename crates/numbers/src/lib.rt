@@ -1,8 +1,11 @@
 // The rules that all laws share: minimum and maximum, finite and NaN tests, bits and floats, the
 // integer power, and what an elementary function answers (document 01, sections 3, 4 and 6).
+mod answer;
 mod bits;
 mod power;
 
+pub use answer::answered;
+pub use answer::finite_answer;
 pub use bits::bits_of;
 pub use bits::float_of;
 pub use power::powi;

@@ -58,7 +58,7 @@ impl SnowPlasticity {
         self.hardening_coeff * (1.0 - determinant)
     }
 
-    fn parameters_finite(self) -> bool
+    pub fn parameters_finite(self) -> bool
         ensures { λ r. ⌜ r ≡ parametersFinite self ⌝ }
     {
         numbers::is_finite(self.min_epsilon)

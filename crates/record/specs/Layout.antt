@@ -58,7 +58,10 @@ putRows r at m = putRow (putRow (putRow r at (m .r0)) (at + 3) (m .r1)) (at + 6)
 abbrev pub putShape : List ℕ → State → List ℕ
 putShape r s = putRow (putRows r 0 (s .f)) 18 (s .sigma)
 
--- and of the six scalars those that its law names
+-- and of the six scalars those that its law names; phase is a verdict's
+abbrev pub putPhase : List ℕ → Float → List ℕ
+putPhase r x = set r 30 (bits x)
+
 abbrev pub putPlasticDeterminant : List ℕ → Float → List ℕ
 putPlasticDeterminant r x = set r 31 (bits x)
 

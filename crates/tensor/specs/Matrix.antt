@@ -3,7 +3,7 @@ use mathlib.Core.List.{List, [], _∷_}
 use Prim.Native.Nat.{ℕ}
 use lib.ListN.{getD}
 use lib.Ieee as Ieee
-use lib.Ieee.{Float, nan, binary64}
+use lib.Ieee.{Float, nan, binary64, ofBits}
 use Rattle.tensor.specs.declared.Rows.{Rows}
 
 abbrev pub add : Float → Float → Float
@@ -17,6 +17,12 @@ mul a b = Ieee.mul binary64 a b
 
 abbrev pub div : Float → Float → Float
 div a b = Ieee.div binary64 a b
+
+abbrev pub zero : Float
+zero = ofBits binary64 0
+
+abbrev pub one : Float
+one = ofBits binary64 0x3ff0_0000_0000_0000
 
 abbrev pub three : {A : Type 0} → A → A → A → List A
 three a b c = a ∷ b ∷ c ∷ []
@@ -67,6 +73,41 @@ scaledOf u s = three (scaledRowOf (getD u 0 []) s) (scaledRowOf (getD u 1 []) s)
 -- U sigma V^T: `recompose` scales U's columns first
 abbrev pub recomposeOf : List (List Float) → List Float → List (List Float) → List (List Float)
 recomposeOf u s vt = mulOf (scaledOf u s) vt
+
+-- the diagonal's sum, by rising index
+abbrev pub traceOf : List (List Float) → Float
+traceOf m = add (add (at m 0 0) (at m 1 1)) (at m 2 2)
+
+-- sums, differences and multiples go entry by entry
+abbrev pub rowAddOf : List Float → List Float → List Float
+rowAddOf a b =
+    three (add (getD a 0 nan) (getD b 0 nan)) (add (getD a 1 nan) (getD b 1 nan)) (add (getD a 2 nan) (getD b 2 nan))
+
+abbrev pub rowSubOf : List Float → List Float → List Float
+rowSubOf a b =
+    three (sub (getD a 0 nan) (getD b 0 nan)) (sub (getD a 1 nan) (getD b 1 nan)) (sub (getD a 2 nan) (getD b 2 nan))
+
+abbrev pub rowScaleOf : Float → List Float → List Float
+rowScaleOf k a = three (mul k (getD a 0 nan)) (mul k (getD a 1 nan)) (mul k (getD a 2 nan))
+
+abbrev pub matAddOf : List (List Float) → List (List Float) → List (List Float)
+matAddOf a b = three (rowAddOf (getD a 0 []) (getD b 0 [])) (rowAddOf (getD a 1 []) (getD b 1 [])) (rowAddOf (getD a 2 []) (getD b 2 []))
+
+abbrev pub matSubOf : List (List Float) → List (List Float) → List (List Float)
+matSubOf a b = three (rowSubOf (getD a 0 []) (getD b 0 [])) (rowSubOf (getD a 1 []) (getD b 1 [])) (rowSubOf (getD a 2 []) (getD b 2 []))
+
+abbrev pub matScaleOf : Float → List (List Float) → List (List Float)
+matScaleOf k a = three (rowScaleOf k (getD a 0 [])) (rowScaleOf k (getD a 1 [])) (rowScaleOf k (getD a 2 []))
+
+-- off the diagonal stands k times 0, which is -0 below zero and a NaN at an infinity
+abbrev pub identityTimesOf : Float → List (List Float)
+identityTimesOf k =
+    three (three (mul k one) (mul k zero) (mul k zero))
+    (three (mul k zero) (mul k one) (mul k zero))
+    (three (mul k zero) (mul k zero) (mul k one))
+
+abbrev pub matVecOf : List (List Float) → List Float → List Float
+matVecOf a v = three (dotOf (getD a 0 []) v) (dotOf (getD a 1 []) v) (dotOf (getD a 2 []) v)
 
 abbrev pub rowsOf : List (List Float) → Rows
 rowsOf m = record { r0 = getD m 0 []; r1 = getD m 1 []; r2 = getD m 2 [] }

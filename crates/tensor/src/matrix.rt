@@ -1,6 +1,6 @@
 use crate::Rows;
 ghost use mathlib.Core.Path.{_≡_};
-ghost use Rattle.tensor.specs.Matrix.{detOf, scaledRowOf, scaledOf, recomposeOf, transposeOf, dotOf, rowTimesOf, mulColsOf, mulOf, productOf, rowsOf, ofRows};
+ghost use Rattle.tensor.specs.Matrix.{detOf, scaledRowOf, scaledOf, recomposeOf, transposeOf, dotOf, rowTimesOf, mulColsOf, mulOf, productOf, rowsOf, ofRows, traceOf, rowAddOf, rowSubOf, rowScaleOf, matAddOf, matSubOf, matScaleOf, identityTimesOf, matVecOf};
 ghost use Rattle.tensor.specs.Finite.{rowFinite, matFinite, rowsFinite};
 
 pub fn transpose(m: [[f64; 3]; 3]) -> [[f64; 3]; 3]
@@ -76,6 +76,76 @@ pub fn product(s: [f64; 3]) -> f64
     ensures { λ r. ⌜ r ≡ productOf s ⌝ }
 {
     s[0] * s[1] * s[2]
+}
+
+// The sum of the diagonal, by rising index.
+pub fn trace(m: [[f64; 3]; 3]) -> f64
+    ensures { λ r. ⌜ r ≡ traceOf m ⌝ }
+{
+    m[0][0] + m[1][1] + m[2][2]
+}
+
+pub fn row_add(a: [f64; 3], b: [f64; 3]) -> [f64; 3]
+    ensures { λ r. ⌜ r ≡ rowAddOf a b ⌝ }
+{
+    [a[0] + b[0], a[1] + b[1], a[2] + b[2]]
+}
+
+pub fn row_sub(a: [f64; 3], b: [f64; 3]) -> [f64; 3]
+    ensures { λ r. ⌜ r ≡ rowSubOf a b ⌝ }
+{
+    [a[0] - b[0], a[1] - b[1], a[2] - b[2]]
+}
+
+// Each entry times k.
+pub fn row_scale(k: f64, a: [f64; 3]) -> [f64; 3]
+    ensures { λ r. ⌜ r ≡ rowScaleOf k a ⌝ }
+{
+    [k * a[0], k * a[1], k * a[2]]
+}
+
+pub fn mat_add(a: [[f64; 3]; 3], b: [[f64; 3]; 3]) -> [[f64; 3]; 3]
+    ensures { λ r. ⌜ r ≡ matAddOf a b ⌝ }
+{
+    [
+        row_add(a[0], b[0]),
+        row_add(a[1], b[1]),
+        row_add(a[2], b[2]),
+    ]
+}
+
+pub fn mat_sub(a: [[f64; 3]; 3], b: [[f64; 3]; 3]) -> [[f64; 3]; 3]
+    ensures { λ r. ⌜ r ≡ matSubOf a b ⌝ }
+{
+    [
+        row_sub(a[0], b[0]),
+        row_sub(a[1], b[1]),
+        row_sub(a[2], b[2]),
+    ]
+}
+
+// Each entry times k.
+pub fn mat_scale(k: f64, a: [[f64; 3]; 3]) -> [[f64; 3]; 3]
+    ensures { λ r. ⌜ r ≡ matScaleOf k a ⌝ }
+{
+    [row_scale(k, a[0]), row_scale(k, a[1]), row_scale(k, a[2])]
+}
+
+// The identity with each entry times k; off the diagonal stands k times 0.
+pub fn identity_times(k: f64) -> [[f64; 3]; 3]
+    ensures { λ r. ⌜ r ≡ identityTimesOf k ⌝ }
+{
+    [
+        [k * 1.0, k * 0.0, k * 0.0],
+        [k * 0.0, k * 1.0, k * 0.0],
+        [k * 0.0, k * 0.0, k * 1.0],
+    ]
+}
+
+pub fn mat_vec(a: [[f64; 3]; 3], v: [f64; 3]) -> [f64; 3]
+    ensures { λ r. ⌜ r ≡ matVecOf a v ⌝ }
+{
+    [dot(a[0], v), dot(a[1], v), dot(a[2], v)]
 }
 
 pub fn to_rows(m: [[f64; 3]; 3]) -> Rows

@@ -2,6 +2,8 @@
 use lib.Ieee as Ieee
 use lib.Ieee.{Float, binary64, ofBits, toBits}
 use Rattle.numbers.specs.Power.{one}
+use Rattle.numbers.specs.Range.{ranged}
+use Rattle.numbers.specs.declared.Elementary.{Elementary}
 use Rattle.thirds.specs.Root.{rootBits}
 
 -- from 2 ^ -60
@@ -23,3 +25,16 @@ invCbrtOf x = Ieee.div binary64 one (cbrtOf x)
 
 unfoldable pub invCbrtSquaredOf : Float → Float
 invCbrtSquaredOf x = Ieee.div binary64 one (cbrtSquaredOf x)
+
+-- what each answers at a number: its value within the range, or the refusal
+abbrev pub cbrtRanged : Float → Elementary
+cbrtRanged x = ranged low high x (cbrtOf x)
+
+abbrev pub cbrtSquaredRanged : Float → Elementary
+cbrtSquaredRanged x = ranged low high x (cbrtSquaredOf x)
+
+abbrev pub invCbrtRanged : Float → Elementary
+invCbrtRanged x = ranged low high x (invCbrtOf x)
+
+abbrev pub invCbrtSquaredRanged : Float → Elementary
+invCbrtSquaredRanged x = ranged low high x (invCbrtSquaredOf x)

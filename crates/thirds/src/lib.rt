@@ -9,7 +9,7 @@ ghost use mathlib.Core.Path.{_≡_};
 ghost use mathlib.Core.Bool.{true};
 ghost use Rattle.numbers.specs.Range.{inRange, ranged, bare, onPath};
 ghost use Rattle.series.specs.ThirdsNear.{CbrtNear, CbrtSquaredNear, InvCbrtNear, InvCbrtSquaredNear};
-ghost use Rattle.thirds.specs.Thirds.{low, high, cbrtOf, cbrtSquaredOf, invCbrtOf, invCbrtSquaredOf};
+ghost use Rattle.thirds.specs.Thirds.{cbrtRanged, cbrtSquaredRanged, invCbrtRanged, invCbrtSquaredRanged, low, high, cbrtOf, cbrtSquaredOf, invCbrtOf, invCbrtSquaredOf};
 
 // 2^-60 and 2^60.
 const LOW: f64 = 8.673617379884035e-19;
@@ -84,13 +84,13 @@ fn path_answer(x: f64, v: f64) -> Elementary
 // ---- x^(1/3)
 
 pub fn cbrt(x: f64) -> Elementary
-    ensures { λ r. ⌜ r ≡ bare x (ranged low high x (cbrtOf x)) ⌝ }
+    ensures { λ r. ⌜ r ≡ bare x (cbrtRanged x) ⌝ }
 {
     bare_answer(x, cbrt_value(x))
 }
 
 pub fn cbrt_on_path(x: f64) -> Elementary
-    ensures { λ r. ⌜ r ≡ onPath x (ranged low high x (cbrtOf x)) ⌝ }
+    ensures { λ r. ⌜ r ≡ onPath x (cbrtRanged x) ⌝ }
 {
     path_answer(x, cbrt_value(x))
 }
@@ -98,13 +98,13 @@ pub fn cbrt_on_path(x: f64) -> Elementary
 // ---- x^(2/3)
 
 pub fn cbrt_squared(x: f64) -> Elementary
-    ensures { λ r. ⌜ r ≡ bare x (ranged low high x (cbrtSquaredOf x)) ⌝ }
+    ensures { λ r. ⌜ r ≡ bare x (cbrtSquaredRanged x) ⌝ }
 {
     bare_answer(x, cbrt_squared_value(x))
 }
 
 pub fn cbrt_squared_on_path(x: f64) -> Elementary
-    ensures { λ r. ⌜ r ≡ onPath x (ranged low high x (cbrtSquaredOf x)) ⌝ }
+    ensures { λ r. ⌜ r ≡ onPath x (cbrtSquaredRanged x) ⌝ }
 {
     path_answer(x, cbrt_squared_value(x))
 }
@@ -112,13 +112,13 @@ pub fn cbrt_squared_on_path(x: f64) -> Elementary
 // ---- x^(-1/3)
 
 pub fn inv_cbrt(x: f64) -> Elementary
-    ensures { λ r. ⌜ r ≡ bare x (ranged low high x (invCbrtOf x)) ⌝ }
+    ensures { λ r. ⌜ r ≡ bare x (invCbrtRanged x) ⌝ }
 {
     bare_answer(x, inv_cbrt_value(x))
 }
 
 pub fn inv_cbrt_on_path(x: f64) -> Elementary
-    ensures { λ r. ⌜ r ≡ onPath x (ranged low high x (invCbrtOf x)) ⌝ }
+    ensures { λ r. ⌜ r ≡ onPath x (invCbrtRanged x) ⌝ }
 {
     path_answer(x, inv_cbrt_value(x))
 }
@@ -126,13 +126,13 @@ pub fn inv_cbrt_on_path(x: f64) -> Elementary
 // ---- x^(-2/3)
 
 pub fn inv_cbrt_squared(x: f64) -> Elementary
-    ensures { λ r. ⌜ r ≡ bare x (ranged low high x (invCbrtSquaredOf x)) ⌝ }
+    ensures { λ r. ⌜ r ≡ bare x (invCbrtSquaredRanged x) ⌝ }
 {
     bare_answer(x, inv_cbrt_squared_value(x))
 }
 
 pub fn inv_cbrt_squared_on_path(x: f64) -> Elementary
-    ensures { λ r. ⌜ r ≡ onPath x (ranged low high x (invCbrtSquaredOf x)) ⌝ }
+    ensures { λ r. ⌜ r ≡ onPath x (invCbrtSquaredRanged x) ⌝ }
 {
     path_answer(x, inv_cbrt_squared_value(x))
 }

@@ -5,30 +5,22 @@ use Rattle.exact.specs.Shift.{up, down, gone}
 use borrow.Author.Needs.{needs}
 use Rattle.fixed_point.proofs.fixed.Statement.{statement}
 use Rattle.fixed_point.proofs.fixed.Tie as tie
-use Rattle.fixed_point.proofs.fixed.Reads as reads
-use Rattle.fixed_point.proofs.fixed.Lts as lts
 
--- src/lib.rt:10:9
 shl-result : tie.Need-shl-result
 shl-result c = search needs
 
--- src/lib.rt:12:17
 sub-s : tie.Need-sub-s
 sub-s c = search needs
 
--- src/lib.rt:13:21
 shr-result : tie.Need-shr-result
 shr-result c = search needs
 
--- src/lib.rt:5:1
 returns : tie.Need-returns
 returns c = up (c .before .args .m) (c .before .args .e) (c .before .pre .0) (c .if1 .taken) (c .before .pre .1)
 
--- src/lib.rt:5:1
 returns-2 : tie.Need-returns-2
 returns-2 c = down (c .before .before .args .m) (c .before .before .args .e) (1022 - c .before .before .args .e) (omega arith)
 
--- src/lib.rt:5:1
 returns-3 : tie.Need-returns-3
 returns-3 c = gone (c .before .before .args .m) (c .before .before .args .e) (1022 - c .before .before .args .e) (c .before .before .pre .0) (omega arith) (omega arith)
 

@@ -1,35 +1,25 @@
 use borrow.Author.Needs.{needs}
 use Rattle.law.proofs.scalars_finite.Statement.{statement}
 use Rattle.law.proofs.scalars_finite.Tie as tie
-use Rattle.law.proofs.scalars_finite.Reads as reads
-use Rattle.law.proofs.scalars_finite.Lts as lts
-use Rattle.numbers.proofs.is_finite.Reads as is-finite-reads
 
--- src/lib.rt:34:5
 is-finite-requires : tie.Need-is-finite-requires
 is-finite-requires c κs = search needs
 
--- src/lib.rt:35:11
 is-finite-requires-2 : tie.Need-is-finite-requires-2
 is-finite-requires-2 c κs = search needs
 
--- src/lib.rt:36:11
 is-finite-requires-3 : tie.Need-is-finite-requires-3
 is-finite-requires-3 c κs = search needs
 
--- src/lib.rt:37:11
 is-finite-requires-4 : tie.Need-is-finite-requires-4
 is-finite-requires-4 c κs = search needs
 
--- src/lib.rt:38:11
 is-finite-requires-5 : tie.Need-is-finite-requires-5
 is-finite-requires-5 c κs = search needs
 
--- src/lib.rt:39:11
 is-finite-requires-6 : tie.Need-is-finite-requires-6
 is-finite-requires-6 c κs = search needs
 
--- src/lib.rt:31:1
 returns : tie.Need-returns
 returns c =
     simp (c .is-finite6 .ensures, c .before .is-finite5 .ensures, c .before .before .is-finite4 .ensures, c .before .before .before .is-finite3 .ensures, c .before .before .before .before .is-finite2 .ensures, c .before .before .before .before .before .is-finite .ensures)

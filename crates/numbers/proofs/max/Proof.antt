@@ -1,22 +1,16 @@
 use Rattle.numbers.proofs.Laws.{eq-self}
 use Rattle.numbers.proofs.max.Statement.{statement}
 use Rattle.numbers.proofs.max.Tie as tie
-use Rattle.numbers.proofs.max.Reads as reads
-use Rattle.numbers.proofs.max.Lts as lts
 
--- src/lib.rt:48:1
 returns : tie.Need-returns
 returns c = simp (← eq-self, c .before .if1 .taken, c .if2 .taken)
 
--- src/lib.rt:48:1
 returns-2 : tie.Need-returns-2
 returns-2 c = simp (← eq-self, c .before .if1 .taken, c .if2 .left)
 
--- src/lib.rt:48:1
 returns-3 : tie.Need-returns-3
 returns-3 c = simp (← eq-self, c .before .if1 .left, c .if3 .taken)
 
--- src/lib.rt:48:1
 returns-4 : tie.Need-returns-4
 returns-4 c = simp (← eq-self, c .before .if1 .left, c .if3 .left)
 

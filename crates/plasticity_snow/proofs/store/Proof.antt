@@ -1,45 +1,30 @@
 use borrow.Author.Needs.{needs}
 use Rattle.plasticity_snow.proofs.store.Statement.{statement}
 use Rattle.plasticity_snow.proofs.store.Tie as tie
-use Rattle.plasticity_snow.proofs.store.Reads as reads
-use Rattle.plasticity_snow.proofs.store.Lts as lts
-use Rattle.law.proofs.refuse.Reads as refuse-reads
-use Rattle.numbers.proofs.is_finite.Reads as is-finite-reads
-use Rattle.plasticity_snow.proofs.state_of.Reads as state-of-reads
-use Rattle.tensor.proofs.mat_finite.Reads as mat-finite-reads
-use Rattle.tensor.proofs.row_finite.Reads as row-finite-reads
 
--- src/lib.rt:121:8
 mat-finite-requires : tie.Need-mat-finite-requires
 mat-finite-requires c κs = search needs
 
--- src/lib.rt:122:11
 row-finite-requires : tie.Need-row-finite-requires
 row-finite-requires c κs = search needs
 
--- src/lib.rt:123:11
 is-finite-requires : tie.Need-is-finite-requires
 is-finite-requires c κs = search needs
 
--- src/lib.rt:124:11
 is-finite-requires-2 : tie.Need-is-finite-requires-2
 is-finite-requires-2 c κs = search needs
 
--- src/lib.rt:127:20
 state-of-requires : tie.Need-state-of-requires
 state-of-requires c κs = search needs
 
--- src/lib.rt:131:9
 refuse-requires : tie.Need-refuse-requires
 refuse-requires c κs = search needs
 
--- src/lib.rt:118:1
 returns : tie.Need-returns
 returns c =
     let t0 = simp (c .before .before .is-finite2 .ensures, c .before .before .before .is-finite .ensures, c .before .before .before .before .row-finite .ensures, c .before .before .before .before .before .mat-finite .ensures) at (c .before .if1 .taken) in
     simp (c .state-of .ensures, c .before .before .is-finite2 .ensures, c .before .before .before .is-finite .ensures, c .before .before .before .before .row-finite .ensures, c .before .before .before .before .before .mat-finite .ensures, t0)
 
--- src/lib.rt:118:1
 returns-2 : tie.Need-returns-2
 returns-2 c =
     let t0 = simp (c .before .before .is-finite2 .ensures, c .before .before .before .is-finite .ensures, c .before .before .before .before .row-finite .ensures, c .before .before .before .before .before .mat-finite .ensures) at (c .before .if1 .left) in

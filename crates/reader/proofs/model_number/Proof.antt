@@ -46,13 +46,10 @@ use Rattle.sheet.proofs.Number as S
 use Rattle.sheet.proofs.Number.Laws as S′
 use Rattle.reader.proofs.new as new
 use Rattle.reader.proofs.new.Symbol as new-def
-use Rattle.reader.proofs.new.Symbol.{name as #reader·new}
 use Rattle.reader.proofs.new.Met as new-thm
 use Rattle.reader.proofs.read_number as next
 use Rattle.reader.proofs.read_number.Symbol as next-def
-use Rattle.reader.proofs.read_number.Symbol.{name as #reader·read-number}
 use Rattle.reader.proofs.read_number.Met as next-thm
-use Rattle.reader.proofs.model_number.Key.{name as #reader·model-number}
 use Rattle.reader.proofs.model_number as first
 use Rattle.reader.proofs.model_number.Statement as stated
 use Rattle.reader.proofs.model_number.Code as code

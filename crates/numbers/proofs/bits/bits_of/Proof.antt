@@ -2,18 +2,13 @@ use Rattle.numbers.proofs.Laws.{number-not-nan, other-bits}
 use borrow.Author.Needs.{needs}
 use Rattle.numbers.proofs.bits.bits_of.Statement.{statement}
 use Rattle.numbers.proofs.bits.bits_of.Tie as tie
-use Rattle.numbers.proofs.bits.bits_of.Reads as reads
-use Rattle.numbers.proofs.bits.bits_of.Lts as lts
 
--- src/lib.rt:30:9
 float-to-bits-result : tie.Need-float-to-bits-result
 float-to-bits-result c = number-not-nan (c .before .args .x) (c .if1 .taken)
 
--- src/lib.rt:26:1
 returns : tie.Need-returns
 returns c = search needs
 
--- src/lib.rt:26:1
 returns-2 : tie.Need-returns-2
 returns-2 c = other-bits (c .before .args .x) (c .if1 .left)
 

@@ -3,18 +3,13 @@ use mathlib.Core.Path.{sym, _∙_}
 use borrow.Author.Needs.{needs}
 use Rattle.numbers.proofs.bits.float_of.Statement.{statement}
 use Rattle.numbers.proofs.bits.float_of.Tie as tie
-use Rattle.numbers.proofs.bits.float_of.Reads as reads
-use Rattle.numbers.proofs.bits.float_of.Lts as lts
 
--- src/lib.rt:21:9
 float-from-bits-result : tie.Need-float-from-bits-result
 float-from-bits-result c = not-above-inf (c .before .args .n) (c .if1 .left)
 
--- src/lib.rt:15:1
 returns : tie.Need-returns
 returns c = zero-over-zero ∙ sym (above-inf (c .before .args .n) (c .if1 .taken))
 
--- src/lib.rt:15:1
 returns-2 : tie.Need-returns-2
 returns-2 c = search needs
 

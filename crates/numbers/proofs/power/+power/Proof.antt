@@ -20,7 +20,6 @@ power-at t = and 0 power-kinds.ps (is 0 power-kinds.ps μ-power t) power.Pre
 abbrev power-below : ℕ → In 0 power-kinds.ps
 power-below t = and 0 power-kinds.ps (falls 0 power-kinds.ps _<_ μ-power t) power.Pre
 
--- src/lib.rt:22:9
 power-power-requires :
     (t : ℕ) → power-lts.Need-power-requires (power-below t, power.Post) (power-at t) power.Post
 power-power-requires t c κs =
@@ -28,7 +27,6 @@ power-power-requires t c κs =
     let n = c .before .if1 .left in
     (omega arith, tt)
 
--- src/lib.rt:24:9
 power-power-requires-2 :
     (t : ℕ) → power-lts.Need-power-requires-2 (power-below t, power.Post) (power-at t) power.Post
 power-power-requires-2 t c κs =
@@ -36,19 +34,16 @@ power-power-requires-2 t c κs =
     let n = c .before .if1 .left in
     (omega arith, tt)
 
--- src/lib.rt:16:1
 power-returns :
     (t : ℕ) → power-lts.Need-returns (power-below t, power.Post) (power-at t) power.Post
 power-returns t c k h = at-zero k _ _ _ (c .if1 .taken)
 
--- src/lib.rt:16:1
 power-returns-2 :
     (t : ℕ) → power-lts.Need-returns-2 (power-below t, power.Post) (power-at t) power.Post
 power-returns-2 t c k h =
     let a = c .before .before .before .args in
     halved k (a .r) (a .b) (a .e) (c .before .before .if1 .left) h (c .power .result) (λ j g. rw (eq-eqb _ _ (c .before .if2 .taken)) (c .power .ensures j g))
 
--- src/lib.rt:16:1
 power-returns-3 :
     (t : ℕ) → power-lts.Need-returns-3 (power-below t, power.Post) (power-at t) power.Post
 power-returns-3 t c k h =

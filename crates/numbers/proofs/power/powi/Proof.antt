@@ -5,20 +5,13 @@ use Rattle.numbers.specs.Power.{powiOf}
 use borrow.Author.Needs.{needs}
 use Rattle.numbers.proofs.power.powi.Statement.{statement}
 use Rattle.numbers.proofs.power.powi.Tie as tie
-use Rattle.numbers.proofs.power.powi.Reads as reads
-use Rattle.numbers.proofs.power.powi.Lts as lts
-use Rattle.numbers.proofs.power.magnitude.Reads as magnitude-reads
-use Rattle.numbers.proofs.power.power.Reads as power-reads
 
--- src/lib.rt:31:27
 magnitude-requires : tie.Need-magnitude-requires
 magnitude-requires c κs = search needs
 
--- src/lib.rt:31:9
 power-requires : tie.Need-power-requires
 power-requires c κs = search needs
 
--- src/lib.rt:28:1
 returns : tie.Need-returns
 unfolding powiOf
 returns c =
@@ -26,7 +19,6 @@ returns c =
     let b : m .result < 2 ^ 32 = omega arith in
     simp (c .before .power .ensures 32 b, m .ensures, lt-ltb _ _ (c .if1 .taken))
 
--- src/lib.rt:28:1
 returns-2 : tie.Need-returns-2
 unfolding powiOf
 returns-2 c =

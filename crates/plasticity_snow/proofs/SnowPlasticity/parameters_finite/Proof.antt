@@ -1,23 +1,16 @@
 use borrow.Author.Needs.{needs}
 use Rattle.plasticity_snow.proofs.SnowPlasticity.parameters_finite.Statement.{statement}
 use Rattle.plasticity_snow.proofs.SnowPlasticity.parameters_finite.Tie as tie
-use Rattle.plasticity_snow.proofs.SnowPlasticity.parameters_finite.Reads as reads
-use Rattle.plasticity_snow.proofs.SnowPlasticity.parameters_finite.Lts as lts
-use Rattle.numbers.proofs.is_finite.Reads as is-finite-reads
 
--- src/lib.rt:61:9
 is-finite-requires : tie.Need-is-finite-requires
 is-finite-requires c κs = search needs
 
--- src/lib.rt:62:15
 is-finite-requires-2 : tie.Need-is-finite-requires-2
 is-finite-requires-2 c κs = search needs
 
--- src/lib.rt:63:15
 is-finite-requires-3 : tie.Need-is-finite-requires-3
 is-finite-requires-3 c κs = search needs
 
--- src/lib.rt:58:5
 returns : tie.Need-returns
 returns c =
     simp (c .is-finite3 .ensures, c .before .is-finite2 .ensures, c .before .before .is-finite .ensures)

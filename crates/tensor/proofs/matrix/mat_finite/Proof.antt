@@ -1,35 +1,25 @@
 use borrow.Author.Needs.{needs}
 use Rattle.tensor.proofs.matrix.mat_finite.Statement.{statement}
 use Rattle.tensor.proofs.matrix.mat_finite.Tie as tie
-use Rattle.tensor.proofs.matrix.mat_finite.Reads as reads
-use Rattle.tensor.proofs.matrix.mat_finite.Lts as lts
-use Rattle.tensor.proofs.matrix.row_finite.Reads as row-finite-reads
 
--- src/matrix.rt:109:16
 array-copy-out-row-finite : tie.Need-array-copy-out-row-finite
 array-copy-out-row-finite c = search needs
 
--- src/matrix.rt:109:5
 row-finite-requires : tie.Need-row-finite-requires
 row-finite-requires c κs = search needs
 
--- src/matrix.rt:109:35
 array-copy-out-row-finite-2 : tie.Need-array-copy-out-row-finite-2
 array-copy-out-row-finite-2 c = search needs
 
--- src/matrix.rt:109:24
 row-finite-requires-2 : tie.Need-row-finite-requires-2
 row-finite-requires-2 c κs = search needs
 
--- src/matrix.rt:109:54
 array-copy-out-row-finite-3 : tie.Need-array-copy-out-row-finite-3
 array-copy-out-row-finite-3 c = search needs
 
--- src/matrix.rt:109:43
 row-finite-requires-3 : tie.Need-row-finite-requires-3
 row-finite-requires-3 c κs = search needs
 
--- src/matrix.rt:106:1
 returns : tie.Need-returns
 returns c =
     simp (c .row-finite3 .ensures, c .before .before .row-finite2 .ensures, c .before .before .before .before .row-finite .ensures)

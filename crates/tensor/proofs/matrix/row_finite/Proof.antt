@@ -1,35 +1,25 @@
 use borrow.Author.Needs.{needs}
 use Rattle.tensor.proofs.matrix.row_finite.Statement.{statement}
 use Rattle.tensor.proofs.matrix.row_finite.Tie as tie
-use Rattle.tensor.proofs.matrix.row_finite.Reads as reads
-use Rattle.tensor.proofs.matrix.row_finite.Lts as lts
-use Rattle.numbers.proofs.is_finite.Reads as is-finite-reads
 
--- src/matrix.rt:103:24
 array-read-is-finite : tie.Need-array-read-is-finite
 array-read-is-finite c = search needs
 
--- src/matrix.rt:103:5
 is-finite-requires : tie.Need-is-finite-requires
 is-finite-requires c κs = search needs
 
--- src/matrix.rt:103:51
 array-read-is-finite-2 : tie.Need-array-read-is-finite-2
 array-read-is-finite-2 c = search needs
 
--- src/matrix.rt:103:32
 is-finite-requires-2 : tie.Need-is-finite-requires-2
 is-finite-requires-2 c κs = search needs
 
--- src/matrix.rt:103:78
 array-read-is-finite-3 : tie.Need-array-read-is-finite-3
 array-read-is-finite-3 c = search needs
 
--- src/matrix.rt:103:59
 is-finite-requires-3 : tie.Need-is-finite-requires-3
 is-finite-requires-3 c κs = search needs
 
--- src/matrix.rt:100:1
 returns : tie.Need-returns
 returns c =
     simp (c .is-finite3 .ensures, c .before .is-finite2 .ensures, c .before .before .is-finite .ensures)

@@ -6,9 +6,6 @@ use Rattle.thirds.specs.Root.{cubeOf}
 use Rattle.thirds.proofs.Cubes.{above-zero, root-is}
 use Rattle.thirds.proofs.root.fix.Statement.{statement}
 use Rattle.thirds.proofs.root.fix.Tie as tie
-use Rattle.thirds.proofs.root.fix.Reads as reads
-use Rattle.thirds.proofs.root.fix.Lts as lts
-use Rattle.thirds.proofs.root.cube.Reads as cube-reads
 
 abbrev Inv-loop : tie.InvT-loop
 Inv-loop guess m r₀ c₀ r c = (r < 2 ^ 49) × (c ≡ cubeOf r)

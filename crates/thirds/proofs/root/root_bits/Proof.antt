@@ -8,11 +8,6 @@ use Rattle.thirds.specs.Root.{rootOf, rootBits}
 use Rattle.thirds.proofs.Cubes.{root-small}
 use Rattle.thirds.proofs.root.root_bits.Statement.{statement}
 use Rattle.thirds.proofs.root.root_bits.Tie as tie
-use Rattle.thirds.proofs.root.root_bits.Reads as reads
-use Rattle.thirds.proofs.root.root_bits.Lts as lts
-use Rattle.numbers.proofs.float_of.Reads as float-of-reads
-use Rattle.thirds.proofs.root.fix.Reads as fix-reads
-use Rattle.thirds.proofs.root.guess.Reads as guess-reads
 
 add-float-of : tie.Need-add-float-of
 add-float-of c = search needs

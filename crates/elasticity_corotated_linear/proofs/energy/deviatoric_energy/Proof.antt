@@ -1,0 +1,17 @@
+use Rattle.elasticity_corotated_linear.specs.Energy.{deviatoricEnergy}
+use borrow.Author.Needs.{needs}
+use Rattle.elasticity_corotated_linear.proofs.energy.deviatoric_energy.Statement.{
+  statement,
+}
+use Rattle.elasticity_corotated_linear.proofs.energy.deviatoric_energy.Tie as tie
+
+dot-requires : tie.Need-dot-requires
+dot-requires c κs = search needs
+
+returns : tie.Need-returns
+unfolding deviatoricEnergy
+returns c =
+    simp (c .dot .ensures)
+
+pub deviatoric-energy-spec : {M : Type 1} → statement M
+deviatoric-energy-spec = tie.close (tie.spec dot-requires returns)

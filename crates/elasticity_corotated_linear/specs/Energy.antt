@@ -1,0 +1,45 @@
+-- The corotated law's energies (document 01, section 5: "Energy takes the product of sigma, `pos_energy` the determinant of F").
+use mathlib.Core.Bool.{Bool, cond, _&&_}
+use mathlib.Core.List.{List}
+use lib.ListN.{getD}
+use lib.Ieee as Ieee
+use lib.Ieee.{Float, nan}
+use Rattle.numbers.specs.Rules.{finite, isNumber}
+use Rattle.numbers.specs.Power.{powiOf}
+use Rattle.numbers.specs.Answer.{answeredOf, given}
+use Rattle.numbers.specs.declared.Elementary.{Elementary}
+use Rattle.numbers.specs.declared.Elementary.the-variants.{Refused}
+use Rattle.physics.specs.Physics.{two}
+use Rattle.tensor.specs.Matrix.{add, sub, mul, div, one, dotOf, productOf, detOf}
+use Rattle.tensor.specs.Finite.{rowFinite, matFinite}
+use Rattle.elasticity_corotated_linear.specs.Law.{lawFinite}
+use Rattle.elasticity_corotated_linear.specs.Stress.{lessOneOf, positiveOf}
+use Rattle.elasticity_corotated_linear.specs.declared.CorotatedLinearElasticity.{CorotatedLinearElasticity}
+
+-- the squares by the integer power, summed by rising index
+unfoldable pub squaresOf : List Float → Float
+squaresOf e = add (add (powiOf (getD e 0 nan) 2) (powiOf (getD e 1 nan) 2)) (powiOf (getD e 2 nan) 2)
+
+unfoldable pub energyOf : CorotatedLinearElasticity → List Float → Float → Float
+energyOf p s h =
+    add (mul (mul (p .mu) h) (squaresOf (lessOneOf s))) (mul (div (mul (p .lambda) h) two) (powiOf (sub (productOf s) one) 2))
+
+-- a NaN that arises is in the sum
+unfoldable pub elasticEnergyDensity : CorotatedLinearElasticity → List Float → Float → Elementary
+elasticEnergyDensity p s h = given (lawFinite p && rowFinite s && finite h) (answeredOf (energyOf p s h))
+
+-- the squared norm of the positive part of sigma - 1
+unfoldable pub deviatoricEnergy : CorotatedLinearElasticity → List Float → Float → Float
+deviatoricEnergy p e h = mul (mul (p .mu) h) (dotOf e e)
+
+unfoldable pub sphericalEnergy : CorotatedLinearElasticity → Float → Float → Float
+sphericalEnergy p j h = mul (mul (div (mul (p .lambda) h) two) (sub j one)) (sub j one)
+
+-- below j = 1 the spherical part is worked and not used: its NaN is met all the same
+unfoldable pub posEnergyOf : Float → Float → Float → Elementary
+posEnergyOf j dev sph = cond (isNumber sph) (answeredOf (cond (Ieee.lt j one) dev (add dev sph))) (Refused 3)
+
+unfoldable pub posEnergy : CorotatedLinearElasticity → List (List Float) → List Float → Float → Elementary
+posEnergy p f s h =
+    given (lawFinite p && matFinite f && rowFinite s && finite h)
+    (posEnergyOf (detOf f) (deviatoricEnergy p (positiveOf (lessOneOf s)) h) (sphericalEnergy p (detOf f) h))

@@ -1,0 +1,145 @@
+// Corotated linear elasticity: the stress and the energies of a record's F and its factors.
+mod energy;
+mod stress;
+
+use numbers::Elementary;
+use physics::Lame;
+use tensor::MatrixAnswer;
+
+pub use stress::less_one;
+pub use stress::negative;
+pub use stress::phase_coeff;
+pub use stress::positive;
+ghost use mathlib.Core.Path.{_≡_};
+ghost use mathlib.Core.Bool.{false};
+ghost use Rattle.elasticity_corotated_linear.specs.Law.{lawFinite, lawOf, fromLame, newOf};
+ghost use Rattle.elasticity_corotated_linear.specs.Stress.{stressInputs, kirchhoffStress};
+ghost use Rattle.elasticity_corotated_linear.specs.Energy.{elasticEnergyDensity, posEnergy};
+
+pub struct CorotatedLinearElasticity {
+    pub split_stress_on_failure: bool,
+    pub cfl_coeff: f64,
+    pub lambda: f64,
+    pub mu: f64,
+}
+
+// What `new` answers: the law, or the refusal's number.
+pub enum Made {
+    Law(CorotatedLinearElasticity),
+    Refused(u8),
+}
+
+fn law(m: Lame) -> CorotatedLinearElasticity
+    ensures { λ r. ⌜ r ≡ lawOf m ⌝ }
+{
+    CorotatedLinearElasticity {
+        split_stress_on_failure: true,
+        cfl_coeff: 0.9,
+        lambda: m.lambda,
+        mu: m.mu,
+    }
+}
+
+fn from_lame(m: Lame) -> Made
+    ensures { λ r. ⌜ r ≡ fromLame m ⌝ }
+{
+    if numbers::is_finite(m.lambda) & numbers::is_finite(m.mu) {
+        Made::Law(law(m))
+    } else {
+        Made::Refused(3)
+    }
+}
+
+impl CorotatedLinearElasticity {
+    pub fn new(young: f64, poisson: f64) -> Made
+        ensures { λ r. ⌜ r ≡ newOf young poisson ⌝ }
+    {
+        if numbers::is_finite(young) & numbers::is_finite(poisson) {
+            from_lame(physics::plain::lame_lambda_mu(young, poisson))
+        } else {
+            Made::Refused(1)
+        }
+    }
+
+    pub fn law_finite(self) -> bool
+        ensures { λ r. ⌜ r ≡ lawFinite self ⌝ }
+    {
+        numbers::is_finite(self.cfl_coeff)
+            & numbers::is_finite(self.lambda)
+            & numbers::is_finite(self.mu)
+    }
+
+    fn stress_inputs(
+        self,
+        phase: f64,
+        hardening: f64,
+        f: [[f64; 3]; 3],
+        u: [[f64; 3]; 3],
+        sigma: [f64; 3],
+        vt: [[f64; 3]; 3],
+    ) -> bool
+        ensures { λ r. ⌜ r ≡ stressInputs self phase hardening f u sigma vt ⌝ }
+    {
+        self.law_finite()
+            & numbers::is_finite(phase)
+            & numbers::is_finite(hardening)
+            & tensor::mat_finite(f)
+            & tensor::mat_finite(u)
+            & tensor::row_finite(sigma)
+            & tensor::mat_finite(vt)
+    }
+
+    // U, sigma and V^T are the factors of f that the caller brings.
+    pub fn kirchhoff_stress(
+        self,
+        phase: f64,
+        hardening: f64,
+        f: [[f64; 3]; 3],
+        u: [[f64; 3]; 3],
+        sigma: [f64; 3],
+        vt: [[f64; 3]; 3],
+    ) -> MatrixAnswer
+        ensures { λ r. ⌜ r ≡ kirchhoffStress self phase hardening f u sigma vt ⌝ }
+    {
+        if self.stress_inputs(phase, hardening, f, u, sigma, vt) {
+            tensor::answered(stress::stress(self, phase, hardening, f, u, sigma, vt))
+        } else {
+            tensor::refused_matrix(1)
+        }
+    }
+
+    pub fn elastic_energy_density(self, sigma: [f64; 3], hardening: f64) -> Elementary
+        ensures { λ r. ⌜ r ≡ elasticEnergyDensity self sigma hardening ⌝ }
+    {
+        if self.law_finite() & tensor::row_finite(sigma) & numbers::is_finite(hardening) {
+            numbers::answered(energy::energy(self, sigma, hardening))
+        } else {
+            Elementary::Refused(1)
+        }
+    }
+
+    // The same, but only the positive part.
+    pub fn pos_energy(self, f: [[f64; 3]; 3], sigma: [f64; 3], hardening: f64) -> Elementary
+        ensures { λ r. ⌜ r ≡ posEnergy self f sigma hardening ⌝ }
+    {
+        if self.law_finite()
+            & tensor::mat_finite(f)
+            & tensor::row_finite(sigma)
+            & numbers::is_finite(hardening)
+        {
+            let j = tensor::determinant(f);
+            let e = stress::positive(stress::less_one(sigma));
+            let dev = energy::deviatoric_energy(self, e, hardening);
+            let sph = energy::spherical_energy(self, j, hardening);
+            energy::pos_energy(j, dev, sph)
+        } else {
+            Elementary::Refused(1)
+        }
+    }
+
+    pub fn is_fluid(self) -> bool
+        ensures { λ r. ⌜ r ≡ false ⌝ }
+    {
+        false
+    }
+}

@@ -1,0 +1,35 @@
+use Rattle.elasticity_neo_hookean.specs.Energy.{energySteps}
+use borrow.Author.Needs.{needs}
+use Rattle.elasticity_neo_hookean.proofs.energy.energy_steps.Statement.{statement}
+use Rattle.elasticity_neo_hookean.proofs.energy.energy_steps.Tie as tie
+
+is-number-requires : tie.Need-is-number-requires
+is-number-requires c κs = search needs
+
+inv-cbrt-on-path-requires : tie.Need-inv-cbrt-on-path-requires
+inv-cbrt-on-path-requires c κs = search needs
+
+energy-powered-requires : tie.Need-energy-powered-requires
+energy-powered-requires c κs = search needs
+
+returns : tie.Need-returns
+unfolding energySteps
+returns c =
+    let t0 = simp (c .before .before .before .is-number .ensures) at (c .before .before .if1 .taken) in
+    simp (c .energy-powered .ensures, c .before .inv-cbrt-on-path .ensures, c .before .before .before .is-number .ensures, t0)
+
+returns-2 : tie.Need-returns-2
+unfolding energySteps
+returns-2 c =
+    let t0 = simp (c .before .is-number .ensures) at (c .if1 .left) in
+    simp (c .before .is-number .ensures, t0)
+
+pub energy-steps-spec : {M : Type 1} → statement M
+energy-steps-spec =
+    tie.close
+    (tie.spec
+    is-number-requires
+    inv-cbrt-on-path-requires
+    energy-powered-requires
+    returns
+    returns-2)

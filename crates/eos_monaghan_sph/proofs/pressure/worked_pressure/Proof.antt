@@ -1,0 +1,39 @@
+use borrow.Author.Needs.{needs}
+use Rattle.eos_monaghan_sph.specs.Pressure.{workedPressure}
+use Rattle.eos_monaghan_sph.proofs.pressure.worked_pressure.Statement.{statement}
+use Rattle.eos_monaghan_sph.proofs.pressure.worked_pressure.Tie as tie
+
+ratio-requires : tie.Need-ratio-requires
+ratio-requires c κs = search needs
+
+is-number-requires : tie.Need-is-number-requires
+is-number-requires c κs = search needs
+
+unbounded-requires : tie.Need-unbounded-requires
+unbounded-requires c κs = search needs
+
+bounded-requires : tie.Need-bounded-requires
+bounded-requires c κs = search needs
+
+returns : tie.Need-returns
+unfolding workedPressure
+returns c =
+    let t0 = simp (c .before .before .before .is-number .ensures, c .before .before .before .before .ratio .ensures) at (c .before .before .if1 .taken) in
+    simp (c .bounded .ensures, c .before .unbounded .ensures, c .before .before .before .before .ratio .ensures, t0)
+
+returns-2 : tie.Need-returns-2
+unfolding workedPressure
+returns-2 c =
+    let t0 = simp (c .before .is-number .ensures, c .before .before .ratio .ensures) at (c .if1 .left) in
+    simp (t0)
+
+pub worked-pressure-spec : {M : Type 1} → statement M
+worked-pressure-spec =
+    tie.close
+    (tie.spec
+    ratio-requires
+    is-number-requires
+    unbounded-requires
+    bounded-requires
+    returns
+    returns-2)

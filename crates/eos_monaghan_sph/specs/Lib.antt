@@ -1,0 +1,3 @@
+pub mod Pressure
+pub mod Stress
+pub mod Timestep

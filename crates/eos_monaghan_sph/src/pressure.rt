@@ -1,0 +1,90 @@
+use crate::Made;
+use crate::MonaghanSphEos;
+use numbers::Elementary;
+ghost use mathlib.Core.Path.{_≡_};
+ghost use mathlib.Core.Bool.{true};
+ghost use Rattle.eos_monaghan_sph.specs.Pressure.{newOf, inputsFinite, ratioOf, unboundedOf, boundedOf, workedPressure, pressureOf};
+
+// The density over the density at rest.
+fn ratio(mass: f64, volume: f64, density: f64) -> f64
+    ensures { λ r. ⌜ r ≡ ratioOf mass volume density ⌝ }
+{
+    let density0 = mass / volume;
+    density / density0
+}
+
+pub fn inputs_finite(law: MonaghanSphEos, mass: f64, volume: f64, density: f64) -> bool
+    ensures { λ r. ⌜ r ≡ inputsFinite law mass volume density ⌝ }
+{
+    numbers::is_finite(law.pressure0)
+        & numbers::is_finite(law.viscosity)
+        & numbers::is_finite(law.max_neg_pressure)
+        & numbers::is_finite(mass)
+        & numbers::is_finite(volume)
+        & numbers::is_finite(density)
+}
+
+fn unbounded(law: MonaghanSphEos, ratio: f64) -> f64
+    ensures { λ r. ⌜ r ≡ unboundedOf law ratio ⌝ }
+{
+    let power = numbers::powi(ratio, law.gamma);
+    law.pressure0 * (power - 1.0)
+}
+
+// At least minus the largest negative pressure.
+fn bounded(law: MonaghanSphEos, p: f64) -> Elementary
+    ensures { λ r. ⌜ r ≡ boundedOf law p ⌝ }
+{
+    if numbers::is_number(p) {
+        Elementary::Value(numbers::max(p, -law.max_neg_pressure))
+    } else {
+        Elementary::Refused(3)
+    }
+}
+
+// The pressure, which may be infinite, or 3 where a NaN arises.
+pub fn worked_pressure(law: MonaghanSphEos, mass: f64, volume: f64, density: f64) -> Elementary
+    ensures { λ r. ⌜ r ≡ workedPressure law mass volume density ⌝ }
+{
+    let q = ratio(mass, volume, density);
+    if numbers::is_number(q) {
+        let p = unbounded(law, q);
+        bounded(law, p)
+    } else {
+        Elementary::Refused(3)
+    }
+}
+
+impl MonaghanSphEos {
+    pub fn new(pressure: f64, gamma: u32, viscosity: f64) -> Made
+        ensures { λ r. ⌜ r ≡ newOf pressure gamma viscosity ⌝ }
+    {
+        if numbers::is_finite(pressure) & numbers::is_finite(viscosity) {
+            let law = MonaghanSphEos {
+                pressure0: pressure,
+                gamma,
+                viscosity,
+                max_neg_pressure: 1.0,
+            };
+            Made::Law(law)
+        } else {
+            Made::Refused(1)
+        }
+    }
+
+    pub fn is_fluid(self) -> bool
+        ensures { λ r. ⌜ r ≡ true ⌝ }
+    {
+        true
+    }
+
+    pub fn pressure(self, mass: f64, volume: f64, density: f64) -> Elementary
+        ensures { λ r. ⌜ r ≡ pressureOf self mass volume density ⌝ }
+    {
+        if inputs_finite(self, mass, volume, density) {
+            numbers::finite_answer(worked_pressure(self, mass, volume, density))
+        } else {
+            Elementary::Refused(1)
+        }
+    }
+}

@@ -1,0 +1,65 @@
+use crate::MonaghanSphEos;
+use crate::pressure;
+use numbers::Elementary;
+use tensor::MatrixAnswer;
+ghost use mathlib.Core.Path.{_≡_};
+ghost use Rattle.eos_monaghan_sph.specs.Stress.{pressurePartOf, viscousPartOf, stressOf, stressFrom, kirchhoffStressOf};
+
+fn pressure_part(p: f64, det: f64) -> [[f64; 3]; 3]
+    ensures { λ r. ⌜ r ≡ pressurePartOf p det ⌝ }
+{
+    tensor::identity_times(-p * det)
+}
+
+impl MonaghanSphEos {
+    fn viscous_part(self, det: f64, gradient: [[f64; 3]; 3]) -> [[f64; 3]; 3]
+        ensures { λ r. ⌜ r ≡ viscousPartOf self det gradient ⌝ }
+    {
+        let rate = physics::plain::strain_rate(gradient);
+        tensor::mat_scale(
+            2.0 * self.viscosity * det,
+            physics::plain::deviatoric_part(rate),
+        )
+    }
+
+    fn stress(self, det: f64, p: f64, gradient: [[f64; 3]; 3]) -> [[f64; 3]; 3]
+        ensures { λ r. ⌜ r ≡ stressOf self det p gradient ⌝ }
+    {
+        if self.viscosity == 0.0 {
+            pressure_part(p, det)
+        } else {
+            tensor::mat_add(pressure_part(p, det), self.viscous_part(det, gradient))
+        }
+    }
+
+    fn stress_from(self, det: f64, pressure: Elementary, gradient: [[f64; 3]; 3]) -> MatrixAnswer
+        ensures { λ r. ⌜ r ≡ stressFrom self det pressure gradient ⌝ }
+    {
+        match pressure {
+            Elementary::Value(p) => tensor::answered(self.stress(det, p, gradient)),
+            Elementary::Refused(n) => tensor::refused_matrix(n),
+        }
+    }
+
+    // det is the determinant of the fluid's deformation gradient, gradient that of the velocity.
+    pub fn kirchhoff_stress(
+        self,
+        mass: f64,
+        volume: f64,
+        density: f64,
+        det: f64,
+        gradient: [[f64; 3]; 3],
+    ) -> MatrixAnswer
+        ensures { λ r. ⌜ r ≡ kirchhoffStressOf self mass volume density det gradient ⌝ }
+    {
+        if pressure::inputs_finite(self, mass, volume, density)
+            & numbers::is_finite(det)
+            & tensor::mat_finite(gradient)
+        {
+            let p = pressure::worked_pressure(self, mass, volume, density);
+            self.stress_from(det, p, gradient)
+        } else {
+            tensor::refused_matrix(1)
+        }
+    }
+}

@@ -1,0 +1,69 @@
+// What is printed of a sheet (document 01, section 7): the count, a line a particle, and "end"; or the refusal alone.
+mod whole;
+
+use libc::STDOUT_FILENO;
+pub use whole::Input;
+pub use whole::read_whole;
+
+// One particle's line; whether all of it was written.
+fn print_line(i: usize, code: u64, value: u64) -> bool {
+    let number = io::print_decimal(STDOUT_FILENO, i as u64);
+    let rest = if code == 0 {
+        io::write_all(STDOUT_FILENO, b" untouched")
+    } else if code == 1 {
+        let word = io::write_all(STDOUT_FILENO, b" stored ");
+        word & io::print_hex(STDOUT_FILENO, value, 16)
+    } else {
+        let word = io::write_all(STDOUT_FILENO, b" refused ");
+        word & io::print_decimal(STDOUT_FILENO, value)
+    };
+    number & rest & io::write_all(STDOUT_FILENO, b"\n")
+}
+
+// The lines of the first n particles, as far as they can be written.
+fn print_lines(answers: &[u64], n: usize) -> bool {
+    let mut i = 0;
+    while i < n {
+        if answers.len() / 2 <= i {
+            return true;
+        }
+        if !print_line(i, answers[2 * i], answers[2 * i + 1]) {
+            return false;
+        }
+        i += 1;
+    }
+    true
+}
+
+fn print_sheet(answers: &[u64], n: usize) -> bool {
+    let word = io::write_all(STDOUT_FILENO, b"particles ");
+    let number = io::print_decimal(STDOUT_FILENO, n as u64);
+    if !(word & number & io::write_all(STDOUT_FILENO, b"\n")) {
+        return false;
+    }
+    if !print_lines(answers, n) {
+        return false;
+    }
+    io::write_all(STDOUT_FILENO, b"end\n")
+}
+
+fn print_refused(refusal: u8) -> bool {
+    let word = io::write_all(STDOUT_FILENO, b"sheet refused ");
+    let number = io::print_decimal(STDOUT_FILENO, refusal as u64);
+    word & number & io::write_all(STDOUT_FILENO, b"\n")
+}
+
+// Runs the sheet in the first n bytes of the room and prints it; whether all of it was written.
+pub fn print_answer(room: &[u8], n: usize) -> bool {
+    if room.len() < n {
+        return false;
+    }
+    let mut records = [0u64; 7200];
+    let mut answers = [0u64; 400];
+    let r = run::run_sheet(&room[..n], &mut records, &mut answers);
+    if r.refusal != 0 {
+        print_refused(r.refusal)
+    } else {
+        print_sheet(&answers, r.particles)
+    }
+}

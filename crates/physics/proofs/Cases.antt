@@ -1,0 +1,13 @@
+-- Document 01, section 8, P4: inv_exact(0.0) is 0.0.
+use mathlib.Core.Path.{_≡_, refl}
+use lib.Ieee as Ieee
+use lib.Ieee.{ofBits}
+use Rattle.numbers.specs.Rules.{finite}
+use Rattle.numbers.specs.Answer.{answeredOf, given}
+use Rattle.numbers.specs.declared.Elementary.the-variants.{Value}
+use Rattle.tensor.specs.Matrix.{zero}
+use Rattle.physics.specs.Physics.{invExactOf}
+
+pub P4 : given (finite zero) (answeredOf (invExactOf zero)) ≡ Value zero
+unfolding invExactOf finite Ieee.eq ofBits
+P4 = refl

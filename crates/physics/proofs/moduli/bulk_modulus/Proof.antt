@@ -1,0 +1,36 @@
+use borrow.Author.Needs.{needs}
+use Rattle.physics.proofs.moduli.bulk_modulus.Statement.{statement}
+use Rattle.physics.proofs.moduli.bulk_modulus.Tie as tie
+
+is-finite-requires : tie.Need-is-finite-requires
+is-finite-requires c κs = search needs
+
+is-finite-requires-2 : tie.Need-is-finite-requires-2
+is-finite-requires-2 c κs = search needs
+
+bulk-modulus-requires : tie.Need-bulk-modulus-requires
+bulk-modulus-requires c κs = search needs
+
+answered-requires : tie.Need-answered-requires
+answered-requires c κs = search needs
+
+returns : tie.Need-returns
+returns c =
+    let t0 = simp (c .before .before .before .is-finite2 .ensures, c .before .before .before .before .is-finite .ensures) at (c .before .before .if1 .taken) in
+    simp (c .answered .ensures, c .before .bulk-modulus .ensures, t0)
+
+returns-2 : tie.Need-returns-2
+returns-2 c =
+    let t0 = simp (c .before .is-finite2 .ensures, c .before .before .is-finite .ensures) at (c .if1 .left) in
+    simp (t0)
+
+pub bulk-modulus-spec : {M : Type 1} → statement M
+bulk-modulus-spec =
+    tie.close
+    (tie.spec
+    is-finite-requires
+    is-finite-requires-2
+    bulk-modulus-requires
+    answered-requires
+    returns
+    returns-2)

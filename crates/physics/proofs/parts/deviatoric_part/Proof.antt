@@ -1,0 +1,36 @@
+use borrow.Author.Needs.{needs}
+use Rattle.physics.proofs.parts.deviatoric_part.Statement.{statement}
+use Rattle.physics.proofs.parts.deviatoric_part.Tie as tie
+
+mat-finite-requires : tie.Need-mat-finite-requires
+mat-finite-requires c κs = search needs
+
+deviatoric-part-requires : tie.Need-deviatoric-part-requires
+deviatoric-part-requires c κs = search needs
+
+answered-requires : tie.Need-answered-requires
+answered-requires c κs = search needs
+
+refused-matrix-requires : tie.Need-refused-matrix-requires
+refused-matrix-requires c κs = search needs
+
+returns : tie.Need-returns
+returns c =
+    let t0 = simp (c .before .before .before .mat-finite .ensures) at (c .before .before .if1 .taken) in
+    simp (c .answered .ensures, c .before .deviatoric-part .ensures, t0)
+
+returns-2 : tie.Need-returns-2
+returns-2 c =
+    let t0 = simp (c .before .before .mat-finite .ensures) at (c .before .if1 .left) in
+    simp (c .refused-matrix .ensures, t0)
+
+pub deviatoric-part-spec : {M : Type 1} → statement M
+deviatoric-part-spec =
+    tie.close
+    (tie.spec
+    mat-finite-requires
+    deviatoric-part-requires
+    answered-requires
+    refused-matrix-requires
+    returns
+    returns-2)

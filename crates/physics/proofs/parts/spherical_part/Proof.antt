@@ -1,0 +1,27 @@
+use borrow.Author.Needs.{needs}
+use Rattle.physics.proofs.parts.spherical_part.Statement.{statement}
+use Rattle.physics.proofs.parts.spherical_part.Tie as tie
+
+mat-finite-requires : tie.Need-mat-finite-requires
+mat-finite-requires c κs = search needs
+
+spherical-part-requires : tie.Need-spherical-part-requires
+spherical-part-requires c κs = search needs
+
+answered-requires : tie.Need-answered-requires
+answered-requires c κs = search needs
+
+returns : tie.Need-returns
+returns c =
+    let t0 = simp (c .before .before .before .mat-finite .ensures) at (c .before .before .if1 .taken) in
+    simp (c .answered .ensures, c .before .spherical-part .ensures, t0)
+
+returns-2 : tie.Need-returns-2
+returns-2 c =
+    let t0 = simp (c .before .mat-finite .ensures) at (c .if1 .left) in
+    simp (t0)
+
+pub spherical-part-spec : {M : Type 1} → statement M
+spherical-part-spec =
+    tie.close
+    (tie.spec mat-finite-requires spherical-part-requires answered-requires returns returns-2)

@@ -1,0 +1,2 @@
+pub mod Physics
+pub mod Quadratic

@@ -1,0 +1,42 @@
+use crate::Pair;
+use numbers::Elementary;
+ghost use mathlib.Core.Path.{_≡_};
+ghost use Rattle.physics.specs.Quadratic.{pairOf, discriminantOf, rootsOf, solveQuadraticOf};
+
+// Two numbers to be returned: 3 where one isn't finite.
+pub fn pair(x: f64, y: f64) -> Pair
+    ensures { λ r. ⌜ r ≡ pairOf x y ⌝ }
+{
+    if numbers::is_finite(x) & numbers::is_finite(y) {
+        Pair::Values(x, y)
+    } else {
+        Pair::Refused(3)
+    }
+}
+
+fn discriminant(a: f64, b: f64, c: f64) -> f64
+    ensures { λ r. ⌜ r ≡ discriminantOf a b c ⌝ }
+{
+    b * b - 4.0 * a * c
+}
+
+// The roots, once the discriminant's root is known.
+fn roots(a: f64, b: f64, root: Elementary) -> Pair
+    ensures { λ r. ⌜ r ≡ rootsOf a b root ⌝ }
+{
+    match root {
+        Elementary::Value(s) => pair((-b + s) / (2.0 * a), (-b - s) / (2.0 * a)),
+        Elementary::Refused(n) => Pair::Refused(n),
+    }
+}
+
+// The roots of a x^2 + b x + c, the one with +root first. A negative discriminant hands on the square root's refusal.
+pub fn solve_quadratic(a: f64, b: f64, c: f64) -> Pair
+    ensures { λ r. ⌜ r ≡ solveQuadraticOf a b c ⌝ }
+{
+    if numbers::is_finite(a) & numbers::is_finite(b) & numbers::is_finite(c) {
+        roots(a, b, square_root::sqrt_on_path(discriminant(a, b, c)))
+    } else {
+        Pair::Refused(1)
+    }
+}

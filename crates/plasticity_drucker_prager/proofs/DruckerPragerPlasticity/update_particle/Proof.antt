@@ -1,0 +1,41 @@
+use Rattle.plasticity_drucker_prager.specs.DruckerPrager.{druckerUpdate}
+use borrow.Author.Needs.{needs}
+use Rattle.plasticity_drucker_prager.proofs.DruckerPragerPlasticity.update_particle.Statement.{
+  statement,
+}
+use Rattle.plasticity_drucker_prager.proofs.DruckerPragerPlasticity.update_particle.Tie as tie
+
+parameters-finite-requires : tie.Need-parameters-finite-requires
+parameters-finite-requires c κs = search needs
+
+inputs-finite-requires : tie.Need-inputs-finite-requires
+inputs-finite-requires c κs = search needs
+
+run-requires : tie.Need-run-requires
+run-requires c κs = search needs
+
+refuse-requires : tie.Need-refuse-requires
+refuse-requires c κs = search needs
+
+returns : tie.Need-returns
+unfolding druckerUpdate
+returns c =
+    let t0 = simp (c .before .before .inputs-finite .ensures, c .before .before .before .parameters-finite .ensures) at (c .before .if1 .taken) in
+    simp (c .run .ensures, t0)
+
+returns-2 : tie.Need-returns-2
+unfolding druckerUpdate
+returns-2 c =
+    let t0 = simp (c .before .before .inputs-finite .ensures, c .before .before .before .parameters-finite .ensures) at (c .before .if1 .left) in
+    simp (c .refuse .ensures, t0)
+
+pub update-particle-spec : {M : Type 1} → statement M
+update-particle-spec =
+    tie.close
+    (tie.spec
+    parameters-finite-requires
+    inputs-finite-requires
+    run-requires
+    refuse-requires
+    returns
+    returns-2)

@@ -1,0 +1,30 @@
+use Rattle.plasticity_drucker_prager.specs.Projection.{tipOf}
+use borrow.Author.Needs.{needs}
+use Rattle.plasticity_drucker_prager.proofs.projection.tip.Statement.{statement}
+use Rattle.plasticity_drucker_prager.proofs.projection.tip.Tie as tie
+
+enum-known-norm : tie.Need-enum-known-norm
+enum-known-norm c = search needs
+
+enum-known-norm-2 : tie.Need-enum-known-norm-2
+enum-known-norm-2 c = search needs
+
+refused-projection-requires : tie.Need-refused-projection-requires
+refused-projection-requires c κs = search needs
+
+returns : tie.Need-returns
+unfolding tipOf
+returns c =
+    let t0 = c .before .norm .given .1 in
+    simp (t0)
+
+returns-2 : tie.Need-returns-2
+unfolding tipOf
+returns-2 c =
+    let t0 = c .before .before .norm2 .given .1 in
+    simp (c .refused-projection .ensures, t0)
+
+pub tip-spec : {M : Type 1} → statement M
+tip-spec =
+    tie.close
+    (tie.spec enum-known-norm enum-known-norm-2 refused-projection-requires returns returns-2)

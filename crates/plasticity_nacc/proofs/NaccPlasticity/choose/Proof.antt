@@ -1,0 +1,44 @@
+use Rattle.plasticity_nacc.specs.Choice.{choiceOf}
+use borrow.Author.Needs.{needs}
+use Rattle.plasticity_nacc.proofs.NaccPlasticity.choose.Statement.{statement}
+use Rattle.plasticity_nacc.proofs.NaccPlasticity.choose.Tie as tie
+
+is-number-requires : tie.Need-is-number-requires
+is-number-requires c κs = search needs
+
+is-number-requires-2 : tie.Need-is-number-requires-2
+is-number-requires-2 c κs = search needs
+
+choose-lower-requires : tie.Need-choose-lower-requires
+choose-lower-requires c κs = search needs
+
+returns : tie.Need-returns
+unfolding choiceOf
+returns c =
+    let t0 = c .if2 .taken in
+    let t1 = simp (c .before .before .before .is-number2 .ensures, c .before .before .before .before .is-number .ensures) at (c .before .before .if1 .taken) in
+    simp (t0, t1)
+
+returns-2 : tie.Need-returns-2
+unfolding choiceOf
+returns-2 c =
+    let t0 = c .before .if2 .left in
+    let t1 = simp (c .before .before .before .before .is-number2 .ensures, c .before .before .before .before .before .is-number .ensures) at (c .before .before .before .if1 .taken) in
+    simp (c .choose-lower .ensures, t0, t1)
+
+returns-3 : tie.Need-returns-3
+unfolding choiceOf
+returns-3 c =
+    let t0 = simp (c .before .is-number2 .ensures, c .before .before .is-number .ensures) at (c .if1 .left) in
+    simp (t0)
+
+pub choose-spec : {M : Type 1} → statement M
+choose-spec =
+    tie.close
+    (tie.spec
+    is-number-requires
+    is-number-requires-2
+    choose-lower-requires
+    returns
+    returns-2
+    returns-3)

@@ -1,0 +1,25 @@
+use Rattle.plasticity_nacc.specs.Hardening.{hardenedOf}
+use borrow.Author.Needs.{needs}
+use Rattle.plasticity_nacc.proofs.NaccPlasticity.hardened.Statement.{statement}
+use Rattle.plasticity_nacc.proofs.NaccPlasticity.hardened.Tie as tie
+
+hardens-requires : tie.Need-hardens-requires
+hardens-requires c κs = search needs
+
+hardening-step-requires : tie.Need-hardening-step-requires
+hardening-step-requires c κs = search needs
+
+returns : tie.Need-returns
+unfolding hardenedOf
+returns c =
+    let t0 = simp (c .before .before .hardens .ensures) at (c .before .if1 .taken) in
+    simp (c .hardening-step .ensures, t0)
+
+returns-2 : tie.Need-returns-2
+unfolding hardenedOf
+returns-2 c =
+    let t0 = simp (c .before .hardens .ensures) at (c .if1 .left) in
+    simp (t0)
+
+pub hardened-spec : {M : Type 1} → statement M
+hardened-spec = tie.close (tie.spec hardens-requires hardening-step-requires returns returns-2)

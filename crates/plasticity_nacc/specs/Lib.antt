@@ -1,0 +1,7 @@
+pub mod Law
+pub mod TrialState
+pub mod Choice
+pub mod Tip
+pub mod Hardening
+pub mod Surface
+pub mod Nacc

@@ -1,0 +1,55 @@
+-- The NACC trial state (plasticity_nacc.rs, `project_deformation_gradient` down to the first test; document 01, section 6).
+use mathlib.Core.List.{List}
+use lib.ListN.{getD}
+use lib.Ieee as Ieee
+use lib.Ieee.{Float, nan, binary64, ofBits}
+use Rattle.numbers.specs.Rules.{maxOf}
+use Rattle.numbers.specs.Range.{onPath}
+use Rattle.numbers.specs.declared.Elementary.{Elementary}
+use Rattle.numbers.specs.declared.Elementary.the-variants.{Value, Refused}
+use Rattle.exponential.specs.Sinh.{sinhRanged}
+use Rattle.tensor.specs.Matrix.{add, sub, mul, div, zero, one, three, dotOf}
+use Rattle.plasticity_nacc.specs.declared.NaccPlasticity.{NaccPlasticity}
+use Rattle.plasticity_nacc.specs.declared.Trial.{Trial}
+use Rattle.plasticity_nacc.specs.Law.{two, dim}
+
+abbrev pub squaredOf : List Float → List Float
+squaredOf s =
+    three (mul (getD s 0 nan) (getD s 0 nan)) (mul (getD s 1 nan) (getD s 1 nan)) (mul (getD s 2 nan) (getD s 2 nan))
+
+-- a third of the sum, by rising index
+abbrev pub meanOf : List Float → Float
+meanOf q = div (add (add (getD q 0 nan) (getD q 1 nan)) (getD q 2 nan)) dim
+
+-- xi max(-alpha, 0): alpha is finite, so the maximum hides no NaN
+unfoldable pub softeningOf : NaccPlasticity → Float → Float
+softeningOf p alpha = mul (p .«hardening_factor») (maxOf (Ieee.neg alpha) zero)
+
+-- kappa (1e-5 + sinh)
+unfoldable pub p0From : NaccPlasticity → Float → Float
+p0From p x = mul (p .kappa) (add (ofBits binary64 0x3ee4_f8b5_88e3_68f1) x)
+
+-- once the hyperbolic sine is known; p0 comes before the power of j: its NaN is met first
+unfoldable pub p0Of : NaccPlasticity → Elementary → Elementary
+p0Of p (Value x) = onPath (p0From p x) (Value (p0From p x))
+p0Of p (Refused n) = Refused n
+
+unfoldable pub p0OnPath : NaccPlasticity → Float → Elementary
+p0OnPath p alpha = p0Of p (onPath (softeningOf p alpha) (sinhRanged (softeningOf p alpha)))
+
+-- mu w (sigma^2 - mean), with w the power -2/3 of j
+unfoldable pub stressOf : NaccPlasticity → Float → List Float → Float → List Float
+stressOf p w q mean =
+    three (mul (mul (p .mu) w) (sub (getD q 0 nan) mean))
+    (mul (mul (p .mu) w) (sub (getD q 1 nan) mean))
+    (mul (mul (p .mu) w) (sub (getD q 2 nan) mean))
+
+-- -(kappa/2 (j - 1/j)) j
+unfoldable pub pressureOf : NaccPlasticity → Float → Float
+pressureOf p j = mul (Ieee.neg (mul (div (p .kappa) two) (sub j (div one j)))) j
+
+unfoldable pub trialOf : NaccPlasticity → Float → Float → Float → List Float → Trial
+trialOf p w p0 j sigma =
+    let mean = meanOf (squaredOf sigma) in
+    let s = stressOf p w (squaredOf sigma) mean in
+    record { p0 = p0; j = j; mean = mean; s = s; squares = dotOf s s; p = pressureOf p j }

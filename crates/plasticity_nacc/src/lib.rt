@@ -1,0 +1,81 @@
+// Non-associated Cam clay (plasticity_nacc.rs; document 01, section 5).
+mod arguments;
+mod choice;
+mod hardening;
+mod surface;
+mod tip;
+mod trial_state;
+mod update;
+
+use tensor::Rows;
+
+// The law with its moduli; made by `new` or `with_m`.
+pub struct NaccPlasticity {
+    mu: f64,
+    kappa: f64,
+    hardening_enabled: bool,
+    hardening_factor: f64,
+    cohesion: f64,
+    friction: f64,
+}
+
+// The arguments of `with_m`.
+pub struct NaccArguments {
+    pub young_modulus: f64,
+    pub poisson_ratio: f64,
+    pub cohesion: f64,
+    pub hardening_enabled: bool,
+    pub hardening_factor: f64,
+    pub m: f64,
+}
+
+// What `new` and `with_m` answer: the law, or the refusal's number.
+pub enum Made {
+    Law(NaccPlasticity),
+    Refused(u8),
+}
+
+// The trial state: p0, the product of sigma, a third of the sum of squares, the deviatoric stress with its sum of
+// squares, and the pressure.
+pub struct Trial {
+    pub p0: f64,
+    pub j: f64,
+    pub mean: f64,
+    pub s: [f64; 3],
+    pub squares: f64,
+    pub p: f64,
+}
+
+// The branch taken, with the two numbers last compared; or the refusal's number.
+pub enum Branch {
+    // The trial pressure and p0.
+    Upper(f64, f64),
+    // The trial pressure and -beta p0.
+    Lower(f64, f64),
+    // y and 1e-4: inside the yield surface.
+    Inside(f64, f64),
+    // y and 1e-4.
+    Surface(f64, f64),
+    Refused(u8),
+}
+
+// Three numbers, or the refusal's number.
+pub enum Triple {
+    Values(f64, f64, f64),
+    Refused(u8),
+}
+
+// The branch with the singular values and alpha after it; zeros stand beside a refusal.
+pub struct Stepped {
+    pub branch: Branch,
+    pub sigma: [f64; 3],
+    pub alpha: f64,
+}
+
+// The same with F recomposed; inside the yield surface F is as it came.
+pub struct Projected {
+    pub branch: Branch,
+    pub f: Rows,
+    pub sigma: [f64; 3],
+    pub alpha: f64,
+}

@@ -1,0 +1,23 @@
+use borrow.Author.Needs.{needs}
+use Rattle.plasticity_rankine.proofs.RankinePlasticity.run.Statement.{statement}
+use Rattle.plasticity_rankine.proofs.RankinePlasticity.run.Tie as tie
+use Rattle.plasticity_rankine.proofs.RankinePlasticity.run.Reads as reads
+use Rattle.plasticity_rankine.proofs.RankinePlasticity.run.Lts as lts
+use Rattle.plasticity_rankine.proofs.RankinePlasticity.logged.Reads as logged-reads
+use Rattle.plasticity_rankine.proofs.steps.logs.Reads as logs-reads
+
+-- src/update.rt:62:21
+logs-requires : tie.Need-logs-requires
+logs-requires c κs = search needs
+
+-- src/update.rt:62:9
+logged-requires : tie.Need-logged-requires
+logged-requires c κs = search needs
+
+-- src/update.rt:58:5
+returns : tie.Need-returns
+returns c =
+    simp (c .logged .ensures, c .before .logs .ensures)
+
+pub run-spec : {M : Type 1} → statement M
+run-spec = tie.close (tie.spec logs-requires logged-requires returns)

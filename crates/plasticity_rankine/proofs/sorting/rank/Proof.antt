@@ -1,0 +1,101 @@
+use borrow.Author.Needs.{needs}
+use Rattle.plasticity_rankine.specs.Sorting.{rankOf}
+use Rattle.plasticity_rankine.proofs.sorting.rank.Statement.{statement}
+use Rattle.plasticity_rankine.proofs.sorting.rank.Tie as tie
+
+array-read-if1 : tie.Need-array-read-if1
+array-read-if1 c = search needs
+
+array-read-if1-2 : tie.Need-array-read-if1-2
+array-read-if1-2 c = search needs
+
+array-read-if2 : tie.Need-array-read-if2
+array-read-if2 c = search needs
+
+array-read-if2-2 : tie.Need-array-read-if2-2
+array-read-if2-2 c = search needs
+
+array-read-if3 : tie.Need-array-read-if3
+array-read-if3 c = search needs
+
+array-read-if3-2 : tie.Need-array-read-if3-2
+array-read-if3-2 c = search needs
+
+array-read-if4 : tie.Need-array-read-if4
+array-read-if4 c = search needs
+
+array-read-if4-2 : tie.Need-array-read-if4-2
+array-read-if4-2 c = search needs
+
+array-read-if5 : tie.Need-array-read-if5
+array-read-if5 c = search needs
+
+array-read-if5-2 : tie.Need-array-read-if5-2
+array-read-if5-2 c = search needs
+
+returns : tie.Need-returns
+unfolding rankOf
+returns c =
+    let t0 = c .if2 .taken in
+    let t1 = c .before .if1 .taken in
+    simp (t0, t1)
+
+returns-2 : tie.Need-returns-2
+unfolding rankOf
+returns-2 c =
+    let t0 = c .if3 .taken in
+    let t1 = c .before .if2 .left in
+    let t2 = c .before .before .if1 .taken in
+    simp (t0, t1, t2)
+
+returns-3 : tie.Need-returns-3
+unfolding rankOf
+returns-3 c =
+    let t0 = c .if3 .left in
+    let t1 = c .before .if2 .left in
+    let t2 = c .before .before .if1 .taken in
+    simp (t0, t1, t2)
+
+returns-4 : tie.Need-returns-4
+unfolding rankOf
+returns-4 c =
+    let t0 = c .if4 .taken in
+    let t1 = c .before .if1 .left in
+    simp (t0, t1)
+
+returns-5 : tie.Need-returns-5
+unfolding rankOf
+returns-5 c =
+    let t0 = c .if5 .taken in
+    let t1 = c .before .if4 .left in
+    let t2 = c .before .before .if1 .left in
+    simp (t0, t1, t2)
+
+returns-6 : tie.Need-returns-6
+unfolding rankOf
+returns-6 c =
+    let t0 = c .if5 .left in
+    let t1 = c .before .if4 .left in
+    let t2 = c .before .before .if1 .left in
+    simp (t0, t1, t2)
+
+pub rank-spec : {M : Type 1} → statement M
+rank-spec =
+    tie.close
+    (tie.spec
+    array-read-if1
+    array-read-if1-2
+    array-read-if2
+    array-read-if2-2
+    array-read-if3
+    array-read-if3-2
+    array-read-if4
+    array-read-if4-2
+    array-read-if5
+    array-read-if5-2
+    returns
+    returns-2
+    returns-3
+    returns-4
+    returns-5
+    returns-6)

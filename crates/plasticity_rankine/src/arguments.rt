@@ -1,0 +1,82 @@
+use crate::Made;
+use crate::RankineArguments;
+use crate::RankinePlasticity;
+use law::State;
+use law::Updated;
+ghost use mathlib.Core.Path.{_≡_};
+ghost use Rattle.plasticity_rankine.specs.Rankine.{argumentsOf, lawOf, elasticFinite, argumentsFinite, madeOf, argumentsUpdate};
+
+impl RankineArguments {
+    // The law with the Lamé parameters of these arguments.
+    fn law(self) -> RankinePlasticity
+        ensures { λ r. ⌜ r ≡ lawOf self ⌝ }
+    {
+        let l = physics::plain::lame_lambda_mu(self.young_modulus, self.poisson_ratio);
+        RankinePlasticity {
+            mu: l.mu,
+            lambda: l.lambda,
+            tensile_strength: self.tensile_strength,
+            softening_rate: self.softening_rate,
+        }
+    }
+
+    fn elastic_finite(self) -> bool
+        ensures { λ r. ⌜ r ≡ elasticFinite self ⌝ }
+    {
+        numbers::is_finite(self.young_modulus) & numbers::is_finite(self.poisson_ratio)
+    }
+
+    // Whether all four arguments are finite.
+    pub fn parameters_finite(self) -> bool
+        ensures { λ r. ⌜ r ≡ argumentsFinite self ⌝ }
+    {
+        self.elastic_finite()
+            & numbers::is_finite(self.tensile_strength)
+            & numbers::is_finite(self.softening_rate)
+    }
+
+    fn made(self) -> Made
+        ensures { λ r. ⌜ r ≡ madeOf self ⌝ }
+    {
+        let p = self.law();
+        if self.elastic_finite() & p.parameters_finite() {
+            if p.moduli_finite() {
+                Made::Law(p)
+            } else {
+                Made::Refused(3)
+            }
+        } else {
+            Made::Refused(1)
+        }
+    }
+
+    // The update of one particle by the law that `new` makes of these arguments.
+    pub fn update_particle(self, u: [[f64; 3]; 3], vt: [[f64; 3]; 3], s: State) -> Updated
+        ensures { λ r. ⌜ r ≡ argumentsUpdate self u vt s ⌝ }
+    {
+        if self.elastic_finite() {
+            self.law().update_particle(u, vt, s)
+        } else {
+            law::refuse(1, s)
+        }
+    }
+}
+
+impl RankinePlasticity {
+    pub fn new(
+        young_modulus: f64,
+        poisson_ratio: f64,
+        tensile_strength: f64,
+        softening_rate: f64,
+    ) -> Made
+        ensures { λ r. ⌜ r ≡ madeOf (argumentsOf «young_modulus» «poisson_ratio» «tensile_strength» «softening_rate») ⌝ }
+    {
+        let a = RankineArguments {
+            young_modulus,
+            poisson_ratio,
+            tensile_strength,
+            softening_rate,
+        };
+        a.made()
+    }
+}

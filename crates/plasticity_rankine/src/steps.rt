@@ -1,0 +1,130 @@
+// The steps of an update beside the projection, each with its refusal.
+use crate::RankinePlasticity;
+use crate::Triple;
+use law::Outcome;
+use law::State;
+use law::Updated;
+use numbers::Elementary;
+ghost use mathlib.Core.Path.{_≡_};
+ghost use Rattle.plasticity_rankine.specs.Rankine.{joinedOf, logsOf, expsOf, softStrengthOf, grownOf, squaresOf, hardeningOf, stateOf, rankineStore, rankineFinish};
+
+// Three answers in index order: the first refusal is handed on.
+fn joined(a: Elementary, b: Elementary, c: Elementary) -> Triple
+    ensures { λ r. ⌜ r ≡ joinedOf a b c ⌝ }
+{
+    match a {
+        Elementary::Value(x) => match b {
+            Elementary::Value(y) => match c {
+                Elementary::Value(z) => Triple::Values(x, y, z),
+                Elementary::Refused(n) => Triple::Refused(n),
+            },
+            Elementary::Refused(n) => Triple::Refused(n),
+        },
+        Elementary::Refused(n) => Triple::Refused(n),
+    }
+}
+
+pub fn logs(sigma: [f64; 3]) -> Triple
+    ensures { λ r. ⌜ r ≡ logsOf sigma ⌝ }
+{
+    joined(
+        logarithm::ln_on_path(sigma[0]),
+        logarithm::ln_on_path(sigma[1]),
+        logarithm::ln_on_path(sigma[2]),
+    )
+}
+
+pub fn exps(e: [f64; 3]) -> Triple
+    ensures { λ r. ⌜ r ≡ expsOf e ⌝ }
+{
+    joined(
+        exponential::exp_on_path(e[0]),
+        exponential::exp_on_path(e[1]),
+        exponential::exp_on_path(e[2]),
+    )
+}
+
+fn squares(old: [f64; 3], new: [f64; 3]) -> f64
+    ensures { λ r. ⌜ r ≡ squaresOf old new ⌝ }
+{
+    let d = tensor::row_sub(old, new);
+    tensor::dot(d, d)
+}
+
+impl RankinePlasticity {
+    // The hardening starts from 1.
+    pub(crate) fn soft_strength(self, h: f64) -> f64
+        ensures { λ r. ⌜ r ≡ softStrengthOf self h ⌝ }
+    {
+        self.tensile_strength - (h - 1.0)
+    }
+
+    // The minimum would hide a NaN: it is refused before.
+    fn grown(self, h: f64, norm: Elementary) -> Elementary
+        ensures { λ r. ⌜ r ≡ grownOf self h norm ⌝ }
+    {
+        match norm {
+            Elementary::Value(x) => {
+                let y = h + self.softening_rate * x;
+                if numbers::is_number(y) {
+                    Elementary::Value(numbers::min(y, self.tensile_strength))
+                } else {
+                    Elementary::Refused(3)
+                }
+            }
+            Elementary::Refused(n) => Elementary::Refused(n),
+        }
+    }
+
+    // The new hardening, of the strains before and after.
+    pub(crate) fn hardening(self, h: f64, old: [f64; 3], new: [f64; 3]) -> Elementary
+        ensures { λ r. ⌜ r ≡ hardeningOf self h old new ⌝ }
+    {
+        self.grown(h, square_root::sqrt_on_path(squares(old, new)))
+    }
+}
+
+fn state_of(f: [[f64; 3]; 3], sigma: [f64; 3], h: f64, s: State) -> State
+    ensures { λ r. ⌜ r ≡ stateOf f sigma h s ⌝ }
+{
+    State {
+        f: tensor::to_rows(f),
+        sigma,
+        phase: s.phase,
+        plastic_determinant: s.plastic_determinant,
+        plastic_hardening: h,
+        elastic_hardening: s.elastic_hardening,
+        log_gain: s.log_gain,
+        alpha: s.alpha,
+    }
+}
+
+// The results are stored where all are finite.
+fn store(f: [[f64; 3]; 3], sigma: [f64; 3], h: f64, s: State) -> Updated
+    ensures { λ r. ⌜ r ≡ rankineStore f sigma h s ⌝ }
+{
+    if tensor::mat_finite(f) & tensor::row_finite(sigma) & numbers::is_finite(h) {
+        Updated {
+            state: state_of(f, sigma, h, s),
+            outcome: Outcome::Stored(h),
+        }
+    } else {
+        law::refuse(3, s)
+    }
+}
+
+// Once the hardening and the exponentials have answered.
+pub fn finish(h: Elementary, t: Triple, u: [[f64; 3]; 3], vt: [[f64; 3]; 3], s: State) -> Updated
+    ensures { λ r. ⌜ r ≡ rankineFinish h t u vt s ⌝ }
+{
+    match h {
+        Elementary::Value(x) => match t {
+            Triple::Values(a, b, c) => {
+                let sigma = [a, b, c];
+                store(tensor::recompose(u, sigma, vt), sigma, x, s)
+            }
+            Triple::Refused(n) => law::refuse(n, s),
+        },
+        Elementary::Refused(n) => law::refuse(n, s),
+    }
+}

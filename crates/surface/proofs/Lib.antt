@@ -1,0 +1,6 @@
+pub mod Scale
+pub mod Bounds
+pub mod Branches
+pub mod Indexed
+pub mod Update
+pub mod Cases

@@ -1,0 +1,36 @@
+use borrow.Author.Needs.{needs}
+use Rattle.tensor.proofs.DecomposedTensor.recompose.Statement.{statement}
+use Rattle.tensor.proofs.DecomposedTensor.recompose.Tie as tie
+
+tensor-finite-requires : tie.Need-tensor-finite-requires
+tensor-finite-requires c κs = search needs
+
+recompose-requires : tie.Need-recompose-requires
+recompose-requires c κs = search needs
+
+answered-requires : tie.Need-answered-requires
+answered-requires c κs = search needs
+
+refused-matrix-requires : tie.Need-refused-matrix-requires
+refused-matrix-requires c κs = search needs
+
+returns : tie.Need-returns
+returns c =
+    let t0 = simp (c .before .before .before .tensor-finite .ensures) at (c .before .before .if1 .taken) in
+    simp (c .answered .ensures, c .before .recompose .ensures, t0)
+
+returns-2 : tie.Need-returns-2
+returns-2 c =
+    let t0 = simp (c .before .before .tensor-finite .ensures) at (c .before .if1 .left) in
+    simp (c .refused-matrix .ensures, t0)
+
+pub recompose-spec : {M : Type 1} → statement M
+recompose-spec =
+    tie.close
+    (tie.spec
+    tensor-finite-requires
+    recompose-requires
+    answered-requires
+    refused-matrix-requires
+    returns
+    returns-2)

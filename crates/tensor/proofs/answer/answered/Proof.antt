@@ -1,0 +1,30 @@
+use borrow.Author.Needs.{needs}
+use Rattle.tensor.specs.Answer.{answered}
+use Rattle.tensor.proofs.answer.answered.Statement.{statement}
+use Rattle.tensor.proofs.answer.answered.Tie as tie
+
+mat-finite-requires : tie.Need-mat-finite-requires
+mat-finite-requires c κs = search needs
+
+to-rows-requires : tie.Need-to-rows-requires
+to-rows-requires c κs = search needs
+
+refused-matrix-requires : tie.Need-refused-matrix-requires
+refused-matrix-requires c κs = search needs
+
+returns : tie.Need-returns
+unfolding answered
+returns c =
+    let t0 = simp (c .before .before .mat-finite .ensures) at (c .before .if1 .taken) in
+    simp (c .to-rows .ensures, t0)
+
+returns-2 : tie.Need-returns-2
+unfolding answered
+returns-2 c =
+    let t0 = simp (c .before .before .mat-finite .ensures) at (c .before .if1 .left) in
+    simp (c .refused-matrix .ensures, t0)
+
+pub answered-spec : {M : Type 1} → statement M
+answered-spec =
+    tie.close
+    (tie.spec mat-finite-requires to-rows-requires refused-matrix-requires returns returns-2)

@@ -1,0 +1,26 @@
+use borrow.Author.Needs.{needs}
+use Rattle.tensor.specs.Decomposed.{answeredTensor}
+use Rattle.tensor.proofs.decomposed.answered_tensor.Statement.{statement}
+use Rattle.tensor.proofs.decomposed.answered_tensor.Tie as tie
+
+tensor-finite-requires : tie.Need-tensor-finite-requires
+tensor-finite-requires c κs = search needs
+
+refused-tensor-requires : tie.Need-refused-tensor-requires
+refused-tensor-requires c κs = search needs
+
+returns : tie.Need-returns
+unfolding answeredTensor
+returns c =
+    let t0 = simp (c .before .tensor-finite .ensures) at (c .if1 .taken) in
+    simp (t0)
+
+returns-2 : tie.Need-returns-2
+unfolding answeredTensor
+returns-2 c =
+    let t0 = simp (c .before .before .tensor-finite .ensures) at (c .before .if1 .left) in
+    simp (c .refused-tensor .ensures, t0)
+
+pub answered-tensor-spec : {M : Type 1} → statement M
+answered-tensor-spec =
+    tie.close (tie.spec tensor-finite-requires refused-tensor-requires returns returns-2)

@@ -1,0 +1,30 @@
+use Rattle.tensor.specs.Inverse.{inverseTransposeOf}
+use borrow.Author.Needs.{needs}
+use Rattle.tensor.proofs.inverse.inverse_transpose.Statement.{statement}
+use Rattle.tensor.proofs.inverse.inverse_transpose.Tie as tie
+
+identity-times-requires : tie.Need-identity-times-requires
+identity-times-requires c κs = search needs
+
+cofactors-requires : tie.Need-cofactors-requires
+cofactors-requires c κs = search needs
+
+mat-over-requires : tie.Need-mat-over-requires
+mat-over-requires c κs = search needs
+
+returns : tie.Need-returns
+unfolding inverseTransposeOf
+returns c =
+    let t0 = c .before .if1 .taken in
+    simp (c .identity-times .ensures, t0)
+
+returns-2 : tie.Need-returns-2
+unfolding inverseTransposeOf
+returns-2 c =
+    let t0 = c .before .before .if1 .left in
+    simp (c .mat-over .ensures, c .before .cofactors .ensures, t0)
+
+pub inverse-transpose-spec : {M : Type 1} → statement M
+inverse-transpose-spec =
+    tie.close
+    (tie.spec identity-times-requires cofactors-requires mat-over-requires returns returns-2)

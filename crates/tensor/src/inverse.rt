@@ -1,0 +1,48 @@
+use crate::matrix;
+ghost use mathlib.Core.Path.{_≡_};
+ghost use Rattle.tensor.specs.Inverse.{cofactorRowOf, cofactorsOf, rowOverOf, matOverOf, inverseTransposeOf};
+
+// The cofactors of one row, from the two rows that follow it in turn.
+fn cofactor_row(a: [f64; 3], b: [f64; 3]) -> [f64; 3]
+    ensures { λ r. ⌜ r ≡ cofactorRowOf a b ⌝ }
+{
+    [
+        a[1] * b[2] - a[2] * b[1],
+        a[2] * b[0] - a[0] * b[2],
+        a[0] * b[1] - a[1] * b[0],
+    ]
+}
+
+pub fn cofactors(m: [[f64; 3]; 3]) -> [[f64; 3]; 3]
+    ensures { λ r. ⌜ r ≡ cofactorsOf m ⌝ }
+{
+    [
+        cofactor_row(m[1], m[2]),
+        cofactor_row(m[2], m[0]),
+        cofactor_row(m[0], m[1]),
+    ]
+}
+
+// Each entry over d.
+fn row_over(a: [f64; 3], d: f64) -> [f64; 3]
+    ensures { λ r. ⌜ r ≡ rowOverOf a d ⌝ }
+{
+    [a[0] / d, a[1] / d, a[2] / d]
+}
+
+pub fn mat_over(m: [[f64; 3]; 3], d: f64) -> [[f64; 3]; 3]
+    ensures { λ r. ⌜ r ≡ matOverOf m d ⌝ }
+{
+    [row_over(m[0], d), row_over(m[1], d), row_over(m[2], d)]
+}
+
+// The transpose of the inverse of m, whose determinant is j; the identity where j is 0.
+pub fn inverse_transpose(m: [[f64; 3]; 3], j: f64) -> [[f64; 3]; 3]
+    ensures { λ r. ⌜ r ≡ inverseTransposeOf m j ⌝ }
+{
+    if j == 0.0 {
+        matrix::identity_times(1.0)
+    } else {
+        mat_over(cofactors(m), j)
+    }
+}
