@@ -1,0 +1,201 @@
+// One way into the ten files for both builds: a call's number, its floats as bits, its answers as bits. Each build includes this file.
+use sparkl::dynamics::models::*;
+use sparkl::math::{Matrix, Vector};
+use sparkl::utils;
+
+/// A call of the C library: its name there, how many words go in, how many come out.
+pub struct Call {
+    pub name: &'static str,
+    pub inputs: usize,
+    pub outputs: usize,
+}
+
+const fn c(name: &'static str, inputs: usize, outputs: usize) -> Call {
+    Call { name, inputs, outputs }
+}
+
+// The numbers of the calls, as the replayed list has them too.
+pub const UPDATE: usize = 20;
+pub const MONAGHAN: usize = 32;
+pub const FAILED: usize = 35;
+pub const CLAMP: usize = 36;
+pub const PROJECT: usize = 37;
+pub const ALPHA: usize = 38;
+
+/// Of an update the inputs are the law's parameters and the 36 floats; the outputs the 36 floats and the two places of the answer.
+pub const CALLS: [Call; 39] = [
+    c("exp", 1, 1),
+    c("ln", 1, 1),
+    c("sinh", 1, 1),
+    c("sin", 1, 1),
+    c("sqrt", 1, 1),
+    c("cbrt", 1, 1),
+    c("inv_cbrt", 1, 1),
+    c("cbrt_squared", 1, 1),
+    c("inv_cbrt_squared", 1, 1),
+    c("inv_exact", 1, 1),
+    c("shear_modulus", 2, 1),
+    c("bulk_modulus", 2, 1),
+    c("shear_modulus_from_lame", 2, 1),
+    c("bulk_modulus_from_lame", 2, 1),
+    c("lame_lambda_mu", 2, 2),
+    c("solve_quadratic", 3, 2),
+    c("spin_tensor", 9, 9),
+    c("strain_rate", 9, 9),
+    c("deviatoric_part", 9, 9),
+    c("spherical_part", 9, 1),
+    c("update snow", 39, 38),
+    c("update rankine", 40, 38),
+    c("update drucker_prager", 44, 38),
+    c("update nacc", 42, 38),
+    c("neo_hookean_fpk_stress", 13, 9),
+    c("neo_hookean_kirchhoff_stress", 14, 9),
+    c("neo_hookean_elastic_energy_density", 14, 1),
+    c("neo_hookean_pos_energy", 14, 1),
+    c("phase_coeff", 1, 1),
+    c("corotated_kirchhoff_stress", 36, 9),
+    c("corotated_elastic_energy_density", 8, 1),
+    c("corotated_pos_energy", 17, 1),
+    c("monaghan_pressure", 7, 1),
+    c("monaghan_kirchhoff_stress", 17, 9),
+    c("monaghan_timestep_bound", 12, 1),
+    c("failed", 5, 1),
+    c("snow_clamp", 6, 3),
+    c("rankine_project", 8, 3),
+    c("drucker_prager_alpha", 9, 1),
+];
+
+fn f(i: &[u64], k: usize) -> f64 {
+    f64::from_bits(i[k])
+}
+
+fn matrix(i: &[u64], k: usize) -> Matrix<f64> {
+    let x = |n| f(i, k + n);
+    Matrix::new(x(0), x(1), x(2), x(3), x(4), x(5), x(6), x(7), x(8))
+}
+
+fn vector(i: &[u64], k: usize) -> Vector<f64> {
+    Vector::new(f(i, k), f(i, k + 1), f(i, k + 2))
+}
+
+fn diagonal(i: &[u64], k: usize) -> Matrix<f64> {
+    Matrix::new(f(i, k), 0.0, 0.0, 0.0, f(i, k + 1), 0.0, 0.0, 0.0, f(i, k + 2))
+}
+
+fn put(o: &mut [u64], x: f64) {
+    o[0] = x.to_bits();
+}
+
+fn put_matrix(o: &mut [u64], m: Matrix<f64>) {
+    for r in 0..3 {
+        for k in 0..3 {
+            o[3 * r + k] = m[(r, k)].to_bits();
+        }
+    }
+}
+
+pub fn parameters(model: usize) -> usize {
+    [3, 4, 8, 6][model]
+}
+
+/// The update of a record r: F and the six scalars come back, U, sigma and V^T as they came.
+fn update(model: usize, p: &[u64], o: &mut [u64]) {
+    let mut m = matrix(o, 0);
+    let s: Vec<f64> = (30..36).map(|k| f(o, k)).collect();
+    let (phase, mut det, mut plastic, mut elastic, mut gain, mut alpha) = (s[0], s[1], s[2], s[3], s[4], s[5]);
+    match model {
+        0 => SnowPlasticity { min_epsilon: f(p, 0), max_epsilon: f(p, 1), hardening_coeff: f(p, 2) }.update_particle(
+            &mut m,
+            &mut elastic,
+            &mut det,
+        ),
+        1 => RankinePlasticity::new(f(p, 0), f(p, 1), f(p, 2), f(p, 3)).update_particle(&mut m, &mut plastic),
+        2 => drucker_prager(p).update_particle(phase, &mut m, &mut det, &mut plastic, &mut gain),
+        _ => NaccPlasticity::with_m(f(p, 0), f(p, 1), f(p, 2), f(p, 3) == 1.0, f(p, 4), f(p, 5))
+            .update_particle(&mut m, &mut alpha),
+    }
+    put_matrix(o, m);
+    for (k, x) in [phase, det, plastic, elastic, gain, alpha].iter().enumerate() {
+        o[30 + k] = x.to_bits();
+    }
+}
+
+fn drucker_prager(p: &[u64]) -> DruckerPragerPlasticity {
+    DruckerPragerPlasticity {
+        h0: f(p, 0),
+        h1: f(p, 1),
+        h2: f(p, 2),
+        h3: f(p, 3),
+        lambda: f(p, 4),
+        mu: f(p, 5),
+        only_active_when_failed: f(p, 6) == 1.0,
+        volume_correction: f(p, 7),
+    }
+}
+
+/// dq of Drucker-Prager's projection, the parameters first in i and sigma at k; nothing where it is untouched.
+pub fn drucker_prager_projected(i: &[u64], k: usize, gain: u64, alpha: f64) -> Option<f64> {
+    let r = drucker_prager(i).project_deformation_gradient(vector(i, k), f64::from_bits(gain), alpha);
+    r.map(|(_, dq)| dq)
+}
+
+fn monaghan(i: &[u64]) -> MonaghanSphEos {
+    MonaghanSphEos { pressure0: f(i, 0), gamma: i[1] as u32, viscosity: f(i, 2), max_neg_pressure: f(i, 3) }
+}
+
+/// Runs the Rust. Elementary functions, Rankine's projection and Drucker-Prager's alpha are no public calls of the text.
+#[inline(never)]
+pub fn call(n: usize, i: &[u64], o: &mut [u64]) {
+    let neo = || NeoHookeanElasticity { cfl_coeff: f(i, 0), lambda: f(i, 1), mu: f(i, 2) };
+    let corotated = || CorotatedLinearElasticity {
+        split_stress_on_failure: f(i, 0) == 1.0,
+        cfl_coeff: f(i, 1),
+        lambda: f(i, 2),
+        mu: f(i, 3),
+    };
+    match n {
+        9 => put(o, utils::inv_exact(f(i, 0))),
+        10 => put(o, utils::shear_modulus(f(i, 0), f(i, 1))),
+        11 => put(o, utils::bulk_modulus(f(i, 0), f(i, 1))),
+        12 => put(o, utils::shear_modulus_from_lame(f(i, 0), f(i, 1))),
+        13 => put(o, utils::bulk_modulus_from_lame(f(i, 0), f(i, 1))),
+        14 => {
+            let (l, m) = utils::lame_lambda_mu(f(i, 0), f(i, 1));
+            o.copy_from_slice(&[l.to_bits(), m.to_bits()]);
+        }
+        15 => {
+            let (a, b) = utils::solve_quadratic(f(i, 0), f(i, 1), f(i, 2));
+            o.copy_from_slice(&[a.to_bits(), b.to_bits()]);
+        }
+        16 => put_matrix(o, utils::spin_tensor(&matrix(i, 0))),
+        17 => put_matrix(o, utils::strain_rate(&matrix(i, 0))),
+        18 => put_matrix(o, utils::deviatoric_part(&matrix(i, 0))),
+        19 => put(o, utils::spherical_part(&matrix(i, 0))),
+        20..=23 => {
+            let k = parameters(n - UPDATE);
+            o[..36].copy_from_slice(&i[k..]);
+            update(n - UPDATE, i, o);
+        }
+        24 => put_matrix(o, neo().fpk_stress(&matrix(i, 4), f(i, 3))),
+        25 => put_matrix(o, neo().kirchhoff_stress(f(i, 3), f(i, 4), &matrix(i, 5))),
+        26 => put(o, neo().elastic_energy_density(f(i, 3), f(i, 4), &matrix(i, 5))),
+        27 => put(o, neo().pos_energy(f(i, 3), f(i, 4), &matrix(i, 5))),
+        28 => put(o, NeoHookeanElasticity::phase_coeff(f(i, 0))),
+        29 => put_matrix(o, corotated().kirchhoff_stress(f(i, 4), f(i, 5), &matrix(i, 6))),
+        // The energy takes F only for its factors, the verdict a stress only for its principal values.
+        30 => put(o, corotated().elastic_energy_density(diagonal(i, 5), f(i, 4))),
+        31 => put(o, corotated().pos_energy(matrix(i, 5), f(i, 4))),
+        32 => put(o, monaghan(i).pressure(f(i, 4), f(i, 5), f(i, 6))),
+        33 => put_matrix(o, monaghan(i).kirchhoff_stress(f(i, 4), f(i, 5), f(i, 6), f(i, 7), &matrix(i, 8))),
+        34 => put(o, monaghan(i).timestep_bound(f(i, 4), f(i, 5), f(i, 6), f(i, 7), &vector(i, 8), f(i, 11))),
+        35 => o[0] = MaximumStressFailure::new(f(i, 0), f(i, 1)).particle_failed(&diagonal(i, 2)) as u64,
+        36 => {
+            let law = SnowPlasticity { min_epsilon: f(i, 0), max_epsilon: f(i, 1), hardening_coeff: f(i, 2) };
+            let v = law.project_deformation_gradient(vector(i, 3));
+            for k in 0..3 {
+                o[k] = v[k].to_bits();
+            }
+        }
+        _ => panic!("not a call of the text"),
+    }
+}

@@ -1,0 +1,373 @@
+//! Our laws beside the Rust: every public call, bit for bit with build 2; nalgebra's own operations and build 1 by distance.
+mod branches;
+#[path = "../../calls.rs"]
+mod calls;
+mod draw;
+mod elementary;
+mod inside;
+mod listed;
+mod lists;
+mod ours;
+mod replay;
+mod sites;
+
+use calls::CALLS;
+use draw::Draw;
+use inside::Answer;
+use std::collections::BTreeMap;
+use std::io::Write;
+
+struct Arguments {
+    work: String,
+    sites: String,
+    seed: u64,
+    count: u64,
+    replay: Option<String>,
+}
+
+fn arguments() -> Arguments {
+    let mut a = Arguments { work: String::new(), sites: String::new(), seed: 1, count: 20_000, replay: None };
+    let mut rest = std::env::args().skip(1);
+    a.work = rest.next().unwrap_or_default();
+    while let Some(x) = rest.next() {
+        let v = rest.next().unwrap_or_default();
+        match x.as_str() {
+            "--seed" => a.seed = v.parse().unwrap_or(1),
+            "--count" => a.count = v.parse().unwrap_or(20_000),
+            "--replay" => a.replay = Some(v),
+            "--sites" => a.sites = v,
+            _ => {}
+        }
+    }
+    a
+}
+
+/// What was seen of one call.
+#[derive(Default)]
+struct Tally {
+    missing: bool,
+    run: u64,
+    same: u64,
+    status: BTreeMap<u8, u64>,
+    listed: BTreeMap<&'static str, u64>,
+    unlisted: u64,
+    smallest: Option<(Vec<u64>, Answer, Answer)>,
+}
+
+fn same(n: usize, a: &Answer, e: &Answer) -> bool {
+    let nan = |x: u64| f64::from_bits(x).is_nan();
+    a.status == e.status
+        && (a.status != 0 || a.out.iter().zip(&e.out).all(|(x, y)| x == y || (n == calls::CLAMP && nan(*x) && nan(*y))))
+}
+
+/// Each word replaced by 0 or 1 where that keeps what is asked.
+fn simpler(i: &[u64], keeps: impl Fn(&[u64]) -> bool) -> Vec<u64> {
+    let mut w = i.to_vec();
+    for _ in 0..2 {
+        for k in 0..w.len() {
+            for simple in [0.0f64.to_bits(), 1.0f64.to_bits()] {
+                let was = w[k];
+                if was == 0 || was == simple {
+                    break;
+                }
+                w[k] = simple;
+                if keeps(&w) {
+                    break;
+                }
+                w[k] = was;
+            }
+        }
+    }
+    w
+}
+
+/// Simpler inputs that still differ and are not listed.
+fn shrink(n: usize, i: &[u64]) -> Vec<u64> {
+    let differs = |w: &[u64]| {
+        let (e, a) = (inside::expected(n, w), ours::call(n, w));
+        !same(n, &a, &e) && listed::by_document(n, w, &e).is_none_or(|d| !same(n, &a, &d))
+    };
+    simpler(i, differs)
+}
+
+fn shown_word(n: usize, k: usize, x: u64) -> String {
+    let f = f64::from_bits(x);
+    if !inside::float_at(n, k) && matches!(n, 32..=34) {
+        format!("{x}")
+    } else if x == 0 || f == 1.0 {
+        format!("{f}")
+    } else {
+        format!("{f:e}={x:016x}")
+    }
+}
+
+fn shown(n: usize, i: &[u64]) -> String {
+    i.iter().enumerate().map(|(k, x)| shown_word(n, k, *x)).collect::<Vec<_>>().join(" ")
+}
+
+fn short(a: &Answer) -> String {
+    if a.status != 0 {
+        return format!("refused {}", a.status);
+    }
+    a.out.iter().map(|x| format!("{:e}", f64::from_bits(*x))).collect::<Vec<_>>().join(" ")
+}
+
+fn progress(text: &str) {
+    eprint!("\r\x1b[K{text}");
+    let _ = std::io::stderr().flush();
+}
+
+struct Run {
+    tallies: Vec<Tally>,
+    branches: BTreeMap<(usize, &'static str), u64>,
+    instead: BTreeMap<(usize, u8), BTreeMap<&'static str, u64>>,
+    /// For each of them an input at which the Rust went on with finite numbers.
+    went_on: BTreeMap<(usize, u8), Vec<u64>>,
+    sites: sites::Sites,
+}
+
+fn compare(a: &Arguments, u: Option<&sites::Untouched>) -> Run {
+    let mut r = Run {
+        tallies: Vec::new(),
+        branches: BTreeMap::new(),
+        instead: BTreeMap::new(),
+        went_on: BTreeMap::new(),
+        sites: BTreeMap::new(),
+    };
+    let mut names = Vec::new();
+    for n in 0..CALLS.len() {
+        let mut t = Tally { missing: !ours::has(n), ..Tally::default() };
+        if t.missing && n < 9 {
+            r.tallies.push(t);
+            continue;
+        }
+        let mut d = Draw(a.seed.wrapping_mul(0x1000).wrapping_add(n as u64));
+        for k in 0..a.count {
+            if k % 1000 == 0 {
+                progress(&format!("{} of {}: {} {k}", n + 1, CALLS.len(), CALLS[n].name));
+            }
+            let i = d.inputs(n);
+            // Without ours, what was to come is still worked out, so that its branches show.
+            let got = if t.missing { inside::expected(n, &i) } else { ours::call(n, &i) };
+            t.run += 1;
+            *t.status.entry(got.status).or_default() += 1;
+            if n < 9 {
+                match elementary::judge(n, f64::from_bits(i[0]), &got) {
+                    None => t.same += 1,
+                    Some(want) => {
+                        t.unlisted += 1;
+                        t.smallest.get_or_insert((i, got, want));
+                    }
+                }
+                continue;
+            }
+            let want = inside::expected(n, &i);
+            if want.status == 0 {
+                if inside::watch().mode == inside::Mode::Ours {
+                    sites::beside(u, &mut r.sites);
+                }
+                names.clear();
+                branches::taken(n, &i, &want, &mut names);
+                for b in &names {
+                    *r.branches.entry((n, b)).or_default() += 1;
+                }
+            }
+            if same(n, &got, &want) {
+                t.same += 1;
+            } else if listed::by_document(n, &i, &want).is_some_and(|d| same(n, &got, &d)) {
+                *t.listed.entry(listed::ZEROS).or_default() += 1;
+            } else {
+                t.unlisted += 1;
+                if t.smallest.is_none() {
+                    let w = shrink(n, &i);
+                    t.smallest = Some((w.clone(), ours::call(n, &w), inside::expected(n, &w)));
+                }
+            }
+            if got.status != 0 {
+                let did = inside::instead(n, &i);
+                *r.instead.entry((n, got.status)).or_default().entry(did).or_default() += 1;
+                if matches!(did, inside::FINITE | inside::UNTOUCHED) && !t.missing {
+                    r.went_on.entry((n, got.status)).or_insert_with(|| {
+                        simpler(&i, |w| ours::call(n, w).status == got.status && inside::instead(n, w) == did)
+                    });
+                }
+            }
+        }
+        r.tallies.push(t);
+    }
+    progress("");
+    r
+}
+
+fn table(r: &Run, failed: &mut bool) {
+    println!("\nCalls, bit for bit with build 2 (elementary functions: range, refusal and distance)");
+    println!("{:<36} {:>8} {:>8} {:>8} {:>8}  answers by refusal number", "call", "run", "same", "listed", "unlisted");
+    for (n, t) in r.tallies.iter().enumerate() {
+        if t.missing {
+            println!("{:<36} MISSING in the library", CALLS[n].name);
+            *failed = true;
+            continue;
+        }
+        let listed: u64 = t.listed.values().sum();
+        let by: Vec<String> = t.status.iter().map(|(s, c)| format!("{s}:{c}")).collect();
+        println!("{:<36} {:>8} {:>8} {:>8} {:>8}  {}", CALLS[n].name, t.run, t.same, listed, t.unlisted, by.join(" "));
+        for (why, c) in &t.listed {
+            println!("    listed difference, {c} times: {why}");
+        }
+        if let Some((i, got, want)) = &t.smallest {
+            *failed = true;
+            println!("    UNLISTED, for instance: {}", shown(n, i));
+            println!("      ours      {}", short(got));
+            println!("      expected  {}", short(want));
+        }
+    }
+    println!("\nBranches reached (by calls that are not refused)");
+    for (n, b, why) in branches::ALL {
+        let c = r.branches.get(&(*n, *b)).copied().unwrap_or(0);
+        let note = match (c, why.is_empty()) {
+            (0, true) => {
+                *failed = true;
+                "NEVER REACHED"
+            }
+            (0, false) => why,
+            (_, true) => "",
+            (_, false) => {
+                *failed = true;
+                "REACHED, though said to be out of reach"
+            }
+        };
+        println!("{:<36} {:<32} {:>8}  {note}", CALLS[*n].name, b, c);
+    }
+    println!("\nWhere ours refuses, the Rust (with the machine's own elementary functions)");
+    for ((n, s), did) in &r.instead {
+        let did: Vec<String> = did.iter().map(|(w, c)| format!("{w} {c}")).collect();
+        println!("{:<36} {s:>3}  {}", CALLS[*n].name, did.join(", "));
+    }
+    println!("\nOf these, the Rust going on with finite numbers, for instance (words that are not 0, by place)");
+    for ((n, s), i) in &r.went_on {
+        let some: Vec<String> =
+            i.iter().enumerate().filter(|(_, x)| **x != 0).map(|(k, x)| format!("{k}: {}", shown_word(*n, k, *x))).collect();
+        println!("{:<36} {s:>3}  {}", CALLS[*n].name, some.join(", "));
+    }
+}
+
+/// The sites that the page lists and the ones met are the same.
+fn listed_sites(page: &str, r: &Run, failed: &mut bool) {
+    let Ok(text) = std::fs::read_to_string(page) else {
+        println!("{page}: NOT THERE, so its sites are not compared");
+        *failed = true;
+        return;
+    };
+    let cells = |l: &str| l.split('|').map(|c| c.trim().to_string()).collect::<Vec<_>>();
+    let named: std::collections::BTreeSet<(String, String, String)> = text
+        .lines()
+        .map(cells)
+        .filter(|c| c.len() > 4 && c[2].parse::<u32>().is_ok())
+        .map(|c| (c[1].clone(), c[2].clone(), c[3].clone()))
+        .collect();
+    let met: std::collections::BTreeSet<(String, String, String)> =
+        r.sites.keys().map(|(f, l, o)| (f.clone(), l.to_string(), format!("{o:?}"))).collect();
+    for (what, set) in
+        [("met, but not in the page", met.difference(&named)), ("in the page, but never met", named.difference(&met))]
+    {
+        for s in set {
+            *failed = true;
+            println!("{what}: {s:?}");
+        }
+    }
+}
+
+fn site_table(r: &mut Run, with_nalgebra: bool, failed: &mut bool) {
+    println!("\nSection 4's sites (sums: worst difference over the terms' summed sizes, in units of 2^-45; others over the largest entry)");
+    println!(
+        "{:<34} {:>4} {:<14} {:>9} {:>8} {:>9} {:>10} {:>10}",
+        "file", "line", "operation", "met", "beside", "in bits", "worst", "median"
+    );
+    for ((file, line, op), s) in r.sites.iter_mut() {
+        let (w, m) = sites::worst_and_median(&mut s.ratios);
+        let b = sites::SUM_BOUND;
+        let over = with_nalgebra && *op != nalgebra::hooks::Op::Inverse && w > b;
+        *failed |= over;
+        println!(
+            "{file:<34} {line:>4} {:<14} {:>9} {:>8} {:>9} {:>10.3e} {:>10.3e}{}",
+            format!("{op:?}"),
+            s.times,
+            s.beside,
+            s.other_bits,
+            w / b,
+            m / b,
+            if over { "  OVER 2^-45" } else { "" }
+        );
+    }
+}
+
+fn far_table(a: &Arguments, u: &sites::Untouched) {
+    println!("\nThe untouched Rust (build 1) from ours, on nalgebra's factors: distance over the largest entry (of energies: plus the hardened moduli)");
+    println!(
+        "{:<36} {:>8} {:>8} {:>8} {:>10} {:>10} {:>10}",
+        "call", "beside", "refused", "branch", "worst", "99 of 100", "median"
+    );
+    for n in 9..calls::PROJECT {
+        if !ours::has(n) {
+            continue;
+        }
+        progress(&format!("build 1: {}", CALLS[n].name));
+        let mut d = Draw(a.seed.wrapping_mul(0x2000).wrapping_add(n as u64));
+        let mut f = sites::far(u, n, &mut d, a.count.div_ceil(4));
+        let beside = f.distances.len();
+        let (w, m) = sites::worst_and_median(&mut f.distances);
+        let most = f.distances.get(beside * 99 / 100).copied().unwrap_or(0.0);
+        progress("");
+        println!(
+            "{:<36} {:>8} {:>8} {:>8} {:>10.3e} {:>10.3e} {:>10.3e}",
+            CALLS[n].name, beside, f.refused, f.other_branch, w, most, m
+        );
+    }
+}
+
+/// The clamp hides a NaN: the best known place where ours refuses and the Rust goes on.
+fn clamp_case() {
+    let mut i = vec![0u64; 39];
+    let one = 1f64.to_bits();
+    i[..3].copy_from_slice(&[0.025f64.to_bits(), 0.0045f64.to_bits(), 10f64.to_bits()]);
+    for k in [0, 4, 8, 9, 13, 17, 19, 20, 21, 25, 29, 30, 31, 32, 33] {
+        i[3 + k] = one;
+    }
+    i[3 + 18] = f64::NAN.to_bits();
+    let mut o = vec![0; 38];
+    inside::run(calls::UPDATE, &i, &mut o, inside::Mode::Machine);
+    let met = inside::watch().met.iter().rfind(|m| m.op == nalgebra::hooks::Op::Recompose);
+    let sigma = met.map_or(vec![], |m| m.input[9..12].to_vec());
+    let ours = if ours::has(calls::UPDATE) { format!("{}", ours::call(calls::UPDATE, &i).status) } else { "(missing)".into() };
+    println!(
+        "\nSnow with sigma NaN, 1, 1: ours refuses by {ours}; the Rust goes on with sigma {sigma:?}, plastic determinant {}, elastic hardening {}",
+        f64::from_bits(o[31]), f64::from_bits(o[33])
+    );
+}
+
+fn main() {
+    let a = arguments();
+    let missing = ours::open(&format!("{}/libours.so", a.work));
+    if let Some(file) = &a.replay {
+        replay::write(file, a.seed);
+        return;
+    }
+    let u = sites::Untouched::open(&format!("{}/libuntouched.so", a.work));
+    println!("seed {}, {} inputs a call", a.seed, a.count);
+    let mut failed = !missing.is_empty();
+    let mut r = compare(&a, u.as_ref());
+    table(&r, &mut failed);
+    clamp_case();
+    lists::compare(a.seed, a.count, &mut failed);
+    site_table(&mut r, u.is_some(), &mut failed);
+    listed_sites(&a.sites, &r, &mut failed);
+    match &u {
+        Some(u) => far_table(&a, u),
+        None => println!("\nBuild 1 was LEFT OUT: nothing was run beside the untouched Rust or nalgebra."),
+    }
+    for m in &missing {
+        println!("missing in the library: {m}");
+    }
+    println!("\n{}", if failed { "beside: FAILED" } else { "beside: ok" });
+    std::process::exit(failed as i32);
+}

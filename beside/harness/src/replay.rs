@@ -1,0 +1,54 @@
+//! The fixed list for the program `replay`: calls with the answers of build 2. An entry is the call's number in a byte, the refusal's number
+//! or 0 in a byte, the inputs as 8 bytes each, low byte first, and after a 0 the outputs likewise: of an update the record after it and the two
+//! places of the answer. A byte 255 ends the list.
+use crate::branches;
+use crate::calls::{self, CALLS};
+use crate::draw::Draw;
+use crate::inside;
+use crate::listed;
+use std::collections::BTreeMap;
+
+pub fn write(file: &str, seed: u64) {
+    let mut bytes = Vec::new();
+    let mut total = 0;
+    let mut classes = 0;
+    for n in 0..CALLS.len() {
+        // A few of each kind: the refusal, or the branches taken together.
+        let mut kinds: BTreeMap<(u8, Vec<&'static str>), u64> = BTreeMap::new();
+        let mut d = Draw(seed.wrapping_mul(0x4000).wrapping_add(n as u64));
+        for _ in 0..40_000 {
+            let i = d.inputs(n);
+            let a = if n < 9 { crate::ours::call(n, &i) } else { inside::expected(n, &i) };
+            let nan = a.status == 0 && !a.out.iter().all(|x| inside::finite(*x) || n == calls::FAILED);
+            if nan || listed::by_document(n, &i, &a).is_some() {
+                continue;
+            }
+            let a = if n < 9 { a } else { inside::expected(n, &i) };
+            let mut names = Vec::new();
+            if a.status == 0 {
+                branches::taken(n, &i, &a, &mut names);
+                names.sort();
+            }
+            let most = if names.is_empty() && a.status == 0 { 40 } else { 8 };
+            let c = kinds.entry((a.status, names)).or_default();
+            if *c >= most {
+                continue;
+            }
+            *c += 1;
+            total += 1;
+            bytes.extend([n as u8, a.status]);
+            for x in &i {
+                bytes.extend(x.to_le_bytes());
+            }
+            if a.status == 0 {
+                for x in &a.out {
+                    bytes.extend(x.to_le_bytes());
+                }
+            }
+        }
+        classes += kinds.len();
+    }
+    bytes.push(255);
+    std::fs::write(file, &bytes).expect("the list cannot be written");
+    println!("{file}: {total} entries of {classes} kinds, {} bytes", bytes.len());
+}

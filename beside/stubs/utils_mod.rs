@@ -1,0 +1,2 @@
+mod physics;
+pub use physics::*;
