@@ -1,6 +1,7 @@
 -- What P12 of document 01, section 8, needs of the elementary functions: Drucker-Prager's slope at hardening 1 is a number,
 -- and the root of 0 is 0, by computation.
 use mathlib.Core.Path.{_≡_, refl}
+use lib.Count.{leadingZeros}
 use lib.Ieee as Ieee
 use lib.Ieee.{Float, binary64, ofBits, toBits, round, size}
 use Rattle.exact.specs.Units.{mag, L}
@@ -19,5 +20,5 @@ unfolding sqrtOf floorRoot rootIn mag L ofBits round size
 root-zero = refl
 
 pub slope : (l m : Float) → (a : Float) × (alphaOnPath (defaultsOf l m) one ≡ Value a)
-unfolding alphaOnPath angledOf sinedOf rootedOf slopeOf angleOf decayOf expOf expBits packOf partOf tailOf sinOf differenceOf plusOf minusOf eighthOf nested stepOf toFloatOf sqrtOf floorRoot rootIn mag L isNumber ofBits toBits round size Ieee.add Ieee.sub Ieee.mul Ieee.div Ieee.neg Ieee.le Ieee.lt Ieee.eq
+unfolding alphaOnPath angledOf sinedOf rootedOf slopeOf angleOf decayOf expOf expBits packOf partOf tailOf sinOf differenceOf plusOf minusOf eighthOf nested stepOf toFloatOf sqrtOf floorRoot rootIn mag L isNumber ofBits toBits round size Ieee.add Ieee.sub Ieee.mul Ieee.div Ieee.neg Ieee.le Ieee.lt Ieee.eq leadingZeros
 slope l m = (_, refl)
