@@ -67,7 +67,7 @@ def cases():
     strong, weak = [1e5, 0.3, 1e6, 2.0], [1e5, 0.3, 500.0, 2.0]
     yield sheet([record(), record((1.1, 0.9, 1.05)), record((1.1, 0.9, 1.05), phard=999990.0)], strong, 1)
     yield sheet([
-        record((1.2, 0.7, 0.8)), record((1.2, 1.19, 0.5)), record((1.2, 1.2, 0.5)), record((1.3, 1.2, 1.1)), record((1.2, 1.2, 1.2)),
+        record((1.2, 0.95, 0.95)), record((1.2, 1.19, 0.9)), record((1.2, 1.2, 0.9)), record((1.3, 1.2, 1.1)), record((1.2, 1.2, 1.2)),
         record((0.9, 0.9, 0.9)), record((0.0, 1.0, 1.0)), record((1.0, -1.0, 1.0)), record((1e19, 1.0, 1.0)), broken(32, INF)], weak, 1)
     yield sheet([record(), broken(0, NAN)], [1e5, 0.5, 500.0, 2.0], 1)
     yield sheet([record()], [INF, 0.3, 500.0, 2.0], 1)
