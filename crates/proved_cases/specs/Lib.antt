@@ -1,2 +1,3 @@
 pub mod Alpha
 pub mod Table
+pub mod Example

@@ -52,11 +52,11 @@ pressureAt gamma density =
 abbrev limits : Float → Float → MaximumStressFailure
 limits principal shear = record { «max_principal_stress» = principal; «max_shear_stress» = shear }
 
-abbrev identity : List (List Float)
+abbrev pub identity : List (List Float)
 identity = three (three one zero zero) (three zero one zero) (three zero zero one)
 
 -- sigma all 1, gain 0: the record of section 7's example
-abbrev rested : State
+abbrev pub rested : State
 rested =
     record {
       f = rowsOf identity;
