@@ -399,6 +399,12 @@ impl Draw {
                 let s = self.pick(&[s, s, s, -s]);
                 vec![e, n, s, 1.0, s, strains[0], strains[1], strains[2]]
             }
+            39 => {
+                let mut v = vec![self.number()];
+                v.extend(self.matrix());
+                v.extend((0..3).map(|_| self.number()));
+                v
+            }
             _ => {
                 let mut v = self.update(2)[..8].to_vec();
                 v[6] = self.below(2) as f64;

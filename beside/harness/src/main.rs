@@ -105,6 +105,14 @@ fn shown(n: usize, i: &[u64]) -> String {
     i.iter().enumerate().map(|(k, x)| shown_word(n, k, *x)).collect::<Vec<_>>().join(" ")
 }
 
+fn not_zero(n: usize, i: &[u64]) -> String {
+    let some = i.iter().enumerate().filter(|(_, x)| **x != 0);
+    some.map(|(k, x)| format!("{k}: {}", shown_word(n, k, *x))).collect::<Vec<_>>().join(", ")
+}
+
+/// From here on a distance from the untouched Rust is shown with its inputs.
+const FAR: f64 = 1e-12;
+
 fn short(a: &Answer) -> String {
     if a.status != 0 {
         return format!("refused {}", a.status);
@@ -199,6 +207,29 @@ fn compare(a: &Arguments, u: Option<&sites::Untouched>) -> Run {
     r
 }
 
+/// Each list of each call a word shorter and a word longer: 8, before all else, and nothing written.
+fn lengths(a: &Arguments, failed: &mut bool) {
+    let (mut run, mut right) = (0, 0);
+    for n in (0..CALLS.len()).filter(|n| ours::has(*n)) {
+        let mut d = Draw(a.seed.wrapping_mul(0x5000).wrapping_add(n as u64));
+        for _ in 0..a.count.div_ceil(100) {
+            let i = d.inputs(n);
+            for (k, l) in ours::lists(n).into_iter().enumerate() {
+                for length in [l - 1, l + 1] {
+                    run += 1;
+                    let got = ours::bent_call(n, &i, Some((k, length))).status;
+                    right += (got == 8) as u64;
+                    if got != 8 && run - right == 1 {
+                        println!("\n{}: list {k} of length {length} answered {got}", CALLS[n].name);
+                    }
+                }
+            }
+        }
+    }
+    *failed |= right != run;
+    println!("\nLists of a wrong length: refused by 8 with nothing written in {right} of {run} calls");
+}
+
 fn table(r: &Run, failed: &mut bool) {
     println!("\nCalls, bit for bit with build 2 (elementary functions: range, refusal and distance)");
     println!("{:<36} {:>8} {:>8} {:>8} {:>8}  answers by refusal number", "call", "run", "same", "listed", "unlisted");
@@ -245,9 +276,7 @@ fn table(r: &Run, failed: &mut bool) {
     }
     println!("\nOf these, the Rust going on with finite numbers, for instance (words that are not 0, by place)");
     for ((n, s), i) in &r.went_on {
-        let some: Vec<String> =
-            i.iter().enumerate().filter(|(_, x)| **x != 0).map(|(k, x)| format!("{k}: {}", shown_word(*n, k, *x))).collect();
-        println!("{:<36} {s:>3}  {}", CALLS[*n].name, some.join(", "));
+        println!("{:<36} {s:>3}  {}", CALLS[*n].name, not_zero(*n, i));
     }
 }
 
@@ -302,26 +331,32 @@ fn site_table(r: &mut Run, with_nalgebra: bool, failed: &mut bool) {
 }
 
 fn far_table(a: &Arguments, u: &sites::Untouched) {
-    println!("\nThe untouched Rust (build 1) from ours, on nalgebra's factors: distance over the largest entry (of energies: plus the hardened moduli)");
+    println!("\nThe untouched Rust (build 1) from ours, on nalgebra's factors: distance over the largest entry (of energies: plus the hardened moduli);");
+    println!("and, in the last two columns, from build 2 with the machine's elementary functions: what nalgebra alone makes");
     println!(
-        "{:<36} {:>8} {:>8} {:>8} {:>10} {:>10} {:>10}",
-        "call", "beside", "refused", "branch", "worst", "99 of 100", "median"
+        "{:<36} {:>8} {:>8} {:>8} {:>10} {:>10} {:>10} {:>8} {:>10}",
+        "call", "beside", "refused", "parted", "worst", "99 of 100", "median", "parted", "worst"
     );
-    for n in 9..calls::PROJECT {
-        if !ours::has(n) {
-            continue;
-        }
+    let mut examples = Vec::new();
+    for n in (9..CALLS.len()).filter(|n| !matches!(*n, calls::PROJECT | calls::ALPHA) && ours::has(*n)) {
         progress(&format!("build 1: {}", CALLS[n].name));
         let mut d = Draw(a.seed.wrapping_mul(0x2000).wrapping_add(n as u64));
         let mut f = sites::far(u, n, &mut d, a.count.div_ceil(4));
-        let beside = f.distances.len();
-        let (w, m) = sites::worst_and_median(&mut f.distances);
-        let most = f.distances.get(beside * 99 / 100).copied().unwrap_or(0.0);
+        let beside = f.ours.distances.len();
+        let (w, m) = sites::worst_and_median(&mut f.ours.distances);
+        let most = f.ours.distances.get(beside * 99 / 100).copied().unwrap_or(0.0);
+        let (alone, _) = sites::worst_and_median(&mut f.machine.distances);
         progress("");
         println!(
-            "{:<36} {:>8} {:>8} {:>8} {:>10.3e} {:>10.3e} {:>10.3e}",
-            CALLS[n].name, beside, f.refused, f.other_branch, w, most, m
+            "{:<36} {:>8} {:>8} {:>8} {:>10.3e} {:>10.3e} {:>10.3e} {:>8} {:>10.3e}",
+            CALLS[n].name, beside, f.refused, f.ours.parted, w, most, m, f.machine.parted, alone
         );
+        examples.extend(f.ours.first_parted.map(|i| (n, "parted", i)));
+        examples.extend(f.ours.worst.filter(|w| w.0 > FAR).map(|w| (n, "worst", w.1)));
+    }
+    println!("\nOf these, the first that parted and the worst beyond {FAR:e} (words that are not 0, by place)");
+    for (n, what, i) in examples {
+        println!("{:<36} {what:<6} {}", CALLS[n].name, not_zero(n, &i));
     }
 }
 
@@ -357,6 +392,7 @@ fn main() {
     let mut failed = !missing.is_empty();
     let mut r = compare(&a, u.as_ref());
     table(&r, &mut failed);
+    lengths(&a, &mut failed);
     clamp_case();
     lists::compare(a.seed, a.count, &mut failed);
     site_table(&mut r, u.is_some(), &mut failed);

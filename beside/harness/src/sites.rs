@@ -104,11 +104,39 @@ pub fn worst_and_median(v: &mut [f64]) -> (f64, f64) {
     }
 }
 
-/// Distances of the untouched Rust from ours, of one call.
+/// What one build's answers are from another's: distances, and how often one stored or failed where the other did not.
+#[derive(Default)]
+pub struct Apart {
+    pub distances: Vec<f64>,
+    pub parted: u64,
+    pub worst: Option<(f64, Vec<u64>)>,
+    pub first_parted: Option<Vec<u64>>,
+}
+
+impl Apart {
+    /// A distance, or nothing where the two parted.
+    fn note(&mut self, i: &[u64], d: Option<f64>) {
+        match d {
+            None => {
+                self.parted += 1;
+                self.first_parted.get_or_insert_with(|| i.to_vec());
+            }
+            Some(d) => {
+                self.distances.push(d);
+                if d > self.worst.as_ref().map_or(0.0, |w| w.0) {
+                    self.worst = Some((d, i.to_vec()));
+                }
+            }
+        }
+    }
+}
+
+/// The untouched Rust beside ours, and beside build 2 with the machine's elementary functions: what is left of a distance there comes
+/// from nalgebra, the rest from the elementary functions.
 #[derive(Default)]
 pub struct Far {
-    pub distances: Vec<f64>,
-    pub other_branch: u64,
+    pub ours: Apart,
+    pub machine: Apart,
     pub refused: u64,
 }
 
@@ -133,40 +161,68 @@ fn distance(a: &[u64], b: &[u64], beside: f64) -> f64 {
     }
 }
 
+/// Puts the factors that nalgebra gives for F in their places.
+fn factor(u: &Untouched, n: usize, i: &mut [u64]) {
+    // Where F stands, where its factors go, and which of them.
+    let (f, at, which) = match n {
+        20..=23 => (calls::parameters(n - 20), calls::parameters(n - 20) + 9, 0..21),
+        29 => (6, 15, 0..21),
+        31 => (5, 14, 9..12),
+        _ => return,
+    };
+    let m: Vec<f64> = i[f..f + 9].iter().map(|x| f64::from_bits(*x)).collect();
+    let mut o = [0.0; 21];
+    (u.factors)(m.as_ptr(), o.as_mut_ptr());
+    for (k, x) in o[which].iter().enumerate() {
+        i[at + k] = x.to_bits();
+    }
+}
+
+/// How far an answer is from build 1's; nothing where one stored, or failed, and the other did not.
+fn apart(n: usize, i: &[u64], a: &[u64], o: &[u64]) -> Option<f64> {
+    if n == calls::FAILED {
+        return (a == o).then_some(0.0);
+    }
+    if !calls::is_update(n) {
+        return Some(distance(a, o, moduli(n, i)));
+    }
+    let k = calls::parameters(n - calls::UPDATE);
+    let moved = |w: &[u64]| w[..9] != i[k..k + 9];
+    if moved(a) != moved(o) {
+        return None;
+    }
+    let scalar = |s: usize| {
+        let (x, y) = (f64::from_bits(a[s]), f64::from_bits(o[s]));
+        (x - y).abs() / y.abs().max(1.0)
+    };
+    Some((30..36).map(scalar).fold(distance(&a[..9], &o[..9], 0.0), f64::max))
+}
+
+fn untouched(u: &Untouched, n: usize, i: &[u64]) -> Vec<u64> {
+    let mut o = vec![0; CALLS[n].outputs];
+    (u.call)(n, i.as_ptr(), o.as_mut_ptr());
+    o
+}
+
+/// How far ours is from build 1 on these inputs, with nalgebra's factors; nothing where ours refuses.
+pub fn ours_from(u: &Untouched, n: usize, i: &[u64]) -> Option<Option<f64>> {
+    let a = ours::call(n, i);
+    (a.status == 0).then(|| apart(n, i, &a.out, &untouched(u, n, i)))
+}
+
 /// Ours beside build 1, on factors that nalgebra gives for F.
 pub fn far(u: &Untouched, n: usize, d: &mut Draw, count: u64) -> Far {
     let mut far = Far::default();
-    let update = (calls::UPDATE..calls::UPDATE + 4).contains(&n);
     for _ in 0..count {
         let mut i = d.inputs(n);
         if !(0..i.len()).all(|k| finite(i[k])) {
             continue;
         }
-        let place = match n {
-            20..=23 => Some((calls::parameters(n - 20), calls::parameters(n - 20) + 9)),
-            29 => Some((6, 15)),
-            _ => None,
-        };
-        if let Some((f, at)) = place {
-            let m: Vec<f64> = i[f..f + 9].iter().map(|x| f64::from_bits(*x)).collect();
-            let mut o = [0.0; 21];
-            (u.factors)(m.as_ptr(), o.as_mut_ptr());
-            for k in 0..21 {
-                i[at + k] = o[k].to_bits();
-            }
-        }
+        factor(u, n, &mut i);
         if n == 30 {
             // Singular values are not negative.
             for x in &mut i[5..8] {
                 *x &= !(1 << 63);
-            }
-        }
-        if n == 31 {
-            let m: Vec<f64> = i[5..14].iter().map(|x| f64::from_bits(*x)).collect();
-            let mut o = [0.0; 21];
-            (u.factors)(m.as_ptr(), o.as_mut_ptr());
-            for k in 0..3 {
-                i[14 + k] = o[9 + k].to_bits();
             }
         }
         let a = ours::call(n, &i);
@@ -174,27 +230,11 @@ pub fn far(u: &Untouched, n: usize, d: &mut Draw, count: u64) -> Far {
             far.refused += 1;
             continue;
         }
-        let mut o = vec![0; CALLS[n].outputs];
-        (u.call)(n, i.as_ptr(), o.as_mut_ptr());
-        if update {
-            let k = calls::parameters(n - 20);
-            let moved = o[..9] != i[k..k + 9];
-            if moved != (a.out[36] == 1 && a.out[..9] != i[k..k + 9]) {
-                far.other_branch += 1;
-                continue;
-            }
-            let mut worst = distance(&a.out[..9], &o[..9], 0.0);
-            for s in 30..36 {
-                let (x, y) = (f64::from_bits(a.out[s]), f64::from_bits(o[s]));
-                worst = worst.max((x - y).abs() / y.abs().max(1.0));
-            }
-            far.distances.push(worst);
-        } else if n == calls::FAILED {
-            far.other_branch += (a.out != o) as u64;
-            far.distances.push(0.0);
-        } else {
-            far.distances.push(distance(&a.out, &o, moduli(n, &i)));
-        }
+        let o = untouched(u, n, &i);
+        far.ours.note(&i, apart(n, &i, &a.out, &o));
+        let mut m = vec![0; CALLS[n].outputs];
+        inside::run(n, &i, &mut m, inside::Mode::Machine);
+        far.machine.note(&i, apart(n, &i, &m, &o));
     }
     far
 }
