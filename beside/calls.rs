@@ -40,7 +40,6 @@ pub const FAILED: usize = 35;
 pub const CLAMP: usize = 36;
 pub const PROJECT: usize = 37;
 pub const ALPHA: usize = 38;
-pub const TIMES: usize = 39;
 
 const ONE: &[usize] = &[NUMBER];
 const TWO: &[usize] = &[NUMBER, NUMBER];

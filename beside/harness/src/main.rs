@@ -60,17 +60,18 @@ fn same(n: usize, a: &Answer, e: &Answer) -> bool {
         && (a.status != 0 || a.out.iter().zip(&e.out).all(|(x, y)| x == y || (n == calls::CLAMP && nan(*x) && nan(*y))))
 }
 
-/// Each word replaced by 0 or 1 where that keeps what is asked.
+/// Each word replaced by 0, by 1 or by a number of few digits where that keeps what is asked.
 fn simpler(i: &[u64], keeps: impl Fn(&[u64]) -> bool) -> Vec<u64> {
     let mut w = i.to_vec();
     for _ in 0..2 {
         for k in 0..w.len() {
-            for simple in [0.0f64.to_bits(), 1.0f64.to_bits()] {
-                let was = w[k];
-                if was == 0 || was == simple {
+            let was = w[k];
+            let few = |digits: usize| format!("{:.digits$e}", f64::from_bits(was)).parse().unwrap_or(f64::NAN);
+            for simple in [0.0f64, 1.0, few(0), few(1), few(3)] {
+                if was == 0 || was == simple.to_bits() || (simple != 0.0 && was < 1 << 32) {
                     break;
                 }
-                w[k] = simple;
+                w[k] = simple.to_bits();
                 if keeps(&w) {
                     break;
                 }
@@ -330,33 +331,50 @@ fn site_table(r: &mut Run, with_nalgebra: bool, failed: &mut bool) {
     }
 }
 
+/// A simpler input of the same kind, on nalgebra's factors.
+fn simpler_far(u: &sites::Untouched, n: usize, i: &[u64], same_kind: impl Fn(&[f64; 2], &str, &str) -> bool) -> Vec<u64> {
+    let keeps = |w: &[u64]| sites::one(u, n, &sites::factored(u, n, w)).is_some_and(|(d, a, b)| same_kind(&d, &a, &b));
+    let straight = sites::straightened(u, n, i);
+    let w = simpler(if keeps(&straight) { &straight } else { i }, keeps);
+    // The factors are nalgebra's, so they are not shown.
+    let factors = sites::factors_at(n).map_or(0..0, |(_, at, which)| at..at + which.len());
+    (0..w.len()).map(|k| if factors.contains(&k) { 0 } else { w[k] }).collect()
+}
+
 fn far_table(a: &Arguments, u: &sites::Untouched) {
-    println!("\nThe untouched Rust (build 1) from ours, on nalgebra's factors: distance over the largest entry (of energies: plus the hardened moduli);");
-    println!("and, in the last two columns, from build 2 with the machine's elementary functions: what nalgebra alone makes");
+    println!("\nThe untouched Rust (build 1) from ours, on nalgebra's factors: distance over the largest entry (of energies: plus their terms' sizes);");
+    println!("parted: the two took other branches. Last: build 1 from build 2 with the machine's elementary functions, which nalgebra alone makes");
     println!(
-        "{:<36} {:>8} {:>8} {:>8} {:>10} {:>10} {:>10} {:>8} {:>10}",
-        "call", "beside", "refused", "parted", "worst", "99 of 100", "median", "parted", "worst"
+        "{:<36} {:>8} {:>8} {:>8} {:>10} {:>10} {:>10} {:>10}",
+        "call", "beside", "refused", "parted", "worst", "99 of 100", "median", "nalgebra"
     );
     let mut examples = Vec::new();
     for n in (9..CALLS.len()).filter(|n| !matches!(*n, calls::PROJECT | calls::ALPHA) && ours::has(*n)) {
         progress(&format!("build 1: {}", CALLS[n].name));
         let mut d = Draw(a.seed.wrapping_mul(0x2000).wrapping_add(n as u64));
         let mut f = sites::far(u, n, &mut d, a.count.div_ceil(4));
-        let beside = f.ours.distances.len();
-        let (w, m) = sites::worst_and_median(&mut f.ours.distances);
-        let most = f.ours.distances.get(beside * 99 / 100).copied().unwrap_or(0.0);
-        let (alone, _) = sites::worst_and_median(&mut f.machine.distances);
+        let beside = f.distances.len();
+        let (w, m) = sites::worst_and_median(&mut f.distances);
+        let most = f.distances.get(beside * 99 / 100).copied().unwrap_or(0.0);
+        let parted: u64 = f.parted.values().map(|x| x.0).sum();
         progress("");
         println!(
-            "{:<36} {:>8} {:>8} {:>8} {:>10.3e} {:>10.3e} {:>10.3e} {:>8} {:>10.3e}",
-            CALLS[n].name, beside, f.refused, f.ours.parted, w, most, m, f.machine.parted, alone
+            "{:<36} {:>8} {:>8} {:>8} {:>10.3e} {:>10.3e} {:>10.3e} {:>10.3e}",
+            CALLS[n].name, beside, f.refused, parted, w, most, m, f.nalgebra
         );
-        examples.extend(f.ours.first_parted.map(|i| (n, "parted", i)));
-        examples.extend(f.ours.worst.filter(|w| w.0 > FAR).map(|w| (n, "worst", w.1)));
+        for ((x, y), (times, i)) in f.parted {
+            let i = simpler_far(u, n, &i, |_, p, q| p == x && q == y);
+            examples.push((n, format!("{times} times ours: {x}; the Rust: {y}"), i));
+        }
+        if let Some((w, i)) = f.worst.filter(|w| w.0 > FAR) {
+            let i = simpler_far(u, n, &i, |d, p, q| p == q && d[0] >= w / 8.0);
+            examples.push((n, format!("worst {w:.3e}"), i));
+        }
     }
-    println!("\nOf these, the first that parted and the worst beyond {FAR:e} (words that are not 0, by place)");
+    println!("\nOf these, where the two parted, and the worst beyond {FAR:e}, for instance (words that are not 0, by place)");
     for (n, what, i) in examples {
-        println!("{:<36} {what:<6} {}", CALLS[n].name, not_zero(n, &i));
+        println!("{}, {what}", CALLS[n].name);
+        println!("    {}", not_zero(n, &i));
     }
 }
 

@@ -1,11 +1,13 @@
 //! Section 4's sites: each place of the text where nalgebra's own sum, product, norm, determinant, inverse or recompose stands,
 //! run beside nalgebra's on the very numbers met there; and the untouched Rust's distance for each call.
+use crate::branches;
 use crate::calls::{self, CALLS};
 use crate::draw::Draw;
-use crate::inside::{self, finite, Met};
+use crate::inside::{self, finite, Answer, Met};
 use crate::ours::{self, Library};
 use nalgebra::hooks::Op;
 use std::collections::BTreeMap;
+use std::ops::Range;
 
 pub struct Untouched {
     call: extern "C" fn(usize, *const u64, *mut u64),
@@ -104,48 +106,32 @@ pub fn worst_and_median(v: &mut [f64]) -> (f64, f64) {
     }
 }
 
-/// What one build's answers are from another's: distances, and how often one stored or failed where the other did not.
-#[derive(Default)]
-pub struct Apart {
-    pub distances: Vec<f64>,
-    pub parted: u64,
-    pub worst: Option<(f64, Vec<u64>)>,
-    pub first_parted: Option<Vec<u64>>,
-}
-
-impl Apart {
-    /// A distance, or nothing where the two parted.
-    fn note(&mut self, i: &[u64], d: Option<f64>) {
-        match d {
-            None => {
-                self.parted += 1;
-                self.first_parted.get_or_insert_with(|| i.to_vec());
-            }
-            Some(d) => {
-                self.distances.push(d);
-                if d > self.worst.as_ref().map_or(0.0, |w| w.0) {
-                    self.worst = Some((d, i.to_vec()));
-                }
-            }
-        }
-    }
-}
-
 /// The untouched Rust beside ours, and beside build 2 with the machine's elementary functions: what is left of a distance there comes
-/// from nalgebra, the rest from the elementary functions.
+/// from nalgebra, the rest from the elementary functions. Where the two took other branches there is no distance.
 #[derive(Default)]
 pub struct Far {
-    pub ours: Apart,
-    pub machine: Apart,
+    pub distances: Vec<f64>,
+    pub worst: Option<(f64, Vec<u64>)>,
+    pub parted: BTreeMap<(String, String), (u64, Vec<u64>)>,
     pub refused: u64,
+    /// Worst distance of build 1 from build 2 with the machine's functions.
+    pub nalgebra: f64,
 }
 
-/// The hardened moduli, for the energies: their terms cancel near rest, so the result alone is no measure.
-fn moduli(n: usize, i: &[u64]) -> f64 {
-    let f = |k: usize| f64::from_bits(i[k]);
+/// The summed sizes of an energy's terms, which cancel near rest, so that the result alone is no measure.
+fn terms(n: usize, i: &[u64]) -> f64 {
+    let f = |k: usize| f64::from_bits(i[k]).abs();
+    let product = |k: usize| f64::from_bits(i[k]) * f64::from_bits(i[k + 1]) * f64::from_bits(i[k + 2]);
     match n {
-        26 | 27 => (f(1).abs() + f(2).abs()) * f(4).abs(),
-        30 | 31 => (f(2).abs() + f(3).abs()) * f(4).abs(),
+        26 | 27 => {
+            let g: Vec<f64> = i[5..14].iter().map(|x| f64::from_bits(*x)).collect();
+            let j = nalgebra::Matrix3::new(g[0], g[1], g[2], g[3], g[4], g[5], g[6], g[7], g[8]).determinant();
+            let strain = g.iter().map(|x| x * x).sum::<f64>() / (j * j).cbrt() + 3.0;
+            let volume = (j * j + 1.0) / 2.0 + j.ln().abs();
+            let phase = f(3).max(f(3) * f(3)).max(1.0);
+            (f(2) / 2.0 * strain + (2.0 / 3.0 * f(2) + f(1)) / 2.0 * volume) * f(4) * phase
+        }
+        30 => (f(3) * (3.0 + f(5) * f(5) + f(6) * f(6) + f(7) * f(7)) + f(2) / 2.0 * (1.0 + product(5).powi(2))) * f(4),
         _ => 0.0,
     }
 }
@@ -161,80 +147,105 @@ fn distance(a: &[u64], b: &[u64], beside: f64) -> f64 {
     }
 }
 
-/// Puts the factors that nalgebra gives for F in their places.
-fn factor(u: &Untouched, n: usize, i: &mut [u64]) {
-    // Where F stands, where its factors go, and which of them.
-    let (f, at, which) = match n {
-        20..=23 => (calls::parameters(n - 20), calls::parameters(n - 20) + 9, 0..21),
-        29 => (6, 15, 0..21),
-        31 => (5, 14, 9..12),
-        _ => return,
-    };
-    let m: Vec<f64> = i[f..f + 9].iter().map(|x| f64::from_bits(*x)).collect();
-    let mut o = [0.0; 21];
-    (u.factors)(m.as_ptr(), o.as_mut_ptr());
-    for (k, x) in o[which].iter().enumerate() {
-        i[at + k] = x.to_bits();
+/// Where F stands in a call's inputs, where its factors go, and which of the 21.
+pub fn factors_at(n: usize) -> Option<(usize, usize, Range<usize>)> {
+    match n {
+        20..=23 => Some((calls::parameters(n - 20), calls::parameters(n - 20) + 9, 0..21)),
+        29 => Some((6, 15, 0..21)),
+        31 => Some((5, 14, 9..12)),
+        _ => None,
     }
 }
 
-/// How far an answer is from build 1's; nothing where one stored, or failed, and the other did not.
-fn apart(n: usize, i: &[u64], a: &[u64], o: &[u64]) -> Option<f64> {
+/// The inputs with the factors that nalgebra gives for F.
+pub fn factored(u: &Untouched, n: usize, i: &[u64]) -> Vec<u64> {
+    let mut w = i.to_vec();
+    if let Some((f, at, which)) = factors_at(n) {
+        let m: Vec<f64> = i[f..f + 9].iter().map(|x| f64::from_bits(*x)).collect();
+        let mut o = [0.0; 21];
+        (u.factors)(m.as_ptr(), o.as_mut_ptr());
+        for (k, x) in o[which].iter().enumerate() {
+            w[at + k] = x.to_bits();
+        }
+    }
+    if n == 30 {
+        // Singular values aren't negative, and nalgebra's fall.
+        w[5..8].iter_mut().for_each(|x| *x &= !(1 << 63));
+        w[5..8].sort_by(|x, y| y.cmp(x));
+    }
+    w
+}
+
+/// F as the diagonal matrix of its own singular values.
+pub fn straightened(u: &Untouched, n: usize, i: &[u64]) -> Vec<u64> {
+    let mut w = factored(u, n, i);
+    if let Some((f, at, Range { start: 0, .. })) = factors_at(n) {
+        w[f..f + 9].fill(0);
+        (0..3).for_each(|k| w[f + 4 * k] = w[at + 9 + k]);
+    }
+    w
+}
+
+/// How far an answer is from build 1's.
+fn apart(n: usize, i: &[u64], a: &[u64], o: &[u64]) -> f64 {
     if n == calls::FAILED {
-        return (a == o).then_some(0.0);
+        return if a == o { 0.0 } else { f64::INFINITY };
     }
     if !calls::is_update(n) {
-        return Some(distance(a, o, moduli(n, i)));
-    }
-    let k = calls::parameters(n - calls::UPDATE);
-    let moved = |w: &[u64]| w[..9] != i[k..k + 9];
-    if moved(a) != moved(o) {
-        return None;
+        return distance(a, o, terms(n, i));
     }
     let scalar = |s: usize| {
         let (x, y) = (f64::from_bits(a[s]), f64::from_bits(o[s]));
         (x - y).abs() / y.abs().max(1.0)
     };
-    Some((30..36).map(scalar).fold(distance(&a[..9], &o[..9], 0.0), f64::max))
+    (30..36).map(scalar).fold(distance(&a[..9], &o[..9], 0.0), f64::max)
 }
 
-fn untouched(u: &Untouched, n: usize, i: &[u64]) -> Vec<u64> {
+fn branches(n: usize, i: &[u64], a: &Answer) -> String {
+    let mut names = Vec::new();
+    branches::taken(n, i, a, &mut names);
+    names.join(", ")
+}
+
+/// One input with nalgebra's factors: nothing where ours refuses, else how far ours and build 2 with the machine's functions are from
+/// build 1, and the branches of these two.
+pub fn one(u: &Untouched, n: usize, i: &[u64]) -> Option<([f64; 2], String, String)> {
+    let a = ours::call(n, i);
+    if a.status != 0 {
+        return None;
+    }
+    // Only the plastic laws branch on what an elementary function gave.
+    let names = |a: &Answer| if calls::is_update(n) { branches(n, i, a) } else { String::new() };
+    let ours = names(&inside::expected(n, i));
+    let m = inside::with_machine(n, i);
+    let machine = names(&m);
     let mut o = vec![0; CALLS[n].outputs];
     (u.call)(n, i.as_ptr(), o.as_mut_ptr());
-    o
-}
-
-/// How far ours is from build 1 on these inputs, with nalgebra's factors; nothing where ours refuses.
-pub fn ours_from(u: &Untouched, n: usize, i: &[u64]) -> Option<Option<f64>> {
-    let a = ours::call(n, i);
-    (a.status == 0).then(|| apart(n, i, &a.out, &untouched(u, n, i)))
+    Some(([apart(n, i, &a.out, &o), apart(n, i, &m.out, &o)], ours, machine))
 }
 
 /// Ours beside build 1, on factors that nalgebra gives for F.
 pub fn far(u: &Untouched, n: usize, d: &mut Draw, count: u64) -> Far {
     let mut far = Far::default();
     for _ in 0..count {
-        let mut i = d.inputs(n);
+        let i = d.inputs(n);
         if !(0..i.len()).all(|k| finite(i[k])) {
             continue;
         }
-        factor(u, n, &mut i);
-        if n == 30 {
-            // Singular values are not negative.
-            for x in &mut i[5..8] {
-                *x &= !(1 << 63);
-            }
-        }
-        let a = ours::call(n, &i);
-        if a.status != 0 {
+        let i = factored(u, n, &i);
+        let Some(([ours, machine], a, b)) = one(u, n, &i) else {
             far.refused += 1;
             continue;
+        };
+        far.nalgebra = far.nalgebra.max(machine);
+        if a != b {
+            far.parted.entry((a, b)).or_insert((0, i)).0 += 1;
+            continue;
         }
-        let o = untouched(u, n, &i);
-        far.ours.note(&i, apart(n, &i, &a.out, &o));
-        let mut m = vec![0; CALLS[n].outputs];
-        inside::run(n, &i, &mut m, inside::Mode::Machine);
-        far.machine.note(&i, apart(n, &i, &m, &o));
+        far.distances.push(ours);
+        if ours > far.worst.as_ref().map_or(0.0, |w| w.0) {
+            far.worst = Some((ours, i));
+        }
     }
     far
 }
