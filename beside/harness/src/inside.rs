@@ -96,23 +96,24 @@ fn on_path(status: u8, x: f64) -> u8 {
     }
 }
 
-fn machine(which: Function, x: f64) -> f64 {
-    match which {
-        Function::Exp => x.exp(),
-        Function::Ln => x.ln(),
-        Function::Sinh => x.sinh(),
-        Function::Sin => x.sin(),
-        Function::Sqrt => x.sqrt(),
-        Function::Cbrt => x.powf(1.0 / 3.0),
-        Function::InvCbrt => x.powf(-1.0 / 3.0),
-        Function::CbrtSquared => x.powf(2.0 / 3.0),
+/// One of the first nine calls as the machine has it; powers are of a rounded third, as in the text.
+pub fn machine_number(n: usize, x: f64) -> f64 {
+    match n {
+        0 => x.exp(),
+        1 => x.ln(),
+        2 => x.sinh(),
+        3 => x.sin(),
+        4 => x.sqrt(),
+        5 => x.powf(1.0 / 3.0),
+        6 => x.powf(-1.0 / 3.0),
+        7 => x.powf(2.0 / 3.0),
         _ => x.powf(-2.0 / 3.0),
     }
 }
 
 fn elementary(w: &mut Watch, which: Function, x: f64) -> f64 {
     if w.mode == Mode::Machine {
-        return machine(which, x);
+        return machine_number(which as usize, x);
     }
     if w.mode == Mode::Strains && which == Function::Ln {
         return w.strains[w.asked.iter().filter(|a| a.which == Function::Ln).count()];

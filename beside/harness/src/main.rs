@@ -4,6 +4,7 @@ mod branches;
 mod calls;
 mod draw;
 mod elementary;
+mod examples;
 mod inside;
 mod listed;
 mod lists;
@@ -19,14 +20,14 @@ use std::io::Write;
 
 struct Arguments {
     work: String,
-    sites: String,
+    docs: String,
     seed: u64,
     count: u64,
     replay: Option<String>,
 }
 
 fn arguments() -> Arguments {
-    let mut a = Arguments { work: String::new(), sites: String::new(), seed: 1, count: 20_000, replay: None };
+    let mut a = Arguments { work: String::new(), docs: String::new(), seed: 1, count: 20_000, replay: None };
     let mut rest = std::env::args().skip(1);
     a.work = rest.next().unwrap_or_default();
     while let Some(x) = rest.next() {
@@ -35,7 +36,7 @@ fn arguments() -> Arguments {
             "--seed" => a.seed = v.parse().unwrap_or(1),
             "--count" => a.count = v.parse().unwrap_or(20_000),
             "--replay" => a.replay = Some(v),
-            "--sites" => a.sites = v,
+            "--docs" => a.docs = v,
             _ => {}
         }
     }
@@ -333,7 +334,7 @@ fn site_table(r: &mut Run, with_nalgebra: bool, failed: &mut bool) {
 
 /// A simpler input of the same kind, on nalgebra's factors.
 fn simpler_far(u: &sites::Untouched, n: usize, i: &[u64], same_kind: impl Fn(&[f64; 2], &str, &str) -> bool) -> Vec<u64> {
-    let keeps = |w: &[u64]| sites::one(u, n, &sites::factored(u, n, w)).is_some_and(|(d, a, b)| same_kind(&d, &a, &b));
+    let keeps = |w: &[u64]| sites::one(u, n, &sites::factored(u, n, w)).is_some_and(|(d, _, [a, b])| same_kind(&d, &a, &b));
     let straight = sites::straightened(u, n, i);
     let w = simpler(if keeps(&straight) { &straight } else { i }, keeps);
     // The factors are nalgebra's, so they are not shown.
@@ -341,12 +342,18 @@ fn simpler_far(u: &sites::Untouched, n: usize, i: &[u64], same_kind: impl Fn(&[f
     (0..w.len()).map(|k| if factors.contains(&k) { 0 } else { w[k] }).collect()
 }
 
+/// The inverse's determinant is another rounding than nalgebra's: the distance over that determinant's condition.
+fn inverse_line(r: &Run) {
+    let worst = r.sites.iter().filter(|(k, _)| k.2 == nalgebra::hooks::Op::Inverse).map(|(_, s)| s.over_condition).fold(0.0, f64::max);
+    println!("The inverse's distance over its determinant's condition (its terms' summed sizes over itself): worst {:.3e}", worst / sites::SUM_BOUND);
+}
+
 fn far_table(a: &Arguments, u: &sites::Untouched) {
     println!("\nThe untouched Rust (build 1) from ours, on nalgebra's factors: distance over the largest entry (of energies: plus their terms' sizes);");
-    println!("parted: the two took other branches. Last: build 1 from build 2 with the machine's elementary functions, which nalgebra alone makes");
+    println!("parted: the two took other branches. Last two: build 1 from build 2 with the machine's elementary functions, worst and how often in bits, which nalgebra alone makes");
     println!(
-        "{:<36} {:>8} {:>8} {:>8} {:>10} {:>10} {:>10} {:>10}",
-        "call", "beside", "refused", "parted", "worst", "99 of 100", "median", "nalgebra"
+        "{:<36} {:>8} {:>8} {:>8} {:>10} {:>10} {:>10} {:>10} {:>8}",
+        "call", "beside", "refused", "parted", "worst", "99 of 100", "median", "nalgebra", "in bits"
     );
     let mut examples = Vec::new();
     for n in (9..CALLS.len()).filter(|n| !matches!(*n, calls::PROJECT | calls::ALPHA) && ours::has(*n)) {
@@ -359,8 +366,8 @@ fn far_table(a: &Arguments, u: &sites::Untouched) {
         let parted: u64 = f.parted.values().map(|x| x.0).sum();
         progress("");
         println!(
-            "{:<36} {:>8} {:>8} {:>8} {:>10.3e} {:>10.3e} {:>10.3e} {:>10.3e}",
-            CALLS[n].name, beside, f.refused, parted, w, most, m, f.nalgebra
+            "{:<36} {:>8} {:>8} {:>8} {:>10.3e} {:>10.3e} {:>10.3e} {:>10.3e} {:>8}",
+            CALLS[n].name, beside, f.refused, parted, w, most, m, f.nalgebra, f.other_bits
         );
         for ((x, y), (times, i)) in f.parted {
             let i = simpler_far(u, n, &i, |_, p, q| p == x && q == y);
@@ -412,9 +419,11 @@ fn main() {
     table(&r, &mut failed);
     lengths(&a, &mut failed);
     clamp_case();
+    examples::check(&format!("{}/DIFFERENCES.md", a.docs), u.as_ref(), &mut failed);
     lists::compare(a.seed, a.count, &mut failed);
     site_table(&mut r, u.is_some(), &mut failed);
-    listed_sites(&a.sites, &r, &mut failed);
+    inverse_line(&r);
+    listed_sites(&format!("{}/SITES.md", a.docs), &r, &mut failed);
     match &u {
         Some(u) => far_table(&a, u),
         None => println!("\nBuild 1 was LEFT OUT: nothing was run beside the untouched Rust or nalgebra."),

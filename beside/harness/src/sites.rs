@@ -28,6 +28,18 @@ impl Untouched {
             })
         }
     }
+
+    fn factors_of(&self, m: [f64; 9]) -> [f64; 21] {
+        let mut o = [0.0; 21];
+        (self.factors)(m.as_ptr(), o.as_mut_ptr());
+        o
+    }
+
+    pub fn run(&self, n: usize, i: &[u64]) -> Vec<u64> {
+        let mut o = vec![0; CALLS[n].outputs];
+        (self.call)(n, i.as_ptr(), o.as_mut_ptr());
+        o
+    }
 }
 
 /// What was seen at one site.
@@ -38,12 +50,19 @@ pub struct Seen {
     pub other_bits: u64,
     /// Differences over the summed sizes of the terms (of the inverse and of norms: over the largest entry).
     pub ratios: Vec<f64>,
+    /// Of the inverse: the worst difference over the largest entry and the determinant's condition.
+    pub over_condition: f64,
 }
 
 pub type Sites = BTreeMap<(String, u32, Op), Seen>;
 
 fn name(file: &str) -> String {
     file.rsplit('/').next().unwrap_or(file).to_string()
+}
+
+fn determinant_terms(m: &[f64]) -> f64 {
+    let t = |a: usize, b: usize, c: usize| (m[a] * m[b] * m[c]).abs();
+    t(0, 4, 8) + t(0, 7, 5) + t(1, 3, 8) + t(1, 6, 5) + t(2, 3, 7) + t(2, 6, 4)
 }
 
 /// The summed sizes of the terms behind each output.
@@ -53,10 +72,7 @@ fn sizes(m: &Met) -> Vec<f64> {
     match m.op {
         Op::Sum | Op::Trace => vec![m.input.iter().map(|a| a.abs()).sum()],
         Op::NormSquared => vec![m.input.iter().map(|a| a * a).sum()],
-        Op::Determinant => {
-            let t = |a: usize, b: usize, c: usize| x(a) * x(b) * x(c);
-            vec![t(0, 4, 8) + t(0, 7, 5) + t(1, 3, 8) + t(1, 6, 5) + t(2, 3, 7) + t(2, 6, 4)]
-        }
+        Op::Determinant => vec![determinant_terms(&m.input)],
         Op::MatrixProduct | Op::Recompose => {
             let right = if m.op == Op::Recompose { 12 } else { 9 };
             let scale = |k: usize| if m.op == Op::Recompose { x(9 + k) } else { 1.0 };
@@ -91,7 +107,14 @@ pub fn beside(u: Option<&Untouched>, sites: &mut Sites) {
         }
         let sizes = sizes(m);
         let worst = o.iter().zip(&m.output).zip(&sizes).map(|((a, b), t)| if a == b { 0.0 } else { (a - b).abs() / t });
-        s.ratios.push(worst.fold(0.0, f64::max));
+        let worst = worst.fold(0.0, f64::max);
+        s.ratios.push(worst);
+        if m.op == Op::Inverse {
+            let m = &m.input;
+            let cofactor = |a: usize, b: usize, c: usize, d: usize| m[a] * m[b] - m[c] * m[d];
+            let det = m[0] * cofactor(4, 8, 7, 5) - m[3] * cofactor(1, 8, 7, 2) + m[6] * cofactor(1, 5, 4, 2);
+            s.over_condition = s.over_condition.max(worst * det.abs() / determinant_terms(m));
+        }
     }
 }
 
@@ -114,8 +137,9 @@ pub struct Far {
     pub worst: Option<(f64, Vec<u64>)>,
     pub parted: BTreeMap<(String, String), (u64, Vec<u64>)>,
     pub refused: u64,
-    /// Worst distance of build 1 from build 2 with the machine's functions.
+    /// Build 1 beside build 2 with the machine's functions: the worst distance, and how often a bit differs (a zero's sign too).
     pub nalgebra: f64,
+    pub other_bits: u64,
 }
 
 /// The summed sizes of an energy's terms, which cancel near rest, so that the result alone is no measure.
@@ -139,11 +163,14 @@ fn terms(n: usize, i: &[u64]) -> f64 {
 fn distance(a: &[u64], b: &[u64], beside: f64) -> f64 {
     let f = |x: &u64| f64::from_bits(*x);
     let largest = b.iter().map(|x| f(x).abs()).fold(0.0, f64::max) + beside;
-    let off = a.iter().zip(b).map(|(x, y)| if x == y { 0.0 } else { (f(x) - f(y)).abs() }).fold(0.0, f64::max);
-    if off == 0.0 {
-        0.0
-    } else {
-        off / largest
+    let off = |(x, y): (&u64, &u64)| match f(x) - f(y) {
+        _ if x == y => 0.0,
+        d if d.is_nan() => f64::INFINITY,
+        d => d.abs(),
+    };
+    match a.iter().zip(b).map(off).fold(0.0, f64::max) {
+        0.0 => 0.0,
+        off => off / largest,
     }
 }
 
@@ -160,18 +187,21 @@ pub fn factors_at(n: usize) -> Option<(usize, usize, Range<usize>)> {
 /// The inputs with the factors that nalgebra gives for F.
 pub fn factored(u: &Untouched, n: usize, i: &[u64]) -> Vec<u64> {
     let mut w = i.to_vec();
-    if let Some((f, at, which)) = factors_at(n) {
-        let m: Vec<f64> = i[f..f + 9].iter().map(|x| f64::from_bits(*x)).collect();
-        let mut o = [0.0; 21];
-        (u.factors)(m.as_ptr(), o.as_mut_ptr());
-        for (k, x) in o[which].iter().enumerate() {
-            w[at + k] = x.to_bits();
+    let f = |k: usize| f64::from_bits(i[k]);
+    if let Some((at, to, which)) = factors_at(n) {
+        let m = std::array::from_fn(|k| f(at + k));
+        for (k, x) in u.factors_of(m)[which].iter().enumerate() {
+            w[to + k] = x.to_bits();
         }
     }
     if n == 30 {
-        // Singular values aren't negative, and nalgebra's fall.
-        w[5..8].iter_mut().for_each(|x| *x &= !(1 << 63));
-        w[5..8].sort_by(|x, y| y.cmp(x));
+        // The Rust takes a diagonal matrix here: of one whose singular values nalgebra changes, its values' values.
+        let mut s = [f(5), f(6), f(7)];
+        for _ in 0..8 {
+            let o = u.factors_of([s[0], 0.0, 0.0, 0.0, s[1], 0.0, 0.0, 0.0, s[2]]);
+            s.copy_from_slice(&o[9..12]);
+        }
+        (0..3).for_each(|k| w[5 + k] = s[k].to_bits());
     }
     w
 }
@@ -208,8 +238,8 @@ fn branches(n: usize, i: &[u64], a: &Answer) -> String {
 }
 
 /// One input with nalgebra's factors: nothing where ours refuses, else how far ours and build 2 with the machine's functions are from
-/// build 1, and the branches of these two.
-pub fn one(u: &Untouched, n: usize, i: &[u64]) -> Option<([f64; 2], String, String)> {
+/// build 1, whether the latter's bits are build 1's, and the branches of these two.
+pub fn one(u: &Untouched, n: usize, i: &[u64]) -> Option<([f64; 2], bool, [String; 2])> {
     let a = ours::call(n, i);
     if a.status != 0 {
         return None;
@@ -219,9 +249,10 @@ pub fn one(u: &Untouched, n: usize, i: &[u64]) -> Option<([f64; 2], String, Stri
     let ours = names(&inside::expected(n, i));
     let m = inside::with_machine(n, i);
     let machine = names(&m);
-    let mut o = vec![0; CALLS[n].outputs];
-    (u.call)(n, i.as_ptr(), o.as_mut_ptr());
-    Some(([apart(n, i, &a.out, &o), apart(n, i, &m.out, &o)], ours, machine))
+    let o = u.run(n, i);
+    let compared = |w: &[u64]| if calls::is_update(n) { [&w[..9], &w[30..36]].concat() } else { w.to_vec() };
+    let same_bits = compared(&m.out) == compared(&o);
+    Some(([apart(n, i, &a.out, &o), apart(n, i, &m.out, &o)], same_bits, [ours, machine]))
 }
 
 /// Ours beside build 1, on factors that nalgebra gives for F.
@@ -233,11 +264,12 @@ pub fn far(u: &Untouched, n: usize, d: &mut Draw, count: u64) -> Far {
             continue;
         }
         let i = factored(u, n, &i);
-        let Some(([ours, machine], a, b)) = one(u, n, &i) else {
+        let Some(([ours, machine], same_bits, [a, b])) = one(u, n, &i) else {
             far.refused += 1;
             continue;
         };
         far.nalgebra = far.nalgebra.max(machine);
+        far.other_bits += !same_bits as u64;
         if a != b {
             far.parted.entry((a, b)).or_insert((0, i)).0 += 1;
             continue;
