@@ -152,11 +152,12 @@ fn compare(a: &Arguments, u: Option<&sites::Untouched>) -> Run {
             continue;
         }
         let mut d = Draw(a.seed.wrapping_mul(0x1000).wrapping_add(n as u64));
-        for k in 0..a.count {
+        let mut swept = d.sweep(n);
+        for k in 0..swept.len() as u64 + a.count {
             if k % 1000 == 0 {
                 progress(&format!("{} of {}: {} {k}", n + 1, CALLS.len(), CALLS[n].name));
             }
-            let i = d.inputs(n);
+            let i = swept.pop().unwrap_or_else(|| d.inputs(n));
             // Without ours, what was to come is still worked out, so that its branches show.
             let got = if t.missing { inside::expected(n, &i) } else { ours::call(n, &i) };
             t.run += 1;
@@ -254,6 +255,9 @@ fn table(r: &Run, failed: &mut bool) {
             println!("      expected  {}", short(want));
         }
     }
+    let total: u64 = r.tallies.iter().map(|t| t.run).sum();
+    let same: u64 = r.tallies.iter().map(|t| t.same).sum();
+    println!("{:<36} {total:>8} {same:>8}", "in all");
     println!("\nBranches reached (by calls that are not refused)");
     for (n, b, why) in branches::ALL {
         let c = r.branches.get(&(*n, *b)).copied().unwrap_or(0);
@@ -413,7 +417,7 @@ fn main() {
         return;
     }
     let u = sites::Untouched::open(&format!("{}/libuntouched.so", a.work));
-    println!("seed {}, {} inputs a call", a.seed, a.count);
+    println!("seed {}, {} drawn inputs a call", a.seed, a.count);
     let mut failed = !missing.is_empty();
     let mut r = compare(&a, u.as_ref());
     table(&r, &mut failed);
