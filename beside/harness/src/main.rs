@@ -348,8 +348,12 @@ fn simpler_far(u: &sites::Untouched, n: usize, i: &[u64], same_kind: impl Fn(&[f
 
 /// The inverse's determinant is another rounding than nalgebra's: the distance over that determinant's condition.
 fn inverse_line(r: &Run) {
-    let worst = r.sites.iter().filter(|(k, _)| k.2 == nalgebra::hooks::Op::Inverse).map(|(_, s)| s.over_condition).fold(0.0, f64::max);
-    println!("The inverse's distance over its determinant's condition (its terms' summed sizes over itself): worst {:.3e}", worst / sites::SUM_BOUND);
+    let worst =
+        r.sites.iter().filter(|(k, _)| k.2 == nalgebra::hooks::Op::Inverse).map(|(_, s)| s.over_condition).fold(0.0, f64::max);
+    println!(
+        "The inverse's distance over its determinant's condition (its terms' summed sizes over itself): worst {:.3e}",
+        worst / sites::SUM_BOUND
+    );
 }
 
 fn far_table(a: &Arguments, u: &sites::Untouched) {
@@ -373,6 +377,9 @@ fn far_table(a: &Arguments, u: &sites::Untouched) {
             "{:<36} {:>8} {:>8} {:>8} {:>10.3e} {:>10.3e} {:>10.3e} {:>10.3e} {:>8}",
             CALLS[n].name, beside, f.refused, parted, w, most, m, f.nalgebra, f.other_bits
         );
+        if f.over_condition > 0.0 {
+            println!("    over its steps' condition: worst {:.3e} in units of 2^-45", f.over_condition / sites::SUM_BOUND);
+        }
         for ((x, y), (times, i)) in f.parted {
             let i = simpler_far(u, n, &i, |_, p, q| p == x && q == y);
             examples.push((n, format!("{times} times ours: {x}; the Rust: {y}"), i));

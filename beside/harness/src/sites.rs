@@ -140,6 +140,8 @@ pub struct Far {
     /// Build 1 beside build 2 with the machine's functions: the worst distance, and how often a bit differs (a zero's sign too).
     pub nalgebra: f64,
     pub other_bits: u64,
+    /// Of Drucker-Prager: the worst distance over what its steps make of a logarithm's.
+    pub over_condition: f64,
 }
 
 /// The summed sizes of an energy's terms, which cancel near rest, so that the result alone is no measure.
@@ -255,6 +257,19 @@ pub fn one(u: &Untouched, n: usize, i: &[u64]) -> Option<([f64; 2], bool, [Strin
     Some(([apart(n, i, &a.out, &o), apart(n, i, &m.out, &o)], same_bits, [ours, machine]))
 }
 
+/// How much Drucker-Prager's return makes of the logarithms' distance: gamma over the deviatoric norm, by which its direction is off,
+/// and the factor of the trace. 1 away from the surface.
+fn drucker_prager_condition(i: &[u64]) -> f64 {
+    let f = |k: usize| f64::from_bits(i[k]);
+    let a = inside::expected(22, i);
+    let (norm, trace) = (branches::result(51, Op::Norm), branches::result(44, Op::Sum));
+    if norm.is_nan() {
+        return 1.0;
+    }
+    let factor = ((3.0 * f(4) + 2.0 * f(5)) / (2.0 * f(5))).abs();
+    1.0 + f64::from_bits(a.out[37]) / norm + 2.0 * factor * (1.0 + trace.abs())
+}
+
 /// Ours beside build 1, on factors that nalgebra gives for F.
 pub fn far(u: &Untouched, n: usize, d: &mut Draw, count: u64) -> Far {
     let mut far = Far::default();
@@ -273,6 +288,9 @@ pub fn far(u: &Untouched, n: usize, d: &mut Draw, count: u64) -> Far {
         if a != b {
             far.parted.entry((a, b)).or_insert((0, i)).0 += 1;
             continue;
+        }
+        if n == 22 {
+            far.over_condition = far.over_condition.max(ours / drucker_prager_condition(&i));
         }
         far.distances.push(ours);
         if ours > far.worst.as_ref().map_or(0.0, |w| w.0) {
