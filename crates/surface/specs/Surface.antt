@@ -5,6 +5,7 @@ use mathlib.Core.Bool.{Bool, not}
 use mathlib.Core.List.{List, []}
 use Prim.Native.Nat.{ℕ, _+_, _*_, _^_, _≤_}
 use lib.Dec.{T}
+use lib.ListN.{length}
 use lib.IntN.{ℤ, pos, _+ℤ_, _*ℤ_}
 use lib.Ieee as Ieee
 use lib.Ieee.{Float}
@@ -64,10 +65,18 @@ pub record Fair (p : RankinePlasticity) (s : Float) : Type 0 where
   pub s-fine : Fin64 s
   pub ranges : Ranges p s
 
--- a log strain in -4 to 4
+-- in -4 to 4
+abbrev pub Small : Float → Type 0
+Small x = mag x ≤ 4 * L
+
+-- a strain in -4 to 4 as a finite f64
 pub record Strain (x : Float) : Type 0 where
   pub fine : Fin64 x
-  pub size : mag x ≤ 4 * L
+  pub size : Small x
+
+-- a number that an f64 holds; in the code each one is
+abbrev pub F64 : Float → Type 0
+F64 x = T (Ieee.fits Ieee.binary64 x)
 
 abbrev pub Accepted : Outcome → Type 0
 Accepted Untouched = Unit {0}
@@ -87,17 +96,20 @@ logStrains st = numbersOf (logsOf (st .sigma))
 abbrev pub softened : RankinePlasticity → State → Float
 softened p st = softStrengthOf p (st .«plastic_hardening»)
 
+-- not refused, the ranges of the moduli and of s, and log strains in -4 to 4: that these are finite f64 is the logarithm's own law
 pub record Taken (p : RankinePlasticity) (u vt : List (List Float)) (st : State) : Type 0 where
   pub accepted : Accepted (rankineUpdate p u vt st .outcome)
   pub fair : Fair p (softened p st)
-  pub strains : Each Strain (logStrains st)
+  pub sigma : Each F64 (st .sigma)
+  pub strains : Each Small (logStrains st)
 
 -- the same of the law that `new` makes: its moduli are f64, and finite where nothing is refused
 pub record TakenBy (a : RankineArguments) (u vt : List (List Float)) (st : State) : Type 0 where
   pub accepted : Accepted (argumentsUpdate a u vt st .outcome)
   pub s-finite : T (finite (softened (lawOf a) st))
   pub ranges : Ranges (lawOf a) (softened (lawOf a) st)
-  pub strains : Each Strain (logStrains st)
+  pub sigma : Each F64 (st .sigma)
+  pub strains : Each Small (logStrains st)
 
 -- the first yield test: lambda S + 2mu a <= s in floats
 abbrev pub firstTest : RankinePlasticity → List Float → Float → Bool
@@ -124,7 +136,9 @@ pub record Returned (p : RankinePlasticity) (u vt : List (List Float)) (st : Sta
   pub stored : rankineUpdate p u vt st .outcome ≡ Stored hardening
   pub written : rankineUpdate p u vt st .state .«plastic_hardening» ≡ hardening
   pub capped : T (Ieee.le hardening (p .«tensile_strength»))
+  pub f64 : F64 (p .«tensile_strength») → F64 hardening
   pub sigma : rankineUpdate p u vt st .state .sigma ≡ numbersOf (expsOf (projectedStrains p st))
+  pub axes : length (numbersOf (expsOf (projectedStrains p st))) ≡ 3
   pub on-surface : OnSurface p (softened p st) (projectedStrains p st)
 
 pub record Demand3 (p : RankinePlasticity) (u vt : List (List Float)) (st : State) : Type 0 where
