@@ -4,4 +4,7 @@ pub mod Branches
 pub mod Indexed
 pub mod Strains
 pub mod Update
+pub mod Places
+pub mod Passes
+pub mod Records
 pub mod Cases

@@ -3,7 +3,6 @@ use mathlib.Core.Path.{_≡_, refl}
 use mathlib.Core.Bool.{Bool, true, false, cond}
 use mathlib.Core.List.{List, [], _∷_}
 use Prim.Native.Nat.{ℕ, zero, suc}
-use lib.Dec.{T}
 use lib.ListN.{getD}
 use lib.Ieee.{Float, nan, binary64, fits}
 use lib.Ieee.Bits.{ofBits-fits}
