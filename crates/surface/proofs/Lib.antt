@@ -8,3 +8,4 @@ pub mod Places
 pub mod Passes
 pub mod Records
 pub mod Cases
+pub mod Examples

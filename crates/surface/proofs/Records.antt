@@ -11,7 +11,6 @@ use Rattle.numbers.specs.Rules.{finite}
 use Rattle.tensor.specs.Matrix.{zero}
 use Rattle.law.specs.declared.Outcome.{Outcome}
 use Rattle.law.specs.declared.Outcome.the-variants as outcome
-use Rattle.law.specs.declared.State.{State}
 use Rattle.law.specs.declared.Updated.{Updated}
 use Rattle.record.specs.Layout.{floats, uAt, vtAt, stateAt, putPhase}
 use Rattle.failure_maximum_stress.specs.declared.MaximumStressFailure.{MaximumStressFailure}
@@ -19,42 +18,44 @@ use Rattle.failure_maximum_stress.specs.declared.Verdict.{Verdict}
 use Rattle.failure_maximum_stress.specs.declared.Verdict.the-variants as verdict
 use Rattle.elasticity_corotated_linear.specs.declared.CorotatedLinearElasticity.{CorotatedLinearElasticity}
 use Rattle.plasticity_rankine.specs.declared.RankineArguments.{RankineArguments}
-use Rattle.plasticity_rankine.specs.Rankine.{argumentsUpdate, untouchedOf, lawOf, logsOf, expsOf, softStrengthOf}
+use Rattle.plasticity_rankine.specs.Rankine.{rankineUpdate, lawOf, logsOf, softStrengthOf}
 use Rattle.particles.specs.declared.choice.Model.the-variants.{Rankine}
 use Rattle.particles.specs.Model.{updatedAt, kept, recordLaw}
-use Rattle.particles.specs.Pass.{Worked, recordAt}
+use Rattle.particles.specs.Pass.{recordAt}
 use Rattle.particles.specs.Judged.{judgedAt, unlessRefused, failedLaw, byVerdict, failureLaw}
 use Rattle.particles.proofs.PassLaws.{record-keeps}
 use Rattle.particles.proofs.JudgedLaws.{failure-keeps}
 use Rattle.surface.specs.Axes.{Each}
-use Rattle.surface.specs.Surface.{Accepted, F64, Small, Ranges, numbersOf, Inside, Demand3By, OnSurface}
-use Rattle.surface.specs.Record.{Premises, foundOf, InsideAt, ReturnedAt, Demand3At, softenedAt, projectedAt, InPass, passFound, metBy, metAt}
+use Rattle.surface.specs.Surface.{Accepted, F64, Small, Ranges, numbersOf, Inside, Returned, Demand3By}
+use Rattle.surface.specs.Record.{Premises, Found, foundOf, InsideAt, ReturnedAt, Demand3At, projectedAt, InPass, passFound, metBy, metAt}
 use Rattle.surface.proofs.Strains.{exps-f64}
 use Rattle.surface.proofs.Update.{demand-3-by}
 use Rattle.surface.proofs.Places.{stored-sigma, stored-hardening, phase-sigma, phase-hardening}
 use Rattle.surface.proofs.Passes.{in-pass, found}
 
 -- the record that the update v leaves
-abbrev worked : RankineArguments → List ℕ → Updated → Worked
-worked a r v = record { outcome = v .outcome; after = kept (Rankine a) (v .outcome) r (v .state) }
+abbrev left : RankineArguments → List ℕ → Updated → Found
+left a r v = foundOf (record { outcome = v .outcome; after = kept (Rankine a) (v .outcome) r (v .state) })
 
 module _ (a : RankineArguments) (r : List ℕ) where
-  inside-at : (v : Updated) → v ≡ untouchedOf (stateAt r) → Inside (lawOf a) (uAt r) (vtAt r) (stateAt r) → InsideAt a r (foundOf (worked a r v))
-  inside-at v e d = subst (λ (x : Updated). InsideAt a r (foundOf (worked a r x))) (sym e) (record { answer = (refl, refl); bits = refl; below = d .below })
+  abbrev worked : Updated
+  worked = rankineUpdate (lawOf a) (uAt r) (vtAt r) (stateAt r)
 
-  -- stored with the hardening h, where the state s has it and sigma
-  returned-at : (s : State) (o : Outcome) (h : Float) → o ≡ outcome.Stored h → s .«plastic_hardening» ≡ h → F64 h
-      → T (Ieee.le h (a .«tensile_strength»)) → length (s .sigma) ≡ 3 → Each F64 (s .sigma) → s .sigma ≡ numbersOf (expsOf (projectedAt a r))
-      → OnSurface (lawOf a) (softenedAt a r) (projectedAt a r) → length r ≡ floats
-      → ReturnedAt a r (foundOf (worked a r (record { state = s; outcome = o })))
-  returned-at s o h eo eh f c n g es on k =
-      let back = stored-hardening r s k (subst F64 (sym eh) f) ∙ eh in
-      subst (λ (x : Outcome). ReturnedAt a r (foundOf (worked a r (record { state = s; outcome = x })))) (sym eo)
+  inside-at : Inside (lawOf a) (uAt r) (vtAt r) (stateAt r) → InsideAt a r (left a r worked)
+  inside-at d =
+      subst (λ (v : Updated). InsideAt a r (left a r v)) (sym (d .untouched)) (record { answer = (refl, refl); bits = refl; below = d .below })
+
+  returned-at : length r ≡ floats → F64 (a .«tensile_strength») → Returned (lawOf a) (uAt r) (vtAt r) (stateAt r) → ReturnedAt a r (left a r worked)
+  returned-at k f d =
+      let s = worked .state in
+      let back = stored-hardening r s k (subst F64 (sym (d .written)) (d .f64 f)) ∙ d .written in
+      let g = subst (Each F64) (sym (d .sigma)) (exps-f64 (projectedAt a r)) in
+      subst (λ (o : Outcome). ReturnedAt a r (left a r (record { state = s; outcome = o }))) (sym (d .stored))
       (record {
         answer = (refl, ap (λ (x : Float). Ieee.toBits binary64 x) (sym back));
-        capped = subst (λ (x : Float). T (Ieee.le x (a .«tensile_strength»))) (sym back) c;
-        sigma = stored-sigma r s k n g ∙ es;
-        on-surface = on;
+        capped = subst (λ (x : Float). T (Ieee.le x (a .«tensile_strength»))) (sym back) (d .capped);
+        sigma = stored-sigma r s k (ap length (d .sigma) ∙ d .axes) g ∙ d .sigma;
+        on-surface = d .on-surface;
       })
 
 -- a record's sigma are f64
@@ -65,18 +66,10 @@ pub record-3 : {a : RankineArguments} {r : List ℕ} → length r ≡ floats →
     → Demand3At a r (foundOf (recordLaw (Rankine a) r))
 unfolding recordLaw updatedAt
 record-3 {a} {r} k g =
-    let v = argumentsUpdate a (uAt r) (vtAt r) (stateAt r) in
     let d : Demand3By a (uAt r) (vtAt r) (stateAt r) =
     demand-3-by (record { accepted = g .accepted; s-finite = g .s-finite; ranges = g .ranges; sigma = sigma-f64 r; strains = g .strains }) in
-    record {
-      holds = λ h. inside-at a r v (d .update ∙ d .law .holds h .untouched) (d .law .holds h);
-      fails = λ h.
-          let q = d .law .fails h in
-          let e = ap (λ (x : Updated). x .state .sigma) (d .update) ∙ q .sigma in
-          returned-at a r (v .state) (v .outcome) (q .hardening) (ap (λ (x : Updated). x .outcome) (d .update) ∙ q .stored)
-          (ap (λ (x : Updated). x .state .«plastic_hardening») (d .update) ∙ q .written) (q .f64 (g .strength)) (q .capped)
-          (ap length e ∙ q .axes) (subst (Each F64) (sym e) (exps-f64 (projectedAt a r))) e (q .on-surface) k;
-    }
+    subst (λ (v : Updated). Demand3At a r (left a r v)) (sym (d .update))
+    (record { holds = λ h. inside-at a r (d .law .holds h); fails = λ h. returned-at a r k (g .strength) (d .law .fails h) })
 
 pub pass-3 : {a : RankineArguments} {xs out : List ℕ} {i : ℕ} → InPass xs out i
     → Premises a (recordAt xs i) (recordLaw (Rankine a) (recordAt xs i) .outcome)
