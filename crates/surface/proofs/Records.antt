@@ -8,7 +8,7 @@ use lib.Ieee as Ieee
 use lib.Ieee.{Float, binary64}
 use lib.Ieee.Bits.{ofBits-fits}
 use Rattle.numbers.specs.Rules.{finite}
-use Rattle.tensor.specs.Matrix.{zero}
+use Rattle.tensor.specs.Matrix.{sub, zero, one}
 use Rattle.law.specs.declared.Outcome.{Outcome}
 use Rattle.law.specs.declared.Outcome.the-variants as outcome
 use Rattle.law.specs.declared.Updated.{Updated}
@@ -18,7 +18,7 @@ use Rattle.failure_maximum_stress.specs.declared.Verdict.{Verdict}
 use Rattle.failure_maximum_stress.specs.declared.Verdict.the-variants as verdict
 use Rattle.elasticity_corotated_linear.specs.declared.CorotatedLinearElasticity.{CorotatedLinearElasticity}
 use Rattle.plasticity_rankine.specs.declared.RankineArguments.{RankineArguments}
-use Rattle.plasticity_rankine.specs.Rankine.{rankineUpdate, lawOf, logsOf, softStrengthOf}
+use Rattle.plasticity_rankine.specs.Rankine.{rankineUpdate, lawOf, logsOf}
 use Rattle.particles.specs.declared.choice.Model.the-variants.{Rankine}
 use Rattle.particles.specs.Model.{updatedAt, kept, recordLaw}
 use Rattle.particles.specs.Pass.{recordAt}
@@ -86,8 +86,8 @@ new-phase a r o g =
     let e = sym (phase-sigma r zero) in
     record {
       accepted = g .accepted;
-      ranges = subst (λ (x : Float). Ranges (lawOf a) (softStrengthOf (lawOf a) x)) h (g .ranges);
-      s-finite = subst (λ (x : Float). T (finite (softStrengthOf (lawOf a) x))) h (g .s-finite);
+      ranges = subst (λ (x : Float). Ranges (lawOf a) (sub (a .«tensile_strength») (sub x one))) h (g .ranges);
+      s-finite = subst (λ (x : Float). T (finite (sub (a .«tensile_strength») (sub x one)))) h (g .s-finite);
       strains = subst (λ (x : List Float). Each Small (numbersOf (logsOf x))) e (g .strains);
       strength = g .strength;
     }

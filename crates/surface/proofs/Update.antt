@@ -4,7 +4,6 @@ use mathlib.Core.List.{List}
 use mathlib.Core.Bool.{Bool, true, false, not, cond, _&&_, _||_}
 use lib.Dec.{T}
 use lib.ListN.{length}
-use lib.Ieee as Ieee
 use lib.Ieee.{Float, nan, inf, fin, binary64, lt, eq, le, fits}
 use lib.Ieee.Fits.{and-l, and-r, add-fits, sub-fits, div-fits}
 use Rattle.exact.specs.Units.{Fin64}
@@ -15,7 +14,6 @@ use Rattle.numbers.specs.declared.Elementary.the-variants as elementary
 use Rattle.numbers.proofs.Laws.{eq-self, finite-is}
 use Rattle.physics.specs.Physics.{lambdaOf, shearModulusOf}
 use Rattle.square_root.specs.Sqrt.{sqrtRanged}
-use Rattle.tensor.specs.Matrix as Matrix
 use Rattle.tensor.specs.Matrix.{add, mul, three, recomposeOf}
 use Rattle.tensor.specs.Finite.{rowFinite, matFinite}
 use Rattle.law.specs.State.{inputsFinite, refused}
@@ -163,7 +161,7 @@ module _ (law : RankinePlasticity) (u vt : List (List Float)) (st : State) (old 
 module _ (law : RankinePlasticity) (u vt : List (List Float)) (st : State) (g : Fair law (softened law st)) where
   test-holds : (t : Triple) → let e = numbersOf t in Accepted (rankineLogged t law u vt st .outcome) → Each Strain e → T (firstTest law e (softened law st))
       → (rankineLogged t law u vt st ≡ untouchedOf st) × Each (Below law (softened law st) e) e
-  unfolding rankineLogged projectedOf choiceOf
+  unfolding rankineLogged projectedOf choiceOf softStrengthOf
   test-holds (Values x y z) a i h =
       let e = three x y z in
       let s = softened law st in
@@ -175,7 +173,7 @@ module _ (law : RankinePlasticity) (u vt : List (List Float)) (st : State) (g : 
   test-fails : (t : Triple) → let new = projectedOf law (numbersOf t) (softened law st) .strains in T (finite (law .«tensile_strength»))
       → Accepted (rankineLogged t law u vt st .outcome) → Each Strain (numbersOf t) → T (not (firstTest law (numbersOf t) (softened law st)))
       → Done law (rankineLogged t law u vt st) (numbersOf (expsOf new)) × OnSurface law (softened law st) new
-  unfolding rankineLogged projectedOf
+  unfolding rankineLogged projectedOf softStrengthOf
   test-fails (Values x y z) f a i h =
       let e = three x y z in
       let s = softened law st in
@@ -237,16 +235,12 @@ fair-by a s m f r =
       ranges = r;
     }
 
-soft-fits : (law : RankinePlasticity) (h : Float) → T (fits binary64 (softStrengthOf law h))
-unfolding softStrengthOf
-soft-fits law h = sub-fits binary64 (law .«tensile_strength») (Ieee.sub binary64 h Matrix.one)
-
 pub demand-3-by : {a : RankineArguments} {u vt : List (List Float)} {st : State} → TakenBy a u vt st → Demand3By a u vt st
 demand-3-by {a} {u} {vt} {st} g =
     let q = by-arguments a u vt st (g .accepted) in
     let ok = after q (g .accepted) in
     let s = softened (lawOf a) st in
-    let f = fair-by a s (update-runs (lawOf a) u vt st ok .1) (fine s (g .s-finite) (soft-fits (lawOf a) (st .«plastic_hardening»))) (g .ranges) in
+    let f = fair-by a s (update-runs (lawOf a) u vt st ok .1) (fine s (g .s-finite) (sub-fits binary64 _ _)) (g .ranges) in
     record { update = q; law = demand-3 (record { accepted = ok; fair = f; sigma = g .sigma; strains = g .strains }) }
 
 -- the projection as a call by itself

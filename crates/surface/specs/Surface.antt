@@ -13,7 +13,7 @@ use Rattle.exact.specs.Units.{L, mag, Fin64}
 use Rattle.exact.specs.Integers.{_≤ᶻ_}
 use Rattle.exact.specs.Value.{val}
 use Rattle.numbers.specs.Rules.{finite}
-use Rattle.tensor.specs.Matrix.{three}
+use Rattle.tensor.specs.Matrix.{sub, one, three}
 use Rattle.law.specs.declared.Outcome.{Outcome}
 use Rattle.law.specs.declared.Outcome.the-variants.{Untouched, Stored, Refused}
 use Rattle.law.specs.declared.State.{State}
@@ -25,7 +25,7 @@ use Rattle.plasticity_rankine.specs.declared.Triple.{Triple}
 use Rattle.plasticity_rankine.specs.declared.Triple.the-variants as triple
 use Rattle.plasticity_rankine.specs.Sorting.{rankOf, arrangeOf}
 use Rattle.plasticity_rankine.specs.Projection.{sumOf, firstSide, projectedOf, projectOf}
-use Rattle.plasticity_rankine.specs.Rankine.{logsOf, expsOf, softStrengthOf, untouchedOf, rankineUpdate, lawOf, argumentsUpdate}
+use Rattle.plasticity_rankine.specs.Rankine.{logsOf, expsOf, untouchedOf, rankineUpdate, lawOf, argumentsUpdate}
 use Rattle.surface.specs.Axes.{Each, Some, total}
 
 -- ---- exact stresses
@@ -92,9 +92,9 @@ numbersOf (triple.Refused n) = []
 abbrev pub logStrains : State → List Float
 logStrains st = numbersOf (logsOf (st .sigma))
 
--- the softened strength, as the update works it
+-- the softened strength, as the update works it: s = strength - (hardening - 1)
 abbrev pub softened : RankinePlasticity → State → Float
-softened p st = softStrengthOf p (st .«plastic_hardening»)
+softened p st = sub (p .«tensile_strength») (sub (st .«plastic_hardening») one)
 
 -- not refused, the ranges of the moduli and of s, and log strains in -4 to 4: that these are finite f64 is the logarithm's own law
 pub record Taken (p : RankinePlasticity) (u vt : List (List Float)) (st : State) : Type 0 where
