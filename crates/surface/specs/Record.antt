@@ -38,9 +38,12 @@ abbrev pub projectedAt : RankineArguments → List ℕ → List Float
 projectedAt a r = projectedStrains (lawOf a) (stateAt r)
 
 -- ---- what is taken
--- Demand 3's words for the record r, at which the law answered o: the table doesn't refuse it; mu in 1 to 2^40, lambda in 0 to 2^40, and
--- the size of s at most 4 (2mu + 3lambda); s within that of zero, which no NaN and no infinity is; log strains in -4 to 4; the strength,
--- as each number of a call, an f64.
+-- Demand 3's words, for a record r at which the law answered o:
+-- accepted: "a record that 01's table doesn't refuse";
+-- ranges: "mu in 1 to 2^40, lambda in 0 to 2^40", and s of a size up to 4 (2mu + 3lambda);
+-- s-finite: "within 4(2mu + 3lambda) of zero" is no NaN and no infinity, of which `mag` would say 0;
+-- strains: "log strains in -4 to 4"; that they are finite f64 follows;
+-- strength: the tensile strength is an f64, as each number that the code is handed.
 pub record Premises (a : RankineArguments) (r : List ℕ) (o : Outcome) : Type 0 where
   pub accepted : Accepted o
   pub ranges : Ranges (lawOf a) (softenedAt a r)
