@@ -24,6 +24,7 @@ import sheet  # noqa: E402
 
 SHEETS = sorted((HERE.parent / "crates" / "slope_cases" / "data").iterdir())
 SAMPLES = sorted((HERE.parent / "samples").glob("*.sheet"))
+PROGRAM = HERE.parent / "target" / "bin" / "slope"
 LINES = (HERE.parent / "crates" / "slope_cases" / "stdout").read_text()
 
 
@@ -254,11 +255,8 @@ class Pictures(InFolder):
     def test_answers_that_differ_are_told(self):
         path = HERE.parent / "samples" / "rankine.sheet"
         _, p, records = sheet.load(path)
-        lines = ["particles 40"]
-        for k, r in enumerate(records):
-            q = draw.by_second(1, p, None, r)
-            lines.append(draw.line_of(k, q, False))
-        lines.append("end")
+        particles, _ = draw.worked("rankine", p, records, None)
+        lines = ["particles 40"] + [draw.line_of(k, q, False) for k, q in enumerate(particles)] + ["end"]
         self.assertEqual(self.drawn(path, "--answers", self.file("good", "\n".join(lines)))[:2], (0, ""))
         for wrong in ("3 refused 1", "3 stored 0000000000000000"):
             changed = lines[:4] + [wrong] + lines[5:]
@@ -268,6 +266,13 @@ class Pictures(InFolder):
             self.assertTrue(any("differ" in t for t in self.said(root)))
         for cut in (lines[:-1], lines[:7], ["sheet refused 4"], []):
             self.assertEqual(self.drawn(path, "--answers", self.file("cut", "\n".join(cut)))[0], 1)
+
+    @unittest.skipUnless(PROGRAM.exists(), "the program is not built")
+    def test_the_program_agrees(self):
+        for path in SAMPLES:
+            status, err, root = self.drawn(path, "--program", PROGRAM)
+            self.assertEqual((status, err), (0, ""), path.name)
+            self.assertTrue(any("Outcomes: slope." in t for t in self.said(root)))
 
     def test_failed_particles_are_marked(self):
         path = HERE.parent / "samples" / "rankine.sheet"
