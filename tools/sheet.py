@@ -244,6 +244,8 @@ def from_csv(text, model, given_parameters, where):
     head = next(rows, None)
     if head is None:
         raise Wrong("%s: the file is empty: its first line names the columns" % where)
+    if len(head) == 1 and ";" in head[0]:
+        raise Wrong("%s, line 1: the columns are parted by semicolons: part them by commas, and write decimals with a point" % where)
     known, places = columns(), []
     for name in head:
         if plain(name) not in known:

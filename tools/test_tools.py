@@ -158,6 +158,7 @@ class Tables(InFolder):
         self.refused("201 particles", "a.json", '{"model": "snow", "particles": [%s]}' % ",".join(["{}"] * 201))
         self.refused("rankine needs tensile_strength", "a.csv", "phase\n1\n", "--model", "rankine", "--parameters", "young_modulus=1", "poisson_ratio=0", "softening_rate=1")
         self.refused("has no parameter 'young'", "a.csv", "phase\n1\n", "--model", "rankine", "--parameters", "young=1")
+        self.refused("parted by semicolons", "a.csv", "phase;alpha\n1;0\n", "--model", "snow")
         self.refused("line 1: unknown column 'F44'", "a.csv", "F44\n1\n", "--model", "snow")
         self.refused("line 3: 1 cells under 2 columns", "a.csv", "phase,alpha\n1,0\n1\n", "--model", "snow")
         self.refused("line 2: sigma has 1 of its 3 entries", "a.csv", "sigma1\n1\n", "--model", "snow")
@@ -290,6 +291,13 @@ class Pictures(InFolder):
         for options in (("--limits", 1, 2), ("--corotated", 1, 1, 1, 1), ("--limits", 1, 2, "--corotated", 0.5, 1, 1, 1),
                         ("--limits", 1, 2, "--corotated", 1, 1, 1, 1, "--answers", "x"), ("--program", "no/such/program")):
             self.assertEqual(self.drawn(path, *options)[0], 1)
+
+    def test_no_converter(self):
+        with unittest.mock.patch("shutil.which", return_value=None):
+            status, err, root = self.drawn(SAMPLES[0], "--png")
+        self.assertEqual(status, 1)
+        self.assertIn("install one", err)
+        self.assertIsNotNone(root)
 
     def test_a_library_that_is_not_there(self):
         with unittest.mock.patch.dict(os.environ, {"PASOLETU_LIB": "no/such/library.so"}):
