@@ -328,9 +328,9 @@ class Second(unittest.TestCase):
 
 @unittest.skipUnless(os.environ.get("PASOLETU_LIB"), "PASOLETU_LIB names no library")
 class ByLibrary(unittest.TestCase):
-    def close(self, a, b, where):
+    def close(self, a, b, where, distance=1e-9):
         for k, (x, y) in enumerate(zip(a, b)):
-            self.assertTrue(x == y or (x != x and y != y) or abs(x - y) <= 1e-9 * max(1.0, abs(x)), "%s, float %d: %r, %r" % (where, k, x, y))
+            self.assertTrue(x == y or (x != x and y != y) or abs(x - y) <= distance * max(1.0, abs(x)), "%s, float %d: %r, %r" % (where, k, x, y))
 
     def test_library_and_second_agree(self):
         lib = library.named()
@@ -355,6 +355,49 @@ class ByLibrary(unittest.TestCase):
                     seen[f is not None, a.code] += 1
                     failed += a.failed
         self.assertTrue(all(seen.values()) and failed, (seen, failed))
+
+    def test_drawn_records_agree(self):
+        """4,000 records drawn at random: each outcome, refusal and verdict, and what is stored within 1e-7."""
+        lib, d, seen = library.named(), random.Random(5), set()
+        for _ in range(4000):
+            model, failure = d.randrange(4), None
+            p, r = drawn_parameters(d)[model], drawn_record(d)
+            if d.random() < 0.5:
+                size = 10.0 ** d.uniform(1, 7)
+                failure = [size * d.random(), size * d.random()], [float(d.randint(0, 1)), 0.9, size * d.uniform(0, 2), size]
+            a, b = draw.by_library(lib, model, p, failure, r), draw.by_second(model, p, failure, r)
+            where = repr((model, p, failure, r))
+            self.assertEqual((a.code, a.failed), (b.code, b.failed), where)
+            if a.code != 1:
+                self.assertEqual(a.value, b.value, where)
+            self.close(a.after, b.after, where, 1e-7)
+            seen.add((model, a.code))
+        self.assertEqual(len(seen), 11)  # three outcomes a law, but Snow leaves nothing untouched
+
+
+def drawn_parameters(d):
+    """Parameters of each law, of sizes that a user might give."""
+    young, poisson, flag = 10.0 ** d.uniform(2, 7), d.uniform(0, 0.49), float(d.randint(0, 1))
+    return [
+        [d.uniform(0, 0.1), d.uniform(0, 0.02), d.uniform(1, 20)],
+        [young, poisson, young * 10.0 ** d.uniform(-5, 0), 10.0 ** d.uniform(-2, 6)],
+        [d.uniform(0, 1.2), d.uniform(0, 0.4), d.uniform(0, 0.5), d.uniform(0, 0.4), young * d.uniform(0.1, 2), young * d.uniform(0.1, 1), flag, d.uniform(0, 1.5)],
+        [young, poisson, d.uniform(0, 1), flag, d.uniform(0, 5), d.uniform(0.1, 3)],
+    ]
+
+
+def drawn_record(d):
+    """A record with sigma spread by one of some widths; now and then one float of any size."""
+    width = d.choice([1e-9, 1e-3, 0.03, 0.3, 2.0, 41.0])
+    shift = d.choice([0.0, d.uniform(-width, width)])
+    sigma = [math.exp(shift + d.uniform(-width, width)) for _ in range(3)]
+    if d.random() < 0.2:
+        sigma[d.randrange(3)] = sigma[0]
+    r = cases.record(sigma, d.choice([1.0, 0.0, 0.5, -0.0]), d.uniform(0.5, 1.5), d.choice([1.0, 10.0 ** d.uniform(-3, 6)]), d.uniform(0, 3),
+                     d.choice([0.0, d.uniform(-0.2, 0.2)]), d.uniform(-0.5, 0.1))
+    if d.random() < 0.1:
+        r[d.randrange(36)] *= 10.0 ** d.uniform(-308, 308)
+    return list(map(float, r))
 
 
 if __name__ == "__main__":
