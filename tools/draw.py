@@ -199,14 +199,34 @@ def line_of(k, q, second):
     return "%d stored %r" % (k, float_of(q.value)) if second else "%d stored %016x" % (k, q.value)
 
 
-def differing(lines, particles, second, where):
-    """The places at which printed answers differ from the particles' own."""
+def printed(line, k, where):
+    """The outcome and its number that particle k's line tells."""
+    words = line.split(" ")
+    try:
+        if words == [str(k), "untouched"]:
+            return 0, 0
+        if words[:2] == [str(k), "stored"] and len(words) == 3 and len(words[2]) == 16:
+            return 1, int(words[2], 16)
+        if words[:2] == [str(k), "refused"] and len(words) == 3:
+            return 2, int(words[2])
+    except ValueError:
+        pass
+    raise sheet.Wrong("%s: line %d is %r, and should be that of particle %d" % (where, k + 2, line, k))
+
+
+def taken_from(lines, particles, second, where):
+    """Gives the particles the outcomes that are printed; the places at which these differ from the particles' own."""
     if lines and lines[0].startswith("sheet refused"):
         raise sheet.Wrong("%s: %s: there is no run to draw" % (where, lines[0]))
     if len(lines) < 2 or lines[0] != "particles %d" % len(particles) or lines[-1] != "end" or len(lines) != len(particles) + 2:
         raise sheet.Wrong("%s: these are not the whole answers for %d particles: the first line is 'particles %d', the last 'end'" % (where, len(particles), len(particles)))
-    want = [line_of(k, q, second) for k, q in enumerate(particles)]
-    return [k for k, (w, g) in enumerate(zip(want, lines[1:-1])) if not (cases.same(w, g) if second else w == g)]
+    differ = []
+    for k, (q, line) in enumerate(zip(particles, lines[1:-1])):
+        told, own = printed(line, k, where), line_of(k, q, second)
+        if not (cases.same(own, line) if second else own == line):
+            differ.append(k)
+        q.code, q.value = told
+    return differ
 
 
 def answers(args):
@@ -526,7 +546,7 @@ def draw(args):
         caption.append("Outcomes and the records after the run: %s." % who)
     else:
         caption.append("Outcomes: %s. Records after the run: %s." % (pathlib.Path(where).name, who))
-        bad = differing(lines, particles, "second" in who, where)
+        bad = taken_from(lines, particles, "second" in who, where)
         if bad:
             warning = ["The outcomes differ from the records' own at particle %s%s." % (", ".join(map(str, bad[:8])), " and others" if len(bad) > 8 else "")]
     try:

@@ -379,7 +379,7 @@ def show(args):
 
 def main(argv=None):
     about = argparse.ArgumentParser(description=__doc__, formatter_class=argparse.RawDescriptionHelpFormatter, usage=argparse.SUPPRESS)
-    commands = about.add_subparsers(dest="command", required=True, metavar="make | print")
+    commands = about.add_subparsers(dest="command", required=True, metavar="make | print", prog="tools/sheet.py")
     m = commands.add_parser("make", help="a sheet from a CSV or a JSON")
     m.add_argument("table", metavar="IN.csv|IN.json")
     m.add_argument("sheet", metavar="OUT.sheet")

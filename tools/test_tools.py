@@ -265,7 +265,8 @@ class Pictures(InFolder):
             self.assertEqual(status, 1)
             self.assertIn("at particle 3.", err)
             self.assertTrue(any("differ" in t for t in self.said(root)))
-        for cut in (lines[:-1], lines[:7], ["sheet refused 4"], []):
+            self.assertEqual(wrong.startswith("3 refused"), "3 by 1" in self.said(root), "the outcomes drawn are those printed")
+        for cut in (lines[:-1], lines[:7], ["sheet refused 4"], [], lines[:4] + ["3 stored "] + lines[5:], lines[:4] + ["4 untouched"] + lines[5:]):
             self.assertEqual(self.drawn(path, "--answers", self.file("cut", "\n".join(cut)))[0], 1)
 
     @unittest.skipUnless(PROGRAM.exists(), "the program is not built")
