@@ -2,7 +2,7 @@
 use crate::calls::CALLS;
 use crate::inside;
 use crate::ours;
-use crate::sites::Untouched;
+use crate::untouched::Untouched;
 
 /// Which build tells what the Rust does: the untouched one, or build 2 with the machine's functions, on the record's own factors.
 enum Rust {
@@ -36,7 +36,7 @@ fn snow(changes: &[(usize, f64)]) -> Vec<f64> {
     [vec![0.025, 0.0045, 10.0], record(changes)].concat()
 }
 
-/// Lambda and mu 1, F diagonal, no hardening yet.
+/// Lambda is mu, F diagonal, no hardening yet.
 fn drucker_prager(h: [f64; 4], mu: f64, sigma: [f64; 3]) -> Vec<f64> {
     let mut r = record(&[(32, 0.0)]);
     for k in 0..3 {
