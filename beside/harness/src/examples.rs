@@ -83,6 +83,8 @@ fn all() -> Vec<Example> {
     add(5, "cbrt", "64", &[64.0], &[0], Two);
     let still = [10.0, 0.0, 0.0, 0.0, 1.0, 1.0, 1.0];
     add(6, "monaghan_pressure", "pressure0 10, gamma 0, viscosity and largest negative 0, the rest 1", &still, &[0], One);
+    let turned = [0.0, 0.0, 0.0, 0.0, -1.0, 1.0, 0.0, 0.0, 0.0, 0.0, 0.0, 1.0];
+    add(6, "monaghan_timestep_bound", "determinant -1, mass and cell width 1, all else 0", &turned, &[0], One);
     add(7, "spherical_part", "nine times -0.0", &[-0.0; 9], &[0], One);
     let flat = vec![0.1, 0.3, 0.0, 0.1, 0.3, 0.0, 0.0, 0.0, 0.7];
     let flat = law(&[0.5, 1.0, 1.0, 1.0], flat);

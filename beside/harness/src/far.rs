@@ -3,6 +3,7 @@ use crate::branches;
 use crate::calls::{self, CALLS};
 use crate::draw::Draw;
 use crate::inside::{self, finite, Answer};
+use crate::listed;
 use crate::ours;
 use crate::show::{not_zero, progress, simpler};
 use crate::sites::{worst_and_median, SUM_BOUND};
@@ -130,9 +131,14 @@ fn one(u: &Untouched, n: usize, i: &[u64]) -> Option<([f64; 2], bool, [String; 2
     }
     // Only the plastic laws branch on what an elementary function gave.
     let names = |a: &Answer| if calls::is_update(n) { branches(n, i, a) } else { String::new() };
-    let ours = names(&inside::expected(n, i));
+    let e = inside::expected(n, i);
+    let mut ours = names(&e);
     let m = inside::with_machine(n, i);
-    let machine = names(&m);
+    let mut machine = names(&m);
+    if listed::by_document(n, i, &e).is_some() {
+        ours += "the second of two zeros";
+        machine += "the first of two zeros";
+    }
     let o = u.run(n, i);
     let compared = |w: &[u64]| if calls::is_update(n) { [&w[..9], &w[30..36]].concat() } else { w.to_vec() };
     let same_bits = compared(&m.out) == compared(&o);
@@ -140,7 +146,7 @@ fn one(u: &Untouched, n: usize, i: &[u64]) -> Option<([f64; 2], bool, [String; 2
 }
 
 /// How much Drucker-Prager's return makes of the logarithms' distance: gamma over the deviatoric norm, by which its direction is off,
-/// and the factor of the trace. 1 away from the surface.
+/// and the factor of the trace; and the volume correction, which multiplies what is left of the determinants. 1 away from the surface.
 fn drucker_prager_condition(i: &[u64]) -> f64 {
     let f = |k: usize| f64::from_bits(i[k]);
     let a = inside::expected(22, i);
@@ -149,7 +155,7 @@ fn drucker_prager_condition(i: &[u64]) -> f64 {
         return 1.0;
     }
     let factor = ((3.0 * f(4) + 2.0 * f(5)) / (2.0 * f(5))).abs();
-    1.0 + f64::from_bits(a.out[37]) / norm + 2.0 * factor * (1.0 + trace.abs())
+    (1.0 + f64::from_bits(a.out[37]) / norm + 2.0 * factor * (1.0 + trace.abs())) * (1.0 + f(7).abs())
 }
 
 /// Ours beside build 1, on factors that nalgebra gives for F.
