@@ -1,0 +1,162 @@
+//! What is refused, with its number and text, and that it holds its bits.
+use pasoletu::{
+    elementary, pass, pass_with_failure, read_sheet, run_sheet, utils, CorotatedLinearElasticity, DruckerPragerPlasticity,
+    MaximumStressFailure, Model, MonaghanSphEos, NaccPlasticity, NeoHookeanElasticity, Outcome, Particle, RankinePlasticity,
+    Refusal, SnowPlasticity,
+};
+
+fn number<T: std::fmt::Debug>(r: Result<T, Refusal>) -> u8 {
+    r.unwrap_err().number
+}
+
+fn bits(p: &Particle) -> Vec<u64> {
+    p.floats().iter().map(|x| x.to_bits()).collect()
+}
+
+#[test]
+fn a_refused_record_keeps_its_bits_and_the_next_are_worked() {
+    // At each of the 36 places in turn a NaN with a payload.
+    for place in 0..Particle::FLOATS {
+        let mut particles = [Particle::stretched([2.0, 1.0, 1.0]); 3];
+        particles[1].floats_mut()[place] = f64::from_bits(0xfff8_0000_00c0_ffee);
+        let was = bits(&particles[1]);
+        let passed = pass(SnowPlasticity::new(), &mut particles);
+        let refusal = passed.outcomes[1].unwrap_err();
+        assert_eq!((refusal.number, refusal.particle), (Refusal::NOT_FINITE, Some(1)));
+        assert_eq!(refusal.place, particles[1].first_not_finite());
+        assert_eq!(bits(&particles[1]), was);
+        assert_eq!(particles[2].singular_values, [1.0045, 1.0, 1.0]);
+        assert_eq!(passed.outcomes[2], passed.outcomes[0]);
+        assert_eq!((passed.untouched, passed.stored, passed.refused), (0, 2, 1));
+    }
+}
+
+#[test]
+fn a_refused_update_keeps_its_bits() {
+    let mut particle = Particle { plastic_deformation_gradient_det: -1e3, ..Particle::REST };
+    let was = bits(&particle);
+    let refusal = SnowPlasticity::new().update_particle(&mut particle).unwrap_err();
+    assert_eq!((refusal.number, refusal.place), (Refusal::OUT_OF_RANGE, None));
+    assert_eq!(bits(&particle), was);
+    let mut huge = Particle { singular_values: [1e200, 1e200, 0.0], ..Particle::REST };
+    let was = bits(&huge);
+    assert_eq!(number(SnowPlasticity::new().update_particle(&mut huge)), Refusal::NO_NUMBER);
+    assert_eq!(bits(&huge), was);
+}
+
+#[test]
+fn texts_say_what_where_and_what_to_do() {
+    let mut particles = [Particle::REST, Particle { elastic_hardening: f64::INFINITY, ..Particle::REST }];
+    let passed = pass(SnowPlasticity::new(), &mut particles);
+    assert_eq!(
+        passed.outcomes[1].unwrap_err().to_string(),
+        "pass refused particle 1 by 1: an input is NaN or infinite, first elastic_hardening; find who wrote that value"
+    );
+    let law = SnowPlasticity { max_epsilon: f64::NAN, ..SnowPlasticity::new() };
+    let text = law.update_particle(&mut particles[0]).unwrap_err().to_string();
+    assert!(text.contains("update_particle refused by 1") && text.contains("the law's max_epsilon"), "{text}");
+    assert_eq!(
+        read_sheet(&[]).unwrap_err().to_string(),
+        "read_sheet refused by 4: the sheet ends early; send the sheet again, whole"
+    );
+}
+
+#[test]
+fn a_bad_parameter_refuses_every_record() {
+    let law = DruckerPragerPlasticity { h1: f64::INFINITY, ..DruckerPragerPlasticity::new(1e5, 0.3).unwrap() };
+    let mut particles = [Particle::REST; 3];
+    let passed = pass(law, &mut particles);
+    assert_eq!(passed.refused, 3);
+    assert!(passed.outcomes.iter().all(|o| o.unwrap_err().place == Some("the law's h1")));
+    assert_eq!(particles, [Particle::REST; 3]);
+}
+
+#[test]
+fn new_refuses() {
+    assert_eq!(number(RankinePlasticity::new(1e5, 0.3, f64::NAN, 1.0)), 1);
+    assert_eq!(number(RankinePlasticity::new(1e5, 0.5, 1.0, 1.0)), 3);
+    assert_eq!(number(DruckerPragerPlasticity::new(f64::INFINITY, 0.3)), 1);
+    assert_eq!(number(NaccPlasticity::with_m(1e5, -1.0, 0.0, true, 1.0, 1.0)), 3);
+    assert_eq!(number(NaccPlasticity::new(1e5, 0.3, 0.0, true, 1.0, 9.0)), 2);
+    assert_eq!(number(NeoHookeanElasticity::new(1e5, 0.5)), 3);
+    assert_eq!(number(CorotatedLinearElasticity::new(f64::NAN, 0.3)), 1);
+    assert_eq!(number(MonaghanSphEos::new(f64::NAN, 2, 0.0)), 1);
+    assert_eq!(number(MaximumStressFailure::new(1.0, f64::INFINITY)), 1);
+    let text = RankinePlasticity::new(1e5, 0.5, 1.0, 1.0).unwrap_err().to_string();
+    assert!(text.starts_with("RankinePlasticity::new refused by 3: "), "{text}");
+}
+
+#[test]
+fn single_calls_refuse() {
+    assert_eq!(number(elementary::exp(700.5)), 2);
+    assert_eq!(number(elementary::ln(0.0)), 2);
+    assert_eq!(number(elementary::sin(f64::NAN)), 1);
+    assert_eq!(number(utils::solve_quadratic(1.0, 0.0, 1.0)), 2);
+    assert_eq!(number(utils::inv_exact(1e-310)), 3);
+    let law = NeoHookeanElasticity { cfl_coeff: 0.5, lambda: 1.0, mu: 1.0 };
+    assert_eq!(number(law.kirchhoff_stress(1.0, 1.0, &[[0.0; 3]; 3])), 2);
+    assert_eq!(number(law.elastic_energy_density(1.0, f64::NAN, &Particle::REST.u)), 1);
+    let fluid = MonaghanSphEos { pressure0: 10.0, gamma: 0, viscosity: 0.0, max_neg_pressure: 1.0 };
+    assert_eq!(number(fluid.pressure(0.0, 0.0, 1.0)), 3);
+    let limits = MaximumStressFailure { max_principal_stress: f64::NAN, max_shear_stress: 1.0 };
+    assert_eq!(number(limits.particle_failed(&[0.0; 3])), 1);
+}
+
+#[test]
+fn the_pass_with_failure_refuses_by_its_limits() {
+    let law = CorotatedLinearElasticity::new(1e5, 0.3).unwrap();
+    let limits = MaximumStressFailure { max_principal_stress: f64::NAN, max_shear_stress: 1.0 };
+    let mut particles = [Particle::stretched([2.0, 1.0, 1.0]); 2];
+    let passed = pass_with_failure(SnowPlasticity::new(), &limits, &law, &mut particles);
+    assert_eq!((passed.refused, passed.failed), (2, 0));
+    assert_eq!(passed.outcomes[1].unwrap_err().place, Some("one of the limits"));
+    assert_eq!(particles, [Particle::stretched([2.0, 1.0, 1.0]); 2]);
+}
+
+fn sheet(model: u8, parameters: &[f64], particles: &[Particle]) -> Vec<u8> {
+    let mut s = vec![model];
+    s.extend(parameters.iter().flat_map(|x| x.to_le_bytes()));
+    let n = particles.len();
+    s.extend(if n < 128 { vec![n as u8] } else { vec![(n % 128) as u8 | 128, (n / 128) as u8] });
+    s.extend(particles.iter().flat_map(|p| p.floats().iter().flat_map(|x| x.to_le_bytes()).collect::<Vec<u8>>()));
+    s
+}
+
+#[test]
+fn sheets_refuse() {
+    let snow = [0.025, 0.0045, 10.0];
+    let good = sheet(0, &snow, &[Particle::REST]);
+    for end in 0..good.len() {
+        assert_eq!(number(run_sheet(&good[..end])), Refusal::ENDS_EARLY);
+    }
+    assert_eq!(number(run_sheet(&[good.clone(), vec![0]].concat())), Refusal::TOO_MANY);
+    assert_eq!(number(run_sheet(&sheet(0, &snow, &[Particle::REST; 201]))), Refusal::TOO_MANY);
+    assert_eq!(number(run_sheet(&[&[0x80, 0], &good[1..]].concat())), Refusal::NOT_SHORTEST);
+    assert_eq!(number(read_sheet(&sheet(4, &snow, &[]))), Refusal::UNKNOWN);
+    assert_eq!(number(read_sheet(&sheet(2, &[0.0, 0.0, 0.0, 0.0, 1.0, 1.0, -0.0, 1.0], &[]))), Refusal::UNKNOWN);
+}
+
+#[test]
+fn sheets_are_read_as_bits() {
+    let mut odd = Particle::REST;
+    odd.u[1][2] = f64::from_bits(0x7ff8_0000_dead_beef);
+    let all: Vec<Particle> = (0..200).map(|k| if k == 7 { odd } else { Particle::stretched([1.0, 2.0, k as f64]) }).collect();
+    let clay = [1e4, 0.3, 0.05, 1.0, 3.0, 2.36];
+    let read = read_sheet(&sheet(3, &clay, &all)).unwrap();
+    assert_eq!(read.model, Model::Nacc(NaccPlasticity::with_m(1e4, 0.3, 0.05, true, 3.0, 2.36).unwrap()));
+    assert_eq!(read.particles.len(), 200);
+    assert!(read.particles.iter().zip(&all).all(|(a, b)| bits(a) == bits(b)));
+    // Run, the sheet does what a pass does.
+    let ran = run_sheet(&sheet(3, &clay, &all)).unwrap();
+    let mut passed_particles = all;
+    let passed = pass(read.model, &mut passed_particles);
+    assert!(ran.particles.iter().zip(&passed_particles).all(|(a, b)| bits(a) == bits(b)));
+    assert_eq!(ran.passed.refused, passed.refused);
+    assert_eq!(ran.passed.outcomes[7].unwrap_err().place, Some("u[1][2]"));
+    assert!(ran.passed.outcomes.iter().any(|o| matches!(o, Ok(Outcome::Stored(_)))));
+    let same = |a: &Result<Outcome, Refusal>, b: &Result<Outcome, Refusal>| match (a, b) {
+        (Err(a), Err(b)) => a.number == b.number,
+        (a, b) => a == b,
+    };
+    assert!(ran.passed.outcomes.iter().zip(&passed.outcomes).all(|(a, b)| same(a, b)));
+}
