@@ -154,44 +154,56 @@ static void physics(void)
     REFUSED(8, 3, pasoletu_decomposed_times, 2.0, deviatoric, 9, v, 2);
 }
 
-static void stresses(void)
+/* Phase 0.5 weakens tension by phase_coeff(0.5) = 0.25075; lambda 1, mu 3 and hardening 2 make the bulk modulus 6; F's
+ * determinant is 8. */
+static void neo_hookean(void)
 {
-    const double neo[3] = {PASOLETU_NEO_HOOKEAN_CFL_COEFF, 1, 1}, corotated[4] = {1, PASOLETU_COROTATED_CFL_COEFF, 1, 1};
-    const double odd[4] = {-0.0, 0.9, 1, 1}, long_f[9] = {2, 0, 0, 0, 1, 0, 0, 0, 1}, sigma[3] = {2, 1, 1};
-    const double gone[9] = {0};
-    DONE(9, pasoletu_neo_hookean_kirchhoff_stress, neo, 3, 1.0, 1.0, TWICE, 9);
+    const double law[3] = {PASOLETU_NEO_HOOKEAN_CFL_COEFF, 1, 3}, gone[9] = {0};
+    const double volumetric = 3 * (31.5 - 2.0794415416798357);
+    DONE(9, pasoletu_neo_hookean_kirchhoff_stress, law, 3, 0.5, 2.0, TWICE, 9);
     for (int k = 0; k < 9; k++)
-        CHECK(near(out[k], k % 4 == 0 ? 52.5 : 0.0));
-    DONE(9, pasoletu_neo_hookean_fpk_stress, neo, 3, 1.0, TWICE, 9);
+        CHECK(near(out[k], k % 4 == 0 ? 189 * 0.25075 : 0.0));
+    DONE(9, pasoletu_neo_hookean_fpk_stress, law, 3, 2.0, TWICE, 9);
     for (int k = 0; k < 9; k++)
-        CHECK(near(out[k], k % 4 == 0 ? 26.25 : 0.0));
-    DONE(1, pasoletu_neo_hookean_elastic_energy_density, neo, 3, 1.0, 1.0, TWICE, 9);
-    CHECK(near(out[0], 5.0 / 6.0 * (31.5 - 2.0794415416798357)));
-    DONE(1, pasoletu_neo_hookean_pos_energy, neo, 3, 1.0, 1.0, I, 9);
-    CHECK(out[0] == 0.0);
-    REFUSED(2, 9, pasoletu_neo_hookean_kirchhoff_stress, neo, 3, 1.0, 1.0, gone, 9);
-    REFUSED(8, 9, pasoletu_neo_hookean_kirchhoff_stress, neo, 4, 1.0, 1.0, I, 9);
-    REFUSED(1, 1, pasoletu_neo_hookean_pos_energy, neo, 3, infinity(), 1.0, I, 9);
+        CHECK(near(out[k], k % 4 == 0 ? 94.5 : 0.0));
+    DONE(1, pasoletu_neo_hookean_elastic_energy_density, law, 3, 0.5, 2.0, TWICE, 9);
+    CHECK(near(out[0], volumetric * 0.25075));
+    DONE(1, pasoletu_neo_hookean_pos_energy, law, 3, 0.5, 2.0, TWICE, 9);
+    CHECK(near(out[0], volumetric * 0.5));
+    REFUSED(2, 9, pasoletu_neo_hookean_kirchhoff_stress, law, 3, 1.0, 1.0, gone, 9);
+    REFUSED(8, 9, pasoletu_neo_hookean_kirchhoff_stress, law, 4, 1.0, 1.0, I, 9);
+    REFUSED(1, 1, pasoletu_neo_hookean_pos_energy, law, 3, infinity(), 1.0, I, 9);
     DONE(1, pasoletu_phase_coeff, 0.0); /* P5 */
     CHECK(out[0] == 0.001);
     DONE(1, pasoletu_phase_coeff, 1.0);
     CHECK(out[0] == 1.0);
-    DONE(9, pasoletu_corotated_kirchhoff_stress, corotated, 4, 1.0, 1.0, long_f, 9, I, 9, sigma, 3, I, 9);
-    for (int k = 0; k < 9; k++)
-        CHECK(out[k] == (k == 0 ? 6.0 : k % 4 == 0 ? 2.0 : 0.0));
-    DONE(9, pasoletu_corotated_kirchhoff_stress, corotated, 4, 0.0, 1.0, long_f, 9, I, 9, sigma, 3, I, 9);
-    for (int k = 0; k < 9; k++)
-        CHECK(out[k] == 0.0);
-    REFUSED(6, 9, pasoletu_corotated_kirchhoff_stress, odd, 4, 1.0, 1.0, long_f, 9, I, 9, sigma, 3, I, 9);
-    DONE(1, pasoletu_corotated_elastic_energy_density, corotated, 4, 1.0, sigma, 3);
-    CHECK(out[0] == 1.5);
-    DONE(1, pasoletu_corotated_pos_energy, corotated, 4, 1.0, long_f, 9, sigma, 3);
-    CHECK(out[0] == 1.5);
 }
 
+/* F is diag(2, 1, 1) turned: U a quarter turn, V^T the identity. lambda 3, mu 1, hardening 2. */
+static void corotated(void)
+{
+    const double law[4] = {1, PASOLETU_COROTATED_CFL_COEFF, 3, 1}, odd[4] = {-0.0, 0.9, 3, 1};
+    const double f[9] = {0, -1, 0, 2, 0, 0, 0, 0, 1}, u[9] = {0, -1, 0, 1, 0, 0, 0, 0, 1}, sigma[3] = {2, 1, 1};
+    DONE(9, pasoletu_corotated_kirchhoff_stress, law, 4, 1.0, 2.0, f, 9, u, 9, sigma, 3, I, 9);
+    for (int k = 0; k < 9; k++)
+        CHECK(out[k] == (k == 4 ? 20.0 : k % 4 == 0 ? 12.0 : 0.0));
+    DONE(9, pasoletu_corotated_kirchhoff_stress, law, 4, 0.0, 2.0, f, 9, u, 9, sigma, 3, I, 9);
+    for (int k = 0; k < 9; k++)
+        CHECK(out[k] == 0.0);
+    REFUSED(6, 9, pasoletu_corotated_kirchhoff_stress, odd, 4, 1.0, 2.0, f, 9, u, 9, sigma, 3, I, 9);
+    REFUSED(8, 9, pasoletu_corotated_kirchhoff_stress, law, 4, 1.0, 2.0, f, 9, u, 9, sigma, 4, I, 9);
+    DONE(1, pasoletu_corotated_elastic_energy_density, law, 4, 2.0, sigma, 3);
+    CHECK(out[0] == 5.0);
+    DONE(1, pasoletu_corotated_pos_energy, law, 4, 2.0, f, 9, sigma, 3);
+    CHECK(out[0] == 5.0);
+    DONE(1, pasoletu_corotated_pos_energy, law, 4, 2.0, I, 9, sigma, 3);
+    CHECK(out[0] == 2.0);
+}
+
+/* Mass 2 in volume 4: the density at rest is 0.5. */
 static void monaghan(void)
 {
-    const double rest[3] = {0, 0, 0}, shear[9] = {0, 2, 0, 0, 0, 0, 0, 0, 0};
+    const double v[3] = {3, 4, 0}, shear[9] = {0, 2, 0, 0, 0, 0, 0, 0, 0};
     DONE(1, pasoletu_monaghan_pressure, 10.0, 2, 0.0, 1.0, 1.0, 1.0, 2.0); /* P6 */
     CHECK(out[0] == 30.0);
     DONE(1, pasoletu_monaghan_pressure, 10.0, 2, 0.0, 1.0, 1.0, 1.0, 0.0); /* P7 */
@@ -200,20 +212,24 @@ static void monaghan(void)
     CHECK(out[0] == 0.0);
     DONE(1, pasoletu_monaghan_pressure, 10.0, UINT32_C(4294967295), 0.0, 1.0, 1.0, 1.0, 0.5); /* P9 */
     CHECK(out[0] == 10.0);
+    DONE(1, pasoletu_monaghan_pressure, 10.0, 2, 0.5, 7.0, 2.0, 4.0, 1.0);
+    CHECK(out[0] == 30.0);
+    DONE(1, pasoletu_monaghan_pressure, 10.0, 2, 0.5, 7.0, 2.0, 4.0, 0.0);
+    CHECK(out[0] == -7.0);
     REFUSED(3, 1, pasoletu_monaghan_pressure, 10.0, 0, 0.0, 1.0, 0.0, 0.0, 1.0);
-    DONE(9, pasoletu_monaghan_kirchhoff_stress, 10.0, 2, 0.5, 1.0, 1.0, 1.0, 2.0, 2.0, shear, 9);
+    DONE(9, pasoletu_monaghan_kirchhoff_stress, 10.0, 2, 0.5, 7.0, 2.0, 4.0, 1.0, 3.0, shear, 9);
     for (int k = 0; k < 9; k++)
-        CHECK(out[k] == (k % 4 == 0 ? -60.0 : k == 1 || k == 3 ? 2.0 : 0.0));
-    DONE(1, pasoletu_monaghan_timestep_bound, 10.0, 2, 0.0, 1.0, 0.5, 1.0, 1.0, 2.0, rest, 3, 1.0);
-    CHECK(near(out[0], 0.0608580619450185));
-    DONE(1, pasoletu_monaghan_timestep_bound, 10.0, 2, 0.0, 1.0, 2.0, 1.0, 1.0, 2.0, rest, 3, 1.0);
-    CHECK(near(out[0], 0.31622776601683794));
+        CHECK(out[k] == (k % 4 == 0 ? -90.0 : k == 1 || k == 3 ? 3.0 : 0.0));
+    DONE(1, pasoletu_monaghan_timestep_bound, 10.0, 2, 0.5, 7.0, 0.5, 2.0, 4.0, 1.0, v, 3, 3.0);
+    CHECK(near(out[0], 0.12909944487358055));
+    DONE(1, pasoletu_monaghan_timestep_bound, 10.0, 2, 0.5, 7.0, 2.0, 2.0, 4.0, 1.0, v, 3, 3.0);
+    CHECK(near(out[0], 0.18973665961010278));
 }
 
 static void parts_of_laws(void)
 {
     const double ones[3] = {1, 1, 1}, mixed[3] = {nan_with_payload(), 2, 1}, strains[3] = {3, 1, 0};
-    const double at_limit[3] = {5, 0, 0}, sheared[3] = {4, 0, -1}, rankine[4] = {1, 0, 2, 0};
+    const double at_limit[3] = {5, 0, 0}, sheared[3] = {4, 0, -1}, two[3] = {2, 0, 0}, rankine[4] = {1, 0, 2, 0};
     const double cone[8] = {PASOLETU_DRUCKER_PRAGER_H0, PASOLETU_DRUCKER_PRAGER_H1, PASOLETU_DRUCKER_PRAGER_H2,
                             PASOLETU_DRUCKER_PRAGER_H3, 4, 4, 0, PASOLETU_DRUCKER_PRAGER_VOLUME_CORRECTION};
     const double odd[8] = {0, 0, 0, 0, 4, 4, 2, 1};
@@ -223,7 +239,9 @@ static void parts_of_laws(void)
     CHECK(verdict[0] == 7);
     CHECK(pasoletu_failed(5, 9, at_limit, 3, verdict, 1) == 0 && verdict[0] == 0); /* P10 */
     CHECK(pasoletu_failed(5, 2, sheared, 3, verdict, 1) == 0 && verdict[0] == 1);  /* P11 */
-    DONE(3, pasoletu_snow_clamp, SNOW[0], SNOW[1], SNOW[2], ones, 3);              /* P1 */
+    CHECK(pasoletu_failed(1, 100, two, 3, verdict, 1) == 0 && verdict[0] == 1);
+    CHECK(pasoletu_failed(100, 1, two, 3, verdict, 1) == 0 && verdict[0] == 0);
+    DONE(3, pasoletu_snow_clamp, SNOW[0], SNOW[1], SNOW[2], ones, 3); /* P1 */
     CHECK(out[0] == 1.0 && out[1] == 1.0 && out[2] == 1.0);
     DONE(3, pasoletu_snow_clamp, SNOW[0], SNOW[1], SNOW[2], mixed, 3); /* P2, P3 */
     CHECK(out[0] == 1.0 - 0.025 && out[1] == 1.0 + 0.0045 && out[2] == 1.0);
@@ -276,8 +294,8 @@ static void update(void)
 
 static void passes(void)
 {
-    const double bad[3] = {0.025, infinity(), 10}, limits[2] = {3, 100}, corotated[4] = {1, 0.9, 1, 1};
-    const double odd[4] = {0.5, 0.9, 1, 1};
+    const double bad[3] = {0.025, infinity(), 10}, limits[2] = {9.5, 100}, corotated[4] = {1, 0.9, 3, 1};
+    const double odd[4] = {0.5, 0.9, 3, 1}, higher[2] = {12, 100};
     double r[N * PASOLETU_FLOATS], was[N * PASOLETU_FLOATS];
     uint64_t a[N * PASOLETU_ANSWERS + 1], c[4];
     for (int k = 0; k < N; k++)
@@ -303,7 +321,7 @@ static void passes(void)
     CHECK(pasoletu_pass(PASOLETU_SNOW, bad, 3, r, N * 36, a, N * 2, c, 3) == 0);
     CHECK(a[0] == PASOLETU_REFUSED && a[1] == 1 && a[6] == PASOLETU_REFUSED && a[7] == 1 && c[2] == 4);
 
-    /* With failure: particle 2 as it came has the principal stress 6, over the limit 3; particle 0 none. */
+    /* With failure: particle 2 as it came has the principal stresses 10, 6, 6; particle 0 none. */
     memcpy(r, was, sizeof r);
     CHECK(pasoletu_pass_with_failure(PASOLETU_SNOW, SNOW, 3, limits, 2, odd, 4, r, N * 36, a, N * 2, c, 4) == 6);
     CHECK(pasoletu_pass_with_failure(PASOLETU_SNOW, SNOW, 3, limits, 1, corotated, 4, r, N * 36, a, N * 2, c, 4) == 8);
@@ -313,6 +331,9 @@ static void passes(void)
     CHECK(r[PASOLETU_PHASE] == 1.0 && r[2 * 36 + PASOLETU_PHASE] == 0.0 && a[4] == PASOLETU_STORED);
     CHECK(a[2] == PASOLETU_REFUSED && same(r + 36, was + 36, 36) && same(r + 3 * 36, was + 3 * 36, 36));
     CHECK(c[0] == 0 && c[1] == 2 && c[2] == 2 && c[3] == 1);
+    memcpy(r, was, sizeof r);
+    CHECK(pasoletu_pass_with_failure(PASOLETU_SNOW, SNOW, 3, higher, 2, corotated, 4, r, N * 36, a, N * 2, c, 4) == 0);
+    CHECK(r[2 * 36 + PASOLETU_PHASE] == 1.0 && a[4] == PASOLETU_STORED && c[3] == 0);
 }
 
 static void sheets(void)
@@ -358,7 +379,8 @@ int main(void)
         CHECK(strlen(pasoletu_refusal_text(k)) > 10);
     elementary();
     physics();
-    stresses();
+    neo_hookean();
+    corotated();
     monaghan();
     parts_of_laws();
     update();

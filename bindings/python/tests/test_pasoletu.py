@@ -1,6 +1,7 @@
 """Tests of the Python module. The values are document 01's (section 7's example; section 8: P1 to P12) and such as are worked
 by hand."""
 import array
+import dataclasses
 import math
 import os
 import pathlib
@@ -119,62 +120,86 @@ class Laws(Tests):
         self.assertEqual(utils.decomposed_times(2.0, diagonal(-1.0, 0.0, 1.0), [1.0, 2.0, 3.0]), [1.0, 4.0, 9.0])
 
     def test_neo_hookean(self):
-        law, f = NeoHookeanElasticity(0.5, 1.0, 1.0), diagonal(2.0, 2.0, 2.0)
+        # phase_coeff(0.5) is 0.25075; lambda 1, mu 3 and hardening 2 make the bulk modulus 6; F's determinant is 8
+        law, f = NeoHookeanElasticity(0.5, 1.0, 3.0), diagonal(2.0, 2.0, 2.0)
         for k in range(3):
-            self.assertAlmostEqual(law.kirchhoff_stress(1.0, 1.0, f)[k][k], 52.5)
-            self.assertAlmostEqual(law.fpk_stress(f, 1.0)[k][k], 26.25)
-        volumetric = 5.0 / 6.0 * (31.5 - math.log(8.0))
-        self.assertAlmostEqual(law.elastic_energy_density(1.0, 1.0, f), volumetric)
-        self.assertAlmostEqual(law.pos_energy(0.5, 1.0, f), 0.5 * volumetric)
-        self.assertEqual(NeoHookeanElasticity.new(10.0, 0.25), NeoHookeanElasticity(0.5, 4.0, 4.0))
+            self.assertAlmostEqual(law.kirchhoff_stress(0.5, 2.0, f)[k][k], 189.0 * 0.25075)
+            self.assertAlmostEqual(law.fpk_stress(f, 2.0)[k][k], 94.5)
+        volumetric = 3.0 * (31.5 - math.log(8.0))
+        self.assertAlmostEqual(law.elastic_energy_density(0.5, 2.0, f), volumetric * 0.25075)
+        self.assertAlmostEqual(law.pos_energy(0.5, 2.0, f), volumetric * 0.5)
+        self.assertEqual(NeoHookeanElasticity.new(1.0, 0.0), NeoHookeanElasticity(0.5, 0.0, 0.5))
 
     def test_corotated(self):
-        law, f, sigma = CorotatedLinearElasticity(True, 0.9, 1.0, 1.0), diagonal(2.0, 1.0, 1.0), [2.0, 1.0, 1.0]
-        self.assertEqual(law.kirchhoff_stress(1.0, 1.0, f, I, sigma, I), diagonal(6.0, 2.0, 2.0))
-        self.assertEqual(law.kirchhoff_stress(0.0, 1.0, f, I, sigma, I), ZERO)
-        self.assertEqual(law.elastic_energy_density(sigma, 1.0), 1.5)
-        self.assertEqual(law.pos_energy(f, sigma, 1.0), 1.5)
-        self.assertEqual(law.pos_energy(I, sigma, 1.0), 1.0)
-        self.assertEqual(CorotatedLinearElasticity.new(10.0, 0.25), CorotatedLinearElasticity(True, 0.9, 4.0, 4.0))
+        # F is diag(2, 1, 1) turned: U a quarter turn, V^T the identity
+        law, sigma = CorotatedLinearElasticity(True, 0.9, 3.0, 1.0), [2.0, 1.0, 1.0]
+        f, u = [[0.0, -1.0, 0.0], [2.0, 0.0, 0.0], [0.0, 0.0, 1.0]], [[0.0, -1.0, 0.0], [1.0, 0.0, 0.0], [0.0, 0.0, 1.0]]
+        self.assertEqual(law.kirchhoff_stress(1.0, 2.0, f, u, sigma, I), diagonal(12.0, 20.0, 12.0))
+        self.assertEqual(law.kirchhoff_stress(0.0, 2.0, f, u, sigma, I), ZERO)
+        unsplit = CorotatedLinearElasticity(False, 0.9, 3.0, 1.0)
+        self.assertEqual(unsplit.kirchhoff_stress(0.0, 2.0, f, u, sigma, I), diagonal(12.0, 20.0, 12.0))
+        self.assertEqual(law.elastic_energy_density(sigma, 2.0), 5.0)
+        self.assertEqual(law.pos_energy(f, sigma, 2.0), 5.0)
+        self.assertEqual(law.pos_energy(I, sigma, 2.0), 2.0)
+        self.assertEqual(CorotatedLinearElasticity.new(1.0, 0.0), CorotatedLinearElasticity(True, 0.9, 0.0, 0.5))
 
     def test_monaghan(self):
-        law = MonaghanSphEos(10.0, 2, 0.5)
+        # mass 2 in volume 4: the density at rest is 0.5
+        law = MonaghanSphEos(10.0, 2, 0.5, 7.0)
+        self.assertEqual([law.pressure(2.0, 4.0, 1.0), law.pressure(2.0, 4.0, 0.0)], [30.0, -7.0])
         gradient = [[0.0, 2.0, 0.0], [0.0] * 3, [0.0] * 3]
-        stress = law.kirchhoff_stress(1.0, 1.0, 2.0, 2.0, gradient)
-        self.assertEqual(stress, [[-60.0, 2.0, 0.0], [2.0, -60.0, 0.0], [0.0, 0.0, -60.0]])
-        self.assertAlmostEqual(law.timestep_bound(0.5, 1.0, 1.0, 2.0, [0.0] * 3, 1.0), 2.0 * math.sqrt(0.5 / 540.0))
-        self.assertAlmostEqual(law.timestep_bound(2.0, 1.0, 1.0, 2.0, [0.0] * 3, 1.0), 1.0 / math.sqrt(10.0))
+        stress = law.kirchhoff_stress(2.0, 4.0, 1.0, 3.0, gradient)
+        self.assertEqual(stress, [[-90.0, 3.0, 0.0], [3.0, -90.0, 0.0], [0.0, 0.0, -90.0]])
+        velocity = [3.0, 4.0, 0.0]
+        self.assertAlmostEqual(law.timestep_bound(0.5, 2.0, 4.0, 1.0, velocity, 3.0), 6.0 * math.sqrt(0.25 / 540.0))
+        self.assertAlmostEqual(law.timestep_bound(2.0, 2.0, 4.0, 1.0, velocity, 3.0), 3.0 / math.sqrt(250.0))
+        self.assertEqual(MonaghanSphEos.new(10.0, 2, 0.5), MonaghanSphEos(10.0, 2, 0.5, 1.0))
         for gamma in (-1, 2**32):
             self.assertRaises(ValueError, MonaghanSphEos, 10.0, gamma, 0.0)
 
+    def test_verdict(self):
+        self.assertTrue(MaximumStressFailure(1.0, 100.0).particle_failed([2.0, 0.0, 0.0]))
+        self.assertFalse(MaximumStressFailure(100.0, 1.0).particle_failed([2.0, 0.0, 0.0]))
+
     def test_rankine(self):
-        law = RankinePlasticity.new(1.0, 0.0, 2.0, 3.0)
+        # lambda 0 and 2 mu 1: the stresses are the strains, and s is the strength 10 at first
+        law = RankinePlasticity.new(1.0, 0.0, 10.0, 0.5)
         self.assertEqual(law.project([3.0, 1.0, 4.0], 2.0), [2.0, 1.0, 2.0])
         inside = Particle.stretched([1.5, 1.0, 1.0])
         self.assertEqual(law.update_particle(inside), Untouched())
         self.assertEqual(inside, Particle.stretched([1.5, 1.0, 1.0]))
-        over = Particle.stretched([20.0, 1.0, 1.0])
-        self.assertEqual(law.update_particle(over), Stored(2.0))
-        self.assertAlmostEqual(over.singular_values[0], math.exp(2.0))
+        over = Particle.stretched([math.exp(12.0), 1.0, 1.0])
+        self.assertAlmostEqual(law.update_particle(over).amount, 2.0)
+        self.assertAlmostEqual(over.plastic_hardening, 2.0)
+        self.assertAlmostEqual(over.singular_values[0] / math.exp(10.0), 1.0)
 
     def test_drucker_prager(self):
-        law = DruckerPragerPlasticity.new(1e5, 0.3)
-        s = math.sin(math.radians(25.0))
-        self.assertAlmostEqual(law.alpha(0.0), math.sqrt(2.0 / 3.0) * 2.0 * s / (3.0 - s))
+        law = DruckerPragerPlasticity(0.6, 0.15, 0.2, 0.17, 3.0, 2.0, False, 0.5)
+        s = math.sin(0.6 + (0.15 * 2.0 - 0.17) * math.exp(-0.4))
+        self.assertAlmostEqual(law.alpha(2.0), math.sqrt(2.0 / 3.0) * 2.0 * s / (3.0 - s))
         expanded = Particle.stretched([1.1, 1.0, 1.0])
         self.assertAlmostEqual(law.update_particle(expanded).amount, math.log(1.1))
         self.assertEqual(expanded.singular_values, [1.0, 1.0, 1.0])
-        idle = DruckerPragerPlasticity(law.h0, law.h1, law.h2, law.h3, law.lam, law.mu, only_active_when_failed=True)
+        # The determinant falls from 1.1 to 1, of which half is kept.
+        self.assertAlmostEqual(expanded.plastic_deformation_gradient_det, 1.1 / 1.05)
+        self.assertAlmostEqual(expanded.log_vol_gain, math.log(1.1 / 1.05))
+        self.assertAlmostEqual(expanded.plastic_hardening, 1.0 + math.log(1.1))
+        idle = DruckerPragerPlasticity(0.6, 0.15, 0.2, 0.17, 3.0, 2.0, only_active_when_failed=True)
         self.assertEqual(idle.update_particle(Particle.stretched([1.1, 1.0, 1.0])), Untouched())
+        made = DruckerPragerPlasticity.new(1.0, 0.0)
+        degrees = [math.radians(x) for x in (35.0, 9.0, 10.0)]
+        self.assertEqual([made.h0, made.h1, made.h3, made.h2, made.lam, made.mu], degrees + [0.2, 0.0, 0.5])
 
     def test_nacc(self):
         law = NaccPlasticity.with_m(1e4, 0.3, 0.05, True, 3.0, 2.36)
         self.assertEqual(law.update_particle(Particle(nacc_alpha=-0.01)), Untouched())
-        crushed = Particle.stretched([0.5, 0.4, 0.5])
-        crushed.nacc_alpha = -0.01
-        amount = law.update_particle(crushed).amount
-        self.assertEqual(amount, crushed.nacc_alpha)
-        self.assertEqual(len(set(crushed.singular_values)), 1)
+        # Crushed: to the upper tip, all singular values alike; torn: to the lower one.
+        sinh = math.sinh(0.03) + 1e-5
+        for sigma, j in (([0.5, 0.4, 0.5], math.sqrt(1.0 - 2.0 * sinh)), ([1.5, 1.4, 1.5], math.sqrt(1.0 + 0.1 * sinh))):
+            tip = Particle.stretched(sigma)
+            tip.nacc_alpha = -0.01
+            self.assertAlmostEqual(law.update_particle(tip).amount, -0.01 + math.log(sigma[0] * sigma[1] * sigma[2] / j))
+            self.assertAlmostEqual(tip.singular_values[1], j ** (1.0 / 3.0))
         self.assertAlmostEqual(NaccPlasticity.new(1e4, 0.3, 0.05, True, 3.0, math.asin(0.5)).m, 1.2)
 
 
@@ -195,11 +220,13 @@ class Passes(Tests):
             self.assertEqual(particles[2].singular_values, [1.0045, 1.0, 1.0])
 
     def test_with_failure(self):
-        law, limits = CorotatedLinearElasticity(True, 0.9, 1.0, 1.0), MaximumStressFailure(3.0, 100.0)
-        particles = [Particle(), Particle.stretched([2.0, 1.0, 1.0])]
-        passed = pasoletu.pass_with_failure(SnowPlasticity(), limits, law, particles)
-        self.assertEqual([p.phase for p in particles], [1.0, 0.0])
-        self.assertEqual((passed.stored, passed.failed), (2, 1))
+        # The principal stresses of the second are 10, 6, 6.
+        law = CorotatedLinearElasticity(True, 0.9, 3.0, 1.0)
+        for principal, phase, failed in ((9.5, 0.0, 1), (12.0, 1.0, 0)):
+            particles = [Particle(), Particle.stretched([2.0, 1.0, 1.0])]
+            passed = pasoletu.pass_with_failure(SnowPlasticity(), MaximumStressFailure(principal, 100.0), law, particles)
+            self.assertEqual([p.phase for p in particles], [1.0, phase])
+            self.assertEqual((passed.stored, passed.failed), (2, failed))
         bad = pasoletu.pass_with_failure(SnowPlasticity(), MaximumStressFailure(NAN, 1.0), law, particles)
         self.assertEqual((bad.refused, bad.outcomes[0].place), (2, "one of the limits"))
 
@@ -283,18 +310,25 @@ class Refusals(Tests):
         self.refused(6, pasoletu.read_sheet, sheet(2, [0.0, 0.0, 0.0, 0.0, 1.0, 1.0, -0.0, 1.0], []))
 
     def test_sheets_are_read_as_bits(self):
-        odd = Particle()
-        odd.u = [[1.0, 0.0, 0.0], [0.0, 1.0, PAYLOAD], [0.0, 0.0, 1.0]]
-        clay = [1e4, 0.3, 0.05, 1.0, 3.0, 2.36]
-        given = [Particle.stretched([1.0, 2.0, k + 1.0]) for k in range(199)] + [odd]
-        read = pasoletu.read_sheet(sheet(3, clay, given))
-        self.assertEqual(read.model, NaccPlasticity(1e4, 0.3, 0.05, True, 3.0, 2.36))
-        self.assertEqual([bits(p) for p in read.particles], [bits(p) for p in given])
-        ran = pasoletu.run(sheet(3, clay, given))
-        passed = pasoletu.pass_particles(read.model, read.particles)
-        self.assertEqual([bits(p) for p in ran.particles], [bits(p) for p in read.particles])
-        self.assertEqual((ran.passed.outcomes[199].number, ran.passed.outcomes[199].place), (1, "u[1][2]"))
-        self.assertEqual(ran.passed.outcomes[:199], passed.outcomes[:199])
+        odd = Particle(u=[[1.0, 0.0, 0.0], [0.0, 1.0, PAYLOAD], [0.0, 0.0, 1.0]])
+        given = [Particle.stretched([0.8, 1.1, 0.9 + k / 500.0]) for k in range(199)] + [odd]
+        for law in (
+            SnowPlasticity(0.02, 0.03, 9.0),
+            RankinePlasticity(1e5, 0.3, 500.0, 2.0),
+            DruckerPragerPlasticity(0.6, 0.15, 0.2, 0.17, 3.0, 2.0, True, 0.5),
+            NaccPlasticity(1e4, 0.3, 0.05, True, 3.0, 2.36),
+        ):
+            data = sheet(law.model, [float(getattr(law, f.name)) for f in dataclasses.fields(law)], given)
+            read = pasoletu.read_sheet(data)
+            self.assertEqual(read.model, law)
+            self.assertEqual([bits(p) for p in read.particles], [bits(p) for p in given])
+            # Run, the sheet does what a pass does.
+            ran = pasoletu.run(data)
+            passed = pasoletu.pass_particles(law, read.particles)
+            self.assertEqual([bits(p) for p in ran.particles], [bits(p) for p in read.particles])
+            self.assertEqual(ran.passed.outcomes[:199], passed.outcomes[:199])
+            self.assertEqual((ran.passed.untouched, ran.passed.stored, ran.passed.refused), (passed.untouched, passed.stored, 1))
+            self.assertEqual((ran.passed.outcomes[199].number, ran.passed.outcomes[199].place), (1, "u[1][2]"))
 
 
 class Programs(Tests):

@@ -140,23 +140,30 @@ fn sheets_refuse() {
 fn sheets_are_read_as_bits() {
     let mut odd = Particle::REST;
     odd.u[1][2] = f64::from_bits(0x7ff8_0000_dead_beef);
-    let all: Vec<Particle> = (0..200).map(|k| if k == 7 { odd } else { Particle::stretched([1.0, 2.0, k as f64]) }).collect();
-    let clay = [1e4, 0.3, 0.05, 1.0, 3.0, 2.36];
-    let read = read_sheet(&sheet(3, &clay, &all)).unwrap();
-    assert_eq!(read.model, Model::Nacc(NaccPlasticity::with_m(1e4, 0.3, 0.05, true, 3.0, 2.36).unwrap()));
-    assert_eq!(read.particles.len(), 200);
-    assert!(read.particles.iter().zip(&all).all(|(a, b)| bits(a) == bits(b)));
-    // Run, the sheet does what a pass does.
-    let ran = run_sheet(&sheet(3, &clay, &all)).unwrap();
-    let mut passed_particles = all;
-    let passed = pass(read.model, &mut passed_particles);
-    assert!(ran.particles.iter().zip(&passed_particles).all(|(a, b)| bits(a) == bits(b)));
-    assert_eq!(ran.passed.refused, passed.refused);
-    assert_eq!(ran.passed.outcomes[7].unwrap_err().place, Some("u[1][2]"));
-    assert!(ran.passed.outcomes.iter().any(|o| matches!(o, Ok(Outcome::Stored(_)))));
-    let same = |a: &Result<Outcome, Refusal>, b: &Result<Outcome, Refusal>| match (a, b) {
-        (Err(a), Err(b)) => a.number == b.number,
-        (a, b) => a == b,
-    };
-    assert!(ran.passed.outcomes.iter().zip(&passed.outcomes).all(|(a, b)| same(a, b)));
+    let drawn = |k: usize| Particle { nacc_alpha: -0.05, ..Particle::stretched([0.8, 1.1, 0.9 + k as f64 / 500.0]) };
+    let all: Vec<Particle> = (0..200).map(|k| if k == 7 { odd } else { drawn(k) }).collect();
+    let same = |a: &[Particle], b: &[Particle]| a.len() == b.len() && a.iter().zip(b).all(|(a, b)| bits(a) == bits(b));
+    let cone = DruckerPragerPlasticity { only_active_when_failed: true, ..DruckerPragerPlasticity::new(1e5, 0.3).unwrap() };
+    let laws: [(Vec<f64>, Model); 4] = [
+        (vec![0.02, 0.03, 9.0], SnowPlasticity { min_epsilon: 0.02, max_epsilon: 0.03, hardening_coeff: 9.0 }.into()),
+        (vec![1e5, 0.3, 500.0, 2.0], RankinePlasticity::new(1e5, 0.3, 500.0, 2.0).unwrap().into()),
+        (vec![cone.h0, cone.h1, cone.h2, cone.h3, cone.lambda, cone.mu, 1.0, 1.0], cone.into()),
+        (vec![1e4, 0.3, 0.05, 1.0, 3.0, 2.36], NaccPlasticity::with_m(1e4, 0.3, 0.05, true, 3.0, 2.36).unwrap().into()),
+    ];
+    for (number, (parameters, law)) in laws.iter().enumerate() {
+        let bytes = sheet(number as u8, parameters, &all);
+        let read = read_sheet(&bytes).unwrap();
+        assert_eq!(read.model, *law);
+        assert!(same(&read.particles, &all));
+        // Run, the sheet does what a pass does.
+        let ran = run_sheet(&bytes).unwrap();
+        let mut particles = all.clone();
+        let passed = pass(*law, &mut particles);
+        assert_eq!(ran.model, *law);
+        assert!(same(&ran.particles, &particles));
+        assert_eq!((ran.passed.untouched, ran.passed.stored, ran.passed.refused), (passed.untouched, passed.stored, 1));
+        assert_eq!(ran.passed.outcomes[7].unwrap_err().place, Some("u[1][2]"));
+        let number = |o: &Result<Outcome, Refusal>| o.map_err(|r| r.number);
+        assert!(ran.passed.outcomes.iter().map(number).eq(passed.outcomes.iter().map(number)));
+    }
 }
