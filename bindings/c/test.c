@@ -158,7 +158,7 @@ static void physics(void)
  * determinant is 8. */
 static void neo_hookean(void)
 {
-    const double law[3] = {PASOLETU_NEO_HOOKEAN_CFL_COEFF, 1, 3}, gone[9] = {0};
+    const double law[3] = {PASOLETU_NEO_HOOKEAN_CFL_COEFF, 1, 3}, gone[9] = {0}, half[9] = {0.5, 0, 0, 0, 1, 0, 0, 0, 1};
     const double volumetric = 3 * (31.5 - 2.0794415416798357);
     DONE(9, pasoletu_neo_hookean_kirchhoff_stress, law, 3, 0.5, 2.0, TWICE, 9);
     for (int k = 0; k < 9; k++)
@@ -170,6 +170,8 @@ static void neo_hookean(void)
     CHECK(near(out[0], volumetric * 0.25075));
     DONE(1, pasoletu_neo_hookean_pos_energy, law, 3, 0.5, 2.0, TWICE, 9);
     CHECK(near(out[0], volumetric * 0.5));
+    DONE(1, pasoletu_neo_hookean_pos_energy, law, 3, 0.5, 2.0, half, 9); /* below determinant 1 the deviatoric part */
+    CHECK(near(out[0], 3 * (2.25 * 1.5874010519681994 - 3) * 0.25075));
     REFUSED(2, 9, pasoletu_neo_hookean_kirchhoff_stress, law, 3, 1.0, 1.0, gone, 9);
     REFUSED(8, 9, pasoletu_neo_hookean_kirchhoff_stress, law, 4, 1.0, 1.0, I, 9);
     REFUSED(1, 1, pasoletu_neo_hookean_pos_energy, law, 3, infinity(), 1.0, I, 9);

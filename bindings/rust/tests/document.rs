@@ -1,6 +1,6 @@
 //! Document 01's values: section 8's twelve cases and section 7's example.
 use pasoletu::{
-    elementary, pass, run_sheet, utils, DruckerPragerPlasticity, MaximumStressFailure, Model, MonaghanSphEos,
+    elementary, pass, read_sheet, run_sheet, utils, DruckerPragerPlasticity, MaximumStressFailure, Model, MonaghanSphEos,
     NeoHookeanElasticity, Outcome, Particle, SnowPlasticity,
 };
 
@@ -65,6 +65,7 @@ fn section_7_example() {
     assert_eq!((ran.passed.untouched, ran.passed.stored, ran.passed.refused), (0, 1, 0));
     assert_eq!(ran.model, Model::Snow(SnowPlasticity::new()));
     assert_eq!(ran.particles, [Particle::REST]);
+    assert_eq!(read_sheet(&example()).unwrap().particles, [Particle::REST]);
     let sample = concat!(env!("CARGO_MANIFEST_DIR"), "/../../samples/snow.sheet");
     assert_eq!(std::fs::read(sample).unwrap(), example());
 }
@@ -104,6 +105,10 @@ fn section_3_distances() {
         assert!(near(elementary::sin(x / 100.0).unwrap(), (x / 100.0).sin(), 1.0), "sin {x}");
         let y = (x / 20.0).exp();
         assert!(near(elementary::ln(y).unwrap(), y.ln(), 1.0), "ln {y}");
-        assert!(near(elementary::cbrt(y).unwrap(), y.cbrt(), y.cbrt()), "cbrt {y}");
+        let (a, b) = (y.cbrt(), y.cbrt() * y.cbrt());
+        assert!(near(elementary::cbrt(y).unwrap(), a, a), "cbrt {y}");
+        assert!(near(elementary::inv_cbrt(y).unwrap(), 1.0 / a, 1.0 / a), "inv_cbrt {y}");
+        assert!(near(elementary::cbrt_squared(y).unwrap(), b, b), "cbrt_squared {y}");
+        assert!(near(elementary::inv_cbrt_squared(y).unwrap(), 1.0 / b, 1.0 / b), "inv_cbrt_squared {y}");
     }
 }

@@ -56,6 +56,9 @@ fn neo_hookean() {
     let volumetric = 3.0 * (31.5 - 8f64.ln());
     assert!(near(law.elastic_energy_density(0.5, 2.0, &f).unwrap(), volumetric * 0.25075));
     assert!(near(law.pos_energy(0.5, 2.0, &f).unwrap(), volumetric * 0.5));
+    // Below determinant 1 the deviatoric part.
+    let deviatoric = 3.0 * (2.25 * 4f64.cbrt() - 3.0);
+    assert!(near(law.pos_energy(0.5, 2.0, &diagonal(0.5, 1.0, 1.0)).unwrap(), deviatoric * 0.25075));
     let made = NeoHookeanElasticity::new(1.0, 0.0);
     assert_eq!(made, Ok(NeoHookeanElasticity { cfl_coeff: 0.5, lambda: 0.0, mu: 0.5 }));
     assert!(!law.is_fluid());
@@ -140,8 +143,8 @@ fn drucker_prager() {
     let s = (0.6 + (0.15 * 2.0 - 0.17) * (-0.4f64).exp()).sin();
     let alpha = (2f64 / 3.0).sqrt() * 2.0 * s / (3.0 - s);
     assert!(near(law.alpha(2.0).unwrap(), alpha));
-    let old = Particle { plastic_hardening: 2.0, log_vol_gain: 0.03, ..Particle::stretched([0.7, 1.3, 0.95]) };
-    let strain = old.singular_values.map(|e| e.ln() + 0.01);
+    let old = Particle { plastic_hardening: 2.0, log_vol_gain: -0.03, ..Particle::stretched([0.7, 1.3, 0.95]) };
+    let strain = old.singular_values.map(|e| e.ln() - 0.01);
     let trace: f64 = strain.iter().sum();
     let deviatoric = strain.map(|e| e - trace / 3.0);
     let norm = deviatoric.iter().map(|e| e * e).sum::<f64>().sqrt();
@@ -153,9 +156,10 @@ fn drucker_prager() {
     let wanted: [f64; 3] = std::array::from_fn(|k| (strain[k] - gamma * deviatoric[k] / norm).exp());
     assert!((0..3).all(|k| near(new.singular_values[k], wanted[k]) && near(new.deformation_gradient[k][k], wanted[k])));
     let (before, after) = (0.7 * 1.3 * 0.95, wanted.iter().product::<f64>());
-    let corrected = if after > before { after } else { before + (after - before) * 0.5 };
+    assert!(after < before);
+    let corrected = before + (after - before) * 0.5;
     assert!(near(new.plastic_deformation_gradient_det, before / corrected));
-    assert!(near(new.log_vol_gain, 0.03 + (before / corrected).ln()));
+    assert!(near(new.log_vol_gain, -0.03 + (before / corrected).ln()));
 
     let idle = DruckerPragerPlasticity { only_active_when_failed: true, ..law };
     let mut whole = old;
