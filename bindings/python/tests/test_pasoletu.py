@@ -29,7 +29,9 @@ from pasoletu import (
 )
 
 HERE = pathlib.Path(__file__).resolve().parent.parent
-SAMPLE = HERE.parent.parent / "samples" / "snow.sheet"
+TOP = HERE.parent.parent
+SAMPLE = TOP / "samples" / "snow.sheet"
+CASES = TOP / "crates" / "slope_cases"
 NAN, INF = float("nan"), float("inf")
 I = [[1.0, 0.0, 0.0], [0.0, 1.0, 0.0], [0.0, 0.0, 1.0]]
 ZERO = [[0.0] * 3] * 3
@@ -47,6 +49,13 @@ def bits(particle):
 def same(a, b):
     """In every bit. (assertEqual would take minutes to tell the difference of long lists.)"""
     return [bits(p) for p in a] == [bits(p) for p in b]
+
+
+def printed(outcome):
+    """An outcome as the program prints it."""
+    if isinstance(outcome, Stored):
+        return "stored " + struct.pack(">d", outcome.amount).hex()
+    return "refused %d" % outcome.number if isinstance(outcome, Refused) else "untouched"
 
 
 def groups(n):
@@ -107,6 +116,22 @@ class Document(Tests):
         near(elementary.inv_cbrt(8.0), 0.5)
         near(elementary.cbrt_squared(8.0), 4.0)
         near(elementary.inv_cbrt_squared(8.0), 0.25)
+
+
+    def test_the_program_s_sheets(self):
+        """Each sheet that the gate runs gets the answers that the proved program printed."""
+        lines = []
+        for file in sorted((CASES / "data").iterdir()):
+            lines.append("-- " + file.name)
+            try:
+                passed = pasoletu.run(file.read_bytes()).passed
+            except Refused as refused:
+                lines.append("sheet refused %d" % refused.number)
+                continue
+            lines.append("particles %d" % len(passed.outcomes))
+            lines += ["%d %s" % (k, printed(outcome)) for k, outcome in enumerate(passed.outcomes)]
+            lines.append("end")
+        self.assertEqual(lines, (CASES / "stdout").read_text().splitlines())
 
 
 class Laws(Tests):

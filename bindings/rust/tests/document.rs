@@ -70,6 +70,36 @@ fn section_7_example() {
     assert_eq!(std::fs::read(sample).unwrap(), example());
 }
 
+/// Each sheet that the gate runs gets the answers that the proved program printed.
+#[test]
+fn the_program_s_sheets() {
+    let cases = concat!(env!("CARGO_MANIFEST_DIR"), "/../../crates/slope_cases");
+    let mut files: Vec<_> = std::fs::read_dir(format!("{cases}/data")).unwrap().map(|f| f.unwrap().path()).collect();
+    files.sort();
+    let mut lines = Vec::new();
+    for file in files {
+        lines.push(format!("-- {}", file.file_name().unwrap().to_str().unwrap()));
+        let passed = match run_sheet(&std::fs::read(file).unwrap()) {
+            Ok(ran) => ran.passed,
+            Err(refusal) => {
+                lines.push(format!("sheet refused {}", refusal.number));
+                continue;
+            }
+        };
+        lines.push(format!("particles {}", passed.outcomes.len()));
+        for (k, outcome) in passed.outcomes.iter().enumerate() {
+            lines.push(match outcome {
+                Ok(Outcome::Untouched) => format!("{k} untouched"),
+                Ok(Outcome::Stored(amount)) => format!("{k} stored {:016x}", amount.to_bits()),
+                Err(refusal) => format!("{k} refused {}", refusal.number),
+            });
+        }
+        lines.push("end".to_string());
+    }
+    let printed = std::fs::read_to_string(format!("{cases}/stdout")).unwrap();
+    assert!(lines.iter().map(String::as_str).eq(printed.lines()));
+}
+
 #[test]
 fn section_5_snow() {
     // The plastic determinant is multiplied by old product over new product, and the hardening follows.
