@@ -1,4 +1,4 @@
-"""The laws, with the Rust's names."""
+"""The laws, with the Rust's names. (`lambda` is a word of Python's own: the first Lamé parameter is `lam` here.)"""
 import math
 import struct
 from dataclasses import dataclass
