@@ -3,3 +3,8 @@ pub mod Snow
 pub mod Rankine
 pub mod DruckerPrager
 pub mod Nacc
+pub mod Inputs
+pub mod Gates
+pub mod Failure
+pub mod Passes
+pub mod Table
