@@ -3,7 +3,7 @@ use mathlib.Core.Path.{_≡_, refl, sym, ap, subst, _∙_}
 use mathlib.Core.Logic.{_⊎_, inl, inr, ⊎-elim, _↔_}
 use mathlib.Core.Bool.{Bool, true, false, cond, _&&_, false≢true}
 use mathlib.Core.List.{List, [], _∷_}
-use Prim.Native.Nat.{ℕ, zero, suc, _≤_}
+use Prim.Native.Nat.{ℕ, zero, suc}
 use lib.ListN.{getD, set}
 use lib.Ieee.{Float, binary64, ofBits, toBits}
 use Rattle.numbers.specs.Rules.{finite}
@@ -21,28 +21,12 @@ use Rattle.elasticity_corotated_linear.specs.declared.CorotatedLinearElasticity
 use Rattle.elasticity_corotated_linear.specs.Law.{lawFinite}
 use Rattle.particles.specs.declared.choice.Model.{Model}
 use Rattle.particles.specs.Model.{modelFinite, recordLaw}
-use Rattle.particles.specs.Principal.{principalOf}
 use Rattle.particles.specs.Judged.{verdictOn, judgedInputs, judgedOf, judgedAt, failedLaw, byVerdict, failureLaw}
-use Rattle.refusals.specs.Refusals.{FailureInput, RecordNotFinite, Refuses}
-use Rattle.refusals.proofs.Late.{Later, three, LateO, refused}
+use Rattle.refusals.specs.Path.{Met, all-finite}
+use Rattle.refusals.specs.Refusals.{FailureInput, RecordNotFinite, pathOf, stressesOf, failurePath, Refuses}
+use Rattle.refusals.proofs.First.{firstOf, refusalOf}
 use Rattle.refusals.proofs.Inputs.{one-fails, left-fails, right-fails, no-both, decide, inputs-hold, places, inputs, limits}
 use Rattle.refusals.proofs.Gates.{Gated, runs, stops, record-gate, gate-refuses}
-
--- ---- the verdict
-data LateV : Verdict → Type 0 where
-  kept : LateV No
-  failed : LateV Yes
-  not : {n : ℕ} → Later n → LateV (Refused n)
-
-judged : (limits row over : Bool) → limits ≡ true → LateV (cond row (cond (limits && row) (cond over Yes No) (Refused 1)) (Refused 3))
-judged true true true q = failed
-judged true true false q = kept
-judged true false over q = not three
-judged false row over q = absurd (false≢true q)
-
-verdict : (l : MaximumStressFailure) (s : List Float) → limitsFinite l ≡ true → LateV (verdictOn l s)
-unfolding verdictOf
-verdict l s q = judged (limitsFinite l) (rowFinite s) (exceedsOf l s) q
 
 -- ---- the record with phase 0.0
 zero-finite : finite (ofBits binary64 (bits matrix.zero)) ≡ true
@@ -73,40 +57,47 @@ both : (a b : Bool) → a ≡ true → b ≡ true → a && b ≡ true
 both true b p q = q
 both false b p q = p
 
-after-gate : {ok : Bool} {o : Outcome} → Gated ok o → ok ≡ true → LateO o
+after-gate : {ok : Bool} {path : List Met} {o : Outcome} → Gated ok path o → ok ≡ true → refusalOf o ≡ firstOf path
 after-gate (runs t l) q = l
 after-gate {ok} (stops f e) q = absurd (no-both ok q f)
 
-module _ (m : Model) (r : List ℕ) (p : modelFinite m ≡ true) (t : test r ≡ true) where
-  by-verdict : {v : Verdict} → LateV v → LateO (byVerdict v m r .outcome)
-  unfolding failedLaw
-  by-verdict kept = after-gate (record-gate m r) (both (modelFinite m) (test r) p t)
-  by-verdict failed =
-      let q = putPhase r matrix.zero in
-      after-gate (record-gate m q) (both (modelFinite m) (test q) p (phased r t))
-  by-verdict (not l) = refused l
+-- by the verdict: finite stresses, and then the law on the record or on the record with phase 0.0
+module _ (m : Model) (r : List ℕ) where
+  abbrev phase-zero : List ℕ
+  phase-zero = putPhase r matrix.zero
 
-first : (j : Bool) (v : Verdict) (m : Model) (r : List ℕ) → (j ≡ true → LateO (byVerdict v m r .outcome)) → Gated j (byVerdict (cond j v (Refused 1)) m r .outcome)
-first true v m r f = runs refl (f refl)
-first false v m r f = stops refl refl
+  judged : (limits row over : Bool) → limits ≡ true → refusalOf (recordLaw m r .outcome) ≡ firstOf (pathOf m r)
+      → refusalOf (recordLaw m phase-zero .outcome) ≡ firstOf (pathOf m phase-zero)
+      → refusalOf (byVerdict (cond row (cond (limits && row) (cond over Yes No) (Refused 1)) (Refused 3)) m r .outcome)
+      ≡ firstOf (all-finite row ∷ pathOf m (cond over phase-zero r))
+  unfolding firstOf failedLaw
+  judged true true true q e f = f
+  judged true true false q e f = e
+  judged true false over q e f = refl
+  judged false row over q e f = absurd (false≢true q)
+
+  first : (j : Bool) (v : Verdict) (path : List Met) → (j ≡ true → refusalOf (byVerdict v m r .outcome) ≡ firstOf path)
+      → Gated j path (byVerdict (cond j v (Refused 1)) m r .outcome)
+  first true v path f = runs refl (f refl)
+  first false v path f = stops refl refl
 
 module _ (m : Model) (l : MaximumStressFailure) (e : CorotatedLinearElasticity) (r : List ℕ) where
   ok : Bool
   ok = judgedInputs m l e (uAt r) (vtAt r) (stateAt r)
 
-  gate : Gated ok (failureLaw m l e r .outcome)
-  unfolding failureLaw judgedAt judgedOf ok
-  gate = first ok (verdictOn l stresses) m r run
+  gate : Gated ok (failurePath m l e r) (failureLaw m l e r .outcome)
+  unfolding failureLaw judgedAt judgedOf verdictOf ok
+  gate = first m r ok (verdictOn l (stressesOf e r)) (failurePath m l e r) run
     where
-      stresses : List Float
-      stresses = principalOf e (stateAt r .phase) (stateAt r .«elastic_hardening») (stateAt r .sigma)
-
-      run : ok ≡ true → LateO (byVerdict (verdictOn l stresses) m r .outcome)
+      run : ok ≡ true → refusalOf (byVerdict (verdictOn l (stressesOf e r)) m r .outcome) ≡ firstOf (failurePath m l e r)
       run q =
           let a = and-both (modelFinite m && limitsFinite l && lawFinite e) (test r) q in
           let b = and-both (modelFinite m && limitsFinite l) (lawFinite e) (a .0) in
           let c = and-both (modelFinite m) (limitsFinite l) (b .0) in
-          by-verdict m r (c .0) (a .1) (verdict l stresses (c .1))
+          let z = putPhase r matrix.zero in
+          judged m r (limitsFinite l) (rowFinite (stressesOf e r)) (exceedsOf l (stressesOf e r)) (c .1)
+          (after-gate (record-gate m r) (both (modelFinite m) (test r) (c .0) (a .1)))
+          (after-gate (record-gate m z) (both (modelFinite m) (test z) (c .0) (phased r (a .1))))
 
   ok-is : (m l e i : Bool) → m && l && e && i ≡ (l && e) && (m && i)
   ok-is true l e i = refl
@@ -126,5 +117,5 @@ module _ (m : Model) (l : MaximumStressFailure) (e : CorotatedLinearElasticity) 
       back (inl s) = same ∙ left-fails (limitsFinite l && lawFinite e) (modelFinite m && test r) (limits l e .1 s)
       back (inr s) = same ∙ right-fails (limitsFinite l && lawFinite e) (modelFinite m && test r) (inputs m r .1 s)
 
-  pub failure-refuses : Refuses (FailureInput m l e r) (failureLaw m l e r .outcome)
+  pub failure-refuses : Refuses (failureLaw m l e r .outcome) (FailureInput m l e r) (failurePath m l e r)
   failure-refuses = gate-refuses gate all

@@ -1,4 +1,5 @@
-pub mod Late
+pub mod First
+pub mod Walk
 pub mod Snow
 pub mod Rankine
 pub mod DruckerPrager

@@ -1,265 +1,229 @@
--- NACC's steps refuse by 2 or 3 alone.
-use mathlib.Core.Bool.{_&&_}
-use mathlib.Core.List.{List}
+-- NACC meets its path.
+use mathlib.Core.Path.{_≡_, refl, _∙_}
+use mathlib.Core.Bool.{Bool, true, false, cond, _&&_}
+use mathlib.Core.List.{List, [], _∷_}
+use mathlib.Core.Option.{Option}
 use Prim.Native.Nat.{ℕ}
-use lib.ListN.{getD}
 use lib.Ieee as Ieee
-use lib.Ieee.{Float, nan}
-use Rattle.numbers.specs.Rules.{finite, isNumber}
+use lib.Ieee.{Float}
+use Rattle.numbers.specs.Rules.{finite}
+use Rattle.numbers.specs.Range.{onPath}
 use Rattle.numbers.specs.declared.Elementary.{Elementary}
+use Rattle.numbers.specs.declared.Elementary.the-variants as elementary
 use Rattle.physics.specs.declared.Pair.{Pair}
 use Rattle.physics.specs.declared.Pair.the-variants as pair
-use Rattle.tensor.specs.Matrix.{add, sub, mul, div, zero, productOf, dotOf, recomposeOf}
+use Rattle.exact.specs.RootOf.{sqrtOf}
+use Rattle.exponential.specs.Sinh.{sinhOf}
+use Rattle.logarithm.specs.Worked.{lnOf}
+use Rattle.logarithm.specs.Ln.{lnRanged}
+use Rattle.square_root.specs.Sqrt.{sqrtRanged}
+use Rattle.thirds.specs.Thirds.{cbrtOf, cbrtSquaredOf, invCbrtSquaredOf, cbrtRanged, cbrtSquaredRanged, invCbrtSquaredRanged}
+use Rattle.tensor.specs.Matrix.{add, sub, mul, div, zero, three, productOf, dotOf, recomposeOf, rowsOf}
 use Rattle.tensor.specs.Finite.{rowFinite, matFinite}
-use Rattle.tensor.specs.declared.Rows.{Rows}
 use Rattle.law.specs.declared.State.{State}
 use Rattle.plasticity_nacc.specs.declared.Branch.{Branch}
-use Rattle.plasticity_nacc.specs.declared.Branch.the-variants.{Upper, Lower, Inside, Surface, Refused}
+use Rattle.plasticity_nacc.specs.declared.Branch.the-variants as branch
 use Rattle.plasticity_nacc.specs.declared.NaccPlasticity.{NaccPlasticity}
 use Rattle.plasticity_nacc.specs.declared.Projected.{Projected}
 use Rattle.plasticity_nacc.specs.declared.Stepped.{Stepped}
 use Rattle.plasticity_nacc.specs.declared.Trial.{Trial}
-use Rattle.plasticity_nacc.specs.declared.Triple.{Triple}
 use Rattle.plasticity_nacc.specs.declared.Triple.the-variants as triple
 use Rattle.plasticity_nacc.specs.Law.{small}
 use Rattle.plasticity_nacc.specs.TrialState.{softeningOf, p0From, p0Of, p0OnPath, trialOf}
 use Rattle.plasticity_nacc.specs.Choice.{halfDim, lowOf, yOf, yieldChoice, lowerChoice, choiceOf}
-use Rattle.plasticity_nacc.specs.Tip.{volumeSquare, lowerSquare, raisedOf, tipAlpha, filledOf, rootedOf, tipOf}
-use Rattle.plasticity_nacc.specs.Hardening.{timesOf, hardens, centreOf, normalisedOf, aimedOf, directionOf, quadraticOf, linearOf, constantOf, discriminantOf, pickedOf, crossedOf, crossingOf, sizeOf, volumeOf, grownOf, directedOf, hardeningStep, hardenedOf}
-use Rattle.plasticity_nacc.specs.Surface.{joinedOf, rootsOf, spreadOf, landedOf, normedOf, scaledOf, ratioOf, overMu, scaleOf, alphaedOf, surfaceOf}
-use Rattle.plasticity_nacc.specs.Nacc.{workedOf, triedOf, poweredOf, pressedOf, stepsOf, recomposedOf, byBranch, projectedOf, storedBy, storedOf, naccRun}
-use Rattle.refusals.proofs.Late as late
-use Rattle.refusals.proofs.Late.{Later, LateE, value, no, LateU, untouched, stored, refused, either, sinh-late, ln-late, sqrt-late, cbrt-late, cbrt-squared-late, inv-cbrt-squared-late, number-late}
+use Rattle.plasticity_nacc.specs.Tip.{refusedStep, volumeSquare, lowerSquare, raisedOf, tipAlpha, filledOf, rootedOf, tipOf}
+use Rattle.plasticity_nacc.specs.Hardening.{timesOf, hardens, centreOf, normalisedOf, aimedOf, directionOf, quadraticOf, linearOf, constantOf, discriminantOf, pickedOf, crossingAt, crossedOf, crossingOf, sizeOf, volumeOf, grownOf, directedOf, hardeningStep, hardenedOf}
+use Rattle.plasticity_nacc.specs.Surface as surface
+use Rattle.plasticity_nacc.specs.Surface.{joinedOf, spreadOf, landedOf, normedOf, scaledOf, ratioOf, overMu, scaleOf, alphaedOf, surfaceOf}
+use Rattle.plasticity_nacc.specs.Nacc.{workedOf, triedOf, poweredOf, pressedOf, stepsOf, refusedProjection, recomposedOf, byBranch, projectedOf, storedBy, storedOf, naccRun}
+use Rattle.refusals.specs.Path.{Met, number, all-finite, sinh, ln, root, thirdPower, at}
+use Rattle.refusals.specs.NaccPath.{rootsOf, resultsPath, tipPath, scaledPath, volumePath, crossingPath, aimedPath, surfacePath, triedPath, naccPath}
+use Rattle.refusals.proofs.First.{firstOf, refusalOf}
+use Rattle.refusals.proofs.Walk.{sinh-met, ln-met, root-met, cbrt-met, cbrt-squared-met, inv-cbrt-squared-met, number-met, numbers-met, three-met, finite-met, either-met}
 
-data LateB : Branch → Type 0 where
-  upper : {x y : Float} → LateB (Upper x y)
-  lower : {x y : Float} → LateB (Lower x y)
-  inside : {x y : Float} → LateB (Inside x y)
-  surface : {x y : Float} → LateB (Surface x y)
-  none : {n : ℕ} → Later n → LateB (Refused n)
+-- a branch whose results are stored
+data Works : Branch → Type 0 where
+  upper : {x y : Float} → Works (branch.Upper x y)
+  lower : {x y : Float} → Works (branch.Lower x y)
+  onto : {x y : Float} → Works (branch.Surface x y)
 
-abbrev LateS : Stepped → Type 0
-LateS q = LateB (q .branch)
+abbrev rootAt : Float → Elementary
+rootAt x = onPath x (sqrtRanged x)
 
-abbrev LateP : Projected → Type 0
-LateP q = LateB (q .branch)
+module _ (p : NaccPlasticity) (u vt : List (List Float)) (st : State) where
+  -- what the update makes of a step
+  abbrev S : Stepped → Option ℕ
+  S q = refusalOf (storedOf (projectedOf q (st .f) u vt) st .outcome)
 
--- ---- p0 and the branch
-module _ (p : NaccPlasticity) where
-  p0 : {e : Elementary} → LateE e → LateE (p0Of p e)
-  unfolding p0Of
-  p0 (value {x}) = number-late (p0From p x)
-  p0 (no l) = no l
+  -- and of a projection
+  abbrev Q : Projected → Option ℕ
+  Q q = refusalOf (storedBy (q .branch) (q .f) (q .sigma) (q .alpha) st .outcome)
 
-  p0-on-path : (alpha : Float) → LateE (p0OnPath p alpha)
-  unfolding p0OnPath
-  p0-on-path alpha = p0 (sinh-late (softeningOf p alpha))
+  recomposed-met : (b : Branch) (sigma : List Float) (alpha : Float)
+      → Q (record { branch = b; f = rowsOf (recomposeOf u sigma vt); sigma = sigma; alpha = alpha }) ≡ firstOf []
+      → Q (recomposedOf b u sigma vt alpha) ≡ firstOf (resultsPath p u vt sigma alpha)
+  unfolding recomposedOf resultsPath
+  recomposed-met b sigma alpha e =
+      finite-met Q (matFinite (recomposeOf u sigma vt) && rowFinite sigma && finite alpha)
+      (record { branch = b; f = rowsOf (recomposeOf u sigma vt); sigma = sigma; alpha = alpha }) (refusedProjection 3) [] e refl
 
-  yield : (t : Trial) → LateB (yieldChoice p t)
-  unfolding yieldChoice
-  yield t = either LateB (isNumber (yOf p t)) (either LateB (Ieee.lt (yOf p t) small) inside surface) (none late.three)
+  results-met : {b : Branch} → Works b → (sigma : List Float) (alpha : Float)
+      → S (record { branch = b; sigma = sigma; alpha = alpha }) ≡ firstOf (resultsPath p u vt sigma alpha)
+  unfolding storedOf projectedOf firstOf
+  results-met {b} upper sigma alpha = recomposed-met b sigma alpha refl
+  results-met {b} lower sigma alpha = recomposed-met b sigma alpha refl
+  results-met {b} onto sigma alpha = recomposed-met b sigma alpha refl
 
-  low : (t : Trial) → LateB (lowerChoice p t)
-  unfolding lowerChoice
-  low t = either LateB (isNumber (lowOf p (t .p0))) (either LateB (Ieee.lt (t .p) (lowOf p (t .p0))) lower (yield t)) (none late.three)
+  tip-met : {b : Branch} → Works b → (square j alpha : Float) → S (tipOf p b square j alpha) ≡ firstOf (tipPath p u vt square j alpha)
+  unfolding tipOf rootedOf filledOf tipAlpha raisedOf storedOf projectedOf tipPath
+  tip-met {b} w square j alpha =
+      let x = sqrtOf square in
+      let c = cbrtOf x in
+      let ratio = div j x in
+      let sigma = three c c c in
+      let grown = resultsPath p u vt sigma (add alpha (lnOf ratio)) in
+      let kept = resultsPath p u vt sigma alpha in
+      let rest = cond (p .«hardening_enabled») (ln ratio ∷ grown) kept in
+      root-met (λ e. S (rootedOf p b e j alpha)) (λ n. refl) square (thirdPower x ∷ rest)
+      (cbrt-met (λ e. S (filledOf b e (tipAlpha p alpha ratio))) (λ n. refl) x rest
+      (either-met (λ e. S (filledOf b (elementary.Value c) e)) (p .«hardening_enabled») (raisedOf alpha (onPath ratio (lnRanged ratio))) (elementary.Value alpha) (ln ratio ∷ grown) kept
+      (ln-met (λ e. S (filledOf b (elementary.Value c) (raisedOf alpha e))) (λ n. refl) ratio grown (results-met w sigma (add alpha (lnOf ratio))))
+      (results-met w sigma alpha)))
 
-  choice : (t : Trial) → LateB (choiceOf p t)
-  unfolding choiceOf
-  choice t = either LateB (isNumber (t .squares) && isNumber (t .p)) (either LateB (Ieee.lt (t .p0) (t .p)) upper (low t)) (none late.three)
+  -- ---- the surface
+  module _ {b : Branch} (w : Works b) (t : Trial) where
+    landed-met : (e : List Float) (alpha : Float)
+        → S (landedOf b (surface.rootsOf e) alpha) ≡ firstOf (number (dotOf e e) ∷ root (at e 0) ∷ root (at e 1) ∷ root (at e 2) ∷ resultsPath p u vt (rootsOf e) alpha)
+    unfolding surface.rootsOf joinedOf landedOf storedOf projectedOf
+    landed-met e alpha =
+        let x0 = elementary.Value (sqrtOf (at e 0)) in
+        let x1 = elementary.Value (sqrtOf (at e 1)) in
+        let end = resultsPath p u vt (rootsOf e) alpha in
+        number-met (λ x. S (landedOf b x alpha)) (dotOf e e) (joinedOf (rootAt (at e 0)) (rootAt (at e 1)) (rootAt (at e 2))) (triple.Refused 3) (root (at e 0) ∷ root (at e 1) ∷ root (at e 2) ∷ end)
+        (root-met (λ x. S (landedOf b (joinedOf x (rootAt (at e 1)) (rootAt (at e 2))) alpha)) (λ n. refl) (at e 0) (root (at e 1) ∷ root (at e 2) ∷ end)
+        (root-met (λ x. S (landedOf b (joinedOf x0 x (rootAt (at e 2))) alpha)) (λ n. refl) (at e 1) (root (at e 2) ∷ end)
+        (root-met (λ x. S (landedOf b (joinedOf x0 x1 x) alpha)) (λ n. refl) (at e 2) end (results-met w (rootsOf e) alpha)))) refl
 
--- ---- a tip
-raised : (alpha : Float) {e : Elementary} → LateE e → LateE (raisedOf alpha e)
-unfolding raisedOf
-raised alpha value = value
-raised alpha (no l) = no l
+    scaled-met : (alpha : Float) → S (scaledOf b (scaleOf p t) t alpha) ≡ firstOf (scaledPath p u vt t alpha)
+    unfolding scaleOf timesOf overMu scaledOf normedOf storedOf projectedOf scaledPath
+    scaled-met alpha =
+        let ratio = ratioOf p t in
+        let j = t .j in
+        let k = mul (sqrtOf ratio) (div (cbrtSquaredOf j) (p .mu)) in
+        let norm = sqrtOf (t .squares) in
+        let e = spreadOf k (t .s) norm (t .mean) in
+        let end = number (dotOf e e) ∷ root (at e 0) ∷ root (at e 1) ∷ root (at e 2) ∷ resultsPath p u vt (rootsOf e) alpha in
+        root-met (λ x. S (scaledOf b (timesOf x (overMu p (onPath j (cbrtSquaredRanged j)))) t alpha)) (λ n. refl) ratio (thirdPower j ∷ number k ∷ root (t .squares) ∷ end)
+        (cbrt-squared-met (λ x. S (scaledOf b (timesOf (elementary.Value (sqrtOf ratio)) (overMu p x)) t alpha)) (λ n. refl) j (number k ∷ root (t .squares) ∷ end)
+        (number-met S k (normedOf b k (rootAt (t .squares)) t alpha) (refusedStep 3) (root (t .squares) ∷ end)
+        (root-met (λ x. S (normedOf b k x t alpha)) (λ n. refl) (t .squares) end (landed-met e alpha)) refl))
 
-filled : {b : Branch} → LateB b → {e a : Elementary} → LateE e → LateE a → LateS (filledOf b e a)
-unfolding filledOf
-filled b value value = b
-filled b value (no l) = none l
-filled b (no l) a = none l
+    -- what is made of the new alpha
+    abbrev E : Elementary → Option ℕ
+    E x = S (alphaedOf p b x t)
 
-module _ (p : NaccPlasticity) where
-  tip-alpha : (alpha ratio : Float) → LateE (tipAlpha p alpha ratio)
-  unfolding tipAlpha
-  tip-alpha alpha ratio = either LateE (p .«hardening_enabled») (raised alpha (ln-late ratio)) value
+    value-met : (alpha : Float) → E (elementary.Value alpha) ≡ firstOf (scaledPath p u vt t alpha)
+    unfolding alphaedOf
+    value-met alpha = scaled-met alpha
 
-  rooted : {b : Branch} → LateB b → {e : Elementary} → LateE e → (j alpha : Float) → LateS (rootedOf p b e j alpha)
-  unfolding rootedOf
-  rooted b (value {x}) j alpha = filled b (cbrt-late x) (tip-alpha alpha (div j x))
-  rooted b (no l) j alpha = none l
+    volume-met : (x alpha : Float) → E (grownOf (volumeOf p (elementary.Value x)) (t .j) alpha) ≡ firstOf (volumePath p u vt x t alpha)
+    unfolding alphaedOf volumeOf grownOf raisedOf storedOf projectedOf volumePath
+    volume-met x alpha =
+        let square = sizeOf (volumeSquare p x) in
+        let v = sqrtOf square in
+        let ratio = div (t .j) v in
+        let grown = scaledPath p u vt t (add alpha (lnOf ratio)) in
+        let kept = scaledPath p u vt t alpha in
+        root-met (λ e. E (grownOf e (t .j) alpha)) (λ n. refl) square (cond (Ieee.lt small v) (ln ratio ∷ grown) kept)
+        (either-met E (Ieee.lt small v) (raisedOf alpha (onPath ratio (lnRanged ratio))) (elementary.Value alpha) (ln ratio ∷ grown) kept
+        (ln-met (λ e. E (raisedOf alpha e)) (λ n. refl) ratio grown (value-met (add alpha (lnOf ratio)))) (value-met alpha))
 
-  tip : {b : Branch} → LateB b → (square j alpha : Float) → LateS (tipOf p b square j alpha)
-  unfolding tipOf
-  tip b square j alpha = rooted b (sqrt-late square) j alpha
+    -- what is made of the crossing pressure
+    abbrev C : Float → Elementary → Option ℕ
+    C alpha x = E (grownOf (volumeOf p x) (t .j) alpha)
 
--- ---- the hardening step
-times : {a b : Elementary} → LateE a → LateE b → LateE (timesOf a b)
-unfolding timesOf
-times value value = value
-times value (no l) = no l
-times (no l) b = no l
+    either-value : (q : Bool) (x y alpha : Float) → C alpha (cond q (elementary.Value x) (elementary.Value y)) ≡ C alpha (elementary.Value (cond q x y))
+    either-value true x y alpha = refl
+    either-value false x y alpha = refl
 
-data LateD : Pair → Type 0 where
-  values : {x y : Float} → LateD (pair.Values x y)
-  not : {n : ℕ} → Later n → LateD (pair.Refused n)
+    crossing-met : (d0 d1 centre alpha : Float) → C alpha (crossingOf p d0 d1 centre t) ≡ firstOf (crossingPath p u vt d0 d1 centre t alpha)
+    unfolding crossingOf crossedOf pickedOf volumeOf grownOf alphaedOf storedOf projectedOf crossingPath
+    crossing-met d0 d1 centre alpha =
+        let a = quadraticOf p d0 d1 in
+        let b = linearOf p centre (t .p0) d0 in
+        let r = discriminantOf a b (constantOf p centre (t .p0)) in
+        let p1 = crossingAt centre (add (Ieee.neg b) (sqrtOf r)) a d0 in
+        let p2 = crossingAt centre (sub (Ieee.neg b) (sqrtOf r)) a d0 in
+        let side = mul (sub (t .p) centre) (sub p1 centre) in
+        let right = Ieee.lt zero side in
+        let rest = volumePath p u vt (cond right p1 p2) t alpha in
+        root-met (λ x. C alpha (crossedOf x a b d0 centre (t .p))) (λ n. refl) r (number p1 ∷ number p2 ∷ number side ∷ rest)
+        (three-met (C alpha) p1 p2 side (cond right (elementary.Value p1) (elementary.Value p2)) (elementary.Refused 3) rest
+        (either-value right p1 p2 alpha ∙ volume-met (cond right p1 p2) alpha) refl)
 
-normalised : (x y : Float) {e : Elementary} → LateE e → LateD (normalisedOf x y e)
-unfolding normalisedOf
-normalised x y value = values
-normalised x y (no l) = not l
+    -- what is made of the direction
+    abbrev D : Float → Float → Pair → Option ℕ
+    D centre alpha d = E (directedOf p d centre t alpha)
 
-aimed : (x : Float) {e : Elementary} → LateE e → LateD (aimedOf x e)
-unfolding aimedOf
-aimed x (value {x = q}) = normalised x (sub zero q) (sqrt-late (add (mul x x) (mul (sub zero q) (sub zero q))))
-aimed x (no l) = not l
+    aimed-met : (x q centre alpha : Float) → D centre alpha (aimedOf x (elementary.Value q)) ≡ firstOf (aimedPath p u vt x q centre t alpha)
+    unfolding aimedOf normalisedOf directedOf alphaedOf storedOf projectedOf aimedPath
+    aimed-met x q centre alpha =
+        let y = sub zero q in
+        let square = add (mul x x) (mul y y) in
+        let norm = sqrtOf square in
+        root-met (λ e. D centre alpha (normalisedOf x y e)) (λ n. refl) square (crossingPath p u vt (div x norm) (div y norm) centre t alpha)
+        (crossing-met (div x norm) (div y norm) centre alpha)
 
-direction : (t : Trial) (centre : Float) → LateD (directionOf t centre)
-unfolding directionOf
-direction t centre = aimed (sub centre (t .p)) (times (sqrt-late halfDim) (sqrt-late (t .squares)))
+    hardened-met : (alpha : Float) → E (hardenedOf p t alpha) ≡ firstOf (surfacePath p u vt t alpha)
+    unfolding hardenedOf hardeningStep directionOf timesOf aimedOf directedOf alphaedOf storedOf projectedOf surfacePath
+    hardened-met alpha =
+        let centre = centreOf p (t .p0) in
+        let x = sub centre (t .p) in
+        let r = sqrtOf halfDim in
+        let rest = aimedPath p u vt x (mul r (sqrtOf (t .squares))) centre t alpha in
+        let step = number centre ∷ root halfDim ∷ root (t .squares) ∷ rest in
+        either-met E (hardens p t) (hardeningStep p t alpha) (elementary.Value alpha) step (scaledPath p u vt t alpha)
+        (number-met E centre (directedOf p (directionOf t centre) centre t alpha) (elementary.Refused 3) (root halfDim ∷ root (t .squares) ∷ rest)
+        (root-met (λ e. D centre alpha (aimedOf x (timesOf e (rootAt (t .squares))))) (λ n. refl) halfDim (root (t .squares) ∷ rest)
+        (root-met (λ e. D centre alpha (aimedOf x (timesOf (elementary.Value r) e))) (λ n. refl) (t .squares) rest
+        (aimed-met x (mul r (sqrtOf (t .squares))) centre alpha))) refl) (value-met alpha)
 
-picked : (a b c d : Float) → LateE (pickedOf a b c d)
-unfolding pickedOf
-picked a b c d =
-    let x = mul (sub a b) (sub c b) in
-    either LateE (isNumber c && isNumber d && isNumber x) (either LateE (Ieee.lt zero x) value value) (no late.three)
+    surface-met : (alpha : Float) → S (surfaceOf p b t alpha) ≡ firstOf (surfacePath p u vt t alpha)
+    unfolding surfaceOf
+    surface-met alpha = hardened-met alpha
 
-crossed : {e : Elementary} → LateE e → (a b d centre q : Float) → LateE (crossedOf e a b d centre q)
-unfolding crossedOf
-crossed value a b d centre q = picked q centre _ _
-crossed (no l) a b d centre q = no l
+  -- ---- the branch
+  tried-met : (t : Trial) (sigma : List Float) (alpha : Float) → S (triedOf p t sigma alpha) ≡ firstOf (triedPath p u vt t alpha)
+  unfolding triedOf choiceOf lowerChoice yieldChoice workedOf storedOf projectedOf triedPath firstOf
+  tried-met t sigma alpha =
+      let B : Branch → Option ℕ = λ b. S (workedOf p b t sigma alpha) in
+      let low = lowOf p (t .p0) in
+      let y = yOf p t in
+      let high = tipPath p u vt (volumeSquare p (t .p0)) (t .j) alpha in
+      let deep = tipPath p u vt (lowerSquare p (t .p0)) (t .j) alpha in
+      let onto-path = surfacePath p u vt t alpha in
+      let last = cond (Ieee.lt y small) [] onto-path in
+      let next = cond (Ieee.lt (t .p) low) deep (number y ∷ last) in
+      let yield = cond (Ieee.lt y small) (branch.Inside y small) (branch.Surface y small) in
+      let under = cond (Ieee.lt (t .p) low) (branch.Lower (t .p) low) (yieldChoice p t) in
+      numbers-met B (t .squares) (t .p) (cond (Ieee.lt (t .p0) (t .p)) (branch.Upper (t .p) (t .p0)) (lowerChoice p t)) (branch.Refused 3)
+      (cond (Ieee.lt (t .p0) (t .p)) high (number low ∷ next))
+      (either-met B (Ieee.lt (t .p0) (t .p)) (branch.Upper (t .p) (t .p0)) (lowerChoice p t) high (number low ∷ next) (tip-met upper (volumeSquare p (t .p0)) (t .j) alpha)
+      (number-met B low under (branch.Refused 3) next
+      (either-met B (Ieee.lt (t .p) low) (branch.Lower (t .p) low) (yieldChoice p t) deep (number y ∷ last) (tip-met lower (lowerSquare p (t .p0)) (t .j) alpha)
+      (number-met B y yield (branch.Refused 3) last
+      (either-met B (Ieee.lt y small) (branch.Inside y small) (branch.Surface y small) [] onto-path refl (surface-met onto t alpha)) refl)) refl)) refl
 
-grown : {e : Elementary} → LateE e → (j alpha : Float) → LateE (grownOf e j alpha)
-unfolding grownOf
-grown (value {x}) j alpha = either LateE (Ieee.lt small x) (raised alpha (ln-late (div j x))) value
-grown (no l) j alpha = no l
-
-module _ (p : NaccPlasticity) where
-  crossing : (x y centre : Float) (t : Trial) → LateE (crossingOf p x y centre t)
-  unfolding crossingOf
-  crossing x y centre t =
-      crossed (sqrt-late (discriminantOf (quadraticOf p x y) (linearOf p centre (t .p0) x) (constantOf p centre (t .p0)))) _ _ x centre (t .p)
-
-  volume : {e : Elementary} → LateE e → LateE (volumeOf p e)
-  unfolding volumeOf
-  volume (value {x}) = sqrt-late (sizeOf (volumeSquare p x))
-  volume (no l) = no l
-
-  directed : {d : Pair} → LateD d → (centre : Float) (t : Trial) (alpha : Float) → LateE (directedOf p d centre t alpha)
-  unfolding directedOf
-  directed (values {x} {y}) centre t alpha = grown (volume (crossing x y centre t)) (t .j) alpha
-  directed (not l) centre t alpha = no l
-
-  step : (t : Trial) (alpha : Float) → LateE (hardeningStep p t alpha)
-  unfolding hardeningStep
-  step t alpha =
-      let centre = centreOf p (t .p0) in
-      either LateE (isNumber centre) (directed (direction t centre) centre t alpha) (no late.three)
-
-  hardened : (t : Trial) (alpha : Float) → LateE (hardenedOf p t alpha)
-  unfolding hardenedOf
-  hardened t alpha = either LateE (hardens p t) (step t alpha) value
-
--- ---- the surface
-data LateT : Triple → Type 0 where
-  all : {x y z : Float} → LateT (triple.Values x y z)
-  first : {n : ℕ} → Later n → LateT (triple.Refused n)
-
-joined : {a b c : Elementary} → LateE a → LateE b → LateE c → LateT (joinedOf a b c)
-unfolding joinedOf
-joined value value value = all
-joined value value (no l) = first l
-joined value (no l) c = first l
-joined (no l) b c = first l
-
-roots : (e : List Float) → LateT (rootsOf e)
-unfolding rootsOf
-roots e =
-    either LateT (isNumber (dotOf e e)) (joined (sqrt-late (getD e 0 nan)) (sqrt-late (getD e 1 nan)) (sqrt-late (getD e 2 nan)))
-    (first late.three)
-
-landed : {b : Branch} → LateB b → {t : Triple} → LateT t → (alpha : Float) → LateS (landedOf b t alpha)
-unfolding landedOf
-landed b all alpha = b
-landed b (first l) alpha = none l
-
-normed : {b : Branch} → LateB b → (k : Float) {e : Elementary} → LateE e → (t : Trial) (alpha : Float) → LateS (normedOf b k e t alpha)
-unfolding normedOf
-normed b k (value {x = norm}) t alpha = landed b (roots (spreadOf k (t .s) norm (t .mean))) alpha
-normed b k (no l) t alpha = none l
-
-scaled : {b : Branch} → LateB b → {e : Elementary} → LateE e → (t : Trial) (alpha : Float) → LateS (scaledOf b e t alpha)
-unfolding scaledOf
-scaled b (value {x = k}) t alpha = either LateS (isNumber k) (normed b k (sqrt-late (t .squares)) t alpha) (none late.three)
-scaled b (no l) t alpha = none l
-
-module _ (p : NaccPlasticity) where
-  over-mu : {e : Elementary} → LateE e → LateE (overMu p e)
-  unfolding overMu
-  over-mu value = value
-  over-mu (no l) = no l
-
-  scale : (t : Trial) → LateE (scaleOf p t)
-  unfolding scaleOf
-  scale t = times (sqrt-late (ratioOf p t)) (over-mu (cbrt-squared-late (t .j)))
-
-  alphaed : {b : Branch} → LateB b → {e : Elementary} → LateE e → (t : Trial) → LateS (alphaedOf p b e t)
-  unfolding alphaedOf
-  alphaed b (value {x = alpha}) t = scaled b (scale t) t alpha
-  alphaed b (no l) t = none l
-
-  on-surface : {b : Branch} → LateB b → (t : Trial) (alpha : Float) → LateS (surfaceOf p b t alpha)
-  unfolding surfaceOf
-  on-surface b t alpha = alphaed b (hardened p t alpha) t
-
-  -- ---- the steps
-  worked : {b : Branch} → LateB b → (t : Trial) (sigma : List Float) (alpha : Float) → LateS (workedOf p b t sigma alpha)
-  unfolding workedOf
-  worked upper t sigma alpha = tip p upper (volumeSquare p (t .p0)) (t .j) alpha
-  worked lower t sigma alpha = tip p lower (lowerSquare p (t .p0)) (t .j) alpha
-  worked inside t sigma alpha = inside
-  worked surface t sigma alpha = on-surface surface t alpha
-  worked (none l) t sigma alpha = none l
-
-  powered : {e : Elementary} → LateE e → (p0 j : Float) (sigma : List Float) (alpha : Float) → LateS (poweredOf p e p0 j sigma alpha)
-  unfolding poweredOf triedOf
-  powered (value {x = w}) p0 j sigma alpha = worked (choice p (trialOf p w p0 j sigma)) _ sigma alpha
-  powered (no l) p0 j sigma alpha = none l
-
-  pressed : {e : Elementary} → LateE e → (sigma : List Float) (alpha : Float) → LateS (pressedOf p e sigma alpha)
-  unfolding pressedOf
-  pressed (value {x = p0}) sigma alpha = powered (inv-cbrt-squared-late (productOf sigma)) p0 _ sigma alpha
-  pressed (no l) sigma alpha = none l
-
-  steps : (sigma : List Float) (alpha : Float) → LateS (stepsOf p sigma alpha)
-  unfolding stepsOf
-  steps sigma alpha = pressed (p0-on-path p alpha) sigma alpha
-
--- ---- the update
-recomposed : {b : Branch} → LateB b → (u : List (List Float)) (sigma : List Float) (vt : List (List Float)) (alpha : Float)
-    → LateP (recomposedOf b u sigma vt alpha)
-unfolding recomposedOf
-recomposed b u sigma vt alpha = either LateP (matFinite (recomposeOf u sigma vt) && rowFinite sigma && finite alpha) b (none late.three)
-
-by-branch : {b : Branch} → LateB b → (sigma : List Float) (alpha : Float) (f : Rows) (u vt : List (List Float)) → LateP (byBranch b sigma alpha f u vt)
-by-branch upper sigma alpha f u vt = recomposed upper u sigma vt alpha
-by-branch lower sigma alpha f u vt = recomposed lower u sigma vt alpha
-by-branch inside sigma alpha f u vt = inside
-by-branch surface sigma alpha f u vt = recomposed surface u sigma vt alpha
-by-branch (none l) sigma alpha f u vt = none l
-
-projected : (q : Stepped) → LateS q → (f : Rows) (u vt : List (List Float)) → LateP (projectedOf q f u vt)
-unfolding projectedOf
-projected q b f u vt = by-branch b (q .sigma) (q .alpha) f u vt
-
-stored-by : {b : Branch} → LateB b → (f : Rows) (sigma : List Float) (alpha : Float) (s : State) → LateU (storedBy b f sigma alpha s)
-stored-by upper f sigma alpha s = stored
-stored-by lower f sigma alpha s = stored
-stored-by inside f sigma alpha s = untouched
-stored-by surface f sigma alpha s = stored
-stored-by (none l) f sigma alpha s = refused l
-
-pub nacc-late : (p : NaccPlasticity) (u vt : List (List Float)) (s : State) → LateU (naccRun p u vt s)
-unfolding naccRun storedOf
-nacc-late p u vt s =
-    stored-by (projected (stepsOf p (s .sigma) (s .alpha)) (steps p (s .sigma) (s .alpha)) (s .f) u vt) _ _ _ s
+  pub nacc-met : refusalOf (naccRun p u vt st .outcome) ≡ firstOf (naccPath p u vt st)
+  unfolding naccRun stepsOf pressedOf poweredOf p0OnPath p0Of storedOf projectedOf naccPath
+  nacc-met =
+      let sigma = st .sigma in
+      let alpha = st .alpha in
+      let x = softeningOf p alpha in
+      let p0 = p0From p (sinhOf x) in
+      let j = productOf sigma in
+      let t = trialOf p (invCbrtSquaredOf j) p0 j sigma in
+      let rest = triedPath p u vt t alpha in
+      sinh-met (λ e. S (pressedOf p (p0Of p e) sigma alpha)) (λ n. refl) x (number p0 ∷ thirdPower j ∷ rest)
+      (number-met (λ e. S (pressedOf p e sigma alpha)) p0 (elementary.Value p0) (elementary.Refused 3) (thirdPower j ∷ rest)
+      (inv-cbrt-squared-met (λ e. S (poweredOf p e p0 j sigma alpha)) (λ n. refl) j rest (tried-met t sigma alpha)) refl)

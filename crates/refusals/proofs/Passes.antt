@@ -1,6 +1,6 @@
 -- A pass is refused by 8 alone, and an answer list holds each record's refusal. Assumes nothing.
 use mathlib.Core.Path.{_≡_, refl, sym, ap, subst, _∙_}
-use mathlib.Core.Logic.{_⊎_, inl, inr, ⊎-elim}
+use mathlib.Core.Logic.{⊎-elim, _↔_}
 use mathlib.Core.Bool.{Bool, true, false, cond, _&&_}
 use mathlib.Core.List.{List, [], _∷_, _++_}
 use Prim.Native.Nat.{ℕ, zero, suc, _+_, _*_, _/_, _≤_, _<_}
@@ -22,6 +22,7 @@ use Rattle.particles.specs.declared.failure.PassedWithFailure.{PassedWithFailur
 use Rattle.particles.specs.declared.failure.PassedWithFailure.the-variants as failure-pass
 use Rattle.particles.specs.Pass.{Worked, codeOf, valueOf, recordAt, answers, wellSized, passAnswers}
 use Rattle.particles.proofs.PassLaws.{answers-length}
+use Rattle.refusals.specs.Path.{Met}
 use Rattle.refusals.specs.Refusals.{Refuses, Answers, Sized, Eight, Pass}
 use Rattle.refusals.proofs.Inputs.{no-both, decide}
 
@@ -112,21 +113,34 @@ refused-by Untouched e = absurd (omega arith)
 refused-by (Stored a) e = absurd (omega arith)
 refused-by (Refused n) e = refl
 
-answers-of : {bad : Type 0} {o : Outcome} → Refuses bad o → (a : List ℕ) (i : ℕ) → getD a (i * 2) 0 ≡ codeOf o → getD a (i * 2 + 1) 0 ≡ valueOf o → Answers bad a i
-answers-of {bad} {o} r a i c v =
-    record {
-      one =
-          (λ p. r .one .0 (refused-by o (sym c ∙ p .0) ∙ ap Refused (sym v ∙ p .1)), λ b. let e = r .one .1 b in (c ∙ ap codeOf e, v ∙ ap valueOf e));
-      only = λ p. subst (λ (n : ℕ). (1 ≤ n) × (n ≤ 3)) (sym v) (r .only (valueOf o) (refused-by o (sym c ∙ p)));
-    }
+-- the answer (2, n) is a refusal by n
+answered : (o : Outcome) (n : ℕ) → ((codeOf o ≡ 2) × (valueOf o ≡ n)) ↔ (o ≡ Refused n)
+answered o n = (λ p. refused-by o (p .0) ∙ ap Refused (p .1), λ e. (ap codeOf e, ap valueOf e))
 
-pub pass-refuses : (law : List ℕ → Worked) (bad : List ℕ → Type 0) (R : ℕ → Type 0) (xs out : List ℕ)
-    → ((r : List ℕ) → Refuses (bad r) (law r .outcome)) → Eight R xs out → Pass law bad R xs out
-pass-refuses law bad R xs out f e = record { eight = e; records = records }
+answers-of : {bad : Type 0} {path : List Met} (o : Outcome) → Refuses o bad path → (a : List ℕ) (i : ℕ)
+    → getD a (i * 2) 0 ≡ codeOf o → getD a (i * 2 + 1) 0 ≡ valueOf o → Answers a i bad path
+answers-of {bad} {path} o r a i c v =
+    record {
+      one = (λ p. r .one .0 (to 1 p), λ b. from 1 (r .one .1 b));
+      two = (λ p. r .two .0 (to 2 p), λ b. from 2 (r .two .1 b));
+      three = (λ p. r .three .0 (to 3 p), λ b. from 3 (r .three .1 b));
+      only = λ n p. r .only n (to n p);
+    }
   where
-    records : (k : ℕ) → Sized xs out k → (i : ℕ) → i < k → Answers (bad (recordAt xs i)) (passAnswers law xs out) i
+    to : (n : ℕ) → (getD a (i * 2) 0 ≡ 2) × (getD a (i * 2 + 1) 0 ≡ n) → o ≡ Refused n
+    to n p = answered o n .0 (sym c ∙ p .0, sym v ∙ p .1)
+
+    from : (n : ℕ) → o ≡ Refused n → (getD a (i * 2) 0 ≡ 2) × (getD a (i * 2 + 1) 0 ≡ n)
+    from n e = let q = answered o n .1 e in (c ∙ q .0, v ∙ q .1)
+
+pub pass-refuses : (law : List ℕ → Worked) (bad : List ℕ → Type 0) (path : List ℕ → List Met) (R : ℕ → Type 0) (xs out : List ℕ)
+    → ((r : List ℕ) → Refuses (law r .outcome) (bad r) (path r)) → Eight R xs out → Pass law bad path R xs out
+pass-refuses law bad path R xs out f e = record { eight = e; records = records }
+  where
+    records : (k : ℕ) → Sized xs out k → (i : ℕ) → i < k → Answers (passAnswers law xs out) i (bad (recordAt xs i)) (path (recordAt xs i))
     records k s i h =
         let q : passAnswers law xs out ≡ answers law xs k =
         taken (wellSized xs out) (answers law xs (length xs / floats)) out (well xs out k s) ∙ ap (answers law xs) (quotient xs out k (s .0)) in
         let u = answer law xs k i h in
-        answers-of (f (recordAt xs i)) (passAnswers law xs out) i (ap (λ (a : List ℕ). getD a (i * 2) 0) q ∙ u .0) (ap (λ (a : List ℕ). getD a (i * 2 + 1) 0) q ∙ u .1)
+        answers-of (law (recordAt xs i) .outcome) (f (recordAt xs i)) (passAnswers law xs out) i (ap (λ (a : List ℕ). getD a (i * 2) 0) q ∙ u .0)
+        (ap (λ (a : List ℕ). getD a (i * 2 + 1) 0) q ∙ u .1)

@@ -1,103 +1,97 @@
--- Rankine's steps refuse by 2 or 3 alone.
-use mathlib.Core.Bool.{_&&_}
-use mathlib.Core.List.{List}
+-- Rankine meets its path.
+use mathlib.Core.Path.{_≡_, refl}
+use mathlib.Core.Bool.{Bool, cond, _&&_}
+use mathlib.Core.List.{List, [], _∷_}
+use mathlib.Core.Option.{Option}
 use Prim.Native.Nat.{ℕ}
-use lib.ListN.{getD}
 use lib.Ieee as Ieee
-use lib.Ieee.{Float, nan}
-use Rattle.numbers.specs.Rules.{finite, isNumber}
+use lib.Ieee.{Float}
+use Rattle.numbers.specs.Rules.{finite, minOf}
+use Rattle.numbers.specs.Range.{onPath}
 use Rattle.numbers.specs.declared.Elementary.{Elementary}
-use Rattle.tensor.specs.Matrix.{add, mul, three, recomposeOf}
+use Rattle.numbers.specs.declared.Elementary.the-variants as elementary
+use Rattle.exponential.specs.Worked.{expOf}
+use Rattle.exponential.specs.Exp.{expRanged}
+use Rattle.logarithm.specs.Worked.{lnOf}
+use Rattle.logarithm.specs.Ln.{lnRanged}
+use Rattle.tensor.specs.Matrix.{recomposeOf}
 use Rattle.tensor.specs.Finite.{rowFinite, matFinite}
+use Rattle.law.specs.State.{refused}
+use Rattle.law.specs.declared.Outcome.the-variants.{Stored}
 use Rattle.law.specs.declared.State.{State}
 use Rattle.plasticity_rankine.specs.declared.Branch.{Branch}
-use Rattle.plasticity_rankine.specs.declared.Branch.the-variants.{Untouched, One, Two, All, Refused}
+use Rattle.plasticity_rankine.specs.declared.Branch.the-variants as branch
 use Rattle.plasticity_rankine.specs.declared.RankinePlasticity.{RankinePlasticity}
 use Rattle.plasticity_rankine.specs.declared.Sorted.{Sorted}
-use Rattle.plasticity_rankine.specs.declared.Triple.{Triple}
-use Rattle.plasticity_rankine.specs.declared.Triple.the-variants as triple
-use Rattle.plasticity_rankine.specs.Projection.{firstSide, secondSide, thirdSide, tested, lastChoice, nextChoice, choiceOf, projectedOf}
-use Rattle.plasticity_rankine.specs.Rankine.{joinedOf, logsOf, expsOf, softStrengthOf, grownOf, squaresOf, hardeningOf, rankineFinish, rankineMoved, rankineBranch, rankineLogged, rankineRun}
-use Rattle.refusals.proofs.Late as late
-use Rattle.refusals.proofs.Late.{Later, LateE, value, no, LateU, untouched, stored, refused, either, exp-late, ln-late, sqrt-late}
-
-data LateT : Triple → Type 0 where
-  values : {x y z : Float} → LateT (triple.Values x y z)
-  not : {n : ℕ} → Later n → LateT (triple.Refused n)
-
-joined : {a b c : Elementary} → LateE a → LateE b → LateE c → LateT (joinedOf a b c)
-joined value value value = values
-joined value value (no l) = not l
-joined value (no l) c = not l
-joined (no l) b c = not l
-
-logs : (s : List Float) → LateT (logsOf s)
-unfolding logsOf
-logs s = joined (ln-late (getD s 0 nan)) (ln-late (getD s 1 nan)) (ln-late (getD s 2 nan))
-
-exps : (e : List Float) → LateT (expsOf e)
-unfolding expsOf
-exps e = joined (exp-late (getD e 0 nan)) (exp-late (getD e 1 nan)) (exp-late (getD e 2 nan))
-
-data LateB : Branch → Type 0 where
-  stays : {x y : Float} → LateB (Untouched x y)
-  one : {x y : Float} → LateB (One x y)
-  two : {x y : Float} → LateB (Two x y)
-  all : {x y : Float} → LateB (All x y)
-  none : {n : ℕ} → Later n → LateB (Refused n)
-
-test : (x s : Float) {a b : Branch} → LateB a → LateB b → LateB (tested x s a b)
-test x s a b = either LateB (isNumber x) (either LateB (Ieee.le x s) a b) (none late.three)
-
-module _ (p : RankinePlasticity) where
-  last : (s c : Float) → LateB (lastChoice p s c)
-  unfolding lastChoice
-  last s c = test (thirdSide p c) s two all
-
-  next : (s S : Float) (r : Sorted) → LateB (nextChoice p s S r)
-  unfolding nextChoice
-  next s S r = test (secondSide p S (r .high) (r .mid)) s one (last s (r .low))
-
-  choice : (s S : Float) (r : Sorted) → LateB (choiceOf p s S r)
-  unfolding choiceOf
-  choice s S r = test (firstSide p S (r .high)) s stays (next s S r)
-
-  projected : (e : List Float) (s : Float) → LateB (projectedOf p e s .branch)
-  unfolding projectedOf
-  projected e s = choice s _ _
-
-  grown : (h : Float) {e : Elementary} → LateE e → LateE (grownOf p h e)
-  grown h (value {x = norm}) = either LateE (isNumber (add h (mul (p .«softening_rate») norm))) value (no late.three)
-  grown h (no l) = no l
-
-  hardening : (h : Float) (old new : List Float) → LateE (hardeningOf p h old new)
-  unfolding hardeningOf
-  hardening h old new = grown h (sqrt-late (squaresOf old new))
+use Rattle.plasticity_rankine.specs.Projection.{firstSide, secondSide, thirdSide, lastChoice, nextChoice, choiceOf, projectedOf}
+use Rattle.plasticity_rankine.specs.Rankine as rankine
+use Rattle.plasticity_rankine.specs.Rankine.{joinedOf, logsOf, softStrengthOf, grownOf, squaresOf, hardeningOf, stateOf, rankineFinish, rankineMoved, rankineBranch, rankineLogged, rankineRun}
+use Rattle.refusals.specs.Path.{Met, number, all-finite, exp, ln, at, exps, lnsOf, expsOf}
+use Rattle.refusals.specs.RankinePath.{grown, movedPath, testsPath, rankinePath}
+use Rattle.refusals.proofs.First.{firstOf, refusalOf}
+use Rattle.refusals.proofs.Walk.{exp-met, ln-met, root-met, number-met, finite-met, either-met, same-met}
 
 module _ (p : RankinePlasticity) (u vt : List (List Float)) (s : State) where
-  finished : {e : Elementary} {t : Triple} → LateE e → LateT t → LateU (rankineFinish e t u vt s)
-  finished (value {x = h}) (values {x} {y} {z}) =
-      either LateU (matFinite (recomposeOf u (three x y z) vt) && rowFinite (three x y z) && finite h) stored (refused late.three)
-  finished value (not l) = refused l
-  finished (no l) t = refused l
+  abbrev lnAt : List Float → ℕ → Elementary
+  lnAt v i = onPath (at v i) (lnRanged (at v i))
 
-  moved : (old new : List Float) → LateU (rankineMoved p old new u vt s)
-  unfolding rankineMoved
-  moved old new = finished (hardening p (s .«plastic_hardening») old new) (exps new)
+  abbrev expAt : List Float → ℕ → Elementary
+  expAt v i = onPath (at v i) (expRanged (at v i))
 
-  by-branch : {b : Branch} → LateB b → (old new : List Float) → LateU (rankineBranch b p old new u vt s)
-  by-branch stays old new = untouched
-  by-branch one old new = moved old new
-  by-branch two old new = moved old new
-  by-branch all old new = moved old new
-  by-branch (none l) old new = refused l
+  moved-met : (old new : List Float) → refusalOf (rankineMoved p old new u vt s .outcome) ≡ firstOf (movedPath p old new u vt s)
+  unfolding rankineMoved hardeningOf rankine.expsOf movedPath firstOf
+  moved-met old new =
+      let y = grown p old new s in
+      let h = minOf y (p .«tensile_strength») in
+      let f = recomposeOf u (expsOf new) vt in
+      let ok = matFinite f && rowFinite (expsOf new) && finite h in
+      let x0 = elementary.Value (expOf (at new 0)) in
+      let x1 = elementary.Value (expOf (at new 1)) in
+      let end = all-finite ok ∷ [] in
+      root-met (λ e. refusalOf (rankineFinish (grownOf p (s .«plastic_hardening») e) (rankine.expsOf new) u vt s .outcome)) (λ n. refl)
+      (squaresOf old new) (number y ∷ exps new end)
+      (number-met (λ e. refusalOf (rankineFinish e (rankine.expsOf new) u vt s .outcome)) y (elementary.Value h) (elementary.Refused 3) (exps new end)
+      (exp-met (λ e. refusalOf (rankineFinish (elementary.Value h) (joinedOf e (expAt new 1) (expAt new 2)) u vt s .outcome)) (λ n. refl) (at new 0)
+      (exp (at new 1) ∷ exp (at new 2) ∷ end)
+      (exp-met (λ e. refusalOf (rankineFinish (elementary.Value h) (joinedOf x0 e (expAt new 2)) u vt s .outcome)) (λ n. refl) (at new 1)
+      (exp (at new 2) ∷ end)
+      (exp-met (λ e. refusalOf (rankineFinish (elementary.Value h) (joinedOf x0 x1 e) u vt s .outcome)) (λ n. refl) (at new 2) end
+      (finite-met (λ v. refusalOf (v .outcome)) ok (record { state = stateOf f (expsOf new) h s; outcome = Stored h }) (refused 3 s) [] refl refl))))
+      refl)
 
-  logged : {t : Triple} → LateT t → LateU (rankineLogged t p u vt s)
-  unfolding rankineLogged
-  logged (values {x} {y} {z}) =
-      let h = softStrengthOf p (s .«plastic_hardening») in
-      by-branch (projected p (three x y z) h) (three x y z) (projectedOf p (three x y z) h .strains)
-  logged (not l) = refused l
+  module _ (old new : List Float) (t S : Float) (r : Sorted) where
+    abbrev F : Branch → Option ℕ
+    F b = refusalOf (rankineBranch b p old new u vt s .outcome)
 
-  pub rankine-late : LateU (rankineRun p u vt s)
-  rankine-late = logged (logs (s .sigma))
+    ms : List Met
+    ms = movedPath p old new u vt s
+
+    tests-met : F (choiceOf p t S r) ≡ firstOf (testsPath p t S r (movedPath p old new u vt s))
+    unfolding choiceOf nextChoice lastChoice testsPath firstOf ms
+    tests-met =
+        let a = firstSide p S (r .high) in
+        let b = secondSide p S (r .high) (r .mid) in
+        let c = thirdSide p (r .low) in
+        let m = moved-met old new in
+        let rest = cond (Ieee.le b t) ms (number c ∷ ms) in
+        let last = cond (Ieee.le c t) (branch.Two c t) (branch.All c t) in
+        number-met F a (cond (Ieee.le a t) (branch.Untouched a t) (nextChoice p t S r)) (branch.Refused 3) (cond (Ieee.le a t) [] (number b ∷ rest))
+        (either-met F (Ieee.le a t) (branch.Untouched a t) (nextChoice p t S r) [] (number b ∷ rest) refl
+        (number-met F b (cond (Ieee.le b t) (branch.One b t) (lastChoice p t (r .low))) (branch.Refused 3) rest
+        (either-met F (Ieee.le b t) (branch.One b t) (lastChoice p t (r .low)) ms (number c ∷ ms) m
+        (number-met F c last (branch.Refused 3) ms (same-met F (Ieee.le c t) (branch.Two c t) (branch.All c t) ms m m) refl)) refl)) refl
+
+  pub rankine-met : refusalOf (rankineRun p u vt s .outcome) ≡ firstOf (rankinePath p u vt s)
+  unfolding rankineLogged logsOf projectedOf rankinePath
+  rankine-met =
+      let v = s .sigma in
+      let e = lnsOf v in
+      let soft = softStrengthOf p (s .«plastic_hardening») in
+      let new = projectedOf p e soft .strains in
+      let x0 = elementary.Value (lnOf (at v 0)) in
+      let x1 = elementary.Value (lnOf (at v 1)) in
+      let rest = testsPath p soft _ _ (movedPath p e new u vt s) in
+      ln-met (λ a. refusalOf (rankineLogged (joinedOf a (lnAt v 1) (lnAt v 2)) p u vt s .outcome)) (λ n. refl) (at v 0) (ln (at v 1) ∷ ln (at v 2) ∷ rest)
+      (ln-met (λ a. refusalOf (rankineLogged (joinedOf x0 a (lnAt v 2)) p u vt s .outcome)) (λ n. refl) (at v 1) (ln (at v 2) ∷ rest)
+      (ln-met (λ a. refusalOf (rankineLogged (joinedOf x0 x1 a) p u vt s .outcome)) (λ n. refl) (at v 2) rest
+      (tests-met e new soft _ _)))

@@ -14,7 +14,7 @@ use Rattle.record.specs.Layout.{floats}
 use Rattle.particles.specs.Model.{recordLaw}
 use Rattle.particles.specs.Judged.{failureLaw, failedAt}
 use Rattle.particles.specs.Pass.{counts, failures, withFailures}
-use Rattle.refusals.specs.Refusals.{Input, FailureInput, Bare, Section6}
+use Rattle.refusals.specs.Refusals.{Input, FailureInput, pathOf, failurePath, Bare, Section6}
 use Rattle.refusals.proofs.Gates.{law-refuses}
 use Rattle.refusals.proofs.Failure.{failure-refuses}
 use Rattle.refusals.proofs.Passes.{pass-eight, failure-eight, pass-refuses}
@@ -57,11 +57,11 @@ section-6 =
       law = law-refuses;
       failure-law = failure-refuses;
       the-pass = λ m xs out.
-          pass-refuses (recordLaw m) (Input m) _ xs out (law-refuses m) (pass-eight (counts (recordLaw m) xs (length xs / floats)) xs out);
+          pass-refuses (recordLaw m) (Input m) (pathOf m) _ xs out (law-refuses m) (pass-eight (counts (recordLaw m) xs (length xs / floats)) xs out);
       the-pass-with-failure = λ m l e xs out.
           let law = failureLaw m l e in
           let k = length xs / floats in
-          pass-refuses law (FailureInput m l e) _ xs out (failure-refuses m l e)
+          pass-refuses law (FailureInput m l e) (failurePath m l e) _ xs out (failure-refuses m l e)
           (failure-eight (withFailures (counts law xs k) (failures (failedAt m l e) xs k)) xs out);
       call = bare-refuses;
     }

@@ -1,1 +1,6 @@
+pub mod Path
+pub mod SnowPath
+pub mod RankinePath
+pub mod DruckerPragerPath
+pub mod NaccPath
 pub mod Refusals
