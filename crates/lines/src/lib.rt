@@ -4,6 +4,10 @@ mod whole;
 use libc::STDOUT_FILENO;
 pub use whole::Input;
 pub use whole::read_whole;
+ghost use mathlib.Core.Path.{_≡_};
+ghost use mathlib.Core.Bool.{false};
+ghost use Prim.Native.Nat.{_<_};
+ghost use lib.ListN.{length};
 
 // One particle's line; whether all of it was written.
 fn print_line(i: usize, code: u64, value: u64) -> bool {
@@ -54,7 +58,9 @@ fn print_refused(refusal: u8) -> bool {
 }
 
 // Runs the sheet in the first n bytes of the room and prints it; whether all of it was written.
-pub fn print_answer(room: &[u8], n: usize) -> bool {
+pub fn print_answer(room: &[u8], n: usize) -> bool
+    ensures { λ r. ⌜ (length (now (room .entry)) < n → r ≡ false) ⌝ }
+{
     if room.len() < n {
         return false;
     }
