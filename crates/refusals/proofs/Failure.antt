@@ -3,6 +3,7 @@ use mathlib.Core.Path.{_≡_, refl, sym, ap, subst, _∙_}
 use mathlib.Core.Logic.{_⊎_, inl, inr, ⊎-elim, _↔_}
 use mathlib.Core.Bool.{Bool, true, false, cond, _&&_, false≢true}
 use mathlib.Core.List.{List, [], _∷_}
+use mathlib.Core.Option.{Option}
 use Prim.Native.Nat.{ℕ, zero, suc}
 use lib.ListN.{getD, set}
 use lib.Ieee.{Float, binary64, ofBits, toBits}
@@ -26,7 +27,8 @@ use Rattle.refusals.specs.Path.{Met, all-finite}
 use Rattle.refusals.specs.Refusals.{FailureInput, RecordNotFinite, pathOf, stressesOf, failurePath, Refuses}
 use Rattle.refusals.proofs.First.{firstOf, refusalOf}
 use Rattle.refusals.proofs.Inputs.{one-fails, left-fails, right-fails, no-both, decide, inputs-hold, places, inputs, limits}
-use Rattle.refusals.proofs.Gates.{Gated, runs, stops, record-gate, gate-refuses}
+use Rattle.refusals.proofs.Gate.{Gated, runs, stops, gated}
+use Rattle.refusals.proofs.Updates.{record-gate, outcome-numbers}
 
 -- ---- the record with phase 0.0
 zero-finite : finite (ofBits binary64 (bits matrix.zero)) ≡ true
@@ -57,7 +59,7 @@ both : (a b : Bool) → a ≡ true → b ≡ true → a && b ≡ true
 both true b p q = q
 both false b p q = p
 
-after-gate : {ok : Bool} {path : List Met} {o : Outcome} → Gated ok path o → ok ≡ true → refusalOf o ≡ firstOf path
+after-gate : {ok : Bool} {path : List Met} {o : Option ℕ} → Gated ok path o → ok ≡ true → o ≡ firstOf path
 after-gate (runs t l) q = l
 after-gate {ok} (stops f e) q = absurd (no-both ok q f)
 
@@ -77,7 +79,7 @@ module _ (m : Model) (r : List ℕ) where
   judged false row over q e f = absurd (false≢true q)
 
   first : (j : Bool) (v : Verdict) (path : List Met) → (j ≡ true → refusalOf (byVerdict v m r .outcome) ≡ firstOf path)
-      → Gated j path (byVerdict (cond j v (Refused 1)) m r .outcome)
+      → Gated j path (refusalOf (byVerdict (cond j v (Refused 1)) m r .outcome))
   first true v path f = runs refl (f refl)
   first false v path f = stops refl refl
 
@@ -85,7 +87,7 @@ module _ (m : Model) (l : MaximumStressFailure) (e : CorotatedLinearElasticity) 
   ok : Bool
   ok = judgedInputs m l e (uAt r) (vtAt r) (stateAt r)
 
-  gate : Gated ok (failurePath m l e r) (failureLaw m l e r .outcome)
+  gate : Gated ok (failurePath m l e r) (refusalOf (failureLaw m l e r .outcome))
   unfolding failureLaw judgedAt judgedOf verdictOf ok
   gate = first m r ok (verdictOn l (stressesOf e r)) (failurePath m l e r) run
     where
@@ -118,4 +120,4 @@ module _ (m : Model) (l : MaximumStressFailure) (e : CorotatedLinearElasticity) 
       back (inr s) = same ∙ right-fails (limitsFinite l && lawFinite e) (modelFinite m && test r) (inputs m r .1 s)
 
   pub failure-refuses : Refuses (failureLaw m l e r .outcome) (FailureInput m l e r) (failurePath m l e r)
-  failure-refuses = gate-refuses gate all
+  failure-refuses = outcome-numbers (failureLaw m l e r .outcome) gate all

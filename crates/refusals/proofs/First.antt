@@ -23,7 +23,7 @@ refusalOf Untouched = none
 refusalOf (Stored a) = none
 refusalOf (Refused n) = some n
 
-differ : {m n : ℕ} → some m ≡ some n → m ≡ n
+pub differ : {m n : ℕ} → some m ≡ some n → m ≡ n
 differ e = cc
 
 nothing : (n : ℕ) → _≡_ {A = Option ℕ} none (some n) → ⊥

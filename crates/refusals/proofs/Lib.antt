@@ -5,7 +5,8 @@ pub mod Rankine
 pub mod DruckerPrager
 pub mod Nacc
 pub mod Inputs
-pub mod Gates
+pub mod Gate
+pub mod Updates
 pub mod Failure
 pub mod Passes
 pub mod Table

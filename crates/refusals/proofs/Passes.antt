@@ -24,6 +24,7 @@ use Rattle.particles.specs.Pass.{Worked, codeOf, valueOf, recordAt, answers, we
 use Rattle.particles.proofs.PassLaws.{answers-length}
 use Rattle.refusals.specs.Path.{Met}
 use Rattle.refusals.specs.Refusals.{Refuses, Answers, Sized, Eight, Pass}
+use Rattle.refusals.proofs.Gate.{transfer}
 use Rattle.refusals.proofs.Inputs.{no-both, decide}
 
 -- ---- the lengths
@@ -119,13 +120,7 @@ answered o n = (λ p. refused-by o (p .0) ∙ ap Refused (p .1), λ e. (ap codeO
 
 answers-of : {bad : Type 0} {path : List Met} (o : Outcome) → Refuses o bad path → (a : List ℕ) (i : ℕ)
     → getD a (i * 2) 0 ≡ codeOf o → getD a (i * 2 + 1) 0 ≡ valueOf o → Answers a i bad path
-answers-of {bad} {path} o r a i c v =
-    record {
-      one = (λ p. r .one .0 (to 1 p), λ b. from 1 (r .one .1 b));
-      two = (λ p. r .two .0 (to 2 p), λ b. from 2 (r .two .1 b));
-      three = (λ p. r .three .0 (to 3 p), λ b. from 3 (r .three .1 b));
-      only = λ n p. r .only n (to n p);
-    }
+answers-of o r a i c v = transfer (λ n. (to n, from n)) r
   where
     to : (n : ℕ) → (getD a (i * 2) 0 ≡ 2) × (getD a (i * 2 + 1) 0 ≡ n) → o ≡ Refused n
     to n p = answered o n .0 (sym c ∙ p .0, sym v ∙ p .1)

@@ -15,7 +15,7 @@ use Rattle.particles.specs.Model.{recordLaw}
 use Rattle.particles.specs.Judged.{failureLaw, failedAt}
 use Rattle.particles.specs.Pass.{counts, failures, withFailures}
 use Rattle.refusals.specs.Refusals.{Input, FailureInput, pathOf, failurePath, Bare, Section6}
-use Rattle.refusals.proofs.Gates.{law-refuses}
+use Rattle.refusals.proofs.Updates.{law-refuses}
 use Rattle.refusals.proofs.Failure.{failure-refuses}
 use Rattle.refusals.proofs.Passes.{pass-eight, failure-eight, pass-refuses}
 
