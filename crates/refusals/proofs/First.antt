@@ -10,12 +10,13 @@ use Rattle.numbers.specs.Rules.{isNumber}
 use Rattle.numbers.specs.Range.{inRange}
 use Rattle.law.specs.declared.Outcome.{Outcome}
 use Rattle.law.specs.declared.Outcome.the-variants.{Untouched, Stored, Refused}
-use Rattle.refusals.specs.Path.{Met, argument, number, all-finite, Passes, Outside, Arises, Stops}
+use Rattle.refusals.specs.Path.{Met, argument, number, all-numbers, all-finite, Passes, Outside, Arises, Stops}
 
 unfoldable pub firstOf : List Met → Option ℕ
 firstOf [] = none
 firstOf (argument low high x ∷ ms) = cond (isNumber x) (cond (inRange low high x) (firstOf ms) (some 2)) (some 3)
 firstOf (number x ∷ ms) = cond (isNumber x) (firstOf ms) (some 3)
+firstOf (all-numbers b ∷ ms) = cond b (firstOf ms) (some 3)
 firstOf (all-finite b ∷ ms) = cond b (firstOf ms) (some 3)
 
 abbrev pub refusalOf : Outcome → Option ℕ
@@ -94,6 +95,7 @@ unfolding firstOf
 first-two [] = (nothing 2, λ q. absurd q)
 first-two (argument low high x ∷ ms) = argument-two (firstOf ms) (isNumber x) (inRange low high x) (first-two ms)
 first-two (number x ∷ ms) = test-two (firstOf ms) (isNumber x) (first-two ms)
+first-two (all-numbers b ∷ ms) = test-two (firstOf ms) b (first-two ms)
 first-two (all-finite b ∷ ms) = test-two (firstOf ms) b (first-two ms)
 
 pub first-three : (ms : List Met) → (firstOf ms ≡ some 3) ↔ Stops Arises ms
@@ -101,6 +103,7 @@ unfolding firstOf
 first-three [] = (nothing 3, λ q. absurd q)
 first-three (argument low high x ∷ ms) = argument-three (firstOf ms) (isNumber x) (inRange low high x) (first-three ms)
 first-three (number x ∷ ms) = test-three (firstOf ms) (isNumber x) (first-three ms)
+first-three (all-numbers b ∷ ms) = test-three (firstOf ms) b (first-three ms)
 first-three (all-finite b ∷ ms) = test-three (firstOf ms) b (first-three ms)
 
 -- ---- no other number
@@ -121,6 +124,7 @@ unfolding firstOf
 first-later [] n e = absurd (nothing n e)
 first-later (argument low high x ∷ ms) n e = argument-later (firstOf ms) (isNumber x) (inRange low high x) (first-later ms) n e
 first-later (number x ∷ ms) n e = test-later (firstOf ms) (isNumber x) (first-later ms) n e
+first-later (all-numbers b ∷ ms) n e = test-later (firstOf ms) b (first-later ms) n e
 first-later (all-finite b ∷ ms) n e = test-later (firstOf ms) b (first-later ms) n e
 
 -- ---- an outcome's number

@@ -10,3 +10,4 @@ pub mod Updates
 pub mod Failure
 pub mod Passes
 pub mod Table
+pub mod Calls

@@ -3,7 +3,7 @@ use mathlib.Core.Path.{_≡_, refl}
 use mathlib.Core.Bool.{Bool, true, false, cond, _&&_}
 use mathlib.Core.List.{List, _∷_}
 use mathlib.Core.Option.{Option, some, none}
-use Prim.Native.Nat.{ℕ}
+use Prim.Native.Nat.{ℕ, suc}
 use lib.Ieee.{Float}
 use Rattle.numbers.specs.Rules.{isNumber}
 use Rattle.numbers.specs.Range.{inRange, ranged, onPath}
@@ -18,15 +18,15 @@ use Rattle.sine.specs.Sine as sine
 use Rattle.exact.specs.RootOf.{sqrtOf}
 use Rattle.square_root.specs.Sqrt as square-root
 use Rattle.thirds.specs.Thirds as thirds
-use Rattle.refusals.specs.Path.{Met, argument, number, all-finite, exp, sinh, ln, sin, root, thirdPower}
+use Rattle.refusals.specs.Path.{Met, argument, number, all-numbers, all-finite, exp, sinh, ln, sin, root, thirdPower}
 use Rattle.refusals.proofs.First.{firstOf}
 
 -- F is what the law makes of an answer: a refusal is handed on, and with the value v it meets ms
-module _ (F : Elementary → Option ℕ) (on : (n : ℕ) → F (Refused n) ≡ some n) where
+module _ (F : Elementary → Option ℕ) (on : (n : ℕ) → F (Refused (suc n)) ≡ some (suc n)) where
   asked : (a b : Bool) (v : Float) (o : Option ℕ) → F (Value v) ≡ o → F (cond a (cond b (Value v) (Refused 2)) (Refused 3)) ≡ cond a (cond b o (some 2)) (some 3)
   asked true true v o e = e
-  asked true false v o e = on 2
-  asked false b v o e = on 3
+  asked true false v o e = on 1
+  asked false b v o e = on 2
 
   argument-met : (low high x v : Float) (ms : List Met) → F (Value v) ≡ firstOf ms → F (onPath x (ranged low high x v)) ≡ firstOf (argument low high x ∷ ms)
   unfolding firstOf
@@ -49,6 +49,9 @@ module _ (F : Elementary → Option ℕ) (on : (n : ℕ) → F (Refused n) ≡ s
 
   pub cbrt-met : (x : Float) (ms : List Met) → F (Value (thirds.cbrtOf x)) ≡ firstOf ms → F (onPath x (thirds.cbrtRanged x)) ≡ firstOf (thirdPower x ∷ ms)
   cbrt-met x ms e = argument-met thirds.low thirds.high x (thirds.cbrtOf x) ms e
+
+  pub inv-cbrt-met : (x : Float) (ms : List Met) → F (Value (thirds.invCbrtOf x)) ≡ firstOf ms → F (onPath x (thirds.invCbrtRanged x)) ≡ firstOf (thirdPower x ∷ ms)
+  inv-cbrt-met x ms e = argument-met thirds.low thirds.high x (thirds.invCbrtOf x) ms e
 
   pub cbrt-squared-met : (x : Float) (ms : List Met) → F (Value (thirds.cbrtSquaredOf x)) ≡ firstOf ms
       → F (onPath x (thirds.cbrtSquaredRanged x)) ≡ firstOf (thirdPower x ∷ ms)
@@ -101,3 +104,14 @@ module _ {A : Type 0} (F : A → Option ℕ) where
       → F (cond (isNumber x && isNumber y && isNumber z) X Y) ≡ firstOf (number x ∷ number y ∷ number z ∷ ms)
   unfolding firstOf
   three-met x y z X Y ms e f = all-three (isNumber x) (isNumber y) (isNumber z) X Y (firstOf ms) e f
+
+  -- a number and a matrix, a number and two matrices
+  pub matrix-met : (x : Float) (b : Bool) (X Y : A) (ms : List Met) → F X ≡ firstOf ms → F Y ≡ some 3
+      → F (cond (isNumber x && b) X Y) ≡ firstOf (number x ∷ all-numbers b ∷ ms)
+  unfolding firstOf
+  matrix-met x b X Y ms e f = both (isNumber x) b X Y (firstOf ms) e f
+
+  pub matrices-met : (x : Float) (b c : Bool) (X Y : A) (ms : List Met) → F X ≡ firstOf ms → F Y ≡ some 3
+      → F (cond (isNumber x && b && c) X Y) ≡ firstOf (number x ∷ all-numbers b ∷ all-numbers c ∷ ms)
+  unfolding firstOf
+  matrices-met x b c X Y ms e f = all-three (isNumber x) b c X Y (firstOf ms) e f

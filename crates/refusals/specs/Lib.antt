@@ -4,3 +4,4 @@ pub mod RankinePath
 pub mod DruckerPragerPath
 pub mod NaccPath
 pub mod Refusals
+pub mod Calls

@@ -23,24 +23,29 @@ pub data Met : Type 0 where
   argument : (low high x : Float) → Met
   -- a number that a test, a minimum or a branch would lose, were it a NaN
   number : Float → Met
+  -- whether no entry of a matrix is a NaN
+  all-numbers : Bool → Met
   -- whether all moduli, stresses or results are finite
   all-finite : Bool → Met
 
 abbrev pub Passes : Met → Type 0
 Passes (argument low high x) = (isNumber x ≡ true) × (inRange low high x ≡ true)
 Passes (number x) = isNumber x ≡ true
+Passes (all-numbers b) = b ≡ true
 Passes (all-finite b) = b ≡ true
 
 -- 2: "an elementary function on the path taken would get an argument outside section 3's range"
 abbrev pub Outside : Met → Type 0
 Outside (argument low high x) = (isNumber x ≡ true) × (inRange low high x ≡ false)
 Outside (number x) = ⊥
+Outside (all-numbers b) = ⊥
 Outside (all-finite b) = ⊥
 
 -- 3: "a NaN arises on the path taken .., or a number to be returned or stored, a modulus or a principal stress isn't finite"
 abbrev pub Arises : Met → Type 0
 Arises (argument low high x) = isNumber x ≡ false
 Arises (number x) = isNumber x ≡ false
+Arises (all-numbers b) = b ≡ false
 Arises (all-finite b) = b ≡ false
 
 -- all before it passes, and then F is met
