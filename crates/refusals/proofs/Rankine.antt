@@ -2,7 +2,7 @@
 use mathlib.Core.Path.{_≡_, refl}
 use mathlib.Core.Bool.{Bool, cond, _&&_}
 use mathlib.Core.List.{List, [], _∷_}
-use mathlib.Core.Option.{Option}
+use mathlib.Core.Option.{Option, some}
 use Prim.Native.Nat.{ℕ}
 use lib.Ieee as Ieee
 use lib.Ieee.{Float}
@@ -30,6 +30,23 @@ use Rattle.refusals.specs.Path.{Met, number, all-finite, exp, ln, at, ex
 use Rattle.refusals.specs.RankinePath.{grown, movedPath, testsPath, rankinePath}
 use Rattle.refusals.proofs.First.{firstOf, refusalOf}
 use Rattle.refusals.proofs.Walk.{exp-met, ln-met, root-met, number-met, finite-met, either-met, same-met}
+
+-- the tests, of what F makes of a branch: the strains stay, or they move and meet ms
+pub tests-met : (p : RankinePlasticity) (F : Branch → Option ℕ) (ms : List Met) → ((x y : Float) → F (branch.Untouched x y) ≡ firstOf [])
+    → ((x y : Float) → F (branch.One x y) ≡ firstOf ms) → ((x y : Float) → F (branch.Two x y) ≡ firstOf ms) → ((x y : Float) → F (branch.All x y) ≡ firstOf ms)
+    → F (branch.Refused 3) ≡ some 3 → (t S : Float) (r : Sorted) → F (choiceOf p t S r) ≡ firstOf (testsPath p t S r ms)
+unfolding choiceOf nextChoice lastChoice testsPath
+tests-met p F ms stays one two all on t S r =
+    let a = firstSide p S (r .high) in
+    let b = secondSide p S (r .high) (r .mid) in
+    let c = thirdSide p (r .low) in
+    let rest = cond (Ieee.le b t) ms (number c ∷ ms) in
+    let last = cond (Ieee.le c t) (branch.Two c t) (branch.All c t) in
+    number-met F a (cond (Ieee.le a t) (branch.Untouched a t) (nextChoice p t S r)) (branch.Refused 3) (cond (Ieee.le a t) [] (number b ∷ rest))
+    (either-met F (Ieee.le a t) (branch.Untouched a t) (nextChoice p t S r) [] (number b ∷ rest) (stays a t)
+    (number-met F b (cond (Ieee.le b t) (branch.One b t) (lastChoice p t (r .low))) (branch.Refused 3) rest
+    (either-met F (Ieee.le b t) (branch.One b t) (lastChoice p t (r .low)) ms (number c ∷ ms) (one b t)
+    (number-met F c last (branch.Refused 3) ms (same-met F (Ieee.le c t) (branch.Two c t) (branch.All c t) ms (two c t) (all c t)) on)) on)) on
 
 module _ (p : RankinePlasticity) (u vt : List (List Float)) (s : State) where
   abbrev lnAt : List Float → ℕ → Elementary
@@ -59,27 +76,12 @@ module _ (p : RankinePlasticity) (u vt : List (List Float)) (s : State) where
       (finite-met (λ v. refusalOf (v .outcome)) ok (record { state = stateOf f (expsOf new) h s; outcome = Stored h }) (refused 3 s) [] refl refl))))
       refl)
 
-  module _ (old new : List Float) (t S : Float) (r : Sorted) where
-    abbrev F : Branch → Option ℕ
-    F b = refusalOf (rankineBranch b p old new u vt s .outcome)
-
-    ms : List Met
-    ms = movedPath p old new u vt s
-
-    tests-met : F (choiceOf p t S r) ≡ firstOf (testsPath p t S r (movedPath p old new u vt s))
-    unfolding choiceOf nextChoice lastChoice testsPath firstOf ms
-    tests-met =
-        let a = firstSide p S (r .high) in
-        let b = secondSide p S (r .high) (r .mid) in
-        let c = thirdSide p (r .low) in
-        let m = moved-met old new in
-        let rest = cond (Ieee.le b t) ms (number c ∷ ms) in
-        let last = cond (Ieee.le c t) (branch.Two c t) (branch.All c t) in
-        number-met F a (cond (Ieee.le a t) (branch.Untouched a t) (nextChoice p t S r)) (branch.Refused 3) (cond (Ieee.le a t) [] (number b ∷ rest))
-        (either-met F (Ieee.le a t) (branch.Untouched a t) (nextChoice p t S r) [] (number b ∷ rest) refl
-        (number-met F b (cond (Ieee.le b t) (branch.One b t) (lastChoice p t (r .low))) (branch.Refused 3) rest
-        (either-met F (Ieee.le b t) (branch.One b t) (lastChoice p t (r .low)) ms (number c ∷ ms) m
-        (number-met F c last (branch.Refused 3) ms (same-met F (Ieee.le c t) (branch.Two c t) (branch.All c t) ms m m) refl)) refl)) refl
+  branch-met : (old new : List Float) (t S : Float) (r : Sorted)
+      → refusalOf (rankineBranch (choiceOf p t S r) p old new u vt s .outcome) ≡ firstOf (testsPath p t S r (movedPath p old new u vt s))
+  unfolding firstOf
+  branch-met old new t S r =
+      let m = moved-met old new in
+      tests-met p (λ b. refusalOf (rankineBranch b p old new u vt s .outcome)) (movedPath p old new u vt s) (λ x y. refl) (λ x y. m) (λ x y. m) (λ x y. m) refl t S r
 
   pub rankine-met : refusalOf (rankineRun p u vt s .outcome) ≡ firstOf (rankinePath p u vt s)
   unfolding rankineLogged logsOf projectedOf rankinePath
@@ -94,4 +96,4 @@ module _ (p : RankinePlasticity) (u vt : List (List Float)) (s : State) where
       ln-met (λ a. refusalOf (rankineLogged (joinedOf a (lnAt v 1) (lnAt v 2)) p u vt s .outcome)) (λ n. refl) (at v 0) (ln (at v 1) ∷ ln (at v 2) ∷ rest)
       (ln-met (λ a. refusalOf (rankineLogged (joinedOf x0 a (lnAt v 2)) p u vt s .outcome)) (λ n. refl) (at v 1) (ln (at v 2) ∷ rest)
       (ln-met (λ a. refusalOf (rankineLogged (joinedOf x0 x1 a) p u vt s .outcome)) (λ n. refl) (at v 2) rest
-      (tests-met e new soft _ _)))
+      (branch-met e new soft _ _)))

@@ -32,34 +32,42 @@ movedPath p sigma dq u vt s =
     number d ∷ ln prev ∷ ln new
     ∷ all-finite (matFinite (recomposeOf u sigma vt) && rowFinite sigma && finite d && finite (add (s .«plastic_hardening») dq) && finite gain) ∷ []
 
+-- ---- the projection: `moved` follows where sigma is new, `inside` where it is as it came
+abbrev pub Moved : Type 0
+Moved = List Float → Float → List Met
+
 -- "sigma all ones, dq the norm of the strain"
-unfoldable pub tipPath : DruckerPragerPlasticity → List Float → List (List Float) → List (List Float) → State → List Met
-tipPath p e u vt s = root (dotOf e e) ∷ movedPath p (three one one one) (normOf e) u vt s
+unfoldable pub tipPath : List Float → Moved → List Met
+tipPath e moved = root (dotOf e e) ∷ moved (three one one one) (normOf e)
 
 -- back to the cone: the entries are worked before the first exponential
-unfoldable pub surfacePath : DruckerPragerPlasticity → List Float → Float → List (List Float) → List (List Float) → State → List Met
-surfacePath p back gamma u vt s = number (dotOf back back) ∷ exps back (movedPath p (expsOf back) gamma u vt s)
+unfoldable pub surfacePath : List Float → Float → Moved → List Met
+surfacePath back gamma moved = number (dotOf back back) ∷ exps back (moved (expsOf back) gamma)
 
 -- "gamma <= 0: untouched"
-unfoldable pub yieldPath : DruckerPragerPlasticity → List Float → List Float → Float → Float → List (List Float) → List (List Float) → State → List Met
-yieldPath p e d trace alpha u vt s =
+unfoldable pub yieldPath : DruckerPragerPlasticity → List Float → List Float → Float → Float → List Met → Moved → List Met
+yieldPath p e d trace alpha inside moved =
     let gamma = gammaOf p (normOf d) trace alpha in
-    root (dotOf d d) ∷ number gamma ∷ cond (Ieee.le gamma zero) [] (surfacePath p (backOf e d gamma (normOf d)) gamma u vt s)
+    root (dotOf d d) ∷ number gamma ∷ cond (Ieee.le gamma zero) inside (surfacePath (backOf e d gamma (normOf d)) gamma moved)
 
 -- "Deviatoric part all zero, or trace > 0"
-unfoldable pub strainedPath : DruckerPragerPlasticity → List Float → Float → List (List Float) → List (List Float) → State → List Met
-strainedPath p e alpha u vt s =
+unfoldable pub strainedPath : DruckerPragerPlasticity → List Float → Float → List Met → Moved → List Met
+strainedPath p e alpha inside moved =
     let trace = sumOf e in
     let d = deviatoricOf e trace in
-    number (dotOf d d) ∷ cond (allZero d) (tipPath p e u vt s) (cond (Ieee.lt zero trace) (tipPath p e u vt s) (yieldPath p e d trace alpha u vt s))
+    number (dotOf d d) ∷ cond (allZero d) (tipPath e moved) (cond (Ieee.lt zero trace) (tipPath e moved) (yieldPath p e d trace alpha inside moved))
 
+unfoldable pub projectedPath : DruckerPragerPlasticity → List Float → Float → Float → List Met → Moved → List Met
+projectedPath p sigma gain alpha inside moved = lns sigma (strainedPath p (strainOf (lnsOf sigma) gain) alpha inside moved)
+
+-- ---- the update
 unfoldable pub slopedPath : DruckerPragerPlasticity → List (List Float) → List (List Float) → State → List Met
 slopedPath p u vt s =
     let q = s .«plastic_hardening» in
     let x = angleOf p q (expOf (decayOf p q)) in
     let alpha = slopeOf (sqrtOf (div two dim)) (sinOf x) in
-    exp (decayOf p q) ∷ sin x ∷ root (div two dim) ∷ number alpha ∷ lns (s .sigma)
-    (strainedPath p (strainOf (lnsOf (s .sigma)) (s .«log_gain»)) alpha u vt s)
+    exp (decayOf p q) ∷ sin x ∷ root (div two dim) ∷ number alpha
+    ∷ projectedPath p (s .sigma) (s .«log_gain») alpha [] (λ sigma dq. movedPath p sigma dq u vt s)
 
 -- "If only active when failed and phase isn't 0.0: untouched."
 unfoldable pub druckerPath : DruckerPragerPlasticity → List (List Float) → List (List Float) → State → List Met
