@@ -1,7 +1,8 @@
 -- Lists with an entry for each axis, however many axes. Sums and products go by rising index, from the left (document 01, section 4):
 -- nothing stands before the first entry, since 0.0 + -0.0 is no -0.0.
+use mathlib.Core.Bool.{Bool, true, _&&_}
 use mathlib.Core.Path.{_≡_, refl, ap, _∙_}
-use mathlib.Core.List.{List, [], _∷_, foldl}
+use mathlib.Core.List.{List, [], _∷_, foldl, map}
 use native.Mathlib.Omega.{arith}
 use lib.ListN.{length, getD}
 
@@ -9,6 +10,10 @@ use lib.ListN.{length, getD}
 abbrev pub fromLeft : {A : Type 0} → (A → A → A) → A → List A → A
 fromLeft f e [] = e
 fromLeft f e (x ∷ xs) = foldl f x xs
+
+-- whether the test holds of every entry
+abbrev pub allOf : {A : Type 0} → (A → Bool) → List A → Bool
+allOf t l = fromLeft _&&_ true (map t l)
 
 -- entry by entry
 abbrev pub pairwise : {A : Type 0} → (A → A → A) → List A → List A → List A
