@@ -1,6 +1,6 @@
 use borrow.Author.Needs.{needs}
-use Rattle.plasticity_drucker_prager.proofs.choice.norm.Statement.{statement}
-use Rattle.plasticity_drucker_prager.proofs.choice.norm.Tie as tie
+use Rattle.physics.proofs.norm.norm_on_path.Statement.{statement}
+use Rattle.physics.proofs.norm.norm_on_path.Tie as tie
 
 dot-requires : tie.Need-dot-requires
 dot-requires c κs = search needs
@@ -12,5 +12,5 @@ returns : tie.Need-returns
 returns c =
     simp (c .sqrt-on-path .ensures, c .before .dot .ensures)
 
-pub norm-spec : {M : Type 1} → statement M
-norm-spec = tie.close (tie.spec dot-requires sqrt-on-path-requires returns)
+pub norm-on-path-spec : {M : Type 1} → statement M
+norm-on-path-spec = tie.close (tie.spec dot-requires sqrt-on-path-requires returns)
