@@ -1,1 +1,3 @@
 pub mod Out
+pub mod In
+pub mod Calls

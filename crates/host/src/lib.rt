@@ -1,5 +1,10 @@
 // The calls for C, Rust and Python hosts: each answers 0 or document 01's refusal number, and writes nothing where it refuses.
+mod elasticity;
+mod lists_in;
+mod monaghan;
 mod numbers_out;
+mod physics_calls;
+mod returns;
 
 use numbers_out::put;
 ghost use mathlib.Core.Path.{_≡_};
