@@ -35,7 +35,9 @@ use Rattle.plasticity_rankine.specs.declared.Made.{Made}
 use Rattle.plasticity_rankine.specs.declared.Made.the-variants as made
 use Rattle.plasticity_drucker_prager.specs.Alpha.{alphaOf}
 use Rattle.record.specs.Layout.{rowAt, matAt}
-use Rattle.host.specs.In.{has, sizedNumber, sizedVector, sizedMatrix, sizedVerdict, flaggedNumber, flaggedMatrix, neoHookeanOf, corotatedOf, rankineOf, druckerPragerOf, decomposedOf}
+use Rattle.lists.specs.Refused.{has, sizedNumber, sizedVector, sizedMatrix, sizedVerdict, flaggedNumber, flaggedMatrix}
+use Rattle.run.specs.Run.{rankineOf, druckerPragerOf}
+use Rattle.host.specs.Laws.{neoHookeanOf, corotatedOf, decomposedOf}
 
 -- ---- physics.rs
 unfoldable pub spinTensor : List ℕ → MatrixAnswer

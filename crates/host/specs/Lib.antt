@@ -1,3 +1,2 @@
-pub mod Out
-pub mod In
+pub mod Laws
 pub mod Calls

@@ -1,10 +1,9 @@
 // The elastic laws for hosts: neo-Hookean with a list of cfl_coeff, lambda, mu; corotated with the flag before them.
-use crate::lists_in;
-use crate::numbers_out;
+use crate::laws_in;
 use elasticity_neo_hookean::NeoHookeanElasticity;
 ghost use mathlib.Core.Path.{_≡_};
 ghost use Rattle.elasticity_neo_hookean.specs.Law.{phaseCoeff};
-ghost use Rattle.host.specs.Out.{numberCode, numberOut, matrixCode, matrixOut};
+ghost use Rattle.lists.specs.Out.{numberCode, numberOut, matrixCode, matrixOut};
 ghost use Rattle.host.specs.Calls.{neoHookeanFpkStress, neoHookeanKirchhoffStress, neoHookeanElasticEnergyDensity, neoHookeanPosEnergy, corotatedKirchhoffStress, corotatedElasticEnergyDensity, corotatedPosEnergy};
 
 #[no_mangle]
@@ -18,9 +17,9 @@ pub extern "C" fn pasoletu_neo_hookean_fpk_stress(
     ensures { λ r. ⌜ now (out .exit) ≡ matrixOut (neoHookeanFpkStress (now (law .entry)) hardening (now (f .entry))) (now (out .entry)) ⌝ }
 {
     let ok = (law.len() == 3) & (f.len() == 9);
-    let p = lists_in::neo_hookean(law);
-    numbers_out::put_matrix(
-        lists_in::sized_matrix(ok, p.fpk_stress(lists_in::matrix(f), hardening)),
+    let p = laws_in::neo_hookean(law);
+    lists::put_matrix(
+        lists::sized_matrix(ok, p.fpk_stress(lists::matrix(f), hardening)),
         out,
     )
 }
@@ -37,12 +36,9 @@ pub extern "C" fn pasoletu_neo_hookean_kirchhoff_stress(
     ensures { λ r. ⌜ now (out .exit) ≡ matrixOut (neoHookeanKirchhoffStress (now (law .entry)) phase hardening (now (f .entry))) (now (out .entry)) ⌝ }
 {
     let ok = (law.len() == 3) & (f.len() == 9);
-    let p = lists_in::neo_hookean(law);
-    numbers_out::put_matrix(
-        lists_in::sized_matrix(
-            ok,
-            p.kirchhoff_stress(phase, hardening, lists_in::matrix(f)),
-        ),
+    let p = laws_in::neo_hookean(law);
+    lists::put_matrix(
+        lists::sized_matrix(ok, p.kirchhoff_stress(phase, hardening, lists::matrix(f))),
         out,
     )
 }
@@ -59,11 +55,11 @@ pub extern "C" fn pasoletu_neo_hookean_elastic_energy_density(
     ensures { λ r. ⌜ now (out .exit) ≡ numberOut (neoHookeanElasticEnergyDensity (now (law .entry)) phase hardening (now (f .entry))) (now (out .entry)) ⌝ }
 {
     let ok = (law.len() == 3) & (f.len() == 9);
-    let p = lists_in::neo_hookean(law);
-    numbers_out::put(
-        lists_in::sized(
+    let p = laws_in::neo_hookean(law);
+    lists::put(
+        lists::sized(
             ok,
-            p.elastic_energy_density(phase, hardening, lists_in::matrix(f)),
+            p.elastic_energy_density(phase, hardening, lists::matrix(f)),
         ),
         out,
     )
@@ -81,9 +77,9 @@ pub extern "C" fn pasoletu_neo_hookean_pos_energy(
     ensures { λ r. ⌜ now (out .exit) ≡ numberOut (neoHookeanPosEnergy (now (law .entry)) phase hardening (now (f .entry))) (now (out .entry)) ⌝ }
 {
     let ok = (law.len() == 3) & (f.len() == 9);
-    let p = lists_in::neo_hookean(law);
-    numbers_out::put(
-        lists_in::sized(ok, p.pos_energy(phase, hardening, lists_in::matrix(f))),
+    let p = laws_in::neo_hookean(law);
+    lists::put(
+        lists::sized(ok, p.pos_energy(phase, hardening, lists::matrix(f))),
         out,
     )
 }
@@ -93,7 +89,7 @@ pub extern "C" fn pasoletu_phase_coeff(phase: f64, out: &mut [u64]) -> u8
     ensures { λ r. ⌜ r ≡ numberCode (phaseCoeff phase) (now (out .entry)) ⌝ }
     ensures { λ r. ⌜ now (out .exit) ≡ numberOut (phaseCoeff phase) (now (out .entry)) ⌝ }
 {
-    numbers_out::put(NeoHookeanElasticity::phase_coeff(phase), out)
+    lists::put(NeoHookeanElasticity::phase_coeff(phase), out)
 }
 
 #[no_mangle]
@@ -115,17 +111,17 @@ pub extern "C" fn pasoletu_corotated_kirchhoff_stress(
         & (u.len() == 9)
         & (sigma.len() == 3)
         & (vt.len() == 9);
-    let p = lists_in::corotated(law);
+    let p = laws_in::corotated(law);
     let a = p.kirchhoff_stress(
         phase,
         hardening,
-        lists_in::matrix(f),
-        lists_in::matrix(u),
-        lists_in::row(sigma),
-        lists_in::matrix(vt),
+        lists::matrix(f),
+        lists::matrix(u),
+        lists::row(sigma),
+        lists::matrix(vt),
     );
-    numbers_out::put_matrix(
-        lists_in::sized_matrix(ok, lists_in::flagged_matrix(lists_in::word(law, 0), a)),
+    lists::put_matrix(
+        lists::sized_matrix(ok, lists::flagged_matrix(lists::word(law, 0), a)),
         out,
     )
 }
@@ -141,10 +137,10 @@ pub extern "C" fn pasoletu_corotated_elastic_energy_density(
     ensures { λ r. ⌜ now (out .exit) ≡ numberOut (corotatedElasticEnergyDensity (now (law .entry)) hardening (now (sigma .entry))) (now (out .entry)) ⌝ }
 {
     let ok = (law.len() == 4) & (sigma.len() == 3);
-    let p = lists_in::corotated(law);
-    let a = p.elastic_energy_density(lists_in::row(sigma), hardening);
-    numbers_out::put(
-        lists_in::sized(ok, lists_in::flagged(lists_in::word(law, 0), a)),
+    let p = laws_in::corotated(law);
+    let a = p.elastic_energy_density(lists::row(sigma), hardening);
+    lists::put(
+        lists::sized(ok, lists::flagged(lists::word(law, 0), a)),
         out,
     )
 }
@@ -161,10 +157,10 @@ pub extern "C" fn pasoletu_corotated_pos_energy(
     ensures { λ r. ⌜ now (out .exit) ≡ numberOut (corotatedPosEnergy (now (law .entry)) hardening (now (f .entry)) (now (sigma .entry))) (now (out .entry)) ⌝ }
 {
     let ok = (law.len() == 4) & (f.len() == 9) & (sigma.len() == 3);
-    let p = lists_in::corotated(law);
-    let a = p.pos_energy(lists_in::matrix(f), lists_in::row(sigma), hardening);
-    numbers_out::put(
-        lists_in::sized(ok, lists_in::flagged(lists_in::word(law, 0), a)),
+    let p = laws_in::corotated(law);
+    let a = p.pos_energy(lists::matrix(f), lists::row(sigma), hardening);
+    lists::put(
+        lists::sized(ok, lists::flagged(lists::word(law, 0), a)),
         out,
     )
 }

@@ -1,6 +1,5 @@
 // The verdict, the bare clamp, Rankine's projection, Drucker-Prager's slope and DecomposedTensor's product for hosts.
-use crate::lists_in;
-use crate::numbers_out;
+use crate::laws_in;
 use failure_maximum_stress::MaximumStressFailure;
 use plasticity_rankine::Branch;
 use plasticity_rankine::Made;
@@ -10,7 +9,7 @@ use plasticity_rankine::RankinePlasticity;
 use plasticity_snow::SnowPlasticity;
 use tensor::VectorAnswer;
 ghost use mathlib.Core.Path.{_≡_};
-ghost use Rattle.host.specs.Out.{numberCode, numberOut, vectorCode, vectorOut, verdictCode, verdictOut};
+ghost use Rattle.lists.specs.Out.{numberCode, numberOut, vectorCode, vectorOut, verdictCode, verdictOut};
 ghost use Rattle.host.specs.Calls.{failed, snowOf, snowClamp, vectorOf, strainsOf, madeProject, argumentsProject, rankineProject, druckerPragerAlpha, decomposedTimes};
 
 #[no_mangle]
@@ -28,8 +27,8 @@ pub extern "C" fn pasoletu_failed(
         max_principal_stress: max_principal,
         max_shear_stress: max_shear,
     };
-    numbers_out::put_verdict(
-        lists_in::sized_verdict(ok, limits.particle_failed(lists_in::row(stresses))),
+    lists::put_verdict(
+        lists::sized_verdict(ok, limits.particle_failed(lists::row(stresses))),
         out,
     )
 }
@@ -51,8 +50,8 @@ pub extern "C" fn pasoletu_snow_clamp(
         max_epsilon,
         hardening_coeff,
     };
-    let v = law.project_deformation_gradient(lists_in::row(sigma));
-    numbers_out::put_vector(lists_in::sized_vector(ok, vector(v)), out)
+    let v = law.project_deformation_gradient(lists::row(sigma));
+    lists::put_vector(lists::sized_vector(ok, vector(v)), out)
 }
 
 // A vector that is answered whatever it holds.
@@ -118,9 +117,9 @@ pub extern "C" fn pasoletu_rankine_project(
     ensures { λ r. ⌜ now (out .exit) ≡ vectorOut (rankineProject (now (arguments .entry)) s (now (strains .entry))) (now (out .entry)) ⌝ }
 {
     let ok = (arguments.len() == 4) & (strains.len() == 3);
-    let a = lists_in::rankine(arguments);
-    numbers_out::put_vector(
-        lists_in::sized_vector(ok, project(a, lists_in::row(strains), s)),
+    let a = laws_in::rankine(arguments);
+    lists::put_vector(
+        lists::sized_vector(ok, project(a, lists::row(strains), s)),
         out,
     )
 }
@@ -131,9 +130,9 @@ pub extern "C" fn pasoletu_drucker_prager_alpha(fields: &[u64], q: f64, out: &mu
     ensures { λ r. ⌜ now (out .exit) ≡ numberOut (druckerPragerAlpha (now (fields .entry)) q) (now (out .entry)) ⌝ }
 {
     let ok = fields.len() == 8;
-    let p = lists_in::drucker_prager(fields);
-    numbers_out::put(
-        lists_in::sized(ok, lists_in::flagged(lists_in::word(fields, 6), p.alpha(q))),
+    let p = laws_in::drucker_prager(fields);
+    lists::put(
+        lists::sized(ok, lists::flagged(lists::word(fields, 6), p.alpha(q))),
         out,
     )
 }
@@ -149,6 +148,6 @@ pub extern "C" fn pasoletu_decomposed_times(
     ensures { λ r. ⌜ now (out .exit) ≡ vectorOut (decomposedTimes spherical (now (deviatoric .entry)) (now (v .entry))) (now (out .entry)) ⌝ }
 {
     let ok = (deviatoric.len() == 9) & (v.len() == 3);
-    let t = lists_in::decomposed(spherical, deviatoric);
-    numbers_out::put_vector(lists_in::sized_vector(ok, t.times(lists_in::row(v))), out)
+    let t = laws_in::decomposed(spherical, deviatoric);
+    lists::put_vector(lists::sized_vector(ok, t.times(lists::row(v))), out)
 }
