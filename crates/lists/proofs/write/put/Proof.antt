@@ -1,7 +1,7 @@
 use borrow.Author.Tests.{eq-eqb, ne-eqb}
 use borrow.Author.Needs.{needs}
-use Rattle.host.proofs.numbers_out.put.Statement.{statement}
-use Rattle.host.proofs.numbers_out.put.Tie as tie
+use Rattle.lists.proofs.write.put.Statement.{statement}
+use Rattle.lists.proofs.write.put.Tie as tie
 
 returns : tie.Need-returns
 returns c =
