@@ -1,5 +1,10 @@
 // The calls for C, Rust and Python hosts: each answers 0 or document 01's refusal number, and writes nothing where it refuses.
+mod lists_out;
 mod numbers_out;
+mod parameters;
+mod passes;
+mod sheets;
+mod update;
 
 use numbers_out::put;
 ghost use mathlib.Core.Path.{_≡_};
