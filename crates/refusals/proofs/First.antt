@@ -27,7 +27,7 @@ refusalOf (Refused n) = some n
 pub differ : {m n : ℕ} → some m ≡ some n → m ≡ n
 differ e = cc
 
-nothing : (n : ℕ) → _≡_ {A = Option ℕ} none (some n) → ⊥
+pub nothing : (n : ℕ) → _≡_ {A = Option ℕ} none (some n) → ⊥
 nothing n e = let z : _≡_ {A = ℕ} 0 1 = cc in omega arith
 
 abbrev by-two : Option ℕ

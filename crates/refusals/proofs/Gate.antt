@@ -1,5 +1,5 @@
 -- A call tests its inputs first: refused by 1 where one isn't finite, and otherwise by what it meets first on its path. Assumes nothing.
-use mathlib.Core.Path.{_≡_, refl, sym, _∙_}
+use mathlib.Core.Path.{_≡_, refl, sym, ap, _∙_}
 use mathlib.Core.Logic.{⊎-elim, _↔_}
 use mathlib.Core.Bool.{Bool, true, false, cond}
 use mathlib.Core.List.{List}
@@ -59,3 +59,8 @@ transfer w q =
       three = (λ r. q .three .0 (w 3 .0 r), λ b. w 3 .1 (q .three .1 b));
       only = λ n r. q .only n (w n .0 r);
     }
+
+-- an answer of any kind: F tells its number, and `by n` is the refusal by n
+pub told : {A : Type 0} (F : A → Option ℕ) (by : ℕ → A) → ((n : ℕ) → F (by n) ≡ some n) → ((x : A) (n : ℕ) → F x ≡ some n → x ≡ by n)
+    → {ok : Bool} {path : List Met} (x : A) → Gated ok path (F x) → Numbers (λ n. x ≡ by n) (ok ≡ false) path
+told F by on back x g = transfer (λ n. (λ e. ap F e ∙ on n, back x n)) (gate-numbers g (λ q. q, λ q. q))
