@@ -1,5 +1,5 @@
 -- Section 6 of the calls that give a number, two numbers, a matrix or a verdict.
-use mathlib.Core.Path.{_≡_, refl, ap, sym, _∙_}
+use mathlib.Core.Path.{_≡_, refl, ap}
 use mathlib.Core.Logic.{_↔_}
 use mathlib.Core.Bool.{Bool, true, false, cond, _&&_}
 use mathlib.Core.List.{List, [], _∷_}
@@ -8,7 +8,7 @@ use Prim.Native.Nat.{ℕ, zero, suc, _<_}
 use native.Mathlib.Omega.{arith}
 use lib.Ieee as Ieee
 use lib.Ieee.{Float}
-use Rattle.numbers.specs.Rules.{finite, isNumber, maxOf, minOf}
+use Rattle.numbers.specs.Rules.{finite, minOf}
 use Rattle.numbers.specs.Range.{onPath}
 use Rattle.numbers.specs.Answer.{answeredOf, given, finiteAnswerOf}
 use Rattle.numbers.specs.Power.{powiOf}
@@ -17,7 +17,6 @@ use Rattle.numbers.specs.declared.Elementary.the-variants as elementary
 use Rattle.exact.specs.RootOf.{sqrtOf}
 use Rattle.exponential.specs.Worked.{expOf}
 use Rattle.logarithm.specs.Worked.{lnOf}
-use Rattle.logarithm.specs.Ln.{lnRanged}
 use Rattle.sine.specs.Sine.{sinOf}
 use Rattle.square_root.specs.Sqrt.{sqrtRanged}
 use Rattle.thirds.specs.Thirds.{invCbrtOf, invCbrtSquaredOf, invCbrtRanged, invCbrtSquaredRanged}
@@ -53,7 +52,7 @@ use Rattle.eos_monaghan_sph.specs.declared.MonaghanSphEos.{MonaghanSphEos}
 use Rattle.eos_monaghan_sph.specs.Pressure as monaghan
 use Rattle.eos_monaghan_sph.specs.Stress as monaghan-stress
 use Rattle.eos_monaghan_sph.specs.Timestep as monaghan-timestep
-use Rattle.refusals.specs.Path.{Met, number, all-numbers, all-finite, exp, ln, sin, root, thirdPower}
+use Rattle.refusals.specs.Path.{Met, number, all-finite, ln, sin, root, thirdPower}
 use Rattle.refusals.specs.Refusals.{Numbers}
 use Rattle.refusals.specs.Calls.{Gives, GivesPair, GivesMatrix, neoStressPath, neoFpkPath, neoEnergyPath, neoPosPath, unbounded, bounded, pressed, timestepPath, alphaPath, quadraticPath, posPath, Calls}
 use Rattle.refusals.proofs.First.{firstOf, differ, nothing}

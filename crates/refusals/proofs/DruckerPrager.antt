@@ -1,6 +1,6 @@
 -- Drucker-Prager meets its path.
 use mathlib.Core.Path.{_≡_, refl}
-use mathlib.Core.Bool.{Bool, cond, _&&_}
+use mathlib.Core.Bool.{cond, _&&_}
 use mathlib.Core.List.{List, [], _∷_}
 use mathlib.Core.Option.{Option, some}
 use Prim.Native.Nat.{ℕ, suc}
@@ -16,7 +16,6 @@ use Rattle.exponential.specs.Exp.{expRanged}
 use Rattle.logarithm.specs.Worked.{lnOf}
 use Rattle.logarithm.specs.Ln.{lnRanged}
 use Rattle.sine.specs.Sine.{sinOf}
-use Rattle.square_root.specs.Sqrt.{sqrtRanged}
 use Rattle.tensor.specs.Matrix.{add, sub, div, zero, one, three, productOf, dotOf, recomposeOf}
 use Rattle.tensor.specs.Finite.{rowFinite, matFinite}
 use Rattle.law.specs.State.{refused}
@@ -30,9 +29,9 @@ use Rattle.plasticity_drucker_prager.specs.declared.Triple.the-variants as trip
 use Rattle.plasticity_drucker_prager.specs.Law.{two, dim}
 use Rattle.plasticity_drucker_prager.specs.Alpha.{decayOf, angleOf, slopeOf, rootedOf, sinedOf, angledOf, alphaOnPath}
 use Rattle.plasticity_drucker_prager.specs.Projection as projection
-use Rattle.plasticity_drucker_prager.specs.Projection.{joinedOf, logsOf, allZero, strainOf, deviatoricOf, gammaOf, yieldChoice, choiceOf, refusedProjection, tipOf, backOf, surfaceOf, returnedOf, strainedOf, loggedOf, projectedOf}
+use Rattle.plasticity_drucker_prager.specs.Projection.{joinedOf, logsOf, allZero, strainOf, gammaOf, yieldChoice, choiceOf, refusedProjection, tipOf, backOf, surfaceOf, returnedOf, strainedOf, loggedOf, projectedOf}
 use Rattle.plasticity_drucker_prager.specs.DruckerPrager.{untouchedOf, correctedOf, determinantOf, differenceOf, stateOf, druckerStore, gainedOf, movedOf, byBranch, branchOf, slopedOf, staysOf, druckerRun}
-use Rattle.refusals.specs.Path.{Met, number, all-finite, exp, ln, sin, root, at, lns, exps, lnsOf, expsOf}
+use Rattle.refusals.specs.Path.{Met, number, all-finite, exp, ln, sin, root, at, exps, lnsOf, expsOf}
 use Rattle.refusals.specs.DruckerPragerPath.{normOf, movedPath, Moved, tipPath, surfacePath, yieldPath, strainedPath, projectedPath, slopedPath, druckerPath}
 use Rattle.refusals.proofs.First.{firstOf, refusalOf}
 use Rattle.refusals.proofs.Walk.{exp-met, ln-met, sin-met, root-met, number-met, finite-met, either-met}

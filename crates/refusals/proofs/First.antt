@@ -1,5 +1,5 @@
 -- What refuses first on a path, and by which number. Assumes nothing.
-use mathlib.Core.Path.{_≡_, refl, sym, ap, _∙_}
+use mathlib.Core.Path.{_≡_, refl, sym, ap}
 use mathlib.Core.Logic.{_⊎_, inl, inr, _↔_}
 use mathlib.Core.Bool.{Bool, true, false, cond, true≢false, false≢true}
 use mathlib.Core.List.{List, [], _∷_}
@@ -10,7 +10,7 @@ use Rattle.numbers.specs.Rules.{isNumber}
 use Rattle.numbers.specs.Range.{inRange}
 use Rattle.law.specs.declared.Outcome.{Outcome}
 use Rattle.law.specs.declared.Outcome.the-variants.{Untouched, Stored, Refused}
-use Rattle.refusals.specs.Path.{Met, argument, number, all-numbers, all-finite, Passes, Outside, Arises, Stops, Clear}
+use Rattle.refusals.specs.Path.{Met, argument, number, all-numbers, all-finite, Outside, Arises, Stops, Clear}
 
 unfoldable pub firstOf : List Met → Option ℕ
 firstOf [] = none
