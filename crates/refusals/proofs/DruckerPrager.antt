@@ -16,6 +16,7 @@ use Rattle.exponential.specs.Exp.{expRanged}
 use Rattle.logarithm.specs.Worked.{lnOf}
 use Rattle.logarithm.specs.Ln.{lnRanged}
 use Rattle.sine.specs.Sine.{sinOf}
+use Rattle.square_root.specs.Sqrt.{sqrtRanged}
 use Rattle.tensor.specs.Matrix.{add, sub, div, zero, one, three, productOf, dotOf, recomposeOf}
 use Rattle.tensor.specs.Finite.{rowFinite, matFinite}
 use Rattle.law.specs.State.{refused}
@@ -36,6 +37,9 @@ use Rattle.refusals.specs.DruckerPragerPath.{normOf, movedPath, Moved, t
 use Rattle.refusals.proofs.First.{firstOf, refusalOf}
 use Rattle.refusals.proofs.Walk.{exp-met, ln-met, sin-met, root-met, number-met, finite-met, either-met}
 
+abbrev rootAt : List Float → Elementary
+rootAt e = onPath (dotOf e e) (sqrtRanged (dotOf e e))
+
 abbrev lnAt : List Float → ℕ → Elementary
 lnAt v i = onPath (at v i) (lnRanged (at v i))
 
@@ -53,7 +57,7 @@ pub record Consumes (sigma : List Float) (P : Projected → Option ℕ) (inside 
 module _ (p : DruckerPragerPlasticity) (sigma : List Float) (P : Projected → Option ℕ) (inside : List Met) (moved : Moved) (c : Consumes sigma P inside moved) where
   tip-met : (b : Branch) (e : List Float)
       → P (record { branch = b; sigma = three one one one; dq = normOf e }) ≡ firstOf (moved (three one one one) (normOf e))
-      → P (tipOf b (projection.normOf e)) ≡ firstOf (tipPath e moved)
+      → P (tipOf b (rootAt e)) ≡ firstOf (tipPath e moved)
   unfolding tipOf tipPath
   tip-met b e m = root-met (λ a. P (tipOf b a)) (c .on) (dotOf e e) (moved (three one one one) (normOf e)) m
 
@@ -74,7 +78,7 @@ module _ (p : DruckerPragerPlasticity) (sigma : List Float) (P : Projected → O
     abbrev B : Branch → Option ℕ
     B b = P (returnedOf b sigma e d)
 
-    yield-met : B (yieldChoice p (projection.normOf d) trace alpha) ≡ firstOf (yieldPath p e d trace alpha inside moved)
+    yield-met : B (yieldChoice p (rootAt d) trace alpha) ≡ firstOf (yieldPath p e d trace alpha inside moved)
     unfolding yieldChoice yieldPath returnedOf
     yield-met =
         let norm = normOf d in
@@ -96,7 +100,7 @@ module _ (p : DruckerPragerPlasticity) (sigma : List Float) (P : Projected → O
         let ones = three one one one in
         let isotropic = branch.Isotropic (at d 2) zero in
         let expanding = branch.Expanding trace zero in
-        let last = yieldChoice p (projection.normOf d) trace alpha in
+        let last = yieldChoice p (rootAt d) trace alpha in
         let next = cond (Ieee.lt zero trace) expanding last in
         number-met B (dotOf d d) (cond (allZero d) isotropic next) (branch.Refused 3) (cond (allZero d) tip (cond (Ieee.lt zero trace) tip yield))
         (either-met B (allZero d) isotropic next tip (cond (Ieee.lt zero trace) tip yield) (tip-met isotropic e (c .isotropic (at d 2) zero ones (normOf e)))

@@ -55,7 +55,7 @@ use Rattle.eos_monaghan_sph.specs.declared.Made as monaghan-made-type
 use Rattle.eos_monaghan_sph.specs.declared.Made.the-variants as monaghan-made
 use Rattle.eos_monaghan_sph.specs.Pressure as monaghan
 use Rattle.refusals.specs.Path.{all-finite, sin, root}
-use Rattle.refusals.specs.RankinePath.{testsPath}
+use Rattle.refusals.specs.RankinePath.{projectionPath}
 use Rattle.refusals.specs.DruckerPragerPath.{projectedPath}
 use Rattle.refusals.specs.NaccPath.{naccPath}
 use Rattle.refusals.specs.Refusals.{Numbers}
@@ -228,7 +228,7 @@ rankine-projects p e s =
     let three = rankine-projection.refusedStrains 3 in
     let ok = rankine-projection.moduliFinite p in
     let fine = rowFinite (q .strains) in
-    let tests = testsPath p s (rankine-projection.sumOf e) _ [] in
+    let tests = projectionPath p e s [] in
     told rankine-branch-number rankine-branch.Refused (λ n. refl) rankine-branch-back (rankine-projection.projectOf p e s .branch)
     (gated (λ x. rankine-branch-number (x .branch)) (rankine-projection.parametersFinite p && rowFinite e && finite s) (cond ok (cond fine q three) three) (rankine-projection.refusedStrains 1)
     (finite-met (λ x. rankine-branch-number (x .branch)) ok (cond fine q three) three (all-finite fine ∷ tests)

@@ -16,7 +16,6 @@ use Rattle.plasticity_rankine.specs.declared.Branch.the-variants as rankine-bra
 use Rattle.plasticity_rankine.specs.declared.Made.the-variants as rankine-made
 use Rattle.plasticity_rankine.specs.declared.RankineArguments.{RankineArguments}
 use Rattle.plasticity_rankine.specs.declared.RankinePlasticity.{RankinePlasticity}
-use Rattle.plasticity_rankine.specs.Sorting.{rankOf, arrangeOf}
 use Rattle.plasticity_rankine.specs.Projection as rankine-projection
 use Rattle.plasticity_rankine.specs.Rankine as rankine
 use Rattle.plasticity_drucker_prager.specs.declared.Branch.the-variants as drucker-branch
@@ -41,7 +40,7 @@ use Rattle.eos_monaghan_sph.specs.Pressure as monaghan
 use Rattle.particles.specs.declared.choice.Model.{Model}
 use Rattle.particles.specs.Model.{modelFinite, modelUpdate}
 use Rattle.refusals.specs.Path.{Met, all-finite, sin, root}
-use Rattle.refusals.specs.RankinePath.{testsPath, rankinePath}
+use Rattle.refusals.specs.RankinePath.{projectionPath, rankinePath}
 use Rattle.refusals.specs.DruckerPragerPath.{projectedPath}
 use Rattle.refusals.specs.NaccPath.{naccPath}
 use Rattle.refusals.specs.Refusals.{Numbers, Refuses, modelPath}
@@ -60,7 +59,7 @@ frictionPath a =
 abbrev pub rankineProjection : RankinePlasticity → List Float → Float → List Met
 rankineProjection p e s =
     all-finite (rankine-projection.moduliFinite p) ∷ all-finite (rowFinite (rankine-projection.projectedOf p e s .strains))
-    ∷ testsPath p s (rankine-projection.sumOf e) (arrangeOf (rankOf e) e) []
+    ∷ projectionPath p e s []
 
 -- sigma and dq after Drucker-Prager's
 abbrev pub druckerResults : List Float → Float → List Met
