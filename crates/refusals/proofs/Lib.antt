@@ -11,3 +11,4 @@ pub mod Failure
 pub mod Passes
 pub mod Table
 pub mod Calls
+pub mod Laws

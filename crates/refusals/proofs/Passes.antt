@@ -1,9 +1,9 @@
 -- A pass is refused by 8 alone, and an answer list holds each record's refusal. Assumes nothing.
-use mathlib.Core.Path.{_≡_, refl, sym, ap, subst, _∙_}
+use mathlib.Core.Path.{_≡_, refl, sym, ap, _∙_}
 use mathlib.Core.Logic.{⊎-elim, _↔_}
-use mathlib.Core.Bool.{Bool, true, false, cond, _&&_}
+use mathlib.Core.Bool.{Bool, true, false, cond}
 use mathlib.Core.List.{List, [], _∷_, _++_}
-use Prim.Native.Nat.{ℕ, zero, suc, _+_, _*_, _/_, _≤_, _<_}
+use Prim.Native.Nat.{ℕ, zero, suc, _+_, _*_, _/_, _<_}
 use native.Mathlib.Nat.{eq-or-lt-of-le}
 use native.Mathlib.Omega.{arith}
 use borrow.Author.Tests.{eq-eqb, eqb-true}
@@ -15,10 +15,8 @@ use Rattle.law.specs.declared.Outcome.the-variants.{Untouched, Stored, Refused}
 use Rattle.numbers.proofs.Laws.{and-both}
 use Rattle.record.specs.Layout.{floats}
 use Rattle.particles.specs.declared.list.Counts.{Counts}
-use Rattle.particles.specs.declared.list.Passed.{Passed}
 use Rattle.particles.specs.declared.list.Passed.the-variants as pass
 use Rattle.particles.specs.declared.failure.FailureCounts.{FailureCounts}
-use Rattle.particles.specs.declared.failure.PassedWithFailure.{PassedWithFailure}
 use Rattle.particles.specs.declared.failure.PassedWithFailure.the-variants as failure-pass
 use Rattle.particles.specs.Pass.{Worked, codeOf, valueOf, recordAt, answers, wellSized, passAnswers}
 use Rattle.particles.proofs.PassLaws.{answers-length}

@@ -5,3 +5,4 @@ pub mod DruckerPragerPath
 pub mod NaccPath
 pub mod Refusals
 pub mod Calls
+pub mod Laws
