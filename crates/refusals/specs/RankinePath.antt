@@ -5,13 +5,13 @@ use lib.Ieee as Ieee
 use lib.Ieee.{Float}
 use Rattle.numbers.specs.Rules.{finite, minOf}
 use Rattle.exact.specs.RootOf.{sqrtOf}
-use Rattle.tensor.specs.Matrix.{add, mul, dotOf, rowSubOf, recomposeOf}
+use Rattle.tensor.specs.Matrix.{add, mul, sumOf, dotOf, rowSubOf, recomposeOf}
 use Rattle.tensor.specs.Finite.{rowFinite, matFinite}
 use Rattle.law.specs.declared.State.{State}
 use Rattle.plasticity_rankine.specs.declared.RankinePlasticity.{RankinePlasticity}
 use Rattle.plasticity_rankine.specs.declared.Sorted.{Sorted}
-use Rattle.plasticity_rankine.specs.Sorting.{rankOf, arrangeOf}
-use Rattle.plasticity_rankine.specs.Projection.{sumOf, firstSide, secondSide, thirdSide, projectedOf}
+use Rattle.plasticity_rankine.specs.Sorting.{orderOf, arrangeOf}
+use Rattle.plasticity_rankine.specs.Projection.{firstSide, secondSide, thirdSide, projectedOf}
 use Rattle.plasticity_rankine.specs.Rankine.{softStrengthOf}
 use Rattle.refusals.specs.Path.{Met, number, all-finite, root, lns, exps, lnsOf, expsOf}
 
@@ -38,7 +38,7 @@ testsPath p s S r moved =
 
 -- of the strains e as sorted
 abbrev pub projectionPath : RankinePlasticity → List Float → Float → List Met → List Met
-projectionPath p e s moved = testsPath p s (sumOf e) (arrangeOf (rankOf e) e) moved
+projectionPath p e s moved = testsPath p s (sumOf e) (arrangeOf (orderOf e) e) moved
 
 unfoldable pub rankinePath : RankinePlasticity → List (List Float) → List (List Float) → State → List Met
 rankinePath p u vt s =
