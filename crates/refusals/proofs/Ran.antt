@@ -1,6 +1,6 @@
 -- Section 6 of a sheet that is run. Assumes nothing.
 use mathlib.Core.Path.{_≡_, sym, ap, _∙_}
-use mathlib.Core.Logic.{⊎-elim}
+use mathlib.Core.Logic.{⊎-elim, _↔_}
 use mathlib.Core.List.{List, _++_}
 use Prim.Native.Nat.{ℕ, _+_, _*_, _/_, _<_}
 use native.Mathlib.Omega.{arith}
@@ -14,6 +14,7 @@ use Rattle.particles.specs.Pass.{answers, counts, wellSized, passed, passAnswer
 use Rattle.particles.proofs.PassLaws.{answers-length}
 use Rattle.sheet.specs.declared.Header.{Header}
 use Rattle.sheet.specs.Sheet.{readOf, roomOf}
+use Rattle.sheet.proofs.Reasons.{read-refused-exactly}
 use Rattle.run.specs.Run.{lawOf, recordsIn, answersIn, frontOf, frontAnswers, finished, stopped, ranWith, answersWith, ranOf, ranAnswers}
 use Rattle.run.proofs.Rooms.{read-fits, room-length}
 use Rattle.refusals.specs.Path.{Met}
@@ -101,5 +102,14 @@ module _ (s xs out : List ℕ) where
         equal (passAnswers (lawOf h) a b ++ drop (h .count * 2) out) (ranAnswers s xs out) i (answers-are e)
         (longer (passAnswers (lawOf h) a b) (drop (h .count * 2) out) i (omega arith) (section-6 .the-pass (model s xs out) a b .records (h .count) (parts e) i l))
 
+numbered : {A : ℕ → Type 0} (x y : ℕ) → x ≡ y → ((n : ℕ) → (n ≡ 0 → ⊥) → (y ≡ n) ↔ A n) → (n : ℕ) → (n ≡ 0 → ⊥) → (x ≡ n) ↔ A n
+numbered x y e f n h = (λ q. f n h .0 (sym e ∙ q), λ a. e ∙ f n h .1 a)
+
 pub ran : (s xs out : List ℕ) → Ran s xs out
-ran s xs out = record { rooms = ran-rooms s xs out; sheet = ran-sheet s xs out; records = ran-records s xs out }
+ran s xs out =
+    record {
+      rooms = ran-rooms s xs out;
+      sheet = ran-sheet s xs out;
+      numbers = λ b k z. numbered (ranOf s xs out .refusal) (header s xs out .refusal) (ran-sheet s xs out k z) (read-refused-exactly s b (length xs));
+      records = ran-records s xs out;
+    }
