@@ -12,3 +12,4 @@ pub mod Passes
 pub mod Table
 pub mod Calls
 pub mod Laws
+pub mod Ran

@@ -27,15 +27,15 @@ use Rattle.refusals.proofs.Inputs.{no-both, decide}
 
 -- ---- the lengths
 module _ (xs out : List ℕ) where
-  sized : wellSized xs out ≡ true → Sized xs out (length xs / floats)
+  pub sized : wellSized xs out ≡ true → Sized xs out (length xs / floats)
   sized q =
       let e = and-both (eqb (length xs / floats * floats) (length xs)) (eqb (length xs / floats * 2) (length out)) q in
       (sym (eqb-true (length xs / floats * floats) (length xs) (e .0)), sym (eqb-true (length xs / floats * 2) (length out) (e .1)))
 
-  quotient : (k : ℕ) → length xs ≡ k * floats → length xs / floats ≡ k
+  pub quotient : (k : ℕ) → length xs ≡ k * floats → length xs / floats ≡ k
   quotient k e = omega arith
 
-  well : (k : ℕ) → Sized xs out k → wellSized xs out ≡ true
+  pub well : (k : ℕ) → Sized xs out k → wellSized xs out ≡ true
   well k s =
       let q = quotient k (s .0) in
       let a = eq-eqb (length xs / floats * floats) (length xs) (omega arith) in
@@ -43,11 +43,11 @@ module _ (xs out : List ℕ) where
       rw (a, b)
 
 -- ---- 8
-taken : {P : Type 0} (b : Bool) (X Y : P) → b ≡ true → cond b X Y ≡ X
+pub taken : {P : Type 0} (b : Bool) (X Y : P) → b ≡ true → cond b X Y ≡ X
 taken true X Y q = refl
 taken false X Y q = absurd (no-both false q refl)
 
-left-out : {P : Type 0} (b : Bool) (X Y : P) → b ≡ false → cond b X Y ≡ Y
+pub left-out : {P : Type 0} (b : Bool) (X Y : P) → b ≡ false → cond b X Y ≡ Y
 left-out true X Y q = absurd (no-both true refl q)
 left-out false X Y q = refl
 

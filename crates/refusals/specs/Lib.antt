@@ -6,3 +6,4 @@ pub mod NaccPath
 pub mod Refusals
 pub mod Calls
 pub mod Laws
+pub mod Ran

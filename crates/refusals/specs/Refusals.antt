@@ -1,6 +1,6 @@
 -- Document 01, section 6, "When, and only then", over the definitions that the contracts cite. Proved in proofs/Table.
 -- Path says what is met on a law's path, SnowPath, RankinePath, DruckerPragerPath and NaccPath which path each law takes; Calls and
--- Laws say the same of the calls by themselves. 4 to 7 are a sheet's: `sheet` specs/Refused.
+-- Laws say the same of the calls by themselves, Ran of a sheet that is run. 4 to 7 are a sheet's: `sheet` specs/Refused.
 use mathlib.Core.Path.{_≡_}
 use mathlib.Core.Logic.{_⊎_, _↔_}
 use mathlib.Core.Bool.{true, false, cond}
