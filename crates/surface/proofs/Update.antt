@@ -8,13 +8,12 @@ use lib.Ieee.{Float, nan, inf, fin, binary64, lt, eq, le, fits}
 use lib.Ieee.Fits.{and-l, and-r, add-fits, sub-fits, div-fits}
 use Rattle.exact.specs.Units.{Fin64}
 use Rattle.numbers.specs.Rules.{finite, isNumber, minOf}
-use Rattle.numbers.specs.Range.{onPath}
 use Rattle.numbers.specs.declared.Elementary.{Elementary}
 use Rattle.numbers.specs.declared.Elementary.the-variants as elementary
 use Rattle.numbers.proofs.Laws.{eq-self, finite-is}
 use Rattle.physics.specs.Physics.{lambdaOf, shearModulusOf}
-use Rattle.square_root.specs.Sqrt.{sqrtRanged}
-use Rattle.tensor.specs.Matrix.{add, mul, three, recomposeOf}
+use Rattle.physics.specs.Norm.{normOf}
+use Rattle.tensor.specs.Matrix.{add, mul, three, sumOf, rowSubOf, recomposeOf}
 use Rattle.tensor.specs.Finite.{rowFinite, matFinite}
 use Rattle.law.specs.State.{inputsFinite, refused}
 use Rattle.law.specs.declared.Outcome.the-variants as outcome
@@ -27,9 +26,9 @@ use Rattle.plasticity_rankine.specs.declared.RankineArguments.{RankineArguments
 use Rattle.plasticity_rankine.specs.declared.RankinePlasticity.{RankinePlasticity}
 use Rattle.plasticity_rankine.specs.declared.Triple.{Triple}
 use Rattle.plasticity_rankine.specs.declared.Triple.the-variants.{Values, Refused}
-use Rattle.plasticity_rankine.specs.Sorting.{rankOf, arrangeOf}
-use Rattle.plasticity_rankine.specs.Projection.{sumOf, firstSide, nextChoice, choiceOf, projectedOf, parametersFinite, moduliFinite, refusedStrains, projectOf}
-use Rattle.plasticity_rankine.specs.Rankine.{logsOf, expsOf, softStrengthOf, grownOf, squaresOf, hardeningOf, stateOf, rankineFinish, rankineMoved, untouchedOf, rankineBranch, rankineLogged, rankineRun, rankineUpdate, lawOf, elasticFinite, argumentsUpdate}
+use Rattle.plasticity_rankine.specs.Sorting.{orderOf, arrangeOf}
+use Rattle.plasticity_rankine.specs.Projection.{firstSide, nextChoice, choiceOf, projectedOf, parametersFinite, moduliFinite, refusedStrains, projectOf}
+use Rattle.plasticity_rankine.specs.Rankine.{logsOf, expsOf, softStrengthOf, grownOf, hardeningOf, stateOf, rankineFinish, rankineMoved, untouchedOf, rankineBranch, rankineLogged, rankineRun, rankineUpdate, lawOf, elasticFinite, argumentsUpdate}
 use Rattle.surface.specs.Axes.{Each}
 use Rattle.surface.specs.Surface.{Accepted, numbersOf, logStrains, softened, Below, Ranges, Fair, Strain, F64, Taken, TakenBy, firstTest, Inside, OnSurface, Returned, Demand3, Demand3By, Settled, Projects}
 use Rattle.surface.proofs.Indexed.{Moves, inside, outside, same}
@@ -133,7 +132,7 @@ module _ (law : RankinePlasticity) (u vt : List (List Float)) (st : State) (old 
   moved-done : T (finite (law .«tensile_strength»)) → Accepted (rankineMoved law old new u vt st .outcome)
       → Done law (rankineMoved law old new u vt st) (numbersOf (expsOf new))
   unfolding rankineMoved hardeningOf
-  moved-done f a = finish-done (onPath (squaresOf old new) (sqrtRanged (squaresOf old new))) (expsOf new) f a
+  moved-done f a = finish-done (normOf (rowSubOf old new)) (expsOf new) f a
 
   -- ---- the branches
   settled : (b : Branch) → Accepted (rankineBranch b law old new u vt st .outcome) → Settled b
@@ -165,7 +164,7 @@ module _ (law : RankinePlasticity) (u vt : List (List Float)) (st : State) (g : 
   test-holds (Values x y z) a i h =
       let e = three x y z in
       let s = softened law st in
-      let r = arrangeOf (rankOf e) e in
+      let r = arrangeOf (orderOf e) e in
       let c = firstSide law (sumOf e) (r .high) in
       (stays law u vt st e (projectedOf law e s .strains) (isNumber c) (le c s) c s (nextChoice law s (sumOf e) r) h a, inside g x y z i h)
   test-holds (Refused n) a i h = absurd a
@@ -178,7 +177,7 @@ module _ (law : RankinePlasticity) (u vt : List (List Float)) (st : State) (g : 
       let e = three x y z in
       let s = softened law st in
       let new = projectedOf law e s .strains in
-      let b = choiceOf law s (sumOf e) (arrangeOf (rankOf e) e) in
+      let b = choiceOf law s (sumOf e) (arrangeOf (orderOf e) e) in
       let o = outside g x y z i h (settled law u vt st e new b a) in
       let q = moves law u vt st e new b (o .0) in
       (subst (λ v. Done law v (numbersOf (expsOf new))) (sym q) (moved-done law u vt st e new f (after q a)), o .1)

@@ -13,7 +13,7 @@ use Rattle.exact.specs.Units.{L, mag, Fin64}
 use Rattle.exact.specs.Integers.{_≤ᶻ_}
 use Rattle.exact.specs.Value.{val}
 use Rattle.numbers.specs.Rules.{finite}
-use Rattle.tensor.specs.Matrix.{sub, one, three}
+use Rattle.tensor.specs.Matrix.{sub, one, three, sumOf}
 use Rattle.law.specs.declared.Outcome.{Outcome}
 use Rattle.law.specs.declared.Outcome.the-variants.{Untouched, Stored, Refused}
 use Rattle.law.specs.declared.State.{State}
@@ -23,8 +23,8 @@ use Rattle.plasticity_rankine.specs.declared.RankineArguments.{RankineArguments
 use Rattle.plasticity_rankine.specs.declared.RankinePlasticity.{RankinePlasticity}
 use Rattle.plasticity_rankine.specs.declared.Triple.{Triple}
 use Rattle.plasticity_rankine.specs.declared.Triple.the-variants as triple
-use Rattle.plasticity_rankine.specs.Sorting.{rankOf, arrangeOf}
-use Rattle.plasticity_rankine.specs.Projection.{sumOf, firstSide, projectedOf, projectOf}
+use Rattle.plasticity_rankine.specs.Sorting.{orderOf, arrangeOf}
+use Rattle.plasticity_rankine.specs.Projection.{firstSide, projectedOf, projectOf}
 use Rattle.plasticity_rankine.specs.Rankine.{logsOf, expsOf, untouchedOf, rankineUpdate, lawOf, argumentsUpdate}
 use Rattle.surface.specs.Axes.{Each, Some, total}
 
@@ -113,7 +113,7 @@ pub record TakenBy (a : RankineArguments) (u vt : List (List Float)) (st : State
 
 -- the first yield test: lambda S + 2mu a <= s in floats
 abbrev pub firstTest : RankinePlasticity → List Float → Float → Bool
-firstTest p e s = Ieee.le (firstSide p (sumOf e) (arrangeOf (rankOf e) e .high)) s
+firstTest p e s = Ieee.le (firstSide p (sumOf e) (arrangeOf (orderOf e) e .high)) s
 
 -- ---- what is promised
 -- where the test holds: the state is handed back as it came, and no stress is above
