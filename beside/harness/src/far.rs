@@ -48,11 +48,16 @@ fn terms(n: usize, i: &[u64]) -> f64 {
     }
 }
 
+/// The same bits, or no number both.
+fn same_number(x: u64, y: u64) -> bool {
+    x == y || (f64::from_bits(x).is_nan() && f64::from_bits(y).is_nan())
+}
+
 fn distance(a: &[u64], b: &[u64], beside: f64) -> f64 {
     let f = |x: &u64| f64::from_bits(*x);
     let largest = b.iter().map(|x| f(x).abs()).fold(0.0, f64::max) + beside;
     let off = |(x, y): (&u64, &u64)| match f(x) - f(y) {
-        _ if x == y => 0.0,
+        _ if same_number(*x, *y) => 0.0,
         d if d.is_nan() => f64::INFINITY,
         d => d.abs(),
     };
@@ -140,8 +145,8 @@ fn one(u: &Untouched, n: usize, i: &[u64]) -> Option<([f64; 2], bool, [String; 2
         machine += "the first of two zeros";
     }
     let o = u.run(n, i);
-    let compared = |w: &[u64]| if calls::is_update(n) { [&w[..9], &w[30..36]].concat() } else { w.to_vec() };
-    let same_bits = compared(&m.out) == compared(&o);
+    let words: Vec<usize> = if calls::is_update(n) { (0..9).chain(30..36).collect() } else { (0..o.len()).collect() };
+    let same_bits = words.iter().all(|k| same_number(m.out[*k], o[*k]));
     Some(([apart(n, i, &a.out, &o), apart(n, i, &m.out, &o)], same_bits, [ours, machine]))
 }
 

@@ -406,12 +406,15 @@ fn updated(n: usize, i: &[u64], mut o: Vec<u64>) -> Answer {
     Answer { status: 0, out: o }
 }
 
-/// What build 2 gives with the machine's own elementary functions; nothing is refused but a result that is not finite.
+/// What build 2 gives with the machine's own elementary functions, also where a result is not finite.
 pub fn with_machine(n: usize, i: &[u64]) -> Answer {
     let mut o = vec![0; CALLS[n].outputs];
     run(n, i, &mut o, Mode::Machine);
     if calls::is_update(n) {
-        return updated(n, i, o);
+        let a = updated(n, i, o.clone());
+        if a.status == 0 {
+            return a;
+        }
     }
     Answer { status: 0, out: o }
 }
