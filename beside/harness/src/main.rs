@@ -4,6 +4,7 @@ mod branches;
 mod calls;
 mod draw;
 mod elementary;
+mod examples;
 mod inside;
 mod listed;
 mod lists;
@@ -19,14 +20,14 @@ use std::io::Write;
 
 struct Arguments {
     work: String,
-    sites: String,
+    docs: String,
     seed: u64,
     count: u64,
     replay: Option<String>,
 }
 
 fn arguments() -> Arguments {
-    let mut a = Arguments { work: String::new(), sites: String::new(), seed: 1, count: 20_000, replay: None };
+    let mut a = Arguments { work: String::new(), docs: String::new(), seed: 1, count: 20_000, replay: None };
     let mut rest = std::env::args().skip(1);
     a.work = rest.next().unwrap_or_default();
     while let Some(x) = rest.next() {
@@ -35,7 +36,7 @@ fn arguments() -> Arguments {
             "--seed" => a.seed = v.parse().unwrap_or(1),
             "--count" => a.count = v.parse().unwrap_or(20_000),
             "--replay" => a.replay = Some(v),
-            "--sites" => a.sites = v,
+            "--docs" => a.docs = v,
             _ => {}
         }
     }
@@ -60,17 +61,18 @@ fn same(n: usize, a: &Answer, e: &Answer) -> bool {
         && (a.status != 0 || a.out.iter().zip(&e.out).all(|(x, y)| x == y || (n == calls::CLAMP && nan(*x) && nan(*y))))
 }
 
-/// Each word replaced by 0 or 1 where that keeps what is asked.
+/// Each word replaced by 0, by 1 or by a number of few digits where that keeps what is asked.
 fn simpler(i: &[u64], keeps: impl Fn(&[u64]) -> bool) -> Vec<u64> {
     let mut w = i.to_vec();
     for _ in 0..2 {
         for k in 0..w.len() {
-            for simple in [0.0f64.to_bits(), 1.0f64.to_bits()] {
-                let was = w[k];
-                if was == 0 || was == simple {
+            let was = w[k];
+            let few = |digits: usize| format!("{:.digits$e}", f64::from_bits(was)).parse().unwrap_or(f64::NAN);
+            for simple in [0.0f64, 1.0, few(0), few(1), few(3)] {
+                if was == 0 || was == simple.to_bits() || (simple != 0.0 && was < 1 << 32) {
                     break;
                 }
-                w[k] = simple;
+                w[k] = simple.to_bits();
                 if keeps(&w) {
                     break;
                 }
@@ -104,6 +106,14 @@ fn shown_word(n: usize, k: usize, x: u64) -> String {
 fn shown(n: usize, i: &[u64]) -> String {
     i.iter().enumerate().map(|(k, x)| shown_word(n, k, *x)).collect::<Vec<_>>().join(" ")
 }
+
+fn not_zero(n: usize, i: &[u64]) -> String {
+    let some = i.iter().enumerate().filter(|(_, x)| **x != 0);
+    some.map(|(k, x)| format!("{k}: {}", shown_word(n, k, *x))).collect::<Vec<_>>().join(", ")
+}
+
+/// From here on a distance from the untouched Rust is shown with its inputs.
+const FAR: f64 = 1e-12;
 
 fn short(a: &Answer) -> String {
     if a.status != 0 {
@@ -142,11 +152,12 @@ fn compare(a: &Arguments, u: Option<&sites::Untouched>) -> Run {
             continue;
         }
         let mut d = Draw(a.seed.wrapping_mul(0x1000).wrapping_add(n as u64));
-        for k in 0..a.count {
+        let mut swept = d.sweep(n);
+        for k in 0..swept.len() as u64 + a.count {
             if k % 1000 == 0 {
                 progress(&format!("{} of {}: {} {k}", n + 1, CALLS.len(), CALLS[n].name));
             }
-            let i = d.inputs(n);
+            let i = swept.pop().unwrap_or_else(|| d.inputs(n));
             // Without ours, what was to come is still worked out, so that its branches show.
             let got = if t.missing { inside::expected(n, &i) } else { ours::call(n, &i) };
             t.run += 1;
@@ -199,6 +210,29 @@ fn compare(a: &Arguments, u: Option<&sites::Untouched>) -> Run {
     r
 }
 
+/// Each list of each call a word shorter and a word longer: 8, before all else, and nothing written.
+fn lengths(a: &Arguments, failed: &mut bool) {
+    let (mut run, mut right) = (0, 0);
+    for n in (0..CALLS.len()).filter(|n| ours::has(*n)) {
+        let mut d = Draw(a.seed.wrapping_mul(0x5000).wrapping_add(n as u64));
+        for _ in 0..a.count.div_ceil(100) {
+            let i = d.inputs(n);
+            for (k, l) in ours::lists(n).into_iter().enumerate() {
+                for length in [l - 1, l + 1] {
+                    run += 1;
+                    let got = ours::bent_call(n, &i, Some((k, length))).status;
+                    right += (got == 8) as u64;
+                    if got != 8 && run - right == 1 {
+                        println!("\n{}: list {k} of length {length} answered {got}", CALLS[n].name);
+                    }
+                }
+            }
+        }
+    }
+    *failed |= right != run;
+    println!("\nLists of a wrong length: refused by 8 with nothing written in {right} of {run} calls");
+}
+
 fn table(r: &Run, failed: &mut bool) {
     println!("\nCalls, bit for bit with build 2 (elementary functions: range, refusal and distance)");
     println!("{:<36} {:>8} {:>8} {:>8} {:>8}  answers by refusal number", "call", "run", "same", "listed", "unlisted");
@@ -221,6 +255,9 @@ fn table(r: &Run, failed: &mut bool) {
             println!("      expected  {}", short(want));
         }
     }
+    let total: u64 = r.tallies.iter().map(|t| t.run).sum();
+    let same: u64 = r.tallies.iter().map(|t| t.same).sum();
+    println!("{:<36} {total:>8} {same:>8}", "in all");
     println!("\nBranches reached (by calls that are not refused)");
     for (n, b, why) in branches::ALL {
         let c = r.branches.get(&(*n, *b)).copied().unwrap_or(0);
@@ -245,9 +282,7 @@ fn table(r: &Run, failed: &mut bool) {
     }
     println!("\nOf these, the Rust going on with finite numbers, for instance (words that are not 0, by place)");
     for ((n, s), i) in &r.went_on {
-        let some: Vec<String> =
-            i.iter().enumerate().filter(|(_, x)| **x != 0).map(|(k, x)| format!("{k}: {}", shown_word(*n, k, *x))).collect();
-        println!("{:<36} {s:>3}  {}", CALLS[*n].name, some.join(", "));
+        println!("{:<36} {s:>3}  {}", CALLS[*n].name, not_zero(*n, i));
     }
 }
 
@@ -301,27 +336,56 @@ fn site_table(r: &mut Run, with_nalgebra: bool, failed: &mut bool) {
     }
 }
 
+/// A simpler input of the same kind, on nalgebra's factors.
+fn simpler_far(u: &sites::Untouched, n: usize, i: &[u64], same_kind: impl Fn(&[f64; 2], &str, &str) -> bool) -> Vec<u64> {
+    let keeps = |w: &[u64]| sites::one(u, n, &sites::factored(u, n, w)).is_some_and(|(d, _, [a, b])| same_kind(&d, &a, &b));
+    let straight = sites::straightened(u, n, i);
+    let w = simpler(if keeps(&straight) { &straight } else { i }, keeps);
+    // The factors are nalgebra's, so they are not shown.
+    let factors = sites::factors_at(n).map_or(0..0, |(_, at, which)| at..at + which.len());
+    (0..w.len()).map(|k| if factors.contains(&k) { 0 } else { w[k] }).collect()
+}
+
+/// The inverse's determinant is another rounding than nalgebra's: the distance over that determinant's condition.
+fn inverse_line(r: &Run) {
+    let worst = r.sites.iter().filter(|(k, _)| k.2 == nalgebra::hooks::Op::Inverse).map(|(_, s)| s.over_condition).fold(0.0, f64::max);
+    println!("The inverse's distance over its determinant's condition (its terms' summed sizes over itself): worst {:.3e}", worst / sites::SUM_BOUND);
+}
+
 fn far_table(a: &Arguments, u: &sites::Untouched) {
-    println!("\nThe untouched Rust (build 1) from ours, on nalgebra's factors: distance over the largest entry (of energies: plus the hardened moduli)");
+    println!("\nThe untouched Rust (build 1) from ours, on nalgebra's factors: distance over the largest entry (of energies: plus their terms' sizes);");
+    println!("parted: the two took other branches. Last two: build 1 from build 2 with the machine's elementary functions, worst and how often in bits, which nalgebra alone makes");
     println!(
-        "{:<36} {:>8} {:>8} {:>8} {:>10} {:>10} {:>10}",
-        "call", "beside", "refused", "branch", "worst", "99 of 100", "median"
+        "{:<36} {:>8} {:>8} {:>8} {:>10} {:>10} {:>10} {:>10} {:>8}",
+        "call", "beside", "refused", "parted", "worst", "99 of 100", "median", "nalgebra", "in bits"
     );
-    for n in 9..calls::PROJECT {
-        if !ours::has(n) {
-            continue;
-        }
+    let mut examples = Vec::new();
+    for n in (9..CALLS.len()).filter(|n| !matches!(*n, calls::PROJECT | calls::ALPHA) && ours::has(*n)) {
         progress(&format!("build 1: {}", CALLS[n].name));
         let mut d = Draw(a.seed.wrapping_mul(0x2000).wrapping_add(n as u64));
         let mut f = sites::far(u, n, &mut d, a.count.div_ceil(4));
         let beside = f.distances.len();
         let (w, m) = sites::worst_and_median(&mut f.distances);
         let most = f.distances.get(beside * 99 / 100).copied().unwrap_or(0.0);
+        let parted: u64 = f.parted.values().map(|x| x.0).sum();
         progress("");
         println!(
-            "{:<36} {:>8} {:>8} {:>8} {:>10.3e} {:>10.3e} {:>10.3e}",
-            CALLS[n].name, beside, f.refused, f.other_branch, w, most, m
+            "{:<36} {:>8} {:>8} {:>8} {:>10.3e} {:>10.3e} {:>10.3e} {:>10.3e} {:>8}",
+            CALLS[n].name, beside, f.refused, parted, w, most, m, f.nalgebra, f.other_bits
         );
+        for ((x, y), (times, i)) in f.parted {
+            let i = simpler_far(u, n, &i, |_, p, q| p == x && q == y);
+            examples.push((n, format!("{times} times ours: {x}; the Rust: {y}"), i));
+        }
+        if let Some((w, i)) = f.worst.filter(|w| w.0 > FAR) {
+            let i = simpler_far(u, n, &i, |d, p, q| p == q && d[0] >= w / 8.0);
+            examples.push((n, format!("worst {w:.3e}"), i));
+        }
+    }
+    println!("\nOf these, where the two parted, and the worst beyond {FAR:e}, for instance (words that are not 0, by place)");
+    for (n, what, i) in examples {
+        println!("{}, {what}", CALLS[n].name);
+        println!("    {}", not_zero(n, &i));
     }
 }
 
@@ -353,14 +417,17 @@ fn main() {
         return;
     }
     let u = sites::Untouched::open(&format!("{}/libuntouched.so", a.work));
-    println!("seed {}, {} inputs a call", a.seed, a.count);
+    println!("seed {}, {} drawn inputs a call", a.seed, a.count);
     let mut failed = !missing.is_empty();
     let mut r = compare(&a, u.as_ref());
     table(&r, &mut failed);
+    lengths(&a, &mut failed);
     clamp_case();
+    examples::check(&format!("{}/DIFFERENCES.md", a.docs), u.as_ref(), &mut failed);
     lists::compare(a.seed, a.count, &mut failed);
     site_table(&mut r, u.is_some(), &mut failed);
-    listed_sites(&a.sites, &r, &mut failed);
+    inverse_line(&r);
+    listed_sites(&format!("{}/SITES.md", a.docs), &r, &mut failed);
     match &u {
         Some(u) => far_table(&a, u),
         None => println!("\nBuild 1 was LEFT OUT: nothing was run beside the untouched Rust or nalgebra."),
