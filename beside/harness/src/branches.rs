@@ -79,7 +79,8 @@ fn met(line: u32, op: Op) -> bool {
     watch().met.iter().any(|m| m.at.line() == line && m.op == op)
 }
 
-fn result(line: u32, op: Op) -> f64 {
+/// The first number of an operation that was met, or NaN.
+pub fn result(line: u32, op: Op) -> f64 {
     watch().met.iter().find(|m| m.at.line() == line && m.op == op).map_or(f64::NAN, |m| m.output[0])
 }
 

@@ -2,7 +2,7 @@
 use crate::calls::CALLS;
 use crate::inside;
 use crate::ours;
-use crate::sites::Untouched;
+use crate::untouched::Untouched;
 
 /// Which build tells what the Rust does: the untouched one, or build 2 with the machine's functions, on the record's own factors.
 enum Rust {
@@ -36,7 +36,7 @@ fn snow(changes: &[(usize, f64)]) -> Vec<f64> {
     [vec![0.025, 0.0045, 10.0], record(changes)].concat()
 }
 
-/// Lambda and mu 1, F diagonal, no hardening yet.
+/// Lambda is mu, F diagonal, no hardening yet.
 fn drucker_prager(h: [f64; 4], mu: f64, sigma: [f64; 3]) -> Vec<f64> {
     let mut r = record(&[(32, 0.0)]);
     for k in 0..3 {
@@ -63,7 +63,14 @@ fn all() -> Vec<Example> {
     let diagonal = |a: f64, b: f64, c: f64| vec![a, 0.0, 0.0, 0.0, b, 0.0, 0.0, 0.0, c];
     let law = |l: &[f64], f: Vec<f64>| [l, &f].concat();
     let snow_places = &[0, 31, 33];
-    add(1, "update snow", "sigma (NaN, 1, 1): first of F, plastic determinant, elastic hardening", &snow(&[(18, f64::NAN)]), snow_places, Two);
+    add(
+        1,
+        "update snow",
+        "sigma (NaN, 1, 1): first of F, plastic determinant, elastic hardening",
+        &snow(&[(18, f64::NAN)]),
+        snow_places,
+        Two,
+    );
     add(1, "inv_exact", "infinity", &[f64::INFINITY], &[0], One);
     add(2, "update snow", "plastic determinant -69.5, so exp(705): the same three", &snow(&[(31, -69.5)]), snow_places, One);
     let lost = snow(&[(18, 1e200), (19, 1e200), (20, 0.0)]);
@@ -79,7 +86,14 @@ fn all() -> Vec<Example> {
     add(7, "spherical_part", "nine times -0.0", &[-0.0; 9], &[0], One);
     let flat = vec![0.1, 0.3, 0.0, 0.1, 0.3, 0.0, 0.0, 0.0, 0.7];
     let flat = law(&[0.5, 1.0, 1.0, 1.0], flat);
-    add(8, "neo_hookean_fpk_stress", "rows (0.1, 0.3, 0), (0.1, 0.3, 0), (0, 0, 0.7), all else 1: first and last", &flat, &[0, 8], One);
+    add(
+        8,
+        "neo_hookean_fpk_stress",
+        "rows (0.1, 0.3, 0), (0.1, 0.3, 0), (0, 0, 0.7), all else 1: first and last",
+        &flat,
+        &[0, 8],
+        One,
+    );
     add(9, "update snow", "F the identity beside sigma (0.5, 1, 1): the three of row 1", &snow(&[(18, 0.5)]), snow_places, One);
     add(10, "lame_lambda_mu", "young 1, poisson 0.5", &[1.0, 0.5], &[0, 1], One);
     let none = |gamma: u64| [10.0, f64::from_bits(gamma), 0.0, 1.0, 0.0, 0.0, 1.0];
@@ -103,10 +117,24 @@ fn all() -> Vec<Example> {
     let flag = [-0.0, 0.9, 1.0, 1.0, 1.0, 2.0, 1.0, 1.0];
     add(17, "corotated_elastic_energy_density", "flag -0.0, sigma (2, 1, 1), all else 1", &flag, &[0], One);
     let even = |s: f64| drucker_prager(degrees(), 1.0, [s; 3]);
-    add(21, "update drucker_prager", "F 0.9 times the identity: first of F, plastic determinant, dq", &even(0.9), &[0, 31, 32], One);
+    add(
+        21,
+        "update drucker_prager",
+        "F 0.9 times the identity: first of F, plastic determinant, dq",
+        &even(0.9),
+        &[0, 31, 32],
+        One,
+    );
     add(21, "update drucker_prager", "F 0.95 times the identity: the same three", &even(0.95), &[0, 31, 32], One);
     let below = drucker_prager([0.0, 0.0, 0.0, 1.0], 1.0, [up(0.9, 2), up(0.9, 1), 0.9]);
-    add(22, "update drucker_prager", "h (0, 0, 0, 1), F 0.9 and the next two numbers above: the diagonal of F", &below, &[0, 4, 8], One);
+    add(
+        22,
+        "update drucker_prager",
+        "h (0, 0, 0, 1), F 0.9 and the next two numbers above: the diagonal of F",
+        &below,
+        &[0, 4, 8],
+        One,
+    );
     all
 }
 

@@ -5,18 +5,22 @@ mod calls;
 mod draw;
 mod elementary;
 mod examples;
+mod far;
 mod inside;
 mod listed;
 mod lists;
 mod ours;
 mod replay;
+mod show;
 mod sites;
+mod untouched;
 
 use calls::CALLS;
 use draw::Draw;
 use inside::Answer;
+use show::{not_zero, progress, short, shown, simpler};
 use std::collections::BTreeMap;
-use std::io::Write;
+use untouched::Untouched;
 
 struct Arguments {
     work: String,
@@ -61,28 +65,6 @@ fn same(n: usize, a: &Answer, e: &Answer) -> bool {
         && (a.status != 0 || a.out.iter().zip(&e.out).all(|(x, y)| x == y || (n == calls::CLAMP && nan(*x) && nan(*y))))
 }
 
-/// Each word replaced by 0, by 1 or by a number of few digits where that keeps what is asked.
-fn simpler(i: &[u64], keeps: impl Fn(&[u64]) -> bool) -> Vec<u64> {
-    let mut w = i.to_vec();
-    for _ in 0..2 {
-        for k in 0..w.len() {
-            let was = w[k];
-            let few = |digits: usize| format!("{:.digits$e}", f64::from_bits(was)).parse().unwrap_or(f64::NAN);
-            for simple in [0.0f64, 1.0, few(0), few(1), few(3)] {
-                if was == 0 || was == simple.to_bits() || (simple != 0.0 && was < 1 << 32) {
-                    break;
-                }
-                w[k] = simple.to_bits();
-                if keeps(&w) {
-                    break;
-                }
-                w[k] = was;
-            }
-        }
-    }
-    w
-}
-
 /// Simpler inputs that still differ and are not listed.
 fn shrink(n: usize, i: &[u64]) -> Vec<u64> {
     let differs = |w: &[u64]| {
@@ -90,41 +72,6 @@ fn shrink(n: usize, i: &[u64]) -> Vec<u64> {
         !same(n, &a, &e) && listed::by_document(n, w, &e).is_none_or(|d| !same(n, &a, &d))
     };
     simpler(i, differs)
-}
-
-fn shown_word(n: usize, k: usize, x: u64) -> String {
-    let f = f64::from_bits(x);
-    if !inside::float_at(n, k) && matches!(n, 32..=34) {
-        format!("{x}")
-    } else if x == 0 || f == 1.0 {
-        format!("{f}")
-    } else {
-        format!("{f:e}={x:016x}")
-    }
-}
-
-fn shown(n: usize, i: &[u64]) -> String {
-    i.iter().enumerate().map(|(k, x)| shown_word(n, k, *x)).collect::<Vec<_>>().join(" ")
-}
-
-fn not_zero(n: usize, i: &[u64]) -> String {
-    let some = i.iter().enumerate().filter(|(_, x)| **x != 0);
-    some.map(|(k, x)| format!("{k}: {}", shown_word(n, k, *x))).collect::<Vec<_>>().join(", ")
-}
-
-/// From here on a distance from the untouched Rust is shown with its inputs.
-const FAR: f64 = 1e-12;
-
-fn short(a: &Answer) -> String {
-    if a.status != 0 {
-        return format!("refused {}", a.status);
-    }
-    a.out.iter().map(|x| format!("{:e}", f64::from_bits(*x))).collect::<Vec<_>>().join(" ")
-}
-
-fn progress(text: &str) {
-    eprint!("\r\x1b[K{text}");
-    let _ = std::io::stderr().flush();
 }
 
 struct Run {
@@ -136,7 +83,7 @@ struct Run {
     sites: sites::Sites,
 }
 
-fn compare(a: &Arguments, u: Option<&sites::Untouched>) -> Run {
+fn compare(a: &Arguments, u: Option<&Untouched>) -> Run {
     let mut r = Run {
         tallies: Vec::new(),
         branches: BTreeMap::new(),
@@ -286,129 +233,6 @@ fn table(r: &Run, failed: &mut bool) {
     }
 }
 
-/// The sites that the page lists and the ones met are the same.
-fn listed_sites(page: &str, r: &Run, failed: &mut bool) {
-    let Ok(text) = std::fs::read_to_string(page) else {
-        println!("{page}: NOT THERE, so its sites are not compared");
-        *failed = true;
-        return;
-    };
-    let cells = |l: &str| l.split('|').map(|c| c.trim().to_string()).collect::<Vec<_>>();
-    let named: std::collections::BTreeSet<(String, String, String)> = text
-        .lines()
-        .map(cells)
-        .filter(|c| c.len() > 4 && c[2].parse::<u32>().is_ok())
-        .map(|c| (c[1].clone(), c[2].clone(), c[3].clone()))
-        .collect();
-    let met: std::collections::BTreeSet<(String, String, String)> =
-        r.sites.keys().map(|(f, l, o)| (f.clone(), l.to_string(), format!("{o:?}"))).collect();
-    for (what, set) in
-        [("met, but not in the page", met.difference(&named)), ("in the page, but never met", named.difference(&met))]
-    {
-        for s in set {
-            *failed = true;
-            println!("{what}: {s:?}");
-        }
-    }
-}
-
-fn site_table(r: &mut Run, with_nalgebra: bool, failed: &mut bool) {
-    println!("\nSection 4's sites (sums: worst difference over the terms' summed sizes, in units of 2^-45; others over the largest entry)");
-    println!(
-        "{:<34} {:>4} {:<14} {:>9} {:>8} {:>9} {:>10} {:>10}",
-        "file", "line", "operation", "met", "beside", "in bits", "worst", "median"
-    );
-    for ((file, line, op), s) in r.sites.iter_mut() {
-        let (w, m) = sites::worst_and_median(&mut s.ratios);
-        let b = sites::SUM_BOUND;
-        let over = with_nalgebra && *op != nalgebra::hooks::Op::Inverse && w > b;
-        *failed |= over;
-        println!(
-            "{file:<34} {line:>4} {:<14} {:>9} {:>8} {:>9} {:>10.3e} {:>10.3e}{}",
-            format!("{op:?}"),
-            s.times,
-            s.beside,
-            s.other_bits,
-            w / b,
-            m / b,
-            if over { "  OVER 2^-45" } else { "" }
-        );
-    }
-}
-
-/// A simpler input of the same kind, on nalgebra's factors.
-fn simpler_far(u: &sites::Untouched, n: usize, i: &[u64], same_kind: impl Fn(&[f64; 2], &str, &str) -> bool) -> Vec<u64> {
-    let keeps = |w: &[u64]| sites::one(u, n, &sites::factored(u, n, w)).is_some_and(|(d, _, [a, b])| same_kind(&d, &a, &b));
-    let straight = sites::straightened(u, n, i);
-    let w = simpler(if keeps(&straight) { &straight } else { i }, keeps);
-    // The factors are nalgebra's, so they are not shown.
-    let factors = sites::factors_at(n).map_or(0..0, |(_, at, which)| at..at + which.len());
-    (0..w.len()).map(|k| if factors.contains(&k) { 0 } else { w[k] }).collect()
-}
-
-/// The inverse's determinant is another rounding than nalgebra's: the distance over that determinant's condition.
-fn inverse_line(r: &Run) {
-    let worst = r.sites.iter().filter(|(k, _)| k.2 == nalgebra::hooks::Op::Inverse).map(|(_, s)| s.over_condition).fold(0.0, f64::max);
-    println!("The inverse's distance over its determinant's condition (its terms' summed sizes over itself): worst {:.3e}", worst / sites::SUM_BOUND);
-}
-
-fn far_table(a: &Arguments, u: &sites::Untouched) {
-    println!("\nThe untouched Rust (build 1) from ours, on nalgebra's factors: distance over the largest entry (of energies: plus their terms' sizes);");
-    println!("parted: the two took other branches. Last two: build 1 from build 2 with the machine's elementary functions, worst and how often in bits, which nalgebra alone makes");
-    println!(
-        "{:<36} {:>8} {:>8} {:>8} {:>10} {:>10} {:>10} {:>10} {:>8}",
-        "call", "beside", "refused", "parted", "worst", "99 of 100", "median", "nalgebra", "in bits"
-    );
-    let mut examples = Vec::new();
-    for n in (9..CALLS.len()).filter(|n| !matches!(*n, calls::PROJECT | calls::ALPHA) && ours::has(*n)) {
-        progress(&format!("build 1: {}", CALLS[n].name));
-        let mut d = Draw(a.seed.wrapping_mul(0x2000).wrapping_add(n as u64));
-        let mut f = sites::far(u, n, &mut d, a.count.div_ceil(4));
-        let beside = f.distances.len();
-        let (w, m) = sites::worst_and_median(&mut f.distances);
-        let most = f.distances.get(beside * 99 / 100).copied().unwrap_or(0.0);
-        let parted: u64 = f.parted.values().map(|x| x.0).sum();
-        progress("");
-        println!(
-            "{:<36} {:>8} {:>8} {:>8} {:>10.3e} {:>10.3e} {:>10.3e} {:>10.3e} {:>8}",
-            CALLS[n].name, beside, f.refused, parted, w, most, m, f.nalgebra, f.other_bits
-        );
-        for ((x, y), (times, i)) in f.parted {
-            let i = simpler_far(u, n, &i, |_, p, q| p == x && q == y);
-            examples.push((n, format!("{times} times ours: {x}; the Rust: {y}"), i));
-        }
-        if let Some((w, i)) = f.worst.filter(|w| w.0 > FAR) {
-            let i = simpler_far(u, n, &i, |d, p, q| p == q && d[0] >= w / 8.0);
-            examples.push((n, format!("worst {w:.3e}"), i));
-        }
-    }
-    println!("\nOf these, where the two parted, and the worst beyond {FAR:e}, for instance (words that are not 0, by place)");
-    for (n, what, i) in examples {
-        println!("{}, {what}", CALLS[n].name);
-        println!("    {}", not_zero(n, &i));
-    }
-}
-
-/// The clamp hides a NaN: the best known place where ours refuses and the Rust goes on.
-fn clamp_case() {
-    let mut i = vec![0u64; 39];
-    let one = 1f64.to_bits();
-    i[..3].copy_from_slice(&[0.025f64.to_bits(), 0.0045f64.to_bits(), 10f64.to_bits()]);
-    for k in [0, 4, 8, 9, 13, 17, 19, 20, 21, 25, 29, 30, 31, 32, 33] {
-        i[3 + k] = one;
-    }
-    i[3 + 18] = f64::NAN.to_bits();
-    let mut o = vec![0; 38];
-    inside::run(calls::UPDATE, &i, &mut o, inside::Mode::Machine);
-    let met = inside::watch().met.iter().rfind(|m| m.op == nalgebra::hooks::Op::Recompose);
-    let sigma = met.map_or(vec![], |m| m.input[9..12].to_vec());
-    let ours = if ours::has(calls::UPDATE) { format!("{}", ours::call(calls::UPDATE, &i).status) } else { "(missing)".into() };
-    println!(
-        "\nSnow with sigma NaN, 1, 1: ours refuses by {ours}; the Rust goes on with sigma {sigma:?}, plastic determinant {}, elastic hardening {}",
-        f64::from_bits(o[31]), f64::from_bits(o[33])
-    );
-}
-
 fn main() {
     let a = arguments();
     let missing = ours::open(&format!("{}/libours.so", a.work));
@@ -416,20 +240,18 @@ fn main() {
         replay::write(file, a.seed);
         return;
     }
-    let u = sites::Untouched::open(&format!("{}/libuntouched.so", a.work));
+    let u = Untouched::open(&format!("{}/libuntouched.so", a.work));
     println!("seed {}, {} drawn inputs a call", a.seed, a.count);
     let mut failed = !missing.is_empty();
     let mut r = compare(&a, u.as_ref());
     table(&r, &mut failed);
     lengths(&a, &mut failed);
-    clamp_case();
     examples::check(&format!("{}/DIFFERENCES.md", a.docs), u.as_ref(), &mut failed);
     lists::compare(a.seed, a.count, &mut failed);
-    site_table(&mut r, u.is_some(), &mut failed);
-    inverse_line(&r);
-    listed_sites(&format!("{}/SITES.md", a.docs), &r, &mut failed);
+    sites::table(&mut r.sites, u.is_some(), &mut failed);
+    sites::listed(&format!("{}/SITES.md", a.docs), &r.sites, &mut failed);
     match &u {
-        Some(u) => far_table(&a, u),
+        Some(u) => far::table(a.seed, a.count, u),
         None => println!("\nBuild 1 was LEFT OUT: nothing was run beside the untouched Rust or nalgebra."),
     }
     for m in &missing {

@@ -1,46 +1,9 @@
 //! Section 4's sites: each place of the text where nalgebra's own sum, product, norm, determinant, inverse or recompose stands,
-//! run beside nalgebra's on the very numbers met there; and the untouched Rust's distance for each call.
-use crate::branches;
-use crate::calls::{self, CALLS};
-use crate::draw::Draw;
-use crate::inside::{self, finite, Answer, Met};
-use crate::ours::{self, Library};
+//! run beside nalgebra's on the very numbers met there.
+use crate::inside::{self, Met};
+use crate::untouched::Untouched;
 use nalgebra::hooks::Op;
-use std::collections::BTreeMap;
-use std::ops::Range;
-
-pub struct Untouched {
-    call: extern "C" fn(usize, *const u64, *mut u64),
-    factors: extern "C" fn(*const f64, *mut f64),
-    op: extern "C" fn(u32, *const f64, usize, *mut f64, usize) -> u32,
-}
-
-impl Untouched {
-    pub fn open(path: &str) -> Option<Untouched> {
-        let lib = Library::open(path)?;
-        unsafe {
-            Some(Untouched {
-                call: std::mem::transmute::<usize, extern "C" fn(usize, *const u64, *mut u64)>(lib.find("untouched_call")?),
-                factors: std::mem::transmute::<usize, extern "C" fn(*const f64, *mut f64)>(lib.find("untouched_factors")?),
-                op: std::mem::transmute::<usize, extern "C" fn(u32, *const f64, usize, *mut f64, usize) -> u32>(
-                    lib.find("untouched_op")?,
-                ),
-            })
-        }
-    }
-
-    fn factors_of(&self, m: [f64; 9]) -> [f64; 21] {
-        let mut o = [0.0; 21];
-        (self.factors)(m.as_ptr(), o.as_mut_ptr());
-        o
-    }
-
-    pub fn run(&self, n: usize, i: &[u64]) -> Vec<u64> {
-        let mut o = vec![0; CALLS[n].outputs];
-        (self.call)(n, i.as_ptr(), o.as_mut_ptr());
-        o
-    }
-}
+use std::collections::{BTreeMap, BTreeSet};
 
 /// What was seen at one site.
 #[derive(Default)]
@@ -97,10 +60,7 @@ pub fn beside(u: Option<&Untouched>, sites: &mut Sites) {
         if s.times % 4 != 1 || !m.input.iter().all(tame) || !m.output.iter().all(|x| x.is_finite()) {
             continue;
         }
-        let mut o = vec![0.0; m.output.len()];
-        if (u.op)(m.op as u32, m.input.as_ptr(), m.input.len(), o.as_mut_ptr(), o.len()) == 0 {
-            continue;
-        }
+        let Some(o) = u.operation(m) else { continue };
         s.beside += 1;
         if o.iter().zip(&m.output).any(|(a, b)| a.to_bits() != b.to_bits()) {
             s.other_bits += 1;
@@ -129,155 +89,57 @@ pub fn worst_and_median(v: &mut [f64]) -> (f64, f64) {
     }
 }
 
-/// The untouched Rust beside ours, and beside build 2 with the machine's elementary functions: what is left of a distance there comes
-/// from nalgebra, the rest from the elementary functions. Where the two took other branches there is no distance.
-#[derive(Default)]
-pub struct Far {
-    pub distances: Vec<f64>,
-    pub worst: Option<(f64, Vec<u64>)>,
-    pub parted: BTreeMap<(String, String), (u64, Vec<u64>)>,
-    pub refused: u64,
-    /// Build 1 beside build 2 with the machine's functions: the worst distance, and how often a bit differs (a zero's sign too).
-    pub nalgebra: f64,
-    pub other_bits: u64,
-}
-
-/// The summed sizes of an energy's terms, which cancel near rest, so that the result alone is no measure.
-fn terms(n: usize, i: &[u64]) -> f64 {
-    let f = |k: usize| f64::from_bits(i[k]).abs();
-    let product = |k: usize| f64::from_bits(i[k]) * f64::from_bits(i[k + 1]) * f64::from_bits(i[k + 2]);
-    match n {
-        26 | 27 => {
-            let g: Vec<f64> = i[5..14].iter().map(|x| f64::from_bits(*x)).collect();
-            let j = nalgebra::Matrix3::new(g[0], g[1], g[2], g[3], g[4], g[5], g[6], g[7], g[8]).determinant();
-            let strain = g.iter().map(|x| x * x).sum::<f64>() / (j * j).cbrt() + 3.0;
-            let volume = (j * j + 1.0) / 2.0 + j.ln().abs();
-            let phase = f(3).max(f(3) * f(3)).max(1.0);
-            (f(2) / 2.0 * strain + (2.0 / 3.0 * f(2) + f(1)) / 2.0 * volume) * f(4) * phase
-        }
-        30 => (f(3) * (3.0 + f(5) * f(5) + f(6) * f(6) + f(7) * f(7)) + f(2) / 2.0 * (1.0 + product(5).powi(2))) * f(4),
-        _ => 0.0,
-    }
-}
-
-fn distance(a: &[u64], b: &[u64], beside: f64) -> f64 {
-    let f = |x: &u64| f64::from_bits(*x);
-    let largest = b.iter().map(|x| f(x).abs()).fold(0.0, f64::max) + beside;
-    let off = |(x, y): (&u64, &u64)| match f(x) - f(y) {
-        _ if x == y => 0.0,
-        d if d.is_nan() => f64::INFINITY,
-        d => d.abs(),
+/// The sites that the page lists and the ones met are the same.
+pub fn listed(page: &str, sites: &Sites, failed: &mut bool) {
+    let Ok(text) = std::fs::read_to_string(page) else {
+        println!("{page}: NOT THERE, so its sites are not compared");
+        *failed = true;
+        return;
     };
-    match a.iter().zip(b).map(off).fold(0.0, f64::max) {
-        0.0 => 0.0,
-        off => off / largest,
-    }
-}
-
-/// Where F stands in a call's inputs, where its factors go, and which of the 21.
-pub fn factors_at(n: usize) -> Option<(usize, usize, Range<usize>)> {
-    match n {
-        20..=23 => Some((calls::parameters(n - 20), calls::parameters(n - 20) + 9, 0..21)),
-        29 => Some((6, 15, 0..21)),
-        31 => Some((5, 14, 9..12)),
-        _ => None,
-    }
-}
-
-/// The inputs with the factors that nalgebra gives for F.
-pub fn factored(u: &Untouched, n: usize, i: &[u64]) -> Vec<u64> {
-    let mut w = i.to_vec();
-    let f = |k: usize| f64::from_bits(i[k]);
-    if let Some((at, to, which)) = factors_at(n) {
-        let m = std::array::from_fn(|k| f(at + k));
-        for (k, x) in u.factors_of(m)[which].iter().enumerate() {
-            w[to + k] = x.to_bits();
+    let cells = |l: &str| l.split('|').map(|c| c.trim().to_string()).collect::<Vec<_>>();
+    let named: BTreeSet<(String, String, String)> = text
+        .lines()
+        .map(cells)
+        .filter(|c| c.len() > 4 && c[2].parse::<u32>().is_ok())
+        .map(|c| (c[1].clone(), c[2].clone(), c[3].clone()))
+        .collect();
+    let met: BTreeSet<(String, String, String)> =
+        sites.keys().map(|(f, l, o)| (f.clone(), l.to_string(), format!("{o:?}"))).collect();
+    for (what, set) in
+        [("met, but not in the page", met.difference(&named)), ("in the page, but never met", named.difference(&met))]
+    {
+        for s in set {
+            *failed = true;
+            println!("{what}: {s:?}");
         }
     }
-    if n == 30 {
-        // The Rust takes a diagonal matrix here: of one whose singular values nalgebra changes, its values' values.
-        let mut s = [f(5), f(6), f(7)];
-        for _ in 0..8 {
-            let o = u.factors_of([s[0], 0.0, 0.0, 0.0, s[1], 0.0, 0.0, 0.0, s[2]]);
-            s.copy_from_slice(&o[9..12]);
-        }
-        (0..3).for_each(|k| w[5 + k] = s[k].to_bits());
-    }
-    w
 }
 
-/// F as the diagonal matrix of its own singular values.
-pub fn straightened(u: &Untouched, n: usize, i: &[u64]) -> Vec<u64> {
-    let mut w = factored(u, n, i);
-    if let Some((f, at, Range { start: 0, .. })) = factors_at(n) {
-        w[f..f + 9].fill(0);
-        (0..3).for_each(|k| w[f + 4 * k] = w[at + 9 + k]);
+pub fn table(sites: &mut Sites, with_nalgebra: bool, failed: &mut bool) {
+    println!("\nSection 4's sites (sums: worst difference over the terms' summed sizes, in units of 2^-45; others over the largest entry)");
+    println!(
+        "{:<34} {:>4} {:<14} {:>9} {:>8} {:>9} {:>10} {:>10}",
+        "file", "line", "operation", "met", "beside", "in bits", "worst", "median"
+    );
+    for ((file, line, op), s) in sites.iter_mut() {
+        let (w, m) = worst_and_median(&mut s.ratios);
+        let b = SUM_BOUND;
+        let over = with_nalgebra && *op != Op::Inverse && w > b;
+        *failed |= over;
+        println!(
+            "{file:<34} {line:>4} {:<14} {:>9} {:>8} {:>9} {:>10.3e} {:>10.3e}{}",
+            format!("{op:?}"),
+            s.times,
+            s.beside,
+            s.other_bits,
+            w / b,
+            m / b,
+            if over { "  OVER 2^-45" } else { "" }
+        );
     }
-    w
-}
-
-/// How far an answer is from build 1's.
-fn apart(n: usize, i: &[u64], a: &[u64], o: &[u64]) -> f64 {
-    if n == calls::FAILED {
-        return if a == o { 0.0 } else { f64::INFINITY };
-    }
-    if !calls::is_update(n) {
-        return distance(a, o, terms(n, i));
-    }
-    let scalar = |s: usize| {
-        let (x, y) = (f64::from_bits(a[s]), f64::from_bits(o[s]));
-        (x - y).abs() / y.abs().max(1.0)
-    };
-    (30..36).map(scalar).fold(distance(&a[..9], &o[..9], 0.0), f64::max)
-}
-
-fn branches(n: usize, i: &[u64], a: &Answer) -> String {
-    let mut names = Vec::new();
-    branches::taken(n, i, a, &mut names);
-    names.join(", ")
-}
-
-/// One input with nalgebra's factors: nothing where ours refuses, else how far ours and build 2 with the machine's functions are from
-/// build 1, whether the latter's bits are build 1's, and the branches of these two.
-pub fn one(u: &Untouched, n: usize, i: &[u64]) -> Option<([f64; 2], bool, [String; 2])> {
-    let a = ours::call(n, i);
-    if a.status != 0 {
-        return None;
-    }
-    // Only the plastic laws branch on what an elementary function gave.
-    let names = |a: &Answer| if calls::is_update(n) { branches(n, i, a) } else { String::new() };
-    let ours = names(&inside::expected(n, i));
-    let m = inside::with_machine(n, i);
-    let machine = names(&m);
-    let o = u.run(n, i);
-    let compared = |w: &[u64]| if calls::is_update(n) { [&w[..9], &w[30..36]].concat() } else { w.to_vec() };
-    let same_bits = compared(&m.out) == compared(&o);
-    Some(([apart(n, i, &a.out, &o), apart(n, i, &m.out, &o)], same_bits, [ours, machine]))
-}
-
-/// Ours beside build 1, on factors that nalgebra gives for F.
-pub fn far(u: &Untouched, n: usize, d: &mut Draw, count: u64) -> Far {
-    let mut far = Far::default();
-    for _ in 0..count {
-        let i = d.inputs(n);
-        if !(0..i.len()).all(|k| finite(i[k])) {
-            continue;
-        }
-        let i = factored(u, n, &i);
-        let Some(([ours, machine], same_bits, [a, b])) = one(u, n, &i) else {
-            far.refused += 1;
-            continue;
-        };
-        far.nalgebra = far.nalgebra.max(machine);
-        far.other_bits += !same_bits as u64;
-        if a != b {
-            far.parted.entry((a, b)).or_insert((0, i)).0 += 1;
-            continue;
-        }
-        far.distances.push(ours);
-        if ours > far.worst.as_ref().map_or(0.0, |w| w.0) {
-            far.worst = Some((ours, i));
-        }
-    }
-    far
+    let inverse = sites.iter().filter(|(k, _)| k.2 == Op::Inverse).map(|(_, s)| s.over_condition).fold(0.0, f64::max);
+    println!(
+        "The inverse over its determinant's condition (its terms' summed sizes over itself): worst {:.3e}",
+        inverse / SUM_BOUND
+    );
 }
