@@ -193,7 +193,7 @@ fn main() {
     laws.iter_mut().for_each(agree);
     println!("Ours beside the Rust: CPU time, medians of interleaved rounds; the machine's load {}", load());
     if laws[0].sides[1].is_none() {
-        println!("The untouched Rust is LEFT OUT: nalgebra is not there.");
+        println!("The untouched Rust is LEFT OUT: nalgebra could not be fetched, or --no-untouched.");
     }
     if counts.is_none() {
         println!("The instructions are LEFT OUT: valgrind is not there, or failed.");
