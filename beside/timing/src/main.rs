@@ -21,18 +21,19 @@ struct Row {
     sides: Vec<Option<Box<dyn Side>>>,
 }
 
+fn some(side: impl Side + 'static) -> Option<Box<dyn Side>> {
+    Some(Box::new(side))
+}
+
 fn laws(work: &str) -> Vec<Row> {
     let file = format!("{work}/libuntouched.so");
     let mut rows = Vec::new();
     for (model, law) in LAWS.iter().enumerate() {
         for units in [4096, 200] {
             let (p, records) = (bits(law.parameters), drawn(model, units));
-            let mut sides: Vec<Option<Box<dyn Side>>> = vec![Some(Box::new(OurPass::new(model, &p, &records)))];
-            sides.push(match untouched(&file) {
-                Some(updates) => Some(Box::new(RustPass::new(model, &p, &records, true, Box::new(updates)))),
-                None => None,
-            });
-            sides.push(Some(Box::new(RustPass::new(model, &p, &records, false, Box::new(less_svd)))));
+            let rust = |columns, updates| some(RustPass::new(model, &p, &records, columns, updates));
+            let untouched = untouched(&file).and_then(|updates| rust(true, Box::new(updates)));
+            let sides = vec![some(OurPass::new(model, &p, &records)), untouched, rust(false, Box::new(less_svd))];
             rows.push(Row { name: format!("{}, {units}", law.name), units, sides });
         }
     }
@@ -57,22 +58,28 @@ fn functions() -> Vec<Row> {
     let row = |&(name, ours, std, low, high): &(&str, Ours, Std, f64, f64)| {
         let mut d = Draw(1);
         let xs: Vec<f64> = (0..4096).map(|_| d.between(low, high)).collect();
-        let sides: Vec<Option<Box<dyn Side>>> =
-            vec![Some(Box::new(OurCalls(ours, xs.clone()))), Some(Box::new(StdCalls(std, xs)))];
+        let sides = vec![some(OurCalls(ours, xs.clone())), some(StdCalls(std, xs))];
         Row { name: name.to_string(), units: 4096, sides }
     };
     FUNCTIONS.iter().map(row).collect()
 }
 
-/// A full sheet of 200 records: model, parameters, the count in two groups, records.
+/// A full sheet of 200 records: model, parameters, the count in two groups, records. It must give what the list does.
 fn sheet(model: usize, run: bool) -> Row {
     let law = &LAWS[model];
     let mut bytes = vec![model as u8];
     bytes.extend(law.parameters.iter().flat_map(|x| x.to_le_bytes()));
     bytes.extend([200 % 128 + 128, 200u8 / 128]);
-    bytes.extend(drawn(model, 200).iter().flat_map(|x| x.to_le_bytes()));
+    let records = drawn(model, 200);
+    bytes.extend(records.iter().flat_map(|x| x.to_le_bytes()));
+    let (mut sheet, mut list) = (Sheet::new(bytes, run), OurPass::new(model, &bits(law.parameters), &records));
+    sheet.run();
+    if run {
+        list.run();
+    }
+    assert!(sheet.records() == list.records());
     let name = format!("{}, {}", if run { "run_sheet" } else { "read_sheet" }, law.name);
-    Row { name, units: 200, sides: vec![Some(Box::new(Sheet::new(bytes, run)))] }
+    Row { name, units: 200, sides: vec![some(sheet)] }
 }
 
 fn sheets() -> Vec<Row> {

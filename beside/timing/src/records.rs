@@ -101,13 +101,8 @@ fn branch(model: usize, r: &[f64], after: &[u64], outcome: u64) -> usize {
         1 => changed,
         2 if r[30] != 0.0 => 0,
         2 if outcome == 0 => 2,
-        2 => {
-            if one_value {
-                1
-            } else {
-                3
-            }
-        }
+        2 if one_value => 1,
+        2 => 3,
         _ if outcome == 0 => 2,
         _ if !one_value => 3,
         _ => (r[18] * r[19] * r[20] > 1.0) as usize,
@@ -122,7 +117,9 @@ pub fn drawn(model: usize, count: usize) -> Vec<u64> {
     let mut room: Vec<usize> = (0..shares).map(|k| (count + k) / shares).collect();
     let mut d = Draw(model as u64 + 1);
     let mut list: Vec<Vec<u64>> = Vec::new();
+    let mut tries = 0..1000 * count;
     while list.len() < count {
+        tries.next().expect("a branch that is not drawn");
         let r = d.record(law.spread);
         let (mut after, mut answer, mut counts) = (bits(&r), [0; 2], [0; 3]);
         our_pass(model, &p, &mut after, &mut answer, &mut counts);

@@ -183,4 +183,7 @@ impl Side for Sheet {
         };
         assert_eq!((refusal, black_box(told)[if self.run { 0 } else { 9 }]), (0, 200));
     }
+    fn records(&self) -> Vec<u64> {
+        self.records.clone()
+    }
 }
