@@ -4,7 +4,6 @@ use mathlib.Core.List.{List, [], _∷_}
 use Prim.Native.Nat.{ℕ}
 use lib.Dec.{eqb}
 use lib.ListN.{length, getD}
-use Rattle.elasticity_corotated_linear.specs.declared.CorotatedLinearElasticity.{CorotatedLinearElasticity}
 use Rattle.failure_maximum_stress.specs.declared.MaximumStressFailure.{MaximumStressFailure}
 use Rattle.particles.specs.declared.list.Passed.{Passed}
 use Rattle.particles.specs.declared.list.Passed.the-variants.{Done, Refused}
@@ -13,8 +12,9 @@ use Rattle.particles.specs.declared.failure.PassedWithFailure.the-variants as f
 use Rattle.particles.specs.Judged.{failureLaw, failedAt}
 use Rattle.particles.specs.Model.{recordLaw}
 use Rattle.particles.specs.Pass.{Worked, passed, passedWithFailure, passRecords, passAnswers, wellSized}
-use Rattle.run.specs.Run.{given, flagged}
+use Rattle.run.specs.Run.{given}
 use Rattle.sheet.specs.Sheet.{allowed}
+use Rattle.host.specs.Laws.{corotatedOf}
 use Rattle.host.specs.Given.{modelGiven, parametersFit, modelKnown}
 
 abbrev pub passedCode : Passed → ℕ
@@ -33,18 +33,9 @@ abbrev pub failureCountsOf : PassedWithFailure → List ℕ → List ℕ
 failureCountsOf (failure-variants.Done c) counts = c .untouched ∷ c .stored ∷ c .refused ∷ c .failed ∷ []
 failureCountsOf (failure-variants.Refused n) counts = counts
 
--- the limits and the corotated law in declared order
+-- the limits in declared order
 unfoldable pub limitsOf : List ℕ → MaximumStressFailure
 limitsOf p = record { «max_principal_stress» = given p 0; «max_shear_stress» = given p 1 }
-
-unfoldable pub corotatedOf : List ℕ → CorotatedLinearElasticity
-corotatedOf p =
-    record {
-      «split_stress_on_failure» = flagged p 0;
-      «cfl_coeff» = given p 1;
-      lambda = given p 2;
-      mu = given p 3;
-    }
 
 -- else 8
 abbrev pub passFits : ℕ → List ℕ → List ℕ → List ℕ → List ℕ → Bool

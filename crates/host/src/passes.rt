@@ -1,9 +1,9 @@
 // The pass over a list of records, and the pass with failure.
+use crate::laws_in;
 use crate::lists_out::copy;
 use crate::parameters::fit;
 use crate::parameters::known;
 use crate::parameters::model_given;
-use elasticity_corotated_linear::CorotatedLinearElasticity;
 use failure_maximum_stress::MaximumStressFailure;
 use particles::Passed;
 use particles::PassedWithFailure;
@@ -13,7 +13,7 @@ ghost use Prim.Native.Nat.{_*_, _/_};
 ghost use lib.Dec.{eqb};
 ghost use lib.ListN.{length};
 ghost use Rattle.record.specs.Layout.{floats};
-ghost use Rattle.host.specs.Passes.{passedCode, countsOf, failureCode, failureCountsOf, limitsOf, corotatedOf, passCode, recordsPassed, answersPassed, countsPassed, failurePassCode, recordsJudged, answersJudged, countsJudged};
+ghost use Rattle.host.specs.Passes.{passedCode, countsOf, failureCode, failureCountsOf, limitsOf, passCode, recordsPassed, answersPassed, countsPassed, failurePassCode, recordsJudged, answersJudged, countsJudged};
 
 // A whole number of records, and two answers for each.
 fn sizes_fit(words: usize, places: usize) -> bool
@@ -66,19 +66,8 @@ fn limits_given(p: &[u64]) -> MaximumStressFailure
     ensures { λ r. ⌜ r ≡ limitsOf (now (p .entry)) ⌝ }
 {
     MaximumStressFailure {
-        max_principal_stress: numbers::float_of(lists::word(p, 0)),
-        max_shear_stress: numbers::float_of(lists::word(p, 1)),
-    }
-}
-
-fn corotated_given(p: &[u64]) -> CorotatedLinearElasticity
-    ensures { λ r. ⌜ r ≡ corotatedOf (now (p .entry)) ⌝ }
-{
-    CorotatedLinearElasticity {
-        split_stress_on_failure: lists::word(p, 0) != 0,
-        cfl_coeff: numbers::float_of(lists::word(p, 1)),
-        lambda: numbers::float_of(lists::word(p, 2)),
-        mu: numbers::float_of(lists::word(p, 3)),
+        max_principal_stress: lists::float(p, 0),
+        max_shear_stress: lists::float(p, 1),
     }
 }
 
@@ -130,7 +119,7 @@ pub extern "C" fn pasoletu_pass_with_failure(
             let passed = particles::pass_with_failure(
                 model_given(model, parameters),
                 limits_given(limits),
-                corotated_given(corotated),
+                laws_in::corotated(corotated),
                 records,
                 answers,
             );

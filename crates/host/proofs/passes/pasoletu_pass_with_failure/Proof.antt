@@ -31,8 +31,8 @@ model-given-requires c κs = search needs
 limits-given-requires : tie.Need-limits-given-requires
 limits-given-requires c κs = search needs
 
-corotated-given-requires : tie.Need-corotated-given-requires
-corotated-given-requires c κs = search needs
+corotated-requires : tie.Need-corotated-requires
+corotated-requires c κs = search needs
 
 pass-with-failure-requires : tie.Need-pass-with-failure-requires
 pass-with-failure-requires c κs = search needs
@@ -68,7 +68,7 @@ returns c =
     let go : goes ≡ true = simp (t, k) in
     let m = c .before .before .before .before .before .before .before .before .before .before .before .before .before .model-given .ensures in
     let l = c .before .before .before .before .before .before .before .before .before .before .before .before .limits-given .ensures in
-    let g = c .before .before .before .before .before .before .before .before .before .before .before .corotated-given .ensures in
+    let g = c .before .before .before .before .before .before .before .before .before .before .before .corotated .ensures in
     let e = c .before .before .before .before .before .before .before .before .pass-with-failure .ensures in
     let p = c .before .before .put-failure-counts .ensures in
     let done = simp w at (e .0) in
@@ -98,7 +98,7 @@ pasoletu-pass-with-failure-spec =
     is-flag-requires
     model-given-requires
     limits-given-requires
-    corotated-given-requires
+    corotated-requires
     pass-with-failure-requires
     put-failure-counts-requires
     same-length
