@@ -68,14 +68,18 @@ fn judge(m: Model, l: MaximumStressFailure, e: CorotatedLinearElasticity, r: &[u
     requires { ⌜ length (now r) ≡ floats ⌝ }
     ensures { λ x. ⌜ x ≡ judgedAt m l e (now (r .entry)) ⌝ }
 {
-    verdict(
-        m,
-        l,
-        e,
-        record::read_mat(r, record::U),
-        record::read_mat(r, record::VT),
-        record::read_state(r),
-    )
+    if record::all_finite(r) {
+        verdict(
+            m,
+            l,
+            e,
+            record::read_finite_u(r),
+            record::read_finite_vt(r),
+            record::read_finite_state(r),
+        )
+    } else {
+        Verdict::Refused(1)
+    }
 }
 
 // The law on a record that failed: phase is 0.0, but if the law refuses it is as it came.

@@ -1,4 +1,10 @@
 // A record: 36 floats as bits in a lent list (document 01, section 7). The layout stands here alone.
+mod finite;
+
+pub use finite::all_finite;
+pub use finite::read_finite_state;
+pub use finite::read_finite_u;
+pub use finite::read_finite_vt;
 use law::State;
 use tensor::Rows;
 ghost use mathlib.Core.Path.{_≡_};
