@@ -27,11 +27,11 @@ fn updated(m: Model, r: &[u64]) -> Updated
     requires { ⌜ (length (now r) ≡ floats) × (recordFinite (now r) ≡ true) ⌝ }
     ensures { λ x. ⌜ x ≡ updatedAt m (now (r .entry)) ⌝ }
 {
-    choice::update(
+    choice::update_finite(
         m,
-        record::read_finite_u(r),
-        record::read_finite_vt(r),
-        record::read_finite_state(r),
+        record::read_u(r),
+        record::read_vt(r),
+        record::read_state(r),
     )
 }
 

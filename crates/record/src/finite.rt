@@ -86,7 +86,7 @@ fn read_rows(r: &[u64], at: usize) -> Rows
 }
 
 // U of a finite record.
-pub fn read_finite_u(r: &[u64]) -> [[f64; 3]; 3]
+pub fn read_u(r: &[u64]) -> [[f64; 3]; 3]
     requires { ⌜ (length (now r) ≡ floats) × (recordFinite (now r) ≡ true) ⌝ }
     ensures { λ x. ⌜ x ≡ uAt (now (r .entry)) ⌝ }
 {
@@ -94,7 +94,7 @@ pub fn read_finite_u(r: &[u64]) -> [[f64; 3]; 3]
 }
 
 // Its V^T.
-pub fn read_finite_vt(r: &[u64]) -> [[f64; 3]; 3]
+pub fn read_vt(r: &[u64]) -> [[f64; 3]; 3]
     requires { ⌜ (length (now r) ≡ floats) × (recordFinite (now r) ≡ true) ⌝ }
     ensures { λ x. ⌜ x ≡ vtAt (now (r .entry)) ⌝ }
 {
@@ -102,7 +102,7 @@ pub fn read_finite_vt(r: &[u64]) -> [[f64; 3]; 3]
 }
 
 // And its state.
-pub fn read_finite_state(r: &[u64]) -> State
+pub fn read_state(r: &[u64]) -> State
     requires { ⌜ (length (now r) ≡ floats) × (recordFinite (now r) ≡ true) ⌝ }
     ensures { λ x. ⌜ x ≡ stateAt (now (r .entry)) ⌝ }
 {

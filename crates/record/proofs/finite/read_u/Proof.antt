@@ -1,8 +1,8 @@
 use native.Mathlib.Omega.{arith}
 use Rattle.record.proofs.Parts.{record-parts}
 use borrow.Author.Needs.{needs}
-use Rattle.record.proofs.finite.read_finite_u.Statement.{statement}
-use Rattle.record.proofs.finite.read_finite_u.Tie as tie
+use Rattle.record.proofs.finite.read_u.Statement.{statement}
+use Rattle.record.proofs.finite.read_u.Tie as tie
 
 read-mat-requires : tie.Need-read-mat-requires
 read-mat-requires c κs = let s = c .before in let h = s .pre .0 in (omega arith, record-parts (s .args .r .now) (s .pre .1) .0)
@@ -10,5 +10,5 @@ read-mat-requires c κs = let s = c .before in let h = s .pre .0 in (omega arith
 returns : tie.Need-returns
 returns c = search needs
 
-pub read-finite-u-spec : {M : Type 1} → statement M
-read-finite-u-spec = tie.close (tie.spec read-mat-requires returns)
+pub read-u-spec : {M : Type 1} → statement M
+read-u-spec = tie.close (tie.spec read-mat-requires returns)

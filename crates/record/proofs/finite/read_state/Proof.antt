@@ -1,8 +1,8 @@
 use Rattle.record.proofs.Parts.{state-parts, first-scalars, last-scalars}
 use native.Mathlib.Omega.{arith}
 use borrow.Author.Needs.{needs}
-use Rattle.record.proofs.finite.read_finite_state.Statement.{statement}
-use Rattle.record.proofs.finite.read_finite_state.Tie as tie
+use Rattle.record.proofs.finite.read_state.Statement.{statement}
+use Rattle.record.proofs.finite.read_state.Tie as tie
 
 read-rows-requires : tie.Need-read-rows-requires
 read-rows-requires c κs = let s = c .before in let h = s .pre .0 in (omega arith, state-parts (s .args .r .now) (s .pre .1) .0)
@@ -50,8 +50,8 @@ returns : tie.Need-returns
 returns c =
     simp (c .read-word6 .ensures, c .before .before .read-word5 .ensures, c .before .before .before .before .read-word4 .ensures, c .before .before .before .before .before .before .read-word3 .ensures, c .before .before .before .before .before .before .before .before .read-word2 .ensures, c .before .before .before .before .before .before .before .before .before .before .read-word .ensures, c .before .before .before .before .before .before .before .before .before .before .before .before .read-row .ensures, c .before .before .before .before .before .before .before .before .before .before .before .before .before .read-rows .ensures)
 
-pub read-finite-state-spec : {M : Type 1} → statement M
-read-finite-state-spec =
+pub read-state-spec : {M : Type 1} → statement M
+read-state-spec =
     tie.close
     (tie.spec
     read-rows-requires
