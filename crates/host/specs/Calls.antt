@@ -1,5 +1,5 @@
 -- The answers of the calls that read lists: each law's own answer, after 8 for a length and 6 for a flag (document 01, section 6).
-use mathlib.Core.Bool.{Bool, cond, _&&_}
+use mathlib.Core.Bool.{_&&_}
 use mathlib.Core.List.{List}
 use Prim.Native.Nat.{ℕ}
 use lib.ListN.{getD}

@@ -1,6 +1,5 @@
 -- The fields of the elastic laws in declared order, and a decomposed tensor, as a host's lists have them; the plastic laws' parameters
 -- are those of a sheet.
-use mathlib.Core.Bool.{not}
 use mathlib.Core.List.{List}
 use Prim.Native.Nat.{ℕ}
 use lib.Ieee.{Float}

@@ -1,30 +1,22 @@
 // The model number and its parameters, as a host gives them.
 use particles::Model;
 ghost use mathlib.Core.Path.{_≡_};
-ghost use mathlib.Core.Bool.{true};
-ghost use lib.ListN.{length, getD};
-ghost use Rattle.sheet.specs.Sheet.{allowed, kindsOf};
+ghost use lib.ListN.{length};
+ghost use Rattle.sheet.specs.Sheet.{kindsOf};
 ghost use Rattle.host.specs.Given.{eightOf, modelGiven, parametersFit, modelKnown};
-
-// A place past the last holds 0.
-pub fn at(p: &[u64], i: usize) -> u64
-    ensures { λ r. ⌜ r ≡ getD (now (p .entry)) i 0 ⌝ }
-{
-    if i < p.len() { p[i] } else { 0 }
-}
 
 fn eight(p: &[u64]) -> [u64; 8]
     ensures { λ r. ⌜ r ≡ eightOf (now (p .entry)) ⌝ }
 {
     [
-        at(p, 0),
-        at(p, 1),
-        at(p, 2),
-        at(p, 3),
-        at(p, 4),
-        at(p, 5),
-        at(p, 6),
-        at(p, 7),
+        lists::word(p, 0),
+        lists::word(p, 1),
+        lists::word(p, 2),
+        lists::word(p, 3),
+        lists::word(p, 4),
+        lists::word(p, 5),
+        lists::word(p, 6),
+        lists::word(p, 7),
     ]
 }
 
@@ -56,13 +48,6 @@ pub fn fit(model: u64, p: &[u64]) -> bool
     (3 < model) | (p.len() == fields(model))
 }
 
-// A flag is told by its bits, so -0.0 is none.
-pub fn is_flag(bits: u64) -> bool
-    ensures { λ r. ⌜ r ≡ allowed true bits ⌝ }
-{
-    (bits == 0) | (bits == sheet::SET)
-}
-
 // Drucker-Prager's only_active_when_failed and NACC's hardening_enabled are flags.
 pub fn known(model: u64, p: &[u64]) -> bool
     ensures { λ r. ⌜ r ≡ modelKnown model (now (p .entry)) ⌝ }
@@ -70,9 +55,9 @@ pub fn known(model: u64, p: &[u64]) -> bool
     if 3 < model {
         false
     } else if model == 2 {
-        is_flag(at(p, 6))
+        lists::is_flag(lists::word(p, 6))
     } else if model == 3 {
-        is_flag(at(p, 3))
+        lists::is_flag(lists::word(p, 3))
     } else {
         true
     }

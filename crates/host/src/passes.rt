@@ -1,8 +1,6 @@
 // The pass over a list of records, and the pass with failure.
 use crate::lists_out::copy;
-use crate::parameters::at;
 use crate::parameters::fit;
-use crate::parameters::is_flag;
 use crate::parameters::known;
 use crate::parameters::model_given;
 use elasticity_corotated_linear::CorotatedLinearElasticity;
@@ -68,8 +66,8 @@ fn limits_given(p: &[u64]) -> MaximumStressFailure
     ensures { λ r. ⌜ r ≡ limitsOf (now (p .entry)) ⌝ }
 {
     MaximumStressFailure {
-        max_principal_stress: numbers::float_of(at(p, 0)),
-        max_shear_stress: numbers::float_of(at(p, 1)),
+        max_principal_stress: numbers::float_of(lists::word(p, 0)),
+        max_shear_stress: numbers::float_of(lists::word(p, 1)),
     }
 }
 
@@ -77,10 +75,10 @@ fn corotated_given(p: &[u64]) -> CorotatedLinearElasticity
     ensures { λ r. ⌜ r ≡ corotatedOf (now (p .entry)) ⌝ }
 {
     CorotatedLinearElasticity {
-        split_stress_on_failure: at(p, 0) != 0,
-        cfl_coeff: numbers::float_of(at(p, 1)),
-        lambda: numbers::float_of(at(p, 2)),
-        mu: numbers::float_of(at(p, 3)),
+        split_stress_on_failure: lists::word(p, 0) != 0,
+        cfl_coeff: numbers::float_of(lists::word(p, 1)),
+        lambda: numbers::float_of(lists::word(p, 2)),
+        mu: numbers::float_of(lists::word(p, 3)),
     }
 }
 
@@ -128,7 +126,7 @@ pub extern "C" fn pasoletu_pass_with_failure(
         & sizes_fit(records.len(), answers.len())
         & (counts.len() == 4)
     {
-        if known(model, parameters) & is_flag(at(corotated, 0)) {
+        if known(model, parameters) & lists::is_flag(lists::word(corotated, 0)) {
             let passed = particles::pass_with_failure(
                 model_given(model, parameters),
                 limits_given(limits),

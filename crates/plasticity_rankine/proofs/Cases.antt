@@ -1,7 +1,7 @@
 -- One closed case a branch of the projection, and equal strains in index order: by computation.
 use mathlib.Core.Path.{_≡_, refl}
 use mathlib.Core.List.{List, [], _∷_}
-use lib.Ieee.{Float, binary64, ofBits, add, sub, mul, div, le, eq}
+use lib.Ieee.{Float, binary64, ofBits, add, sub, mul, div, neg, le, eq}
 use Rattle.numbers.specs.Rules.{isNumber}
 use Rattle.tensor.specs.Matrix.{zero, one, three, sumOf}
 use Rattle.plasticity_rankine.specs.declared.RankinePlasticity.{RankinePlasticity}
@@ -35,3 +35,16 @@ all-move = refl
 equal-strains : orderOf (three one one one) ≡ 0 ∷ 1 ∷ 2 ∷ []
 unfolding orderOf le ofBits
 equal-strains = refl
+
+-- two axes take the same order and sum; no 0.0 stands before the first strain of a sum
+two-strains : orderOf (one ∷ zero ∷ []) ≡ 1 ∷ 0 ∷ []
+unfolding orderOf le ofBits
+two-strains = refl
+
+two-equal : orderOf (zero ∷ zero ∷ []) ≡ 0 ∷ 1 ∷ []
+unfolding orderOf le ofBits
+two-equal = refl
+
+two-zeros : sumOf (neg zero ∷ neg zero ∷ []) ≡ neg zero
+unfolding sumOf add neg ofBits
+two-zeros = refl

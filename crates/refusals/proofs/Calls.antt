@@ -1,5 +1,5 @@
 -- Section 6 of the calls that give a number, two numbers, a matrix or a verdict.
-use mathlib.Core.Path.{_≡_, refl, ap, sym, _∙_}
+use mathlib.Core.Path.{_≡_, refl, ap}
 use mathlib.Core.Logic.{_↔_}
 use mathlib.Core.Bool.{Bool, true, false, cond, _&&_}
 use mathlib.Core.List.{List, [], _∷_}
@@ -8,7 +8,7 @@ use Prim.Native.Nat.{ℕ, zero, suc, _<_}
 use native.Mathlib.Omega.{arith}
 use lib.Ieee as Ieee
 use lib.Ieee.{Float}
-use Rattle.numbers.specs.Rules.{finite, isNumber, maxOf, minOf}
+use Rattle.numbers.specs.Rules.{finite, minOf}
 use Rattle.numbers.specs.Range.{onPath}
 use Rattle.numbers.specs.Answer.{answeredOf, given, finiteAnswerOf}
 use Rattle.numbers.specs.Power.{powiOf}
@@ -17,7 +17,6 @@ use Rattle.numbers.specs.declared.Elementary.the-variants as elementary
 use Rattle.exact.specs.RootOf.{sqrtOf}
 use Rattle.exponential.specs.Worked.{expOf}
 use Rattle.logarithm.specs.Worked.{lnOf}
-use Rattle.logarithm.specs.Ln.{lnRanged}
 use Rattle.sine.specs.Sine.{sinOf}
 use Rattle.square_root.specs.Sqrt.{sqrtRanged}
 use Rattle.thirds.specs.Thirds.{invCbrtOf, invCbrtSquaredOf, invCbrtRanged, invCbrtSquaredRanged}
@@ -26,7 +25,9 @@ use Rattle.tensor.specs.Matrix.{add, sub, mul, div, one, detOf, rowsOf}
 use Rattle.tensor.specs.Finite.{rowFinite, matFinite}
 use Rattle.tensor.specs.Number.{matNumber}
 use Rattle.tensor.specs.Inverse.{inverseTransposeOf}
-use Rattle.tensor.specs.Answer.{answered, givenMatrix, refusedMatrix}
+use Rattle.tensor.specs.Answer.{answered, answeredVector, givenMatrix, givenVector, refusedMatrix, refusedVector}
+use Rattle.tensor.specs.Decomposed.{tensorFinite, refusedTensor, answeredTensor, givenTensor}
+use Rattle.tensor.specs.declared.DecomposedTensor.{DecomposedTensor}
 use Rattle.tensor.specs.declared.MatrixAnswer.{MatrixAnswer}
 use Rattle.physics.specs.Physics.{two}
 use Rattle.physics.specs.Quadratic.{pairOf, givenPair, discriminantOf, rootsOf, solveQuadraticOf}
@@ -51,12 +52,12 @@ use Rattle.eos_monaghan_sph.specs.declared.MonaghanSphEos.{MonaghanSphEos}
 use Rattle.eos_monaghan_sph.specs.Pressure as monaghan
 use Rattle.eos_monaghan_sph.specs.Stress as monaghan-stress
 use Rattle.eos_monaghan_sph.specs.Timestep as monaghan-timestep
-use Rattle.refusals.specs.Path.{Met, number, all-numbers, all-finite, exp, ln, sin, root, thirdPower}
+use Rattle.refusals.specs.Path.{Met, number, all-finite, ln, sin, root, thirdPower}
 use Rattle.refusals.specs.Refusals.{Numbers}
 use Rattle.refusals.specs.Calls.{Gives, GivesPair, GivesMatrix, neoStressPath, neoFpkPath, neoEnergyPath, neoPosPath, unbounded, bounded, pressed, timestepPath, alphaPath, quadraticPath, posPath, Calls}
-use Rattle.refusals.proofs.First.{firstOf, differ}
+use Rattle.refusals.proofs.First.{firstOf, differ, nothing}
 use Rattle.refusals.proofs.Walk.{exp-met, ln-met, sin-met, root-met, inv-cbrt-met, inv-cbrt-squared-met, number-met, matrix-met, matrices-met, finite-met, either-met}
-use Rattle.refusals.proofs.Gate.{Gated, gated, gate-numbers, transfer}
+use Rattle.refusals.proofs.Gate.{Gated, gated, gate-numbers, transfer, told}
 
 -- ---- the number that an answer is refused by
 abbrev refusalE : Elementary → Option ℕ
@@ -79,9 +80,6 @@ beside (suc n) = some (suc n)
 abbrev refusalM : MatrixAnswer → Option ℕ
 refusalM a = beside (a .refusal)
 
-nothing : (n : ℕ) → _≡_ {A = Option ℕ} none (some n) → ⊥
-nothing n e = let z : _≡_ {A = ℕ} 0 1 = cc in omega arith
-
 as-number : (e : Elementary) (n : ℕ) → refusalE e ≡ some n → e ≡ elementary.Refused n
 as-number (elementary.Value x) n q = absurd (nothing n q)
 as-number (elementary.Refused m) n q = ap elementary.Refused (differ q)
@@ -99,25 +97,16 @@ as-matrix : (m n : ℕ) → ((0 < n) × (m ≡ n)) ↔ (beside m ≡ some n)
 as-matrix zero n = (λ q. absurd (omega arith), λ q. absurd (nothing n q))
 as-matrix (suc m) n = (λ q. ap some (q .1), λ q. let e = differ q in (omega arith, e))
 
-module _ {ok : Bool} {path : List Met} where
-  gives : (e : Elementary) → Gated ok path (refusalE e) → Gives e ok path
-  gives e g = transfer (λ n. (λ q. ap refusalE q, as-number e n)) (gate-numbers g (λ q. q, λ q. q))
-
-  gives-pair : (e : Pair) → Gated ok path (refusalP e) → GivesPair e ok path
-  gives-pair e g = transfer (λ n. (λ q. ap refusalP q, as-pair e n)) (gate-numbers g (λ q. q, λ q. q))
-
-  gives-verdict : (e : Verdict) → Gated ok path (refusalV e) → Numbers (λ n. e ≡ verdict.Refused n) (ok ≡ false) path
-  gives-verdict e g = transfer (λ n. (λ q. ap refusalV q, as-verdict e n)) (gate-numbers g (λ q. q, λ q. q))
-
-  gives-matrix : (a : MatrixAnswer) → Gated ok path (refusalM a) → GivesMatrix a ok path
-  gives-matrix a g = transfer (λ n. as-matrix (a .refusal) n) (gate-numbers g (λ q. q, λ q. q))
+-- the refusal stands beside the answer
+gives-beside : {ok : Bool} {path : List Met} (m : ℕ) → Gated ok path (beside m) → Numbers (λ n. (0 < n) × (m ≡ n)) (ok ≡ false) path
+gives-beside m g = transfer (λ n. as-matrix m n) (gate-numbers g (λ q. q, λ q. q))
 
 module _ (ok : Bool) {path : List Met} where
   given-gives : (e : Elementary) → refusalE e ≡ firstOf path → Gives (given ok e) ok path
-  given-gives e q = gives (given ok e) (gated refusalE ok e (elementary.Refused 1) q refl)
+  given-gives e q = told refusalE elementary.Refused (λ n. refl) as-number (given ok e) (gated refusalE ok e (elementary.Refused 1) q refl)
 
   given-gives-matrix : (a : MatrixAnswer) → refusalM a ≡ firstOf path → GivesMatrix (givenMatrix ok a) ok path
-  given-gives-matrix a q = gives-matrix (givenMatrix ok a) (gated refusalM ok a (refusedMatrix 1) q refl)
+  given-gives-matrix a q = gives-beside (givenMatrix ok a .refusal) (gated refusalM ok a (refusedMatrix 1) q refl)
 
 -- ---- a result
 number-result : (x : Float) → refusalE (answeredOf x) ≡ firstOf (all-finite (finite x) ∷ [])
@@ -133,7 +122,7 @@ unfolding firstOf
 pair-result x y = finite-met refusalP (finite x && finite y) (pair.Values x y) (pair.Refused 3) [] refl refl
 
 pair-gives : (ok : Bool) {path : List Met} (e : Pair) → refusalP e ≡ firstOf path → GivesPair (givenPair ok e) ok path
-pair-gives ok e q = gives-pair (givenPair ok e) (gated refusalP ok e (pair.Refused 1) q refl)
+pair-gives ok e q = told refusalP pair.Refused (λ n. refl) as-pair (givenPair ok e) (gated refusalP ok e (pair.Refused 1) q refl)
 
 quadratic-gives : (a b c : Float) → GivesPair (solveQuadraticOf a b c) (finite a && finite b && finite c) (quadraticPath a b c)
 unfolding solveQuadraticOf rootsOf
@@ -166,7 +155,23 @@ judged false = refl
 verdict-gives : (l : MaximumStressFailure) (s : List Float) → Numbers (λ n. verdictOf l s ≡ verdict.Refused n) (limitsFinite l && rowFinite s ≡ false) []
 unfolding verdictOf firstOf
 verdict-gives l s =
-    gives-verdict (verdictOf l s) (gated refusalV (limitsFinite l && rowFinite s) (cond (exceedsOf l s) verdict.Yes verdict.No) (verdict.Refused 1) (judged (exceedsOf l s)) refl)
+    told refusalV verdict.Refused (λ n. refl) as-verdict (verdictOf l s) (gated refusalV (limitsFinite l && rowFinite s) (cond (exceedsOf l s) verdict.Yes verdict.No) (verdict.Refused 1) (judged (exceedsOf l s)) refl)
+
+-- ---- a vector, a decomposed tensor
+vector-gives : (ok : Bool) (v : List Float) → Numbers (λ n. (0 < n) × (givenVector ok (answeredVector v) .refusal ≡ n)) (ok ≡ false) (all-finite (rowFinite v) ∷ [])
+unfolding answeredVector firstOf
+vector-gives ok v =
+    gives-beside (givenVector ok (answeredVector v) .refusal)
+    (gated (λ a. beside (a .refusal)) ok (answeredVector v) (refusedVector 1)
+    (finite-met (λ a. beside (a .refusal)) (rowFinite v) (record { refusal = 0; vector = v }) (refusedVector 3) [] refl refl) refl)
+
+tensor-gives : (ok : Bool) (t : DecomposedTensor)
+    → Numbers (λ n. (0 < n) × (givenTensor ok (answeredTensor t) .refusal ≡ n)) (ok ≡ false) (all-finite (tensorFinite t) ∷ [])
+unfolding answeredTensor firstOf
+tensor-gives ok t =
+    gives-beside (givenTensor ok (answeredTensor t) .refusal)
+    (gated (λ a. beside (a .refusal)) ok (answeredTensor t) (refusedTensor 1)
+    (finite-met (λ a. beside (a .refusal)) (tensorFinite t) (record { refusal = 0; tensor = t }) (refusedTensor 3) [] refl refl) refl)
 
 -- ---- neo-Hookean
 module _ (p : NeoHookeanElasticity) (h : Float) (f : List (List Float)) where
@@ -321,6 +326,8 @@ calls =
       one-number = λ ok x. given-gives ok (answeredOf x) (number-result x);
       two-numbers = λ ok x y. pair-gives ok (pairOf x y) (pair-result x y);
       matrix = λ ok m. given-gives-matrix ok (answered m) (matrix-result m);
+      vector = vector-gives;
+      tensor = tensor-gives;
       quadratic = quadratic-gives;
       alpha = alpha-gives;
       verdicts = verdict-gives;

@@ -1,6 +1,6 @@
 -- Drucker-Prager meets its path.
 use mathlib.Core.Path.{_≡_, refl}
-use mathlib.Core.Bool.{Bool, cond, _&&_}
+use mathlib.Core.Bool.{cond, _&&_}
 use mathlib.Core.List.{List, [], _∷_}
 use mathlib.Core.Option.{Option, some}
 use Prim.Native.Nat.{ℕ, suc}
@@ -30,12 +30,15 @@ use Rattle.plasticity_drucker_prager.specs.declared.Triple.the-variants as trip
 use Rattle.plasticity_drucker_prager.specs.Law.{two, dim}
 use Rattle.plasticity_drucker_prager.specs.Alpha.{decayOf, angleOf, slopeOf, rootedOf, sinedOf, angledOf, alphaOnPath}
 use Rattle.plasticity_drucker_prager.specs.Projection as projection
-use Rattle.plasticity_drucker_prager.specs.Projection.{joinedOf, logsOf, allZero, strainOf, deviatoricOf, gammaOf, yieldChoice, choiceOf, refusedProjection, tipOf, backOf, surfaceOf, returnedOf, strainedOf, loggedOf, projectedOf}
+use Rattle.plasticity_drucker_prager.specs.Projection.{joinedOf, logsOf, allZero, strainOf, gammaOf, yieldChoice, choiceOf, refusedProjection, tipOf, backOf, surfaceOf, returnedOf, strainedOf, loggedOf, projectedOf}
 use Rattle.plasticity_drucker_prager.specs.DruckerPrager.{untouchedOf, correctedOf, determinantOf, differenceOf, stateOf, druckerStore, gainedOf, movedOf, byBranch, branchOf, slopedOf, staysOf, druckerRun}
-use Rattle.refusals.specs.Path.{Met, number, all-finite, exp, ln, sin, root, at, lns, exps, lnsOf, expsOf}
+use Rattle.refusals.specs.Path.{Met, number, all-finite, exp, ln, sin, root, at, exps, lnsOf, expsOf}
 use Rattle.refusals.specs.DruckerPragerPath.{normOf, movedPath, Moved, tipPath, surfacePath, yieldPath, strainedPath, projectedPath, slopedPath, druckerPath}
 use Rattle.refusals.proofs.First.{firstOf, refusalOf}
 use Rattle.refusals.proofs.Walk.{exp-met, ln-met, sin-met, root-met, number-met, finite-met, either-met}
+
+abbrev rootAt : List Float → Elementary
+rootAt e = onPath (dotOf e e) (sqrtRanged (dotOf e e))
 
 abbrev lnAt : List Float → ℕ → Elementary
 lnAt v i = onPath (at v i) (lnRanged (at v i))
@@ -54,7 +57,7 @@ pub record Consumes (sigma : List Float) (P : Projected → Option ℕ) (inside 
 module _ (p : DruckerPragerPlasticity) (sigma : List Float) (P : Projected → Option ℕ) (inside : List Met) (moved : Moved) (c : Consumes sigma P inside moved) where
   tip-met : (b : Branch) (e : List Float)
       → P (record { branch = b; sigma = three one one one; dq = normOf e }) ≡ firstOf (moved (three one one one) (normOf e))
-      → P (tipOf b (projection.normOf e)) ≡ firstOf (tipPath e moved)
+      → P (tipOf b (rootAt e)) ≡ firstOf (tipPath e moved)
   unfolding tipOf tipPath
   tip-met b e m = root-met (λ a. P (tipOf b a)) (c .on) (dotOf e e) (moved (three one one one) (normOf e)) m
 
@@ -75,7 +78,7 @@ module _ (p : DruckerPragerPlasticity) (sigma : List Float) (P : Projected → O
     abbrev B : Branch → Option ℕ
     B b = P (returnedOf b sigma e d)
 
-    yield-met : B (yieldChoice p (projection.normOf d) trace alpha) ≡ firstOf (yieldPath p e d trace alpha inside moved)
+    yield-met : B (yieldChoice p (rootAt d) trace alpha) ≡ firstOf (yieldPath p e d trace alpha inside moved)
     unfolding yieldChoice yieldPath returnedOf
     yield-met =
         let norm = normOf d in
@@ -97,7 +100,7 @@ module _ (p : DruckerPragerPlasticity) (sigma : List Float) (P : Projected → O
         let ones = three one one one in
         let isotropic = branch.Isotropic (at d 2) zero in
         let expanding = branch.Expanding trace zero in
-        let last = yieldChoice p (projection.normOf d) trace alpha in
+        let last = yieldChoice p (rootAt d) trace alpha in
         let next = cond (Ieee.lt zero trace) expanding last in
         number-met B (dotOf d d) (cond (allZero d) isotropic next) (branch.Refused 3) (cond (allZero d) tip (cond (Ieee.lt zero trace) tip yield))
         (either-met B (allZero d) isotropic next tip (cond (Ieee.lt zero trace) tip yield) (tip-met isotropic e (c .isotropic (at d 2) zero ones (normOf e)))

@@ -1,19 +1,18 @@
 -- The law with failure: the verdict's gate, and the record with phase 0.0 after it. Assumes nothing.
-use mathlib.Core.Path.{_≡_, refl, sym, ap, subst, _∙_}
+use mathlib.Core.Path.{_≡_, refl, sym, ap, _∙_}
 use mathlib.Core.Logic.{_⊎_, inl, inr, ⊎-elim, _↔_}
 use mathlib.Core.Bool.{Bool, true, false, cond, _&&_, false≢true}
 use mathlib.Core.List.{List, [], _∷_}
 use mathlib.Core.Option.{Option}
 use Prim.Native.Nat.{ℕ, zero, suc}
 use lib.ListN.{getD, set}
-use lib.Ieee.{Float, binary64, ofBits, toBits}
+use lib.Ieee.{binary64, ofBits, toBits}
 use Rattle.numbers.specs.Rules.{finite}
 use Rattle.numbers.proofs.Laws.{and-both}
 use Rattle.tensor.specs.Matrix as matrix
 use Rattle.tensor.specs.Finite.{rowFinite}
-use Rattle.law.specs.declared.Outcome.{Outcome}
 use Rattle.law.specs.State.{inputsFinite}
-use Rattle.record.specs.Layout.{floats, fl, uAt, vtAt, stateAt, bits, putPhase}
+use Rattle.record.specs.Layout.{fl, uAt, vtAt, stateAt, bits, putPhase}
 use Rattle.failure_maximum_stress.specs.declared.MaximumStressFailure.{MaximumStressFailure}
 use Rattle.failure_maximum_stress.specs.declared.Verdict.{Verdict}
 use Rattle.failure_maximum_stress.specs.declared.Verdict.the-variants.{No, Yes, Refused}
@@ -27,7 +26,7 @@ use Rattle.refusals.specs.Path.{Met, all-finite}
 use Rattle.refusals.specs.Refusals.{FailureInput, RecordNotFinite, pathOf, stressesOf, failurePath, Refuses}
 use Rattle.refusals.proofs.First.{firstOf, refusalOf}
 use Rattle.refusals.proofs.Inputs.{one-fails, left-fails, right-fails, no-both, decide, inputs-hold, places, inputs, limits}
-use Rattle.refusals.proofs.Gate.{Gated, runs, stops, gated}
+use Rattle.refusals.proofs.Gate.{Gated, runs, stops}
 use Rattle.refusals.proofs.Updates.{record-gate, outcome-numbers}
 
 -- ---- the record with phase 0.0

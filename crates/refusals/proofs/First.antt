@@ -1,5 +1,5 @@
 -- What refuses first on a path, and by which number. Assumes nothing.
-use mathlib.Core.Path.{_≡_, refl, sym, ap, _∙_}
+use mathlib.Core.Path.{_≡_, refl, sym, ap}
 use mathlib.Core.Logic.{_⊎_, inl, inr, _↔_}
 use mathlib.Core.Bool.{Bool, true, false, cond, true≢false, false≢true}
 use mathlib.Core.List.{List, [], _∷_}
@@ -10,7 +10,7 @@ use Rattle.numbers.specs.Rules.{isNumber}
 use Rattle.numbers.specs.Range.{inRange}
 use Rattle.law.specs.declared.Outcome.{Outcome}
 use Rattle.law.specs.declared.Outcome.the-variants.{Untouched, Stored, Refused}
-use Rattle.refusals.specs.Path.{Met, argument, number, all-numbers, all-finite, Passes, Outside, Arises, Stops}
+use Rattle.refusals.specs.Path.{Met, argument, number, all-numbers, all-finite, Outside, Arises, Stops, Clear}
 
 unfoldable pub firstOf : List Met → Option ℕ
 firstOf [] = none
@@ -27,7 +27,7 @@ refusalOf (Refused n) = some n
 pub differ : {m n : ℕ} → some m ≡ some n → m ≡ n
 differ e = cc
 
-nothing : (n : ℕ) → _≡_ {A = Option ℕ} none (some n) → ⊥
+pub nothing : (n : ℕ) → _≡_ {A = Option ℕ} none (some n) → ⊥
 nothing n e = let z : _≡_ {A = ℕ} 0 1 = cc in omega arith
 
 abbrev by-two : Option ℕ
@@ -105,6 +105,32 @@ first-three (argument low high x ∷ ms) = argument-three (firstOf ms) (isNumber
 first-three (number x ∷ ms) = test-three (firstOf ms) (isNumber x) (first-three ms)
 first-three (all-numbers b ∷ ms) = test-three (firstOf ms) b (first-three ms)
 first-three (all-finite b ∷ ms) = test-three (firstOf ms) b (first-three ms)
+
+-- ---- nothing refuses
+something : {n : ℕ} → _≡_ {A = Option ℕ} (some n) none → ⊥
+something {n} e = nothing n (sym e)
+
+module _ {S : Type 0} (o : Option ℕ) where
+  argument-none : (a b : Bool) → (o ≡ none) ↔ S → (cond a (cond b o (some 2)) (some 3) ≡ none) ↔ (((a ≡ true) × (b ≡ true)) × S)
+  argument-none true true w = (λ e. ((refl, refl), w .0 e), λ q. w .1 (q .1))
+  argument-none true false w = (λ e. absurd (something e), λ q. absurd (false≢true (q .0 .1)))
+  argument-none false b w = (λ e. absurd (something e), λ q. absurd (false≢true (q .0 .0)))
+
+  test-none : (a : Bool) → (o ≡ none) ↔ S → (cond a o (some 3) ≡ none) ↔ ((a ≡ true) × S)
+  test-none true w = (λ e. (refl, w .0 e), λ q. w .1 (q .1))
+  test-none false w = (λ e. absurd (something e), λ q. absurd (false≢true (q .0)))
+
+pub first-none : (ms : List Met) → (firstOf ms ≡ none) ↔ Clear ms
+unfolding firstOf
+first-none [] = (λ e. tt, λ q. refl)
+first-none (argument low high x ∷ ms) = argument-none (firstOf ms) (isNumber x) (inRange low high x) (first-none ms)
+first-none (number x ∷ ms) = test-none (firstOf ms) (isNumber x) (first-none ms)
+first-none (all-numbers b ∷ ms) = test-none (firstOf ms) b (first-none ms)
+first-none (all-finite b ∷ ms) = test-none (firstOf ms) b (first-none ms)
+
+pub never-some : (o : Option ℕ) → ((n : ℕ) → o ≡ some n → ⊥) → o ≡ none
+never-some none f = refl
+never-some (some n) f = absurd (f n refl)
 
 -- ---- no other number
 abbrev Later : Option ℕ → Type 0

@@ -1,14 +1,14 @@
 -- A call tests its inputs first: refused by 1 where one isn't finite, and otherwise by what it meets first on its path. Assumes nothing.
-use mathlib.Core.Path.{_≡_, refl, sym, _∙_}
+use mathlib.Core.Path.{_≡_, refl, sym, ap, _∙_}
 use mathlib.Core.Logic.{⊎-elim, _↔_}
 use mathlib.Core.Bool.{Bool, true, false, cond}
 use mathlib.Core.List.{List}
-use mathlib.Core.Option.{Option, some}
+use mathlib.Core.Option.{Option, some, none}
 use Prim.Native.Nat.{ℕ, _≤_}
 use native.Mathlib.Omega.{arith}
 use Rattle.refusals.specs.Path.{Met}
 use Rattle.refusals.specs.Refusals.{Numbers}
-use Rattle.refusals.proofs.First.{firstOf, first-two, first-three, first-later, differ}
+use Rattle.refusals.proofs.First.{firstOf, first-two, first-three, first-none, first-later, differ, nothing, never-some}
 use Rattle.refusals.proofs.Inputs.{no-both, decide}
 
 -- ok: all inputs are finite; o: the number that the call is refused by, if any
@@ -35,6 +35,15 @@ module _ {ok : Bool} {path : List Met} {o : Option ℕ} where
   gate-only (runs t l) n e = let h = first-later path n (sym l ∙ e) in omega arith
   gate-only (stops f q) n e = let z = differ (sym e ∙ q) in omega arith
 
+  -- nothing refuses
+  clear : Gated ok path o → o ≡ none → firstOf path ≡ none
+  clear (runs t l) e = sym l ∙ e
+  clear (stops f q) e = absurd (nothing 1 (sym e ∙ q))
+
+  clear-back : Gated ok path o → ok ≡ true → firstOf path ≡ none → o ≡ none
+  clear-back (runs t l) z e = l ∙ e
+  clear-back (stops f q) z e = absurd (no-both ok z f)
+
   pub gate-numbers : {bad : Type 0} → Gated ok path o → (ok ≡ false) ↔ bad → Numbers (λ n. o ≡ some n) bad path
   gate-numbers {bad} g w =
       record {
@@ -42,6 +51,7 @@ module _ {ok : Bool} {path : List Met} {o : Option ℕ} where
         two = (λ e. let q = met g 2 (omega arith) .0 e in (fine (q .0), first-two path .0 (q .1)), λ q. met g 2 (omega arith) .1 (held (q .0), first-two path .1 (q .1)));
         three = (λ e. let q = met g 3 (omega arith) .0 e in (fine (q .0), first-three path .0 (q .1)), λ q. met g 3 (omega arith) .1 (held (q .0), first-three path .1 (q .1)));
         only = gate-only g;
+        accepted = (λ f. (λ b. f 1 (gate-one g .1 (w .1 b)), first-none path .0 (clear g (never-some o f))), λ q n e. nothing n (sym (clear-back g (held (q .0)) (first-none path .1 (q .1))) ∙ e));
       }
     where
       fine : ok ≡ true → bad → ⊥
@@ -58,4 +68,10 @@ transfer w q =
       two = (λ r. q .two .0 (w 2 .0 r), λ b. w 2 .1 (q .two .1 b));
       three = (λ r. q .three .0 (w 3 .0 r), λ b. w 3 .1 (q .three .1 b));
       only = λ n r. q .only n (w n .0 r);
+      accepted = (λ f. q .accepted .0 (λ n s. f n (w n .1 s)), λ c n r. q .accepted .1 c n (w n .0 r));
     }
+
+-- an answer of any kind: F tells its number, and `by n` is the refusal by n
+pub told : {A : Type 0} (F : A → Option ℕ) (by : ℕ → A) → ((n : ℕ) → F (by n) ≡ some n) → ((x : A) (n : ℕ) → F x ≡ some n → x ≡ by n)
+    → {ok : Bool} {path : List Met} (x : A) → Gated ok path (F x) → Numbers (λ n. x ≡ by n) (ok ≡ false) path
+told F by on back x g = transfer (λ n. (λ e. ap F e ∙ on n, back x n)) (gate-numbers g (λ q. q, λ q. q))

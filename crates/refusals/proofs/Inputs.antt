@@ -20,7 +20,7 @@ use Rattle.elasticity_corotated_linear.specs.Law.{lawFinite}
 use Rattle.particles.specs.declared.choice.Model.{Model}
 use Rattle.particles.specs.declared.choice.Model.the-variants.{Snow, Rankine, DruckerPrager, Nacc}
 use Rattle.particles.specs.Model.{modelFinite}
-use Rattle.refusals.specs.Refusals.{NotFinite, SomeNotFinite, parametersOf, failureOf, RecordNotFinite, Input, FailureInput}
+use Rattle.refusals.specs.Refusals.{NotFinite, SomeNotFinite, parametersOf, failureOf, RecordNotFinite, Input}
 
 -- ---- a test that fails fails in a part
 pub one-fails : (a b : Bool) → a && b ≡ false → (a ≡ false) ⊎ (b ≡ false)

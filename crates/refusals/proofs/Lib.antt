@@ -11,3 +11,5 @@ pub mod Failure
 pub mod Passes
 pub mod Table
 pub mod Calls
+pub mod Laws
+pub mod Ran

@@ -11,13 +11,12 @@ use Rattle.numbers.specs.Range.{onPath}
 use Rattle.numbers.specs.declared.Elementary.{Elementary}
 use Rattle.numbers.specs.declared.Elementary.the-variants as elementary
 use Rattle.physics.specs.declared.Pair.{Pair}
-use Rattle.physics.specs.declared.Pair.the-variants as pair
 use Rattle.exact.specs.RootOf.{sqrtOf}
 use Rattle.exponential.specs.Sinh.{sinhOf}
 use Rattle.logarithm.specs.Worked.{lnOf}
 use Rattle.logarithm.specs.Ln.{lnRanged}
 use Rattle.square_root.specs.Sqrt.{sqrtRanged}
-use Rattle.thirds.specs.Thirds.{cbrtOf, cbrtSquaredOf, invCbrtSquaredOf, cbrtRanged, cbrtSquaredRanged, invCbrtSquaredRanged}
+use Rattle.thirds.specs.Thirds.{cbrtOf, cbrtSquaredOf, invCbrtSquaredOf, cbrtSquaredRanged}
 use Rattle.tensor.specs.Matrix.{add, sub, mul, div, zero, three, productOf, dotOf, recomposeOf, rowsOf}
 use Rattle.tensor.specs.Finite.{rowFinite, matFinite}
 use Rattle.law.specs.declared.State.{State}
@@ -35,8 +34,8 @@ use Rattle.plasticity_nacc.specs.Tip.{refusedStep, volumeSquare, lowerSquare, r
 use Rattle.plasticity_nacc.specs.Hardening.{timesOf, hardens, centreOf, normalisedOf, aimedOf, directionOf, quadraticOf, linearOf, constantOf, discriminantOf, pickedOf, crossingAt, crossedOf, crossingOf, sizeOf, volumeOf, grownOf, directedOf, hardeningStep, hardenedOf}
 use Rattle.plasticity_nacc.specs.Surface as surface
 use Rattle.plasticity_nacc.specs.Surface.{joinedOf, spreadOf, landedOf, normedOf, scaledOf, ratioOf, overMu, scaleOf, alphaedOf, surfaceOf}
-use Rattle.plasticity_nacc.specs.Nacc.{workedOf, triedOf, poweredOf, pressedOf, stepsOf, refusedProjection, recomposedOf, byBranch, projectedOf, storedBy, storedOf, naccRun}
-use Rattle.refusals.specs.Path.{Met, number, all-finite, sinh, ln, root, thirdPower, at}
+use Rattle.plasticity_nacc.specs.Nacc.{workedOf, triedOf, poweredOf, pressedOf, stepsOf, refusedProjection, recomposedOf, projectedOf, storedBy, storedOf, naccRun}
+use Rattle.refusals.specs.Path.{number, ln, root, thirdPower, at}
 use Rattle.refusals.specs.NaccPath.{rootsOf, resultsPath, tipPath, scaledPath, volumePath, crossingPath, aimedPath, surfacePath, triedPath, naccPath}
 use Rattle.refusals.proofs.First.{firstOf, refusalOf}
 use Rattle.refusals.proofs.Walk.{sinh-met, ln-met, root-met, cbrt-met, cbrt-squared-met, inv-cbrt-squared-met, number-met, numbers-met, three-met, finite-met, either-met}

@@ -1,9 +1,9 @@
 -- A pass is refused by 8 alone, and an answer list holds each record's refusal. Assumes nothing.
-use mathlib.Core.Path.{_≡_, refl, sym, ap, subst, _∙_}
+use mathlib.Core.Path.{_≡_, refl, sym, ap, _∙_}
 use mathlib.Core.Logic.{⊎-elim, _↔_}
-use mathlib.Core.Bool.{Bool, true, false, cond, _&&_}
+use mathlib.Core.Bool.{Bool, true, false, cond}
 use mathlib.Core.List.{List, [], _∷_, _++_}
-use Prim.Native.Nat.{ℕ, zero, suc, _+_, _*_, _/_, _≤_, _<_}
+use Prim.Native.Nat.{ℕ, zero, suc, _+_, _*_, _/_, _<_}
 use native.Mathlib.Nat.{eq-or-lt-of-le}
 use native.Mathlib.Omega.{arith}
 use borrow.Author.Tests.{eq-eqb, eqb-true}
@@ -15,10 +15,8 @@ use Rattle.law.specs.declared.Outcome.the-variants.{Untouched, Stored, Refused}
 use Rattle.numbers.proofs.Laws.{and-both}
 use Rattle.record.specs.Layout.{floats}
 use Rattle.particles.specs.declared.list.Counts.{Counts}
-use Rattle.particles.specs.declared.list.Passed.{Passed}
 use Rattle.particles.specs.declared.list.Passed.the-variants as pass
 use Rattle.particles.specs.declared.failure.FailureCounts.{FailureCounts}
-use Rattle.particles.specs.declared.failure.PassedWithFailure.{PassedWithFailure}
 use Rattle.particles.specs.declared.failure.PassedWithFailure.the-variants as failure-pass
 use Rattle.particles.specs.Pass.{Worked, codeOf, valueOf, recordAt, answers, wellSized, passAnswers}
 use Rattle.particles.proofs.PassLaws.{answers-length}
@@ -29,15 +27,15 @@ use Rattle.refusals.proofs.Inputs.{no-both, decide}
 
 -- ---- the lengths
 module _ (xs out : List ℕ) where
-  sized : wellSized xs out ≡ true → Sized xs out (length xs / floats)
+  pub sized : wellSized xs out ≡ true → Sized xs out (length xs / floats)
   sized q =
       let e = and-both (eqb (length xs / floats * floats) (length xs)) (eqb (length xs / floats * 2) (length out)) q in
       (sym (eqb-true (length xs / floats * floats) (length xs) (e .0)), sym (eqb-true (length xs / floats * 2) (length out) (e .1)))
 
-  quotient : (k : ℕ) → length xs ≡ k * floats → length xs / floats ≡ k
+  pub quotient : (k : ℕ) → length xs ≡ k * floats → length xs / floats ≡ k
   quotient k e = omega arith
 
-  well : (k : ℕ) → Sized xs out k → wellSized xs out ≡ true
+  pub well : (k : ℕ) → Sized xs out k → wellSized xs out ≡ true
   well k s =
       let q = quotient k (s .0) in
       let a = eq-eqb (length xs / floats * floats) (length xs) (omega arith) in
@@ -45,11 +43,11 @@ module _ (xs out : List ℕ) where
       rw (a, b)
 
 -- ---- 8
-taken : {P : Type 0} (b : Bool) (X Y : P) → b ≡ true → cond b X Y ≡ X
+pub taken : {P : Type 0} (b : Bool) (X Y : P) → b ≡ true → cond b X Y ≡ X
 taken true X Y q = refl
 taken false X Y q = absurd (no-both false q refl)
 
-left-out : {P : Type 0} (b : Bool) (X Y : P) → b ≡ false → cond b X Y ≡ Y
+pub left-out : {P : Type 0} (b : Bool) (X Y : P) → b ≡ false → cond b X Y ≡ Y
 left-out true X Y q = absurd (no-both true refl q)
 left-out false X Y q = refl
 

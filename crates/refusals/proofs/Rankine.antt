@@ -1,6 +1,6 @@
 -- Rankine meets its path.
 use mathlib.Core.Path.{_≡_, refl}
-use mathlib.Core.Bool.{Bool, cond, _&&_}
+use mathlib.Core.Bool.{cond, _&&_}
 use mathlib.Core.List.{List, [], _∷_}
 use mathlib.Core.Option.{Option, some}
 use Prim.Native.Nat.{ℕ}
@@ -25,9 +25,9 @@ use Rattle.plasticity_rankine.specs.declared.RankinePlasticity.{RankinePlastici
 use Rattle.plasticity_rankine.specs.declared.Sorted.{Sorted}
 use Rattle.plasticity_rankine.specs.Projection.{firstSide, secondSide, thirdSide, lastChoice, nextChoice, choiceOf, projectedOf}
 use Rattle.plasticity_rankine.specs.Rankine as rankine
-use Rattle.plasticity_rankine.specs.Rankine.{joinedOf, logsOf, softStrengthOf, grownOf, squaresOf, hardeningOf, stateOf, rankineFinish, rankineMoved, rankineBranch, rankineLogged, rankineRun}
+use Rattle.plasticity_rankine.specs.Rankine.{joinedOf, logsOf, softStrengthOf, grownOf, hardeningOf, stateOf, rankineFinish, rankineMoved, rankineBranch, rankineLogged, rankineRun}
 use Rattle.refusals.specs.Path.{Met, number, all-finite, exp, ln, at, exps, lnsOf, expsOf}
-use Rattle.refusals.specs.RankinePath.{grown, movedPath, testsPath, rankinePath}
+use Rattle.refusals.specs.RankinePath.{squaresOf, grown, movedPath, testsPath, rankinePath}
 use Rattle.refusals.proofs.First.{firstOf, refusalOf}
 use Rattle.refusals.proofs.Walk.{exp-met, ln-met, root-met, number-met, finite-met, either-met, same-met}
 

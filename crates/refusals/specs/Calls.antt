@@ -3,7 +3,7 @@
 use mathlib.Core.Path.{_≡_}
 use mathlib.Core.Bool.{Bool, false, cond, _&&_}
 use mathlib.Core.List.{List, [], _∷_}
-use Prim.Native.Nat.{ℕ, _<_}
+use Prim.Native.Nat.{_<_}
 use lib.Ieee as Ieee
 use lib.Ieee.{Float}
 use Rattle.numbers.specs.Rules.{finite, maxOf, minOf}
@@ -20,7 +20,9 @@ use Rattle.tensor.specs.Matrix.{add, sub, mul, div, zero, one, detOf}
 use Rattle.tensor.specs.Finite.{rowFinite, matFinite}
 use Rattle.tensor.specs.Number.{matNumber}
 use Rattle.tensor.specs.Inverse.{inverseTransposeOf}
-use Rattle.tensor.specs.Answer.{answered, givenMatrix}
+use Rattle.tensor.specs.Answer.{answered, answeredVector, givenMatrix, givenVector}
+use Rattle.tensor.specs.Decomposed.{tensorFinite, answeredTensor, givenTensor}
+use Rattle.tensor.specs.declared.DecomposedTensor.{DecomposedTensor}
 use Rattle.tensor.specs.declared.MatrixAnswer.{MatrixAnswer}
 use Rattle.physics.specs.Physics.{two}
 use Rattle.physics.specs.Quadratic.{pairOf, givenPair, discriminantOf, solveQuadraticOf}
@@ -139,10 +141,14 @@ posPath p f s h =
     number spherical ∷ all-finite (finite (cond (Ieee.lt j one) deviatoric (add deviatoric spherical))) ∷ []
 
 pub record Calls : Type 0 where
-  -- a result with nothing met before it: `inv_exact`, the moduli, `phase_coeff`, `spherical_part`; `lame_lambda_mu`; the tensor parts
+  -- a result with nothing met before it: `inv_exact`, the moduli, `phase_coeff`, `spherical_part`; `lame_lambda_mu`;
+  -- the tensor parts, `DecomposedTensor`'s calls
   pub one-number : (ok : Bool) (x : Float) → Gives (given ok (answeredOf x)) ok (all-finite (finite x) ∷ [])
   pub two-numbers : (ok : Bool) (x y : Float) → GivesPair (givenPair ok (pairOf x y)) ok (all-finite (finite x && finite y) ∷ [])
   pub matrix : (ok : Bool) (m : List (List Float)) → GivesMatrix (givenMatrix ok (answered m)) ok (all-finite (matFinite m) ∷ [])
+  pub vector : (ok : Bool) (v : List Float) → Numbers (λ n. (0 < n) × (givenVector ok (answeredVector v) .refusal ≡ n)) (ok ≡ false) (all-finite (rowFinite v) ∷ [])
+  pub tensor : (ok : Bool) (t : DecomposedTensor)
+      → Numbers (λ n. (0 < n) × (givenTensor ok (answeredTensor t) .refusal ≡ n)) (ok ≡ false) (all-finite (tensorFinite t) ∷ [])
   pub quadratic : (a b c : Float) → GivesPair (solveQuadraticOf a b c) (finite a && finite b && finite c) (quadraticPath a b c)
   pub alpha : (p : DruckerPragerPlasticity) (q : Float) → Gives (alphaOf p q) (drucker-prager.parametersFinite p && finite q) (alphaPath p q)
   -- after 1 there is nothing to refuse

@@ -9,13 +9,13 @@ use Rattle.exact.specs.RootOf.{sqrtOf}
 use Rattle.exponential.specs.Worked.{expOf}
 use Rattle.logarithm.specs.Worked.{lnOf}
 use Rattle.sine.specs.Sine.{sinOf}
-use Rattle.tensor.specs.Matrix.{add, sub, div, zero, one, three, productOf, dotOf, recomposeOf}
+use Rattle.tensor.specs.Matrix.{add, sub, div, zero, one, three, sumOf, productOf, dotOf, recomposeOf}
 use Rattle.tensor.specs.Finite.{rowFinite, matFinite}
 use Rattle.law.specs.declared.State.{State}
 use Rattle.plasticity_drucker_prager.specs.declared.DruckerPragerPlasticity.{DruckerPragerPlasticity}
 use Rattle.plasticity_drucker_prager.specs.Law.{two, dim}
 use Rattle.plasticity_drucker_prager.specs.Alpha.{decayOf, angleOf, slopeOf}
-use Rattle.plasticity_drucker_prager.specs.Projection.{allZero, sumOf, strainOf, deviatoricOf, gammaOf, backOf}
+use Rattle.plasticity_drucker_prager.specs.Projection.{allZero, strainOf, deviatoricOf, gammaOf, backOf}
 use Rattle.plasticity_drucker_prager.specs.DruckerPrager.{correctedOf, determinantOf, staysOf}
 use Rattle.refusals.specs.Path.{Met, number, all-finite, exp, ln, sin, root, lns, exps, lnsOf, expsOf}
 

@@ -5,3 +5,5 @@ pub mod DruckerPragerPath
 pub mod NaccPath
 pub mod Refusals
 pub mod Calls
+pub mod Laws
+pub mod Ran

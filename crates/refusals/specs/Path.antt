@@ -53,6 +53,11 @@ abbrev pub Stops : (Met → Type 0) → List Met → Type 0
 Stops F [] = ⊥
 Stops F (m ∷ ms) = F m ⊎ (Passes m × Stops F ms)
 
+-- all passes
+abbrev pub Clear : List Met → Type 0
+Clear [] = Unit {0}
+Clear (m ∷ ms) = Passes m × Clear ms
+
 -- ---- section 3's ranges
 abbrev pub exp : Float → Met
 exp x = argument exponential.low exponential.high x

@@ -1,4 +1,6 @@
 -- Document 01, section 6, "When, and only then", over the definitions that the contracts cite. Proved in proofs/Table.
+-- Path says what is met on a law's path, SnowPath, RankinePath, DruckerPragerPath and NaccPath which path each law takes; Calls and
+-- Laws say the same of the calls by themselves, Ran of a sheet that is run. 4 to 7 are a sheet's: `sheet` specs/Refused.
 use mathlib.Core.Path.{_≡_}
 use mathlib.Core.Logic.{_⊎_, _↔_}
 use mathlib.Core.Bool.{true, false, cond}
@@ -29,7 +31,7 @@ use Rattle.particles.specs.Model.{recordLaw}
 use Rattle.particles.specs.Judged.{failureLaw, failedAt}
 use Rattle.particles.specs.Pass.{Worked, recordAt, passed, passAnswers, passedWithFailure}
 use Rattle.particles.specs.Principal.{principalOf}
-use Rattle.refusals.specs.Path.{Met, all-finite, Outside, Arises, Stops}
+use Rattle.refusals.specs.Path.{Met, all-finite, Outside, Arises, Stops, Clear}
 use Rattle.refusals.specs.SnowPath.{snowPath}
 use Rattle.refusals.specs.RankinePath.{rankinePath}
 use Rattle.refusals.specs.DruckerPragerPath.{druckerPath}
@@ -89,6 +91,7 @@ pub record Numbers (R : ℕ → Type 0) (bad : Type 0) (path : List Met) : Type 
   pub two : R 2 ↔ ((bad → ⊥) × Stops Outside path)
   pub three : R 3 ↔ ((bad → ⊥) × Stops Arises path)
   pub only : (n : ℕ) → R n → (1 ≤ n) × (n ≤ 3)
+  pub accepted : ((n : ℕ) → R n → ⊥) ↔ ((bad → ⊥) × Clear path)
 
 -- as an outcome, and as it stands in the answer list at record i
 abbrev pub Refuses : Outcome → Type 0 → List Met → Type 0

@@ -12,9 +12,9 @@ use Rattle.numbers.specs.Rules.{finite, isNumber}
 use Rattle.logarithm.specs.Worked as ln
 use Rattle.exponential.specs.Worked as exp
 use Rattle.physics.specs.Physics.{lambdaOf, shearModulusOf}
-use Rattle.tensor.specs.Matrix.{one}
+use Rattle.tensor.specs.Matrix.{one, sumOf, dotOf, rowSubOf, scaledRowOf}
 use Rattle.plasticity_rankine.specs.declared.RankineArguments.{RankineArguments}
-use Rattle.plasticity_rankine.specs.Sorting.{rankOf}
+use Rattle.plasticity_rankine.specs.Sorting.{orderOf}
 use Rattle.plasticity_rankine.specs.Projection.{firstSide, secondSide, thirdSide, backOne, backTwo, backAll, lastChoice, nextChoice, choiceOf, projectedOf}
 use Rattle.plasticity_rankine.specs.Rankine.{argumentsOf, lawOf, logsOf, expsOf, softStrengthOf, hardeningOf, rankineMoved, rankineLogged, rankineUpdate, argumentsUpdate}
 use Rattle.particles.specs.declared.choice.Model.the-variants.{Rankine}
@@ -50,7 +50,7 @@ abbrev Taken : ℕ → Type 0
 Taken x = Premises arguments (of x) (recordLaw (Rankine arguments) (of x) .outcome)
 
 taken : Taken two × Taken unit × T (not (firstTestAt arguments (of two))) × T (firstTestAt arguments (of unit))
-unfolding recordLaw updatedAt argumentsUpdate rankineUpdate rankineLogged rankineMoved hardeningOf softStrengthOf logsOf expsOf projectedOf choiceOf nextChoice lastChoice firstSide secondSide thirdSide backOne backTwo backAll rankOf lambdaOf shearModulusOf ln.lnOf ln.exponentOf ln.fractionOf ln.partOf exp.expOf exp.expBits exp.packOf exp.partOf exp.tailOf sqrtOf floorRoot rootIn mag val L fits finite isNumber ofBits toBits round size Ieee.add Ieee.sub Ieee.mul Ieee.div Ieee.neg Ieee.le Ieee.lt Ieee.eq
+unfolding recordLaw updatedAt argumentsUpdate rankineUpdate rankineLogged rankineMoved hardeningOf softStrengthOf logsOf expsOf projectedOf choiceOf nextChoice lastChoice firstSide secondSide thirdSide backOne backTwo backAll orderOf lambdaOf shearModulusOf ln.lnOf ln.exponentOf ln.fractionOf ln.partOf exp.expOf exp.expBits exp.packOf exp.partOf exp.tailOf sqrtOf floorRoot rootIn mag val L fits finite isNumber ofBits toBits round size Ieee.add Ieee.sub Ieee.mul Ieee.div Ieee.neg Ieee.le Ieee.lt Ieee.eq sumOf dotOf rowSubOf scaledRowOf
 taken =
     let g : Ranges (lawOf arguments) (softenedAt arguments (of two)) = record { mu-low = lit≤ tt; mu-high = lit≤ tt; la-low = lit≤ tt; la-high = lit≤ tt; s-size = lit≤ tt } in (
       record { accepted = tt; ranges = g; s-finite = tt; strains = (lit≤ tt, (lit≤ tt, (lit≤ tt, tt))); strength = tt },

@@ -12,9 +12,7 @@ use Rattle.numbers.specs.declared.Elementary.{Elementary}
 use Rattle.numbers.specs.declared.Elementary.the-variants as elementary
 use Rattle.numbers.proofs.Laws.{eq-self, finite-is}
 use Rattle.physics.specs.Physics.{lambdaOf, shearModulusOf}
-use Rattle.square_root.specs.Sqrt.{sqrtRanged}
 use Rattle.physics.specs.Norm.{normOf}
-use Rattle.tensor.specs.Matrix as Matrix
 use Rattle.tensor.specs.Matrix.{add, mul, three, sumOf, rowSubOf, recomposeOf}
 use Rattle.tensor.specs.Finite.{rowFinite, matFinite}
 use Rattle.law.specs.State.{inputsFinite, refused}

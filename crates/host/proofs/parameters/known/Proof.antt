@@ -4,14 +4,14 @@ use borrow.Author.Needs.{needs}
 use Rattle.host.proofs.parameters.known.Statement.{statement}
 use Rattle.host.proofs.parameters.known.Tie as tie
 
-at-requires : tie.Need-at-requires
-at-requires c κs = search needs
+word-requires : tie.Need-word-requires
+word-requires c κs = search needs
 
 is-flag-requires : tie.Need-is-flag-requires
 is-flag-requires c κs = search needs
 
-at-requires-2 : tie.Need-at-requires-2
-at-requires-2 c κs = search needs
+word-requires-2 : tie.Need-word-requires-2
+word-requires-2 c κs = search needs
 
 is-flag-requires-2 : tie.Need-is-flag-requires-2
 is-flag-requires-2 c κs = search needs
@@ -22,11 +22,11 @@ returns c = simp (lt-ltb _ _ (c .if1 .taken))
 
 returns-2 : tie.Need-returns-2
 unfolding modelKnown
-returns-2 c = simp (c .is-flag .ensures, c .before .at .ensures, c .before .before .if2 .taken)
+returns-2 c = simp (c .is-flag .ensures, c .before .word .ensures, c .before .before .if2 .taken)
 
 returns-3 : tie.Need-returns-3
 unfolding modelKnown
-returns-3 c = simp (c .is-flag2 .ensures, c .before .at2 .ensures, c .before .before .if3 .taken)
+returns-3 c = simp (c .is-flag2 .ensures, c .before .word2 .ensures, c .before .before .if3 .taken)
 
 returns-4 : tie.Need-returns-4
 unfolding modelKnown
@@ -36,9 +36,9 @@ pub known-spec : {M : Type 1} → statement M
 known-spec =
     tie.close
     (tie.spec
-    at-requires
+    word-requires
     is-flag-requires
-    at-requires-2
+    word-requires-2
     is-flag-requires-2
     returns
     returns-2

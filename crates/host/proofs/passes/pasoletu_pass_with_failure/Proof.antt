@@ -19,8 +19,8 @@ sizes-fit-requires c κs = search needs
 known-requires : tie.Need-known-requires
 known-requires c κs = search needs
 
-at-requires : tie.Need-at-requires
-at-requires c κs = search needs
+word-requires : tie.Need-word-requires
+word-requires c κs = search needs
 
 is-flag-requires : tie.Need-is-flag-requires
 is-flag-requires c κs = search needs
@@ -63,7 +63,7 @@ returns c =
     let q = and-both (fit && limits && law) sizes (and-both (fit && limits && law && sizes) (eqb (length (a .counts .now)) 4) (d .if1 .taken) .0) in
     let w = sym (d .before .sizes-fit .ensures) ∙ q .1 in
     let t = simp (d .before .sizes-fit .ensures, d .before .before .fit .ensures) at (d .if1 .taken) in
-    let k = simp (c .before .before .before .before .before .before .before .before .before .before .before .before .before .before .before .is-flag .ensures, c .before .before .before .before .before .before .before .before .before .before .before .before .before .before .before .before .at .ensures, c .before .before .before .before .before .before .before .before .before .before .before .before .before .before .before .before .before .known .ensures) at (c .before .before .before .before .before .before .before .before .before .before .before .before .before .before .if2 .taken) in
+    let k = simp (c .before .before .before .before .before .before .before .before .before .before .before .before .before .before .before .is-flag .ensures, c .before .before .before .before .before .before .before .before .before .before .before .before .before .before .before .before .word .ensures, c .before .before .before .before .before .before .before .before .before .before .before .before .before .before .before .before .before .known .ensures) at (c .before .before .before .before .before .before .before .before .before .before .before .before .before .before .if2 .taken) in
     let goes = failureGoes (a .model) (a .parameters .now) (a .limits .now) (a .corotated .now) (a .records .now) (a .answers .now) (a .counts .now) in
     let go : goes ≡ true = simp (t, k) in
     let m = c .before .before .before .before .before .before .before .before .before .before .before .before .before .model-given .ensures in
@@ -79,7 +79,7 @@ returns-2 : tie.Need-returns-2
 returns-2 c =
     let d = c .before .before .before .before in
     let t = simp (d .before .sizes-fit .ensures, d .before .before .fit .ensures) at (d .if1 .taken) in
-    let k = simp (c .before .is-flag .ensures, c .before .before .at .ensures, c .before .before .before .known .ensures) at (c .if2 .left) in
+    let k = simp (c .before .is-flag .ensures, c .before .before .word .ensures, c .before .before .before .known .ensures) at (c .if2 .left) in
     (simp (t, k), (simp (t, k), (simp (t, k), simp (t, k))))
 
 returns-3 : tie.Need-returns-3
@@ -94,7 +94,7 @@ pasoletu-pass-with-failure-spec =
     fit-requires
     sizes-fit-requires
     known-requires
-    at-requires
+    word-requires
     is-flag-requires
     model-given-requires
     limits-given-requires
