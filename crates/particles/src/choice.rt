@@ -5,7 +5,9 @@ use plasticity_nacc::NaccArguments;
 use plasticity_rankine::RankineArguments;
 use plasticity_snow::SnowPlasticity;
 ghost use mathlib.Core.Path.{_≡_};
+ghost use mathlib.Core.Bool.{true};
 ghost use lib.ListN.{length};
+ghost use Rattle.law.specs.State.{inputsFinite};
 ghost use Rattle.record.specs.Layout.{floats};
 ghost use Rattle.particles.specs.Model.{modelFinite, modelUpdate, snowScalars, rankineScalars, druckerPragerScalars, naccScalars, putScalars, putState};
 
@@ -38,6 +40,19 @@ pub fn update(m: Model, u: [[f64; 3]; 3], vt: [[f64; 3]; 3], s: State) -> Update
         Model::Rankine(a) => a.update_particle(u, vt, s),
         Model::DruckerPrager(p) => p.update_particle(u, vt, s),
         Model::Nacc(a) => a.update_particle(u, vt, s),
+    }
+}
+
+// The same of a record that is known to be finite.
+pub fn update_finite(m: Model, u: [[f64; 3]; 3], vt: [[f64; 3]; 3], s: State) -> Updated
+    requires { ⌜ inputsFinite u vt s ≡ true ⌝ }
+    ensures { λ r. ⌜ r ≡ modelUpdate m u vt s ⌝ }
+{
+    match m {
+        Model::Snow(p) => p.update_finite(u, vt, s),
+        Model::Rankine(a) => a.update_finite(u, vt, s),
+        Model::DruckerPrager(p) => p.update_finite(u, vt, s),
+        Model::Nacc(a) => a.update_finite(u, vt, s),
     }
 }
 

@@ -7,11 +7,14 @@ use elasticity_corotated_linear::CorotatedLinearElasticity;
 use failure_maximum_stress::MaximumStressFailure;
 use failure_maximum_stress::Verdict;
 use law::Outcome;
-use law::State;
 ghost use mathlib.Core.Path.{_≡_};
+ghost use mathlib.Core.Bool.{true, _&&_};
 ghost use lib.ListN.{length};
-ghost use Rattle.record.specs.Layout.{floats};
-ghost use Rattle.particles.specs.Judged.{verdictOn, judgedInputs, judgedOf, judgedAt, failedLaw, failureLaw, standing, failedAt};
+ghost use Rattle.record.specs.Layout.{floats, recordFinite};
+ghost use Rattle.failure_maximum_stress.specs.Failure.{limitsFinite};
+ghost use Rattle.elasticity_corotated_linear.specs.Law.{lawFinite};
+ghost use Rattle.particles.specs.Model.{modelFinite};
+ghost use Rattle.particles.specs.Judged.{verdictOn, judgedAt, failedLaw, failureLaw, standing, failedAt};
 
 // The law's outcome, and whether the record failed and was not refused.
 pub struct Judged {
@@ -29,30 +32,19 @@ fn verdict_on(l: MaximumStressFailure, stresses: [f64; 3]) -> Verdict
     }
 }
 
-fn inputs_finite(
-    m: Model,
-    l: MaximumStressFailure,
-    e: CorotatedLinearElasticity,
-    u: [[f64; 3]; 3],
-    vt: [[f64; 3]; 3],
-    s: State,
-) -> bool
-    ensures { λ r. ⌜ r ≡ judgedInputs m l e u vt s ⌝ }
+fn parameters_finite(m: Model, l: MaximumStressFailure, e: CorotatedLinearElasticity) -> bool
+    ensures { λ r. ⌜ r ≡ modelFinite m && limitsFinite l && lawFinite e ⌝ }
 {
-    choice::model_finite(m) & l.limits_finite() & e.law_finite() & law::inputs_finite(u, vt, s)
+    choice::model_finite(m) & l.limits_finite() & e.law_finite()
 }
 
-fn verdict(
-    m: Model,
-    l: MaximumStressFailure,
-    e: CorotatedLinearElasticity,
-    u: [[f64; 3]; 3],
-    vt: [[f64; 3]; 3],
-    s: State,
-) -> Verdict
-    ensures { λ r. ⌜ r ≡ judgedOf m l e u vt s ⌝ }
+// The verdict on a finite record.
+fn verdict(m: Model, l: MaximumStressFailure, e: CorotatedLinearElasticity, r: &[u64]) -> Verdict
+    requires { ⌜ (length (now r) ≡ floats) × (recordFinite (now r) ≡ true) ⌝ }
+    ensures { λ x. ⌜ x ≡ judgedAt m l e (now (r .entry)) ⌝ }
 {
-    if inputs_finite(m, l, e, u, vt, s) {
+    if parameters_finite(m, l, e) {
+        let s = record::read_state(r);
         let sigma = s.sigma;
         verdict_on(
             l,
@@ -68,14 +60,11 @@ fn judge(m: Model, l: MaximumStressFailure, e: CorotatedLinearElasticity, r: &[u
     requires { ⌜ length (now r) ≡ floats ⌝ }
     ensures { λ x. ⌜ x ≡ judgedAt m l e (now (r .entry)) ⌝ }
 {
-    verdict(
-        m,
-        l,
-        e,
-        record::read_mat(r, record::U),
-        record::read_mat(r, record::VT),
-        record::read_state(r),
-    )
+    if record::all_finite(r) {
+        verdict(m, l, e, r)
+    } else {
+        Verdict::Refused(1)
+    }
 }
 
 // The law on a record that failed: phase is 0.0, but if the law refuses it is as it came.

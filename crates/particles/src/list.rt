@@ -3,9 +3,10 @@ use crate::choice::Model;
 use law::Outcome;
 use law::Updated;
 ghost use mathlib.Core.Path.{_≡_};
+ghost use mathlib.Core.Bool.{true};
 ghost use Prim.Native.Nat.{_+_, _*_, _^_, _≤_, _<_};
 ghost use lib.ListN.{length};
-ghost use Rattle.record.specs.Layout.{floats};
+ghost use Rattle.record.specs.Layout.{floats, recordFinite};
 ghost use Rattle.particles.specs.Model.{updatedAt, recordLaw, recordOutcome, recordAfter};
 ghost use Rattle.particles.specs.Pass.{codeOf, valueOf, answered, recordAt, replaced, worked, answers, counted, counts, passed, passRecords, passAnswers};
 
@@ -21,21 +22,22 @@ pub enum Passed {
     Refused(u8),
 }
 
+// The law on a finite record.
 fn updated(m: Model, r: &[u64]) -> Updated
-    requires { ⌜ length (now r) ≡ floats ⌝ }
+    requires { ⌜ (length (now r) ≡ floats) × (recordFinite (now r) ≡ true) ⌝ }
     ensures { λ x. ⌜ x ≡ updatedAt m (now (r .entry)) ⌝ }
 {
-    choice::update(
+    choice::update_finite(
         m,
-        record::read_mat(r, record::U),
-        record::read_mat(r, record::VT),
+        record::read_u(r),
+        record::read_vt(r),
         record::read_state(r),
     )
 }
 
-// One record: what is refused or untouched keeps its bits.
-pub fn step(m: Model, r: &mut [u64]) -> Outcome
-    requires { ⌜ length (now r) ≡ floats ⌝ }
+// One finite record: what is refused or untouched keeps its bits.
+fn finite_step(m: Model, r: &mut [u64]) -> Outcome
+    requires { ⌜ (length (now r) ≡ floats) × (recordFinite (now r) ≡ true) ⌝ }
     ensures { λ x. ⌜ (x ≡ recordLaw m (now (r .entry)) .outcome) × (now (r .exit) ≡ recordLaw m (now (r .entry)) .after) ⌝ }
 {
     let d = updated(m, &r[..]);
@@ -49,6 +51,17 @@ pub fn step(m: Model, r: &mut [u64]) -> Outcome
         Outcome::Refused(_) => {}
     }
     o
+}
+
+// One record. A float that isn't finite is the first refusal of every law, so the 36 patterns are tested at once.
+pub fn step(m: Model, r: &mut [u64]) -> Outcome
+    requires { ⌜ length (now r) ≡ floats ⌝ }
+    ensures { λ x. ⌜ (x ≡ recordLaw m (now (r .entry)) .outcome) × (now (r .exit) ≡ recordLaw m (now (r .entry)) .after) ⌝ }
+{
+    if record::all_finite(&r[..]) {
+        return finite_step(m, r);
+    }
+    Outcome::Refused(1)
 }
 
 // One record by itself. A list of another length is refused by 8 and keeps its bits.

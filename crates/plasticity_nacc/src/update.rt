@@ -11,6 +11,8 @@ use law::Updated;
 use numbers::Elementary;
 use tensor::Rows;
 ghost use mathlib.Core.Path.{_≡_};
+ghost use mathlib.Core.Bool.{true};
+ghost use Rattle.law.specs.State.{inputsFinite};
 ghost use Rattle.plasticity_nacc.specs.Nacc.{workedOf, triedOf, poweredOf, pressedOf, stepsOf, refusedProjection, recomposedOf, projectedOf, projectionInputs, projectOf, stateOf, storedOf, naccRun, naccUpdate};
 
 fn refused_projection(n: u8) -> Projected
@@ -229,6 +231,22 @@ impl NaccPlasticity {
         ensures { λ r. ⌜ r ≡ naccUpdate self u vt s ⌝ }
     {
         if self.parameters_finite() & law::inputs_finite(u, vt, s) {
+            if self.moduli_finite() {
+                self.run(u, vt, s)
+            } else {
+                law::refuse(3, s)
+            }
+        } else {
+            law::refuse(1, s)
+        }
+    }
+
+    // The same of a record that is known to be finite: its 36 floats are not tested again.
+    pub fn update_finite(self, u: [[f64; 3]; 3], vt: [[f64; 3]; 3], s: State) -> Updated
+        requires { ⌜ inputsFinite u vt s ≡ true ⌝ }
+        ensures { λ r. ⌜ r ≡ naccUpdate self u vt s ⌝ }
+    {
+        if self.parameters_finite() {
             if self.moduli_finite() {
                 self.run(u, vt, s)
             } else {

@@ -4,6 +4,8 @@ use crate::RankinePlasticity;
 use law::State;
 use law::Updated;
 ghost use mathlib.Core.Path.{_≡_};
+ghost use mathlib.Core.Bool.{true};
+ghost use Rattle.law.specs.State.{inputsFinite};
 ghost use Rattle.plasticity_rankine.specs.Rankine.{argumentsOf, lawOf, elasticFinite, argumentsFinite, madeOf, argumentsUpdate};
 
 impl RankineArguments {
@@ -56,6 +58,18 @@ impl RankineArguments {
     {
         if self.elastic_finite() {
             self.law().update_particle(u, vt, s)
+        } else {
+            law::refuse(1, s)
+        }
+    }
+
+    // The same of a record that is known to be finite.
+    pub fn update_finite(self, u: [[f64; 3]; 3], vt: [[f64; 3]; 3], s: State) -> Updated
+        requires { ⌜ inputsFinite u vt s ≡ true ⌝ }
+        ensures { λ r. ⌜ r ≡ argumentsUpdate self u vt s ⌝ }
+    {
+        if self.elastic_finite() {
+            self.law().update_finite(u, vt, s)
         } else {
             law::refuse(1, s)
         }

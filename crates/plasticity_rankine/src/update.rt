@@ -6,6 +6,8 @@ use law::Outcome;
 use law::State;
 use law::Updated;
 ghost use mathlib.Core.Path.{_≡_};
+ghost use mathlib.Core.Bool.{true};
+ghost use Rattle.law.specs.State.{inputsFinite};
 ghost use Rattle.plasticity_rankine.specs.Rankine.{untouchedOf, rankineMoved, rankineBranch, rankineLogged, rankineRun, rankineUpdate};
 
 fn untouched(s: State) -> Updated
@@ -83,6 +85,22 @@ impl RankinePlasticity {
         ensures { λ r. ⌜ r ≡ rankineUpdate self u vt s ⌝ }
     {
         if self.parameters_finite() & law::inputs_finite(u, vt, s) {
+            if self.moduli_finite() {
+                self.run(u, vt, s)
+            } else {
+                law::refuse(3, s)
+            }
+        } else {
+            law::refuse(1, s)
+        }
+    }
+
+    // The same of a record that is known to be finite: its 36 floats are not tested again.
+    pub fn update_finite(self, u: [[f64; 3]; 3], vt: [[f64; 3]; 3], s: State) -> Updated
+        requires { ⌜ inputsFinite u vt s ≡ true ⌝ }
+        ensures { λ r. ⌜ r ≡ rankineUpdate self u vt s ⌝ }
+    {
+        if self.parameters_finite() {
             if self.moduli_finite() {
                 self.run(u, vt, s)
             } else {

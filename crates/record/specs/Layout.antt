@@ -1,5 +1,6 @@
 -- The record (document 01, section 7): F, U, sigma, V^T by rows, then phase, plastic determinant, plastic hardening,
 -- elastic hardening, log gain and alpha, each float as its bits. All offsets stand here.
+use mathlib.Core.Bool.{Bool}
 use mathlib.Core.List.{List, [], _∷_}
 use Prim.Native.Nat.{ℕ, _+_}
 use lib.ListN.{getD, set}
@@ -7,6 +8,7 @@ use lib.Ieee as Ieee
 use lib.Ieee.{Float, nan, binary64}
 use Rattle.tensor.specs.Matrix.{three}
 use Rattle.tensor.specs.declared.Rows.{Rows}
+use Rattle.law.specs.State.{inputsFinite}
 use Rattle.law.specs.declared.State.{State}
 
 abbrev pub floats : ℕ
@@ -43,6 +45,10 @@ stateAt r =
       «log_gain» = fl r 34;
       alpha = fl r 35;
     }
+
+-- no float of the record is a NaN or an infinity
+abbrev pub recordFinite : List ℕ → Bool
+recordFinite r = inputsFinite (uAt r) (vtAt r) (stateAt r)
 
 abbrev pub bits : Float → ℕ
 bits x = Ieee.toBits binary64 x

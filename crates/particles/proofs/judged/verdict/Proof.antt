@@ -1,10 +1,13 @@
-use Rattle.particles.specs.Judged.{judgedOf}
 use borrow.Author.Needs.{needs}
+use Rattle.particles.specs.Judged.{judgedOf, judgedAt}
 use Rattle.particles.proofs.judged.verdict.Statement.{statement}
 use Rattle.particles.proofs.judged.verdict.Tie as tie
 
-inputs-finite-requires : tie.Need-inputs-finite-requires
-inputs-finite-requires c κs = search needs
+parameters-finite-requires : tie.Need-parameters-finite-requires
+parameters-finite-requires c κs = search needs
+
+read-state-requires : tie.Need-read-state-requires
+read-state-requires c κs = search needs
 
 stresses-requires : tie.Need-stresses-requires
 stresses-requires c κs = search needs
@@ -13,18 +16,24 @@ verdict-on-requires : tie.Need-verdict-on-requires
 verdict-on-requires c κs = search needs
 
 returns : tie.Need-returns
-unfolding judgedOf
+unfolding judgedAt judgedOf
 returns c =
-    let t0 = simp (c .before .before .before .before .inputs-finite .ensures) at (c .before .before .before .if1 .taken) in
-    simp (c .verdict-on .ensures, c .before .stresses .ensures, c .before .before .before .before .inputs-finite .ensures, t0)
+    let t0 = simp (c .before .before .before .before .before .parameters-finite .ensures) at (c .before .before .before .before .if1 .taken) in
+    simp (c .verdict-on .ensures, c .before .stresses .ensures, c .before .before .before .read-state .ensures, t0, c .before .before .before .before .before .before .before .pre .1)
 
 returns-2 : tie.Need-returns-2
-unfolding judgedOf
+unfolding judgedAt judgedOf
 returns-2 c =
-    let t0 = simp (c .before .inputs-finite .ensures) at (c .if1 .left) in
-    simp (c .before .inputs-finite .ensures, t0)
+    let t0 = simp (c .before .parameters-finite .ensures) at (c .if1 .left) in
+    simp t0
 
 pub verdict-spec : {M : Type 1} → statement M
 verdict-spec =
     tie.close
-    (tie.spec inputs-finite-requires stresses-requires verdict-on-requires returns returns-2)
+    (tie.spec
+    parameters-finite-requires
+    read-state-requires
+    stresses-requires
+    verdict-on-requires
+    returns
+    returns-2)

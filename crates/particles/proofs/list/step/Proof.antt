@@ -1,65 +1,27 @@
-use Rattle.particles.specs.Model.{recordLaw}
+use mathlib.Core.Path.{sym, _∙_}
 use borrow.Author.Needs.{needs}
+use Rattle.particles.proofs.NotFinite.{refused-law}
 use Rattle.particles.proofs.list.step.Statement.{statement}
 use Rattle.particles.proofs.list.step.Tie as tie
 
-updated-requires : tie.Need-updated-requires
-updated-requires c κs = search needs
+all-finite-requires : tie.Need-all-finite-requires
+all-finite-requires c κs = search needs
 
-enum-told : tie.Need-enum-told
-enum-told c = search needs
-
-enum-told-2 : tie.Need-enum-told-2
-enum-told-2 c = search needs
-
-write-state-requires : tie.Need-write-state-requires
-write-state-requires c κs = search needs
-
-enum-told-3 : tie.Need-enum-told-3
-enum-told-3 c = search needs
+finite-step-requires : tie.Need-finite-step-requires
+finite-step-requires c κs =
+    (c .before .before .before .before .before .pre, sym (c .before .before .all-finite .ensures) ∙ c .before .if1 .taken)
 
 same-length : tie.Need-same-length
 same-length c = search needs
 
 returns : tie.Need-returns
-unfolding recordLaw
-returns c =
-    let u = c .before .before .updated .ensures in
-    let t = rw u at (c .enum-told .given .1) in
-    (simp u, simp t)
+returns c = let e = c .before .before .finite-step .ensures in (e .0, e .1)
 
 same-length-2 : tie.Need-same-length-2
 same-length-2 c = search needs
 
 returns-2 : tie.Need-returns-2
-unfolding recordLaw
-returns-2 c =
-    let u = c .before .before .before .before .before .before .before .updated .ensures in
-    let t = rw u at (c .before .before .before .before .before .enum-told2 .given .1) in
-    (simp u, simp (c .before .before .write-state .ensures, u, t))
-
-same-length-3 : tie.Need-same-length-3
-same-length-3 c = search needs
-
-returns-3 : tie.Need-returns-3
-unfolding recordLaw
-returns-3 c =
-    let u = c .before .before .updated .ensures in
-    let t = rw u at (c .enum-told3 .given .1) in
-    (simp u, simp t)
+returns-2 c = let s = c .before .before .before .before in refused-law (s .args .m) (s .args .r .now) (sym (c .before .all-finite .ensures) ∙ c .if1 .left)
 
 pub step-spec : {M : Type 1} → statement M
-step-spec =
-    tie.close
-    (tie.spec
-    updated-requires
-    enum-told
-    enum-told-2
-    write-state-requires
-    enum-told-3
-    same-length
-    returns
-    same-length-2
-    returns-2
-    same-length-3
-    returns-3)
+step-spec = tie.close (tie.spec all-finite-requires finite-step-requires same-length returns same-length-2 returns-2)

@@ -1,21 +1,23 @@
+use Rattle.record.proofs.Parts.{mat-parts}
+use native.Mathlib.Omega.{arith}
 use borrow.Author.Needs.{needs}
-use Rattle.record.proofs.read_rows.Statement.{statement}
-use Rattle.record.proofs.read_rows.Tie as tie
+use Rattle.record.proofs.finite.read_rows.Statement.{statement}
+use Rattle.record.proofs.finite.read_rows.Tie as tie
 
 read-row-requires : tie.Need-read-row-requires
-read-row-requires c κs = search needs
+read-row-requires c κs = let s = c .before in let h = s .pre .0 in (omega arith, mat-parts (s .args .r .now) (s .args .at) (s .pre .1) .0)
 
 add-read-row : tie.Need-add-read-row
 add-read-row c = search needs
 
 read-row-requires-2 : tie.Need-read-row-requires-2
-read-row-requires-2 c κs = search needs
+read-row-requires-2 c κs = let s = c .before .before in let h = s .pre .0 in (omega arith, mat-parts (s .args .r .now) (s .args .at) (s .pre .1) .1)
 
 add-read-row-2 : tie.Need-add-read-row-2
 add-read-row-2 c = search needs
 
 read-row-requires-3 : tie.Need-read-row-requires-3
-read-row-requires-3 c κs = search needs
+read-row-requires-3 c κs = let s = c .before .before .before in let h = s .pre .0 in (omega arith, mat-parts (s .args .r .now) (s .args .at) (s .pre .1) .2)
 
 returns : tie.Need-returns
 returns c =

@@ -1,0 +1,68 @@
+-- A record with a float that isn't finite is refused by 1, by every law and by the verdict, and keeps its bits. Assumes nothing.
+use mathlib.Core.Path.{_≡_, refl, sym, ap}
+use mathlib.Core.Bool.{Bool, true, false, cond, _&&_}
+use mathlib.Core.List.{List}
+use Prim.Native.Nat.{ℕ}
+use lib.Ieee.{Float}
+use Rattle.law.specs.State.{inputsFinite, refused}
+use Rattle.law.specs.declared.Outcome.the-variants as outcome
+use Rattle.law.specs.declared.State.{State}
+use Rattle.law.specs.declared.Updated.{Updated}
+use Rattle.record.specs.Layout.{uAt, vtAt, stateAt, recordFinite}
+use Rattle.plasticity_snow.specs.Snow as snow
+use Rattle.plasticity_rankine.specs.Projection as rankine-projection
+use Rattle.plasticity_rankine.specs.Rankine as rankine
+use Rattle.plasticity_drucker_prager.specs.Law as drucker-prager-law
+use Rattle.plasticity_drucker_prager.specs.DruckerPrager as drucker-prager
+use Rattle.plasticity_nacc.specs.Law as nacc-law
+use Rattle.plasticity_nacc.specs.Nacc as nacc
+use Rattle.failure_maximum_stress.specs.declared.MaximumStressFailure.{MaximumStressFailure}
+use Rattle.failure_maximum_stress.specs.declared.Verdict.the-variants as verdict
+use Rattle.failure_maximum_stress.specs.Failure.{limitsFinite}
+use Rattle.elasticity_corotated_linear.specs.declared.CorotatedLinearElasticity.{CorotatedLinearElasticity}
+use Rattle.elasticity_corotated_linear.specs.Law.{lawFinite}
+use Rattle.particles.specs.declared.choice.Model.{Model}
+use Rattle.particles.specs.declared.choice.Model.the-variants.{Snow, Rankine, DruckerPrager, Nacc}
+use Rattle.particles.specs.Model.{modelFinite, modelUpdate, updatedAt, kept, recordLaw}
+use Rattle.particles.specs.Principal.{principalOf}
+use Rattle.particles.specs.Judged.{verdictOn, judgedOf, judgedAt}
+
+-- of a test whose last part fails
+last-fails : {A : Type 0} (a b : Bool) (x y : A) → b ≡ false → cond (a && b) x y ≡ y
+last-fails true b x y q = ap (λ (t : Bool). cond t x y) q
+last-fails false b x y q = refl
+
+either : {A : Type 0} (a : Bool) (x y : A) → x ≡ y → cond a x y ≡ y
+either true x y q = q
+either false x y q = refl
+
+module _ (u vt : List (List Float)) (s : State) (q : inputsFinite u vt s ≡ false) where
+  not-finite : (m : Model) → modelUpdate m u vt s ≡ refused 1 s
+  unfolding snow.snowUpdate rankine.argumentsUpdate rankine.rankineUpdate drucker-prager.druckerUpdate nacc.argumentsUpdate nacc.naccUpdate
+  not-finite (Snow p) = last-fails (snow.parametersFinite p) (inputsFinite u vt s) (snow.snowRun p u vt s) (refused 1 s) q
+  not-finite (Rankine a) =
+      let p = rankine.lawOf a in
+      either (rankine.elasticFinite a) (rankine.rankineUpdate p u vt s) (refused 1 s)
+      (last-fails (rankine-projection.parametersFinite p) (inputsFinite u vt s)
+      (cond (rankine-projection.moduliFinite p) (rankine.rankineRun p u vt s) (refused 3 s)) (refused 1 s) q)
+  not-finite (DruckerPrager p) =
+      last-fails (drucker-prager-law.parametersFinite p) (inputsFinite u vt s) (drucker-prager.druckerRun p u vt s) (refused 1 s) q
+  not-finite (Nacc a) =
+      let p = nacc-law.lawOf a in
+      either (nacc-law.elasticFinite a) (nacc.naccUpdate p u vt s) (refused 1 s)
+      (last-fails (nacc-law.parametersFinite p) (inputsFinite u vt s)
+      (cond (nacc-law.moduliFinite p) (nacc.naccRun p u vt s) (refused 3 s)) (refused 1 s) q)
+
+pub refused-law : (m : Model) (r : List ℕ) → recordFinite r ≡ false → (outcome.Refused 1 ≡ recordLaw m r .outcome) × (r ≡ recordLaw m r .after)
+unfolding recordLaw updatedAt
+refused-law m r q =
+    let e = not-finite (uAt r) (vtAt r) (stateAt r) q m in
+    (sym (ap (λ (d : Updated). d .outcome) e), sym (ap (λ (d : Updated). kept m (d .outcome) r (d .state)) e))
+
+pub refused-verdict : (m : Model) (l : MaximumStressFailure) (e : CorotatedLinearElasticity) (r : List ℕ) → recordFinite r ≡ false
+    → verdict.Refused 1 ≡ judgedAt m l e r
+unfolding judgedAt judgedOf
+refused-verdict m l e r q =
+    let s = stateAt r in
+    sym (last-fails (modelFinite m && limitsFinite l && lawFinite e) (recordFinite r)
+    (verdictOn l (principalOf e (s .phase) (s .«elastic_hardening») (s .sigma))) (verdict.Refused 1) q)

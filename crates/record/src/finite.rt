@@ -1,0 +1,119 @@
+// A record of finite floats: one test of its 36 patterns, then each is read with no test of its own.
+use law::State;
+use tensor::Rows;
+ghost use mathlib.Core.Path.{_≡_};
+ghost use mathlib.Core.Bool.{true};
+ghost use Prim.Native.Nat.{_+_, _≤_};
+ghost use lib.ListN.{length};
+ghost use lib.Ieee as Ieee;
+ghost use lib.Ieee.{binary64};
+ghost use Rattle.numbers.specs.Rules.{finite};
+ghost use Rattle.tensor.specs.Finite.{rowFinite, matFinite, rowsFinite};
+ghost use Rattle.law.specs.State.{scalarsFinite};
+ghost use Rattle.record.specs.Layout.{floats, rowAt, matAt, rowsAt, uAt, vtAt, stateAt, recordFinite};
+
+// Whether a pattern is a finite float's: its exponent is not all ones.
+fn word_finite(n: u64) -> bool
+    ensures { λ b. ⌜ b ≡ finite (Ieee.ofBits binary64 n) ⌝ }
+{
+    n % 0x8000_0000_0000_0000 / 0x10_0000_0000_0000 < 2047
+}
+
+fn row_finite(r: &[u64], at: usize) -> bool
+    requires { ⌜ at + 3 ≤ length (now r) ⌝ }
+    ensures { λ b. ⌜ b ≡ rowFinite (rowAt (now (r .entry)) at) ⌝ }
+{
+    word_finite(r[at]) & word_finite(r[at + 1]) & word_finite(r[at + 2])
+}
+
+fn mat_finite(r: &[u64], at: usize) -> bool
+    requires { ⌜ at + 9 ≤ length (now r) ⌝ }
+    ensures { λ b. ⌜ b ≡ matFinite (matAt (now (r .entry)) at) ⌝ }
+{
+    row_finite(r, at) & row_finite(r, at + 3) & row_finite(r, at + 6)
+}
+
+fn scalars_finite(r: &[u64]) -> bool
+    requires { ⌜ length (now r) ≡ floats ⌝ }
+    ensures { λ b. ⌜ b ≡ scalarsFinite (stateAt (now (r .entry))) ⌝ }
+{
+    word_finite(r[crate::PHASE])
+        & word_finite(r[crate::PLASTIC_DETERMINANT])
+        & word_finite(r[crate::PLASTIC_HARDENING])
+        & word_finite(r[crate::ELASTIC_HARDENING])
+        & word_finite(r[crate::LOG_GAIN])
+        & word_finite(r[crate::ALPHA])
+}
+
+// Whether every float of the record is finite.
+pub fn all_finite(r: &[u64]) -> bool
+    requires { ⌜ length (now r) ≡ floats ⌝ }
+    ensures { λ b. ⌜ b ≡ recordFinite (now (r .entry)) ⌝ }
+{
+    let state = mat_finite(r, crate::F) & row_finite(r, crate::SIGMA) & scalars_finite(r);
+    mat_finite(r, crate::U) & mat_finite(r, crate::VT) & state
+}
+
+fn read_word(n: u64) -> f64
+    requires { ⌜ finite (Ieee.ofBits binary64 n) ≡ true ⌝ }
+    ensures { λ x. ⌜ x ≡ Ieee.ofBits binary64 n ⌝ }
+{
+    f64::from_bits(n)
+}
+
+fn read_row(r: &[u64], at: usize) -> [f64; 3]
+    requires { ⌜ (at + 3 ≤ length (now r)) × (rowFinite (rowAt (now r) at) ≡ true) ⌝ }
+    ensures { λ x. ⌜ x ≡ rowAt (now (r .entry)) at ⌝ }
+{
+    [read_word(r[at]), read_word(r[at + 1]), read_word(r[at + 2])]
+}
+
+fn read_mat(r: &[u64], at: usize) -> [[f64; 3]; 3]
+    requires { ⌜ (at + 9 ≤ length (now r)) × (matFinite (matAt (now r) at) ≡ true) ⌝ }
+    ensures { λ x. ⌜ x ≡ matAt (now (r .entry)) at ⌝ }
+{
+    [read_row(r, at), read_row(r, at + 3), read_row(r, at + 6)]
+}
+
+fn read_rows(r: &[u64], at: usize) -> Rows
+    requires { ⌜ (at + 9 ≤ length (now r)) × (rowsFinite (rowsAt (now r) at) ≡ true) ⌝ }
+    ensures { λ x. ⌜ x ≡ rowsAt (now (r .entry)) at ⌝ }
+{
+    let r0 = read_row(r, at);
+    let r1 = read_row(r, at + 3);
+    let r2 = read_row(r, at + 6);
+    Rows { r0, r1, r2 }
+}
+
+// U of a finite record.
+pub fn read_u(r: &[u64]) -> [[f64; 3]; 3]
+    requires { ⌜ (length (now r) ≡ floats) × (recordFinite (now r) ≡ true) ⌝ }
+    ensures { λ x. ⌜ x ≡ uAt (now (r .entry)) ⌝ }
+{
+    read_mat(r, crate::U)
+}
+
+// Its V^T.
+pub fn read_vt(r: &[u64]) -> [[f64; 3]; 3]
+    requires { ⌜ (length (now r) ≡ floats) × (recordFinite (now r) ≡ true) ⌝ }
+    ensures { λ x. ⌜ x ≡ vtAt (now (r .entry)) ⌝ }
+{
+    read_mat(r, crate::VT)
+}
+
+// And its state.
+pub fn read_state(r: &[u64]) -> State
+    requires { ⌜ (length (now r) ≡ floats) × (recordFinite (now r) ≡ true) ⌝ }
+    ensures { λ x. ⌜ x ≡ stateAt (now (r .entry)) ⌝ }
+{
+    State {
+        f: read_rows(r, crate::F),
+        sigma: read_row(r, crate::SIGMA),
+        phase: read_word(r[crate::PHASE]),
+        plastic_determinant: read_word(r[crate::PLASTIC_DETERMINANT]),
+        plastic_hardening: read_word(r[crate::PLASTIC_HARDENING]),
+        elastic_hardening: read_word(r[crate::ELASTIC_HARDENING]),
+        log_gain: read_word(r[crate::LOG_GAIN]),
+        alpha: read_word(r[crate::ALPHA]),
+    }
+}
