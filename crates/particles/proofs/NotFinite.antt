@@ -17,6 +17,7 @@ use Rattle.plasticity_drucker_prager.specs.DruckerPrager as drucker-prager
 use Rattle.plasticity_nacc.specs.Law as nacc-law
 use Rattle.plasticity_nacc.specs.Nacc as nacc
 use Rattle.failure_maximum_stress.specs.declared.MaximumStressFailure.{MaximumStressFailure}
+use Rattle.failure_maximum_stress.specs.declared.Verdict.{Verdict}
 use Rattle.failure_maximum_stress.specs.declared.Verdict.the-variants as verdict
 use Rattle.failure_maximum_stress.specs.Failure.{limitsFinite}
 use Rattle.elasticity_corotated_linear.specs.declared.CorotatedLinearElasticity.{CorotatedLinearElasticity}
@@ -25,7 +26,7 @@ use Rattle.particles.specs.declared.choice.Model.{Model}
 use Rattle.particles.specs.declared.choice.Model.the-variants.{Snow, Rankine, DruckerPrager, Nacc}
 use Rattle.particles.specs.Model.{modelFinite, modelUpdate, updatedAt, kept, recordLaw}
 use Rattle.particles.specs.Principal.{principalOf}
-use Rattle.particles.specs.Judged.{verdictOn, judgedOf, judgedAt}
+use Rattle.particles.specs.Judged.{verdictOn, judgedOf, judgedAt, byVerdict, failureLaw, failedBy, failedAt}
 
 -- of a test whose last part fails
 last-fails : {A : Type 0} (a b : Bool) (x y : A) → b ≡ false → cond (a && b) x y ≡ y
@@ -59,10 +60,19 @@ refused-law m r q =
     let e = not-finite (uAt r) (vtAt r) (stateAt r) q m in
     (sym (ap (λ (d : Updated). d .outcome) e), sym (ap (λ (d : Updated). kept m (d .outcome) r (d .state)) e))
 
-pub refused-verdict : (m : Model) (l : MaximumStressFailure) (e : CorotatedLinearElasticity) (r : List ℕ) → recordFinite r ≡ false
+refused-verdict : (m : Model) (l : MaximumStressFailure) (e : CorotatedLinearElasticity) (r : List ℕ) → recordFinite r ≡ false
     → verdict.Refused 1 ≡ judgedAt m l e r
 unfolding judgedAt judgedOf
 refused-verdict m l e r q =
     let s = stateAt r in
     sym (last-fails (modelFinite m && limitsFinite l && lawFinite e) (recordFinite r)
     (verdictOn l (principalOf e (s .phase) (s .«elastic_hardening») (s .sigma))) (verdict.Refused 1) q)
+
+pub refused-failure : (m : Model) (l : MaximumStressFailure) (e : CorotatedLinearElasticity) (r : List ℕ) → recordFinite r ≡ false
+    → (outcome.Refused 1 ≡ failureLaw m l e r .outcome) × ((false ≡ failedAt m l e r) × (r ≡ failureLaw m l e r .after))
+unfolding failureLaw failedAt
+refused-failure m l e r q =
+    let v = refused-verdict m l e r q in (
+      ap (λ (t : Verdict). byVerdict t m r .outcome) v,
+      (ap (λ (t : Verdict). failedBy t (byVerdict t m r .outcome)) v, ap (λ (t : Verdict). byVerdict t m r .after) v),
+    )

@@ -38,7 +38,7 @@ fn parameters_finite(m: Model, l: MaximumStressFailure, e: CorotatedLinearElasti
     choice::model_finite(m) & l.limits_finite() & e.law_finite()
 }
 
-// The verdict on a finite record.
+// The verdict on a finite record as it stands.
 fn verdict(m: Model, l: MaximumStressFailure, e: CorotatedLinearElasticity, r: &[u64]) -> Verdict
     requires { ⌜ (length (now r) ≡ floats) × (recordFinite (now r) ≡ true) ⌝ }
     ensures { λ x. ⌜ x ≡ judgedAt m l e (now (r .entry)) ⌝ }
@@ -50,18 +50,6 @@ fn verdict(m: Model, l: MaximumStressFailure, e: CorotatedLinearElasticity, r: &
             l,
             principal::stresses(e, s.phase, s.elastic_hardening, sigma),
         )
-    } else {
-        Verdict::Refused(1)
-    }
-}
-
-// The verdict on the record as it stands.
-fn judge(m: Model, l: MaximumStressFailure, e: CorotatedLinearElasticity, r: &[u64]) -> Verdict
-    requires { ⌜ length (now r) ≡ floats ⌝ }
-    ensures { λ x. ⌜ x ≡ judgedAt m l e (now (r .entry)) ⌝ }
-{
-    if record::all_finite(r) {
-        verdict(m, l, e, r)
     } else {
         Verdict::Refused(1)
     }
@@ -95,22 +83,22 @@ fn not_refused(o: Outcome) -> bool
     }
 }
 
-// One record: a refused stress skips the law.
-pub fn step(
+// One finite record: a refused stress skips the law.
+fn finite_step(
     m: Model,
     l: MaximumStressFailure,
     e: CorotatedLinearElasticity,
     r: &mut [u64],
 ) -> Judged
-    requires { ⌜ length (now r) ≡ floats ⌝ }
+    requires { ⌜ (length (now r) ≡ floats) × (recordFinite (now r) ≡ true) ⌝ }
     ensures outcome { λ x. ⌜ x .outcome ≡ failureLaw m l e (now (r .entry)) .outcome ⌝ }
     ensures failed { λ x. ⌜ x .failed ≡ failedAt m l e (now (r .entry)) ⌝ }
     ensures record { λ x. ⌜ now (r .exit) ≡ failureLaw m l e (now (r .entry)) .after ⌝ }
 {
-    let v = judge(m, l, e, &r[..]);
+    let v = verdict(m, l, e, &r[..]);
     match v {
         Verdict::No => {
-            let o = list::step(m, r);
+            let o = list::finite_step(m, r);
             Judged {
                 outcome: o,
                 failed: false,
@@ -127,5 +115,26 @@ pub fn step(
             outcome: Outcome::Refused(n),
             failed: false,
         },
+    }
+}
+
+// One record: the 36 patterns are tested at once, as by `list::step`.
+pub fn step(
+    m: Model,
+    l: MaximumStressFailure,
+    e: CorotatedLinearElasticity,
+    r: &mut [u64],
+) -> Judged
+    requires { ⌜ length (now r) ≡ floats ⌝ }
+    ensures outcome { λ x. ⌜ x .outcome ≡ failureLaw m l e (now (r .entry)) .outcome ⌝ }
+    ensures failed { λ x. ⌜ x .failed ≡ failedAt m l e (now (r .entry)) ⌝ }
+    ensures record { λ x. ⌜ now (r .exit) ≡ failureLaw m l e (now (r .entry)) .after ⌝ }
+{
+    if record::all_finite(&r[..]) {
+        return finite_step(m, l, e, r);
+    }
+    Judged {
+        outcome: Outcome::Refused(1),
+        failed: false,
     }
 }

@@ -36,7 +36,7 @@ fn updated(m: Model, r: &[u64]) -> Updated
 }
 
 // One finite record: what is refused or untouched keeps its bits.
-fn finite_step(m: Model, r: &mut [u64]) -> Outcome
+pub fn finite_step(m: Model, r: &mut [u64]) -> Outcome
     requires { ⌜ (length (now r) ≡ floats) × (recordFinite (now r) ≡ true) ⌝ }
     ensures { λ x. ⌜ (x ≡ recordLaw m (now (r .entry)) .outcome) × (now (r .exit) ≡ recordLaw m (now (r .entry)) .after) ⌝ }
 {

@@ -1,72 +1,29 @@
-use Rattle.particles.specs.Judged.{failureLaw, failedAt}
+use mathlib.Core.Path.{sym, _∙_}
 use borrow.Author.Needs.{needs}
+use Rattle.particles.proofs.NotFinite.{refused-failure}
 use Rattle.particles.proofs.judged.step.Statement.{statement}
 use Rattle.particles.proofs.judged.step.Tie as tie
 
-judge-requires : tie.Need-judge-requires
-judge-requires c κs = search needs
+all-finite-requires : tie.Need-all-finite-requires
+all-finite-requires c κs = search needs
 
-enum-told : tie.Need-enum-told
-enum-told c = search needs
-
-step-requires : tie.Need-step-requires
-step-requires c κs = search needs
-
-enum-told-2 : tie.Need-enum-told-2
-enum-told-2 c = search needs
-
-failed-step-requires : tie.Need-failed-step-requires
-failed-step-requires c κs = search needs
-
-not-refused-requires : tie.Need-not-refused-requires
-not-refused-requires c κs = search needs
-
-enum-known-v : tie.Need-enum-known-v
-enum-known-v c = search needs
+finite-step-requires : tie.Need-finite-step-requires
+finite-step-requires c κs =
+    (c .before .before .before .before .before .pre, sym (c .before .before .all-finite .ensures) ∙ c .before .if1 .taken)
 
 same-length : tie.Need-same-length
 same-length c = search needs
 
 returns : tie.Need-returns
-unfolding failureLaw failedAt
-returns c =
-    let t = rw (c .before .before .before .before .before .before .judge .ensures) at (c .before .before .before .before .enum-told .given .1) in
-    let s = c .before .before .step .ensures in
-    (simp (s .0, t), (simp t, simp (s .1, t)))
+returns c = let e = c .before .before .finite-step .ensures in (e .0, e .1)
 
 same-length-2 : tie.Need-same-length-2
 same-length-2 c = search needs
 
 returns-2 : tie.Need-returns-2
-unfolding failureLaw failedAt
 returns-2 c =
-    let t = rw (c .before .before .before .before .before .before .before .judge .ensures) at (c .before .before .before .before .before .enum-told2 .given .1) in
-    let s = c .before .before .before .failed-step .ensures in
-    (simp (s .0, t), (simp (c .not-refused .ensures, s .0, t), simp (s .1, t)))
-
-same-length-3 : tie.Need-same-length-3
-same-length-3 c = search needs
-
-returns-3 : tie.Need-returns-3
-unfolding failureLaw failedAt
-returns-3 c =
-    let t = rw (c .before .before .before .judge .ensures) at (c .before .v .given .1) in
-    (simp t, (simp t, simp t))
+    let s = c .before .before .before .before in
+    refused-failure (s .args .m) (s .args .l) (s .args .e) (s .args .r .now) (sym (c .before .all-finite .ensures) ∙ c .if1 .left)
 
 pub step-spec : {M : Type 1} → statement M
-step-spec =
-    tie.close
-    (tie.spec
-    judge-requires
-    enum-told
-    step-requires
-    enum-told-2
-    failed-step-requires
-    not-refused-requires
-    enum-known-v
-    same-length
-    returns
-    same-length-2
-    returns-2
-    same-length-3
-    returns-3)
+step-spec = tie.close (tie.spec all-finite-requires finite-step-requires same-length returns same-length-2 returns-2)
