@@ -1,17 +1,36 @@
 // One way into the ten files for both builds: a call's number, its floats as bits, its answers as bits. Each build includes this file.
 use sparkl::dynamics::models::*;
-use sparkl::math::{Matrix, Vector};
+use sparkl::math::{DecomposedTensor, Matrix, Vector};
 use sparkl::utils;
 
-/// A call of the C library: its name there, how many words go in, how many come out.
+/// A call of the C library: its name there, its arguments in order, how many words go in and come out.
 pub struct Call {
     pub name: &'static str,
+    pub arguments: &'static [usize],
     pub inputs: usize,
     pub outputs: usize,
 }
 
-const fn c(name: &'static str, inputs: usize, outputs: usize) -> Call {
-    Call { name, inputs, outputs }
+/// An argument is the length of a list, or one of these. A call's inputs are their words in order.
+pub const NUMBER: usize = 0;
+pub const GAMMA: usize = usize::MAX;
+
+/// How many words an argument has.
+pub const fn words(argument: usize) -> usize {
+    if argument == NUMBER || argument == GAMMA {
+        1
+    } else {
+        argument
+    }
+}
+
+const fn c(name: &'static str, arguments: &'static [usize], outputs: usize) -> Call {
+    let (mut inputs, mut k) = (0, 0);
+    while k < arguments.len() {
+        inputs += words(arguments[k]);
+        k += 1;
+    }
+    Call { name, arguments, inputs, outputs }
 }
 
 // The numbers of the calls, as the replayed list has them too.
@@ -22,48 +41,57 @@ pub const CLAMP: usize = 36;
 pub const PROJECT: usize = 37;
 pub const ALPHA: usize = 38;
 
+const ONE: &[usize] = &[NUMBER];
+const TWO: &[usize] = &[NUMBER, NUMBER];
+const NEO_HOOKEAN: &[usize] = &[3, NUMBER, NUMBER, 9];
+
 /// Of an update the inputs are the law's parameters and the 36 floats; the outputs the 36 floats and the two places of the answer.
-pub const CALLS: [Call; 39] = [
-    c("exp", 1, 1),
-    c("ln", 1, 1),
-    c("sinh", 1, 1),
-    c("sin", 1, 1),
-    c("sqrt", 1, 1),
-    c("cbrt", 1, 1),
-    c("inv_cbrt", 1, 1),
-    c("cbrt_squared", 1, 1),
-    c("inv_cbrt_squared", 1, 1),
-    c("inv_exact", 1, 1),
-    c("shear_modulus", 2, 1),
-    c("bulk_modulus", 2, 1),
-    c("shear_modulus_from_lame", 2, 1),
-    c("bulk_modulus_from_lame", 2, 1),
-    c("lame_lambda_mu", 2, 2),
-    c("solve_quadratic", 3, 2),
-    c("spin_tensor", 9, 9),
-    c("strain_rate", 9, 9),
-    c("deviatoric_part", 9, 9),
-    c("spherical_part", 9, 1),
-    c("update snow", 39, 38),
-    c("update rankine", 40, 38),
-    c("update drucker_prager", 44, 38),
-    c("update nacc", 42, 38),
-    c("neo_hookean_fpk_stress", 13, 9),
-    c("neo_hookean_kirchhoff_stress", 14, 9),
-    c("neo_hookean_elastic_energy_density", 14, 1),
-    c("neo_hookean_pos_energy", 14, 1),
-    c("phase_coeff", 1, 1),
-    c("corotated_kirchhoff_stress", 36, 9),
-    c("corotated_elastic_energy_density", 8, 1),
-    c("corotated_pos_energy", 17, 1),
-    c("monaghan_pressure", 7, 1),
-    c("monaghan_kirchhoff_stress", 17, 9),
-    c("monaghan_timestep_bound", 12, 1),
-    c("failed", 5, 1),
-    c("snow_clamp", 6, 3),
-    c("rankine_project", 8, 3),
-    c("drucker_prager_alpha", 9, 1),
+pub const CALLS: [Call; 40] = [
+    c("exp", ONE, 1),
+    c("ln", ONE, 1),
+    c("sinh", ONE, 1),
+    c("sin", ONE, 1),
+    c("sqrt", ONE, 1),
+    c("cbrt", ONE, 1),
+    c("inv_cbrt", ONE, 1),
+    c("cbrt_squared", ONE, 1),
+    c("inv_cbrt_squared", ONE, 1),
+    c("inv_exact", ONE, 1),
+    c("shear_modulus", TWO, 1),
+    c("bulk_modulus", TWO, 1),
+    c("shear_modulus_from_lame", TWO, 1),
+    c("bulk_modulus_from_lame", TWO, 1),
+    c("lame_lambda_mu", TWO, 2),
+    c("solve_quadratic", &[NUMBER; 3], 2),
+    c("spin_tensor", &[9], 9),
+    c("strain_rate", &[9], 9),
+    c("deviatoric_part", &[9], 9),
+    c("spherical_part", &[9], 1),
+    c("update snow", &[3, 36], 38),
+    c("update rankine", &[4, 36], 38),
+    c("update drucker_prager", &[8, 36], 38),
+    c("update nacc", &[6, 36], 38),
+    c("neo_hookean_fpk_stress", &[3, NUMBER, 9], 9),
+    c("neo_hookean_kirchhoff_stress", NEO_HOOKEAN, 9),
+    c("neo_hookean_elastic_energy_density", NEO_HOOKEAN, 1),
+    c("neo_hookean_pos_energy", NEO_HOOKEAN, 1),
+    c("phase_coeff", ONE, 1),
+    c("corotated_kirchhoff_stress", &[4, NUMBER, NUMBER, 9, 9, 3, 9], 9),
+    c("corotated_elastic_energy_density", &[4, NUMBER, 3], 1),
+    c("corotated_pos_energy", &[4, NUMBER, 9, 3], 1),
+    c("monaghan_pressure", &[NUMBER, GAMMA, NUMBER, NUMBER, NUMBER, NUMBER, NUMBER], 1),
+    c("monaghan_kirchhoff_stress", &[NUMBER, GAMMA, NUMBER, NUMBER, NUMBER, NUMBER, NUMBER, NUMBER, 9], 9),
+    c("monaghan_timestep_bound", &[NUMBER, GAMMA, NUMBER, NUMBER, NUMBER, NUMBER, NUMBER, NUMBER, 3, NUMBER], 1),
+    c("failed", &[NUMBER, NUMBER, 3], 1),
+    c("snow_clamp", &[NUMBER, NUMBER, NUMBER, 3], 3),
+    c("rankine_project", &[4, NUMBER, 3], 3),
+    c("drucker_prager_alpha", &[8, NUMBER], 1),
+    c("decomposed_times", &[NUMBER, 9, 3], 3),
 ];
+
+pub fn is_update(n: usize) -> bool {
+    (UPDATE..UPDATE + 4).contains(&n)
+}
 
 fn f(i: &[u64], k: usize) -> f64 {
     f64::from_bits(i[k])
@@ -84,6 +112,12 @@ fn diagonal(i: &[u64], k: usize) -> Matrix<f64> {
 
 fn put(o: &mut [u64], x: f64) {
     o[0] = x.to_bits();
+}
+
+fn put_vector(o: &mut [u64], v: Vector<f64>) {
+    for k in 0..3 {
+        o[k] = v[k].to_bits();
+    }
 }
 
 fn put_matrix(o: &mut [u64], m: Matrix<f64>) {
@@ -191,11 +225,9 @@ pub fn call(n: usize, i: &[u64], o: &mut [u64]) {
         35 => o[0] = MaximumStressFailure::new(f(i, 0), f(i, 1)).particle_failed(&diagonal(i, 2)) as u64,
         36 => {
             let law = SnowPlasticity { min_epsilon: f(i, 0), max_epsilon: f(i, 1), hardening_coeff: f(i, 2) };
-            let v = law.project_deformation_gradient(vector(i, 3));
-            for k in 0..3 {
-                o[k] = v[k].to_bits();
-            }
+            put_vector(o, law.project_deformation_gradient(vector(i, 3)));
         }
+        39 => put_vector(o, DecomposedTensor { spherical_part: f(i, 0), deviatoric_part: matrix(i, 1) } * vector(i, 10)),
         _ => panic!("not a call of the text"),
     }
 }

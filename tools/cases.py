@@ -94,39 +94,40 @@ def words(b):
 
 
 class Refused(Exception):
-    pass
+    """Document 01's number; of a sheet also the byte at which it was met."""
 
 
 def read_number(b, at):
     if at >= len(b):
-        raise Refused(4)
+        raise Refused(4, at)
     if b[at] < 128:
         return b[at], at + 1
     if at + 1 >= len(b):
-        raise Refused(4)
+        raise Refused(4, at + 1)
     if b[at + 1] >= 128 or b[at + 1] == 0:
-        raise Refused(5)
+        raise Refused(5, at)
     return b[at] - 128 + 128 * b[at + 1], at + 2
 
 
 def read(b):
     model, at = read_number(b, 0)
     if model > 3:
-        raise Refused(6)
+        raise Refused(6, 0)
     parameters = []
     for k in range((3, 4, 8, 6)[model]):
         if len(b) < at + 8:
-            raise Refused(4)
+            raise Refused(4, len(b))
         bits = b[at:at + 8]
         if (model, k) in ((2, 6), (3, 3)) and bits not in (floats([0.0]), floats([1.0])):
-            raise Refused(6)
+            raise Refused(6, at)
         parameters += words(bits)
         at += 8
+    place = at
     count, at = read_number(b, at)
     if count > 200:
-        raise Refused(7)
+        raise Refused(7, place)
     if len(b) - at != count * 288:
-        raise Refused(4 if len(b) - at < count * 288 else 7)
+        raise Refused(*((4, len(b)) if len(b) - at < count * 288 else (7, at + count * 288)))
     return model, parameters, [words(b[at + 288 * k:at + 288 * (k + 1)]) for k in range(count)]
 
 
@@ -139,10 +140,10 @@ def rust_min(a, b):
 
 
 def snow(p, r):
-    """The amount, or the refusal's number."""
+    """As every law here: nothing where it leaves the record untouched, else the amount, the new sigma and the new scalars by place."""
     old = r[18:21]
     new = [rust_min(rust_max(e, 1.0 - p[0]), 1.0 + p[1]) for e in old]
-    d = r[31] * ((old[0] * old[1] * old[2]) / (new[0] * new[1] * new[2]))
+    d = r[31] * divide(old[0] * old[1] * old[2], new[0] * new[1] * new[2])
     x = p[2] * (1.0 - d)
     if x != x:
         raise Refused(3)
@@ -151,7 +152,7 @@ def snow(p, r):
     h = math.exp(x)
     if not math.isfinite(d):
         raise Refused(3)
-    return h
+    return h, new, {31: d, 33: h}
 
 
 def ranged(f, low, high, x):
@@ -213,15 +214,17 @@ def rankine(p, r):
     if lame * total + 2.0 * mu * a <= s:
         return None
     if (2.0 * mu + lame) * b + lame * (total - a) <= s:
-        new[order[2]] = (s - lame * (total - a)) / (2.0 * mu + lame)
+        new[order[2]] = divide(s - lame * (total - a), 2.0 * mu + lame)
     elif (2.0 * mu + 3.0 * lame) * c <= s:
-        new[order[2]] = new[order[1]] = (s - lame * (total - a - b)) / (2.0 * mu + 2.0 * lame)
+        new[order[2]] = new[order[1]] = divide(s - lame * (total - a - b), 2.0 * mu + 2.0 * lame)
     else:
-        new = [s / (2.0 * mu + 3.0 * lame)] * 3
+        new = [divide(s, 2.0 * mu + 3.0 * lame)] * 3
     h = r[32] + p[3] * norm([x - y for x, y in zip(e, new)])
     tell(h)
-    finite(*[exp(x) for x in new])
-    return min(h, p[2])
+    sigma = [exp(x) for x in new]
+    finite(*sigma)
+    h = min(h, p[2])
+    return h, sigma, {32: h}
 
 
 def drucker_prager(p, r):
@@ -247,8 +250,9 @@ def drucker_prager(p, r):
     before, after = r[18] * r[19] * r[20], new[0] * new[1] * new[2]
     if not after - before > 0.0:
         after = before + (after - before) * correction
-    finite(r[31] * divide(before, after), r[34] + (ln(before) - ln(after)), q + dq)
-    return dq
+    scalars = {31: r[31] * divide(before, after), 34: r[34] + (ln(before) - ln(after)), 32: q + dq}
+    finite(*scalars.values())
+    return dq, new, scalars
 
 
 def nacc(p, r):
@@ -265,11 +269,13 @@ def nacc(p, r):
     tell(p0, pressure, *shear)
     if pressure > p0 or pressure < -beta * p0:
         tip = root((-2.0 * p0 if pressure > p0 else 2.0 * beta * p0) / kappa + 1.0)
-        third(tip, 1)
-        return alpha + ln(j / tip) if hardens else alpha
+        sigma = [third(tip, 1)] * 3
+        if hardens:
+            alpha += ln(j / tip)
+        return alpha, sigma, {35: alpha}
     y0 = (1.0 + 2.0 * beta) * 1.5
     y1 = m * m * (pressure + beta * p0) * (pressure - p0)
-    if y0 * (shear[0] ** 2 + shear[1] ** 2 + shear[2] ** 2) + y1 < 1.0e-4:
+    if y0 * (shear[0] * shear[0] + shear[1] * shear[1] + shear[2] * shear[2]) + y1 < 1.0e-4:
         return None
     if hardens and p0 > 1.0e-4 and pressure < p0 - 1.0e-4 and pressure > -beta * p0 + 1.0e-4:
         pc = (1.0 - beta) * p0 / 2.0
@@ -286,29 +292,69 @@ def nacc(p, r):
         if jx > 1.0e-4:
             alpha += ln(j / jx)
     scale = root(-y1 / y0) * (third(j, 2) / mu)
-    for x in shear:
-        root(scale * x / norm(shear) + total / 3.0)
-    return alpha
+    return alpha, [root(scale * x / norm(shear) + total / 3.0) for x in shear], {35: alpha}
 
 
 LAWS = [snow, rankine, drucker_prager, nacc]
 
 
+def recompose(u, sigma, vt):
+    return [u[3 * i] * sigma[0] * vt[j] + u[3 * i + 1] * sigma[1] * vt[3 + j] + u[3 * i + 2] * sigma[2] * vt[6 + j] for i in range(3) for j in range(3)]
+
+
 def worked(model, p, r):
+    """The amount, nothing where the law leaves the record untouched; and the record after it."""
     if not all(map(math.isfinite, p + r)):
         raise Refused(1)
-    return LAWS[model](p, r)
+    told = LAWS[model](p, r)
+    if told is None:
+        return None, r
+    amount, sigma, scalars = told
+    f = recompose(r[9:18], sigma, r[21:30])
+    finite(*f)
+    return amount, f + r[9:18] + list(sigma) + r[21:30] + [scalars.get(k, r[k]) for k in range(30, 36)]
+
+
+def principal(law, r):
+    """The principal stresses of a corotated law (flag, cfl, lambda, mu) from a record's sigma, split by its phase."""
+    split, lame, mu = law[0], law[2], law[3]
+    phase, h, sigma = r[30], r[33], r[18:21]
+    j = sigma[0] * sigma[1] * sigma[2]
+    around = lame * h * (j - 1.0) * j
+    out = []
+    for s in sigma:
+        e = s - 1.0
+        if phase == 1.0:
+            out.append(2.0 * mu * h * e * s + around)
+            continue
+        pos, neg = 2.0 * mu * h * max(e, 0.0) * s, 2.0 * mu * h * min(e, 0.0) * s
+        tell(pos, neg)
+        pos, neg = (pos, neg + around) if j < 1.0 else (pos + around, neg)
+        out.append(pos * (0.0 if split and phase == 0.0 else 1.0) + neg)
+    finite(*out)
+    return out
+
+
+def worked_with_failure(model, p, limits, law, r):
+    """Whether the record as it came failed, the law's amount and the record after both."""
+    if not all(map(math.isfinite, p + limits + law + r)):
+        raise Refused(1)
+    s = principal(law, r)
+    yes = max(s) > limits[0] or (max(s) - min(s)) / 2.0 > limits[1]
+    if yes:
+        r = r[:30] + [0.0] + r[31:]
+    return (yes, *worked(model, p, r))
 
 
 def expected(b):
     try:
         model, parameters, records = read(b)
     except Refused as e:
-        return ["sheet refused %d" % e.args]
+        return ["sheet refused %d" % e.args[0]]
     lines = ["particles %d" % len(records)]
     for k, r in enumerate(records):
         try:
-            amount = worked(model, parameters, r)
+            amount, _ = worked(model, parameters, r)
             lines.append("%d untouched" % k if amount is None else "%d stored %r" % (k, amount))
         except Refused as e:
             lines.append("%d refused %d" % (k, e.args[0]))
@@ -343,4 +389,5 @@ def main():
     return 1 if bad or len(want) != len(got) else 0
 
 
-sys.exit(main())
+if __name__ == "__main__":
+    sys.exit(main())

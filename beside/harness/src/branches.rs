@@ -1,7 +1,7 @@
 //! Which branches of section 5 a call took, told by the lines of the text that it came through and by the numbers it compared there.
 use crate::calls;
 use crate::inside::{watch, Answer};
-use nalgebra::hooks::{self, Op};
+use nalgebra::hooks::{Function, Op};
 
 /// Every branch of every call that has some, in the order of the table. The last word is why one cannot be reached, if so.
 pub const ALL: &[(usize, &str, &str)] = &[
@@ -79,11 +79,12 @@ fn met(line: u32, op: Op) -> bool {
     watch().met.iter().any(|m| m.at.line() == line && m.op == op)
 }
 
-fn result(line: u32, op: Op) -> f64 {
+/// The first number of an operation that was met, or NaN.
+pub fn result(line: u32, op: Op) -> f64 {
     watch().met.iter().find(|m| m.at.line() == line && m.op == op).map_or(f64::NAN, |m| m.output[0])
 }
 
-fn asked(line: u32, which: u32) -> Option<f64> {
+fn asked(line: u32, which: Function) -> Option<f64> {
     watch().asked.iter().find(|a| a.line == line && a.which == which).map(|a| a.result)
 }
 
@@ -104,7 +105,7 @@ pub fn taken(n: usize, i: &[u64], a: &Answer, out: &mut Vec<&'static str>) {
         32 => out.push(if o(0) == -f(i, 3) { "largest negative" } else { "from the density" }),
         33 => out.push(if f(i, 2) != 0.0 { "viscosity" } else { "no viscosity" }),
         34 => {
-            let root = watch().asked.iter().rfind(|x| x.which == hooks::SQRT).unwrap().result;
+            let root = watch().asked.iter().rfind(|x| x.which == Function::Sqrt).unwrap().result;
             let through = watch().let_through;
             out.push(match (through, o(0) == f(i, 11) / root) {
                 (true, _) => "root let through",
@@ -193,7 +194,7 @@ fn nacc(i: &[u64], a: &Answer, out: &mut Vec<&'static str>) {
     calls_quietly(|| calls::call(11, &i[..2], &mut kappa));
     let kappa = f(&kappa, 0);
     let beta = f(i, 2);
-    let p0 = kappa * (1.0e-5 + asked(76, hooks::SINH).unwrap());
+    let p0 = kappa * (1.0e-5 + asked(76, Function::Sinh).unwrap());
     let s: Vec<f64> = (0..3).map(|k| f(i, 6 + 18 + k)).collect();
     let j = s[0] * s[1] * s[2];
     let p_tr = -(kappa / 2.0 * (j - 1.0 / j)) * j;
@@ -209,14 +210,14 @@ fn nacc(i: &[u64], a: &Answer, out: &mut Vec<&'static str>) {
         });
         return;
     }
-    let stepped = asked(143, hooks::LN).is_some();
+    let stepped = asked(143, Function::Ln).is_some();
     out.push(if stepped { "surface, alpha stepped" } else { "surface, j_e_x at most 1e-4" });
     let m = f(i, 5);
     let d = &watch().met.iter().find(|x| x.at.line() == 125 && x.op == Op::Normalize).unwrap().output;
     let p_c = (1.0 - beta) * p0 / 2.0;
     let b = m * m * d[0] * (2.0 * p_c - p0 + beta * p0);
     let a = m * m * d[0] * d[0] + (1.0 + 2.0 * beta) * d[1] * d[1];
-    let discr = asked(130, hooks::SQRT).unwrap();
+    let discr = asked(130, Function::Sqrt).unwrap();
     let p1 = p_c + (-b + discr) / (2.0 * a) * d[0];
     out.push(if (p_tr - p_c) * (p1 - p_c) > 0.0 { "surface, p_x = p1" } else { "surface, p_x = p2" });
 }

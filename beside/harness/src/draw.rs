@@ -201,6 +201,10 @@ impl Draw {
     fn young_poisson(&mut self) -> [f64; 2] {
         let e = self.scale(0.0, 9.0);
         let p = self.between(0.0, 0.49);
+        if self.one_in(64) {
+            // No finite modulus.
+            return [e, self.pick(&[0.5, -1.0])];
+        }
         [e, self.pick(&[p, p, p, p, 0.2, 0.3, 0.0, -0.3])]
     }
 
@@ -220,7 +224,10 @@ impl Draw {
             }
             2 => {
                 let [e, n] = self.young_poisson();
-                let (l, m) = (e * n / ((1.0 + n) * (1.0 - 2.0 * n)), e / (2.0 * (1.0 + n)));
+                let (mut l, mut m) = (e * n / ((1.0 + n) * (1.0 - 2.0 * n)), e / (2.0 * (1.0 + n)));
+                if self.one_in(64) {
+                    (l, m) = (self.pick(&[0.0, l]), 0.0);
+                }
                 let h = if self.one_in(2) {
                     [35.0f64.to_radians(), 9.0f64.to_radians(), 0.2, 10.0f64.to_radians()]
                 } else {
@@ -399,6 +406,12 @@ impl Draw {
                 let s = self.pick(&[s, s, s, -s]);
                 vec![e, n, s, 1.0, s, strains[0], strains[1], strains[2]]
             }
+            39 => {
+                let mut v = vec![self.number()];
+                v.extend(self.matrix());
+                v.extend((0..3).map(|_| self.number()));
+                v
+            }
             _ => {
                 let mut v = self.update(2)[..8].to_vec();
                 v[6] = self.below(2) as f64;
@@ -440,6 +453,22 @@ impl Draw {
             5 => 4294967296 - 1 - few,
             _ => few,
         }
+    }
+
+    /// Every place of a call's inputs in turn holding what is no number, a zero or an end of the format, over a few inputs.
+    pub fn sweep(&mut self, n: usize) -> Vec<Vec<u64>> {
+        let mut all = Vec::new();
+        for _ in 0..4 {
+            let w = self.inputs(n);
+            for k in (0..w.len()).filter(|k| !(matches!(n, 32..=34) && *k == 1)) {
+                for x in [f64::NAN, f64::INFINITY, f64::NEG_INFINITY, 0.0, -0.0, f64::from_bits(1), f64::MAX, -f64::MAX] {
+                    let mut i = w.clone();
+                    i[k] = x.to_bits();
+                    all.push(i);
+                }
+            }
+        }
+        all
     }
 
     /// The inputs of one call, as bits. A quarter has one to three places replaced by an edge value, any number, or, rarely, no number.

@@ -2,7 +2,7 @@
 //! and the outcome that document 01 section 6 gives for it.
 use crate::calls::{self, CALLS};
 use crate::ours;
-use nalgebra::hooks::{self, Op};
+use nalgebra::hooks::{Function, Op};
 use std::cell::UnsafeCell;
 use std::panic::Location;
 
@@ -28,7 +28,7 @@ pub struct Met {
 /// An elementary function, met on the way.
 #[derive(Copy, Clone)]
 pub struct Asked {
-    pub which: u32,
+    pub which: Function,
     pub x: f64,
     pub result: f64,
     pub line: u32,
@@ -96,32 +96,33 @@ fn on_path(status: u8, x: f64) -> u8 {
     }
 }
 
-fn machine(which: u32, x: f64) -> f64 {
-    match which {
-        hooks::EXP => x.exp(),
-        hooks::LN => x.ln(),
-        hooks::SINH => x.sinh(),
-        hooks::SIN => x.sin(),
-        hooks::SQRT => x.sqrt(),
-        hooks::CBRT => x.powf(1.0 / 3.0),
-        hooks::INV_CBRT => x.powf(-1.0 / 3.0),
-        hooks::CBRT_SQUARED => x.powf(2.0 / 3.0),
+/// One of the first nine calls as the machine has it; powers are of a rounded third, as in the text.
+pub fn machine_number(n: usize, x: f64) -> f64 {
+    match n {
+        0 => x.exp(),
+        1 => x.ln(),
+        2 => x.sinh(),
+        3 => x.sin(),
+        4 => x.sqrt(),
+        5 => x.powf(1.0 / 3.0),
+        6 => x.powf(-1.0 / 3.0),
+        7 => x.powf(2.0 / 3.0),
         _ => x.powf(-2.0 / 3.0),
     }
 }
 
-fn elementary(w: &mut Watch, which: u32, x: f64) -> f64 {
+fn elementary(w: &mut Watch, which: Function, x: f64) -> f64 {
     if w.mode == Mode::Machine {
-        return machine(which, x);
+        return machine_number(which as usize, x);
     }
-    if w.mode == Mode::Strains && which == hooks::LN {
-        return w.strains[w.asked.iter().filter(|a| a.which == hooks::LN).count()];
+    if w.mode == Mode::Strains && which == Function::Ln {
+        return w.strains[w.asked.iter().filter(|a| a.which == Function::Ln).count()];
     }
     if w.mode == Mode::Strains {
-        w.ended |= which == hooks::SQRT;
+        w.ended |= which == Function::Sqrt;
         return 1.0;
     }
-    if w.lenient && which == hooks::SQRT && w.asked.iter().all(|a| a.which != hooks::SQRT) && (x.is_nan() || x < 0.0) {
+    if w.lenient && which == Function::Sqrt && w.asked.iter().all(|a| a.which != Function::Sqrt) && (x.is_nan() || x < 0.0) {
         w.let_through = true;
         return f64::NAN;
     }
@@ -137,10 +138,10 @@ fn elementary(w: &mut Watch, which: u32, x: f64) -> f64 {
 }
 
 #[no_mangle]
-pub fn beside_elementary(which: u32, x: f64, at: &'static Location<'static>) -> f64 {
+pub fn beside_elementary(which: Function, x: f64, at: &'static Location<'static>) -> f64 {
     let was = flags();
     let w = watch();
-    let first_root = w.lenient && which == hooks::SQRT && w.asked.iter().all(|a| a.which != hooks::SQRT);
+    let first_root = w.lenient && which == Function::Sqrt && w.asked.iter().all(|a| a.which != Function::Sqrt);
     if w.event == 0 && was & NAN_AROSE != 0 && !first_root && !w.let_through && !w.ended {
         w.event = 3;
     }
@@ -288,7 +289,7 @@ fn project(i: &[u64]) -> Answer {
     let mut o = [0u64; 38];
     run(21, &p, &mut o, Mode::Strains);
     let w = watch();
-    let new: Vec<u64> = w.asked.iter().filter(|a| a.which == hooks::EXP).map(|a| a.x.to_bits()).collect();
+    let new: Vec<u64> = w.asked.iter().filter(|a| a.which == Function::Exp).map(|a| a.x.to_bits()).collect();
     let out = if new.len() == 3 { new } else { i[5..8].to_vec() };
     Answer { status: w.event, out }
 }
@@ -306,7 +307,7 @@ fn alpha(i: &[u64]) -> Answer {
     let mut o = [0u64; 38];
     run(22, &p, &mut o, Mode::Ours);
     let w = watch();
-    let after_sine = w.asked.iter().position(|a| a.which == hooks::SIN);
+    let after_sine = w.asked.iter().position(|a| a.which == Function::Sin);
     let Some(k) = after_sine else { return Answer { status: w.event, out: vec![0] } };
     if w.asked[k].result.is_nan() {
         return Answer { status: w.event, out: vec![0] };
@@ -317,7 +318,7 @@ fn alpha(i: &[u64]) -> Answer {
 /// The text's last line of alpha, over the sine and the root that the update has asked for.
 fn alpha_asked() -> f64 {
     let w = watch();
-    let k = w.asked.iter().position(|a| a.which == hooks::SIN).unwrap();
+    let k = w.asked.iter().position(|a| a.which == Function::Sin).unwrap();
     let (s, root) = (w.asked[k].result, w.asked[k + 1].result);
     root * (2.0 * s) / (3.0 - s)
 }
@@ -364,7 +365,7 @@ pub fn expected(n: usize, i: &[u64]) -> Answer {
     if w.event != 0 {
         return refused(w.event);
     }
-    if (calls::UPDATE..calls::UPDATE + 4).contains(&n) {
+    if calls::is_update(n) {
         return updated(n, i, o);
     }
     if n != calls::FAILED && !o.iter().all(|x| finite(*x)) {
@@ -405,6 +406,16 @@ fn updated(n: usize, i: &[u64], mut o: Vec<u64>) -> Answer {
     Answer { status: 0, out: o }
 }
 
+/// What build 2 gives with the machine's own elementary functions; nothing is refused but a result that is not finite.
+pub fn with_machine(n: usize, i: &[u64]) -> Answer {
+    let mut o = vec![0; CALLS[n].outputs];
+    run(n, i, &mut o, Mode::Machine);
+    if calls::is_update(n) {
+        return updated(n, i, o);
+    }
+    Answer { status: 0, out: o }
+}
+
 pub const FINITE: &str = "gave finite numbers";
 pub const UNTOUCHED: &str = "left untouched";
 
@@ -415,7 +426,7 @@ pub fn instead(n: usize, i: &[u64]) -> &'static str {
     }
     let mut o = vec![0; CALLS[n].outputs];
     run(n, i, &mut o, Mode::Machine);
-    let update = (calls::UPDATE..calls::UPDATE + 4).contains(&n);
+    let update = calls::is_update(n);
     if update && !watch().met.iter().any(|m| m.op == Op::Recompose) {
         return UNTOUCHED;
     }

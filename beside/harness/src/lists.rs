@@ -77,9 +77,18 @@ struct Judge {
     law: Vec<u64>,
 }
 
+/// Whole records with two answers each, and every other list as long as it should be; those of an unknown model are of any length.
+fn fit(model: u64, p: &[u64], judge: Option<&Judge>, words: usize, places: usize, counts: usize) -> bool {
+    words % 36 == 0
+        && places == words / 36 * 2
+        && (model > 3 || p.len() == calls::parameters(model as usize))
+        && judge.is_none_or(|j| j.limits.len() == 2 && j.law.len() == 4)
+        && counts == if judge.is_some() { 4 } else { 3 }
+}
+
 /// What a pass is to leave: records, answers, counts; or its refusal.
 fn passed(model: u64, p: &[u64], judge: Option<&Judge>, records: &mut [u64], answers: &mut [u64], counts: &mut [u64]) -> u8 {
-    if records.len() % 36 != 0 || answers.len() != records.len() / 36 * 2 {
+    if !fit(model, p, judge, records.len(), answers.len(), counts.len()) {
         return 8;
     }
     if model > 3 || !flag_of(model, p) || judge.is_some_and(|j| !is_flag(j.law[0])) {
@@ -234,6 +243,8 @@ fn judge(d: &mut Draw, records: &[u64]) -> Judge {
     Judge { limits, law }
 }
 
+const OUTCOMES: [&str; 4] = ["untouched", "stored", "refused", "failed"];
+
 #[derive(Default)]
 struct Tally {
     run: u64,
@@ -261,26 +272,38 @@ impl Tally {
     }
 }
 
+/// Now and then a list is a word shorter or longer.
+fn bend(d: &mut Draw, l: &mut Vec<u64>) {
+    if d.one_in(60) {
+        if d.one_in(2) {
+            l.push(0);
+        } else {
+            l.pop();
+        }
+    }
+}
+
 fn one_pass(d: &mut Draw, with_failure: bool, t: &mut Tally) {
     let mut model = d.below(4);
-    let (p, mut records) = drawn(d, model as usize, 4);
-    let j = with_failure.then(|| judge(d, &records));
-    let mut places = records.len() / 36 * 2;
+    let most = if d.one_in(200) { 300 } else { 4 };
+    let (mut p, mut records) = drawn(d, model as usize, most);
+    let mut j = with_failure.then(|| judge(d, &records));
+    let (mut answers, mut counts) = (vec![MARK; records.len() / 36 * 2], vec![MARK; if with_failure { 4 } else { 3 }]);
     if d.one_in(24) {
-        records.push(0);
-    }
-    if d.one_in(24) {
-        places += 1 + d.below(2) as usize;
-    }
-    if d.one_in(48) && model == 0 {
         model = 4 + d.below(3);
     }
-    let places_counts = if with_failure { 4 } else { 3 };
-    let (mut r1, mut a1, mut c1) = (records.clone(), vec![MARK; places], vec![MARK; places_counts]);
+    for l in [&mut p, &mut records, &mut answers, &mut counts] {
+        bend(d, l);
+    }
+    if let Some(j) = &mut j {
+        bend(d, &mut j.limits);
+        bend(d, &mut j.law);
+    }
+    let (mut r1, mut a1, mut c1) = (records.clone(), answers, counts);
     let (mut r2, mut a2, mut c2) = (r1.clone(), a1.clone(), c1.clone());
     let want = passed(model, &p, j.as_ref(), &mut r1, &mut a1, &mut c1);
     let got = match &j {
-        Some(j) => ours::pass_with_failure(model, &p, &j.limits, &j.law, &mut r2, &mut a2, &mut c2),
+        Some(j) => ours::pass_with_failure(model, [&p, &j.limits, &j.law], &mut r2, &mut a2, &mut c2),
         None => ours::pass(model, &p, &mut r2, &mut a2, &mut c2),
     };
     let same = want == got && r1 == r2 && a1 == a2 && c1 == c2;
@@ -298,10 +321,11 @@ fn one_sheet(d: &mut Draw, run: bool, t: &mut Tally) {
         words += 1;
     }
     let places = if d.one_in(24) { room * 2 + 1 } else { room * 2 };
-    let heads = if run { 4 } else { 11 };
+    let (right, off) = (if run { 4 } else { 11 }, d.below(2) as usize * 2);
+    let heads = if d.one_in(48) { right - 1 + off } else { right };
     let (mut r1, mut a1, mut h1) = (vec![MARK; words], vec![MARK; places], vec![MARK; heads]);
     let (mut r2, mut a2, mut h2) = (r1.clone(), a1.clone(), h1.clone());
-    let early = words % 36 != 0 || (run && places != words / 36 * 2);
+    let early = heads != right || words % 36 != 0 || (run && places != words / 36 * 2);
     let read = if early { Err(8) } else { read(&s) };
     let read = read.and_then(|x| if x.count > words / 36 { Err(8) } else { Ok(x) });
     let want = match &read {
@@ -330,11 +354,10 @@ fn one_sheet(d: &mut Draw, run: bool, t: &mut Tally) {
 
 pub fn compare(seed: u64, count: u64, failed: &mut bool) {
     println!("\nLists and sheets (document 01 sections 6 and 7, each law build 2's)");
-    println!("{:<20} {:>8} {:>8}  refusals; records untouched, stored, refused, and failed", "call", "run", "unlisted");
-    let names = ["pass", "pass_with_failure", "read_sheet", "run_sheet"];
-    for (k, there) in ours::has_lists().into_iter().enumerate() {
-        if !there {
-            println!("{:<20} MISSING in the library", names[k]);
+    println!("{:<20} {:>8} {:>8}  answers by refusal number; records by outcome", "call", "run", "unlisted");
+    for (k, name) in ours::LISTS.into_iter().enumerate() {
+        if !ours::has_name(name) {
+            println!("{name:<20} MISSING in the library");
             *failed = true;
             continue;
         }
@@ -346,8 +369,20 @@ pub fn compare(seed: u64, count: u64, failed: &mut bool) {
                 _ => one_sheet(&mut d, k == 3, &mut t),
             }
         }
+        let records: Vec<String> =
+            OUTCOMES.iter().zip(t.outcomes).filter(|(_, c)| *c > 0).map(|(what, c)| format!("{what} {c}")).collect();
         let by: Vec<String> = t.refused.iter().map(|(s, c)| format!("{s}:{c}")).collect();
-        println!("{:<20} {:>8} {:>8}  {}; {:?}", names[k], t.run, t.unlisted, by.join(" "), t.outcomes);
+        println!("{:<20} {:>8} {:>8}  {}; {}", name, t.run, t.unlisted, by.join(" "), records.join(", "));
+        let due: &[u8] = if k < 2 { &[0, 6, 8] } else { &[0, 4, 5, 6, 7, 8] };
+        for n in due.iter().filter(|n| !t.refused.contains_key(n)) {
+            *failed = true;
+            println!("    refusal {n} NEVER CAME");
+        }
+        let outcomes = [3, 4, 0, 3][k];
+        for (what, _) in OUTCOMES.iter().zip(t.outcomes).take(outcomes).filter(|(_, c)| *c == 0) {
+            *failed = true;
+            println!("    {what} NEVER CAME");
+        }
         if t.unlisted > 0 {
             *failed = true;
             println!("    UNLISTED, for instance: {}", t.first);

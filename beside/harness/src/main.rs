@@ -4,29 +4,34 @@ mod branches;
 mod calls;
 mod draw;
 mod elementary;
+mod examples;
+mod far;
 mod inside;
 mod listed;
 mod lists;
 mod ours;
 mod replay;
+mod show;
 mod sites;
+mod untouched;
 
 use calls::CALLS;
 use draw::Draw;
 use inside::Answer;
+use show::{not_zero, progress, short, shown, simpler};
 use std::collections::BTreeMap;
-use std::io::Write;
+use untouched::Untouched;
 
 struct Arguments {
     work: String,
-    sites: String,
+    docs: String,
     seed: u64,
     count: u64,
     replay: Option<String>,
 }
 
 fn arguments() -> Arguments {
-    let mut a = Arguments { work: String::new(), sites: String::new(), seed: 1, count: 20_000, replay: None };
+    let mut a = Arguments { work: String::new(), docs: String::new(), seed: 1, count: 20_000, replay: None };
     let mut rest = std::env::args().skip(1);
     a.work = rest.next().unwrap_or_default();
     while let Some(x) = rest.next() {
@@ -35,7 +40,7 @@ fn arguments() -> Arguments {
             "--seed" => a.seed = v.parse().unwrap_or(1),
             "--count" => a.count = v.parse().unwrap_or(20_000),
             "--replay" => a.replay = Some(v),
-            "--sites" => a.sites = v,
+            "--docs" => a.docs = v,
             _ => {}
         }
     }
@@ -60,27 +65,6 @@ fn same(n: usize, a: &Answer, e: &Answer) -> bool {
         && (a.status != 0 || a.out.iter().zip(&e.out).all(|(x, y)| x == y || (n == calls::CLAMP && nan(*x) && nan(*y))))
 }
 
-/// Each word replaced by 0 or 1 where that keeps what is asked.
-fn simpler(i: &[u64], keeps: impl Fn(&[u64]) -> bool) -> Vec<u64> {
-    let mut w = i.to_vec();
-    for _ in 0..2 {
-        for k in 0..w.len() {
-            for simple in [0.0f64.to_bits(), 1.0f64.to_bits()] {
-                let was = w[k];
-                if was == 0 || was == simple {
-                    break;
-                }
-                w[k] = simple;
-                if keeps(&w) {
-                    break;
-                }
-                w[k] = was;
-            }
-        }
-    }
-    w
-}
-
 /// Simpler inputs that still differ and are not listed.
 fn shrink(n: usize, i: &[u64]) -> Vec<u64> {
     let differs = |w: &[u64]| {
@@ -88,33 +72,6 @@ fn shrink(n: usize, i: &[u64]) -> Vec<u64> {
         !same(n, &a, &e) && listed::by_document(n, w, &e).is_none_or(|d| !same(n, &a, &d))
     };
     simpler(i, differs)
-}
-
-fn shown_word(n: usize, k: usize, x: u64) -> String {
-    let f = f64::from_bits(x);
-    if !inside::float_at(n, k) && matches!(n, 32..=34) {
-        format!("{x}")
-    } else if x == 0 || f == 1.0 {
-        format!("{f}")
-    } else {
-        format!("{f:e}={x:016x}")
-    }
-}
-
-fn shown(n: usize, i: &[u64]) -> String {
-    i.iter().enumerate().map(|(k, x)| shown_word(n, k, *x)).collect::<Vec<_>>().join(" ")
-}
-
-fn short(a: &Answer) -> String {
-    if a.status != 0 {
-        return format!("refused {}", a.status);
-    }
-    a.out.iter().map(|x| format!("{:e}", f64::from_bits(*x))).collect::<Vec<_>>().join(" ")
-}
-
-fn progress(text: &str) {
-    eprint!("\r\x1b[K{text}");
-    let _ = std::io::stderr().flush();
 }
 
 struct Run {
@@ -126,7 +83,7 @@ struct Run {
     sites: sites::Sites,
 }
 
-fn compare(a: &Arguments, u: Option<&sites::Untouched>) -> Run {
+fn compare(a: &Arguments, u: Option<&Untouched>) -> Run {
     let mut r = Run {
         tallies: Vec::new(),
         branches: BTreeMap::new(),
@@ -142,11 +99,12 @@ fn compare(a: &Arguments, u: Option<&sites::Untouched>) -> Run {
             continue;
         }
         let mut d = Draw(a.seed.wrapping_mul(0x1000).wrapping_add(n as u64));
-        for k in 0..a.count {
+        let mut swept = d.sweep(n);
+        for k in 0..swept.len() as u64 + a.count {
             if k % 1000 == 0 {
                 progress(&format!("{} of {}: {} {k}", n + 1, CALLS.len(), CALLS[n].name));
             }
-            let i = d.inputs(n);
+            let i = swept.pop().unwrap_or_else(|| d.inputs(n));
             // Without ours, what was to come is still worked out, so that its branches show.
             let got = if t.missing { inside::expected(n, &i) } else { ours::call(n, &i) };
             t.run += 1;
@@ -199,6 +157,29 @@ fn compare(a: &Arguments, u: Option<&sites::Untouched>) -> Run {
     r
 }
 
+/// Each list of each call a word shorter and a word longer: 8, before all else, and nothing written.
+fn lengths(a: &Arguments, failed: &mut bool) {
+    let (mut run, mut right) = (0, 0);
+    for n in (0..CALLS.len()).filter(|n| ours::has(*n)) {
+        let mut d = Draw(a.seed.wrapping_mul(0x5000).wrapping_add(n as u64));
+        for _ in 0..a.count.div_ceil(100) {
+            let i = d.inputs(n);
+            for (k, l) in ours::lists(n).into_iter().enumerate() {
+                for length in [l - 1, l + 1] {
+                    run += 1;
+                    let got = ours::bent_call(n, &i, Some((k, length))).status;
+                    right += (got == 8) as u64;
+                    if got != 8 && run - right == 1 {
+                        println!("\n{}: list {k} of length {length} answered {got}", CALLS[n].name);
+                    }
+                }
+            }
+        }
+    }
+    *failed |= right != run;
+    println!("\nLists of a wrong length: refused by 8 with nothing written in {right} of {run} calls");
+}
+
 fn table(r: &Run, failed: &mut bool) {
     println!("\nCalls, bit for bit with build 2 (elementary functions: range, refusal and distance)");
     println!("{:<36} {:>8} {:>8} {:>8} {:>8}  answers by refusal number", "call", "run", "same", "listed", "unlisted");
@@ -221,6 +202,9 @@ fn table(r: &Run, failed: &mut bool) {
             println!("      expected  {}", short(want));
         }
     }
+    let total: u64 = r.tallies.iter().map(|t| t.run).sum();
+    let same: u64 = r.tallies.iter().map(|t| t.same).sum();
+    println!("{:<36} {total:>8} {same:>8}", "in all");
     println!("\nBranches reached (by calls that are not refused)");
     for (n, b, why) in branches::ALL {
         let c = r.branches.get(&(*n, *b)).copied().unwrap_or(0);
@@ -245,104 +229,8 @@ fn table(r: &Run, failed: &mut bool) {
     }
     println!("\nOf these, the Rust going on with finite numbers, for instance (words that are not 0, by place)");
     for ((n, s), i) in &r.went_on {
-        let some: Vec<String> =
-            i.iter().enumerate().filter(|(_, x)| **x != 0).map(|(k, x)| format!("{k}: {}", shown_word(*n, k, *x))).collect();
-        println!("{:<36} {s:>3}  {}", CALLS[*n].name, some.join(", "));
+        println!("{:<36} {s:>3}  {}", CALLS[*n].name, not_zero(*n, i));
     }
-}
-
-/// The sites that the page lists and the ones met are the same.
-fn listed_sites(page: &str, r: &Run, failed: &mut bool) {
-    let Ok(text) = std::fs::read_to_string(page) else {
-        println!("{page}: NOT THERE, so its sites are not compared");
-        *failed = true;
-        return;
-    };
-    let cells = |l: &str| l.split('|').map(|c| c.trim().to_string()).collect::<Vec<_>>();
-    let named: std::collections::BTreeSet<(String, String, String)> = text
-        .lines()
-        .map(cells)
-        .filter(|c| c.len() > 4 && c[2].parse::<u32>().is_ok())
-        .map(|c| (c[1].clone(), c[2].clone(), c[3].clone()))
-        .collect();
-    let met: std::collections::BTreeSet<(String, String, String)> =
-        r.sites.keys().map(|(f, l, o)| (f.clone(), l.to_string(), format!("{o:?}"))).collect();
-    for (what, set) in
-        [("met, but not in the page", met.difference(&named)), ("in the page, but never met", named.difference(&met))]
-    {
-        for s in set {
-            *failed = true;
-            println!("{what}: {s:?}");
-        }
-    }
-}
-
-fn site_table(r: &mut Run, with_nalgebra: bool, failed: &mut bool) {
-    println!("\nSection 4's sites (sums: worst difference over the terms' summed sizes, in units of 2^-45; others over the largest entry)");
-    println!(
-        "{:<34} {:>4} {:<14} {:>9} {:>8} {:>9} {:>10} {:>10}",
-        "file", "line", "operation", "met", "beside", "in bits", "worst", "median"
-    );
-    for ((file, line, op), s) in r.sites.iter_mut() {
-        let (w, m) = sites::worst_and_median(&mut s.ratios);
-        let b = sites::SUM_BOUND;
-        let over = with_nalgebra && *op != nalgebra::hooks::Op::Inverse && w > b;
-        *failed |= over;
-        println!(
-            "{file:<34} {line:>4} {:<14} {:>9} {:>8} {:>9} {:>10.3e} {:>10.3e}{}",
-            format!("{op:?}"),
-            s.times,
-            s.beside,
-            s.other_bits,
-            w / b,
-            m / b,
-            if over { "  OVER 2^-45" } else { "" }
-        );
-    }
-}
-
-fn far_table(a: &Arguments, u: &sites::Untouched) {
-    println!("\nThe untouched Rust (build 1) from ours, on nalgebra's factors: distance over the largest entry (of energies: plus the hardened moduli)");
-    println!(
-        "{:<36} {:>8} {:>8} {:>8} {:>10} {:>10} {:>10}",
-        "call", "beside", "refused", "branch", "worst", "99 of 100", "median"
-    );
-    for n in 9..calls::PROJECT {
-        if !ours::has(n) {
-            continue;
-        }
-        progress(&format!("build 1: {}", CALLS[n].name));
-        let mut d = Draw(a.seed.wrapping_mul(0x2000).wrapping_add(n as u64));
-        let mut f = sites::far(u, n, &mut d, a.count.div_ceil(4));
-        let beside = f.distances.len();
-        let (w, m) = sites::worst_and_median(&mut f.distances);
-        let most = f.distances.get(beside * 99 / 100).copied().unwrap_or(0.0);
-        progress("");
-        println!(
-            "{:<36} {:>8} {:>8} {:>8} {:>10.3e} {:>10.3e} {:>10.3e}",
-            CALLS[n].name, beside, f.refused, f.other_branch, w, most, m
-        );
-    }
-}
-
-/// The clamp hides a NaN: the best known place where ours refuses and the Rust goes on.
-fn clamp_case() {
-    let mut i = vec![0u64; 39];
-    let one = 1f64.to_bits();
-    i[..3].copy_from_slice(&[0.025f64.to_bits(), 0.0045f64.to_bits(), 10f64.to_bits()]);
-    for k in [0, 4, 8, 9, 13, 17, 19, 20, 21, 25, 29, 30, 31, 32, 33] {
-        i[3 + k] = one;
-    }
-    i[3 + 18] = f64::NAN.to_bits();
-    let mut o = vec![0; 38];
-    inside::run(calls::UPDATE, &i, &mut o, inside::Mode::Machine);
-    let met = inside::watch().met.iter().rfind(|m| m.op == nalgebra::hooks::Op::Recompose);
-    let sigma = met.map_or(vec![], |m| m.input[9..12].to_vec());
-    let ours = if ours::has(calls::UPDATE) { format!("{}", ours::call(calls::UPDATE, &i).status) } else { "(missing)".into() };
-    println!(
-        "\nSnow with sigma NaN, 1, 1: ours refuses by {ours}; the Rust goes on with sigma {sigma:?}, plastic determinant {}, elastic hardening {}",
-        f64::from_bits(o[31]), f64::from_bits(o[33])
-    );
 }
 
 fn main() {
@@ -352,17 +240,18 @@ fn main() {
         replay::write(file, a.seed);
         return;
     }
-    let u = sites::Untouched::open(&format!("{}/libuntouched.so", a.work));
-    println!("seed {}, {} inputs a call", a.seed, a.count);
+    let u = Untouched::open(&format!("{}/libuntouched.so", a.work));
+    println!("seed {}, {} drawn inputs a call", a.seed, a.count);
     let mut failed = !missing.is_empty();
     let mut r = compare(&a, u.as_ref());
     table(&r, &mut failed);
-    clamp_case();
+    lengths(&a, &mut failed);
+    examples::check(&format!("{}/DIFFERENCES.md", a.docs), u.as_ref(), &mut failed);
     lists::compare(a.seed, a.count, &mut failed);
-    site_table(&mut r, u.is_some(), &mut failed);
-    listed_sites(&a.sites, &r, &mut failed);
+    sites::table(&mut r.sites, u.is_some(), &mut failed);
+    sites::listed(&format!("{}/SITES.md", a.docs), &r.sites, &mut failed);
     match &u {
-        Some(u) => far_table(&a, u),
+        Some(u) => far::table(a.seed, a.count, u),
         None => println!("\nBuild 1 was LEFT OUT: nothing was run beside the untouched Rust or nalgebra."),
     }
     for m in &missing {

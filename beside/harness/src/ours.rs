@@ -1,7 +1,7 @@
 //! Our laws: the C calls of the static library, found by name. A call that the library lacks is told as missing.
-use crate::calls::{self, CALLS};
+use crate::calls::{self, CALLS, GAMMA, NUMBER};
 use crate::inside::Answer;
-use std::collections::BTreeSet;
+use std::collections::BTreeMap;
 use std::ffi::{c_char, c_int, c_void, CString};
 use std::sync::OnceLock;
 
@@ -26,269 +26,170 @@ impl Library {
     }
 }
 
-struct Ours {
-    calls: Vec<Option<usize>>,
-    update: Option<usize>,
-    pass: Option<usize>,
-    pass_with_failure: Option<usize>,
-    read_sheet: Option<usize>,
-    run_sheet: Option<usize>,
+pub const LISTS: [&str; 4] = ["pass", "pass_with_failure", "read_sheet", "run_sheet"];
+
+static OURS: OnceLock<BTreeMap<&'static str, usize>> = OnceLock::new();
+
+/// The name in the library: one update serves the four laws.
+fn symbol(n: usize) -> &'static str {
+    if calls::is_update(n) {
+        "update"
+    } else {
+        CALLS[n].name
+    }
 }
 
-static OURS: OnceLock<Ours> = OnceLock::new();
-
 /// Opens the library and says which of the calls it lacks.
-pub fn open(path: &str) -> BTreeSet<String> {
+pub fn open(path: &str) -> Vec<&'static str> {
     let Some(lib) = Library::open(path) else {
         eprintln!("beside: {path} cannot be opened");
         std::process::exit(2)
     };
-    let mut missing = BTreeSet::new();
-    let mut find = |name: &str| {
-        let p = lib.find(&format!("pasoletu_{name}"));
-        if p.is_none() {
-            missing.insert(name.to_string());
-        }
-        p
-    };
-    let calls = CALLS.iter().map(|c| if c.name.starts_with("update") { None } else { find(c.name) }).collect();
-    let ours = Ours {
-        calls,
-        update: find("update"),
-        pass: find("pass"),
-        pass_with_failure: find("pass_with_failure"),
-        read_sheet: find("read_sheet"),
-        run_sheet: find("run_sheet"),
-    };
-    let _ = OURS.set(ours);
-    missing
+    let mut names: Vec<&str> = (0..CALLS.len()).map(symbol).chain(LISTS).collect();
+    names.dedup();
+    let there = |name: &&'static str| lib.find(&format!("pasoletu_{name}")).map(|p| (*name, p));
+    let found: BTreeMap<_, _> = names.iter().filter_map(there).collect();
+    names.retain(|name| !found.contains_key(name));
+    let _ = OURS.set(found);
+    names
 }
 
-fn ours() -> &'static Ours {
-    OURS.get().unwrap()
+pub fn has_name(name: &str) -> bool {
+    OURS.get().unwrap().contains_key(name)
 }
 
 pub fn has(n: usize) -> bool {
-    if (calls::UPDATE..calls::UPDATE + 4).contains(&n) {
-        ours().update.is_some()
-    } else {
-        ours().calls[n].is_some()
+    has_name(symbol(n))
+}
+
+/// The arguments of a C call on x86-64, where at most eight numbers go in registers of their own and all else goes by order: so one
+/// type of function fits every call, and what a call does not take is not looked at.
+#[derive(Default)]
+struct Arguments {
+    numbers: [f64; 8],
+    words: [u64; 16],
+    used: (usize, usize),
+}
+
+#[rustfmt::skip]
+type Any = extern "C" fn(
+    f64, f64, f64, f64, f64, f64, f64, f64,
+    u64, u64, u64, u64, u64, u64, u64, u64, u64, u64, u64, u64, u64, u64, u64, u64,
+) -> u8;
+
+impl Arguments {
+    fn number(mut self, x: f64) -> Self {
+        self.numbers[self.used.0] = x;
+        self.used.0 += 1;
+        self
+    }
+
+    fn word(mut self, x: u64) -> Self {
+        self.words[self.used.1] = x;
+        self.used.1 += 1;
+        self
+    }
+
+    fn list<T>(self, l: &[T]) -> Self {
+        self.word(l.as_ptr() as u64).word(l.len() as u64)
+    }
+
+    fn lent(self, l: &mut [u64]) -> Self {
+        self.word(l.as_mut_ptr() as u64).word(l.len() as u64)
+    }
+
+    fn run(self, name: &str) -> u8 {
+        let g: Any = unsafe { std::mem::transmute(OURS.get().unwrap()[name]) };
+        let (n, w) = (self.numbers, self.words);
+        #[rustfmt::skip]
+        let status = g(
+            n[0], n[1], n[2], n[3], n[4], n[5], n[6], n[7],
+            w[0], w[1], w[2], w[3], w[4], w[5], w[6], w[7], w[8], w[9], w[10], w[11], w[12], w[13], w[14], w[15],
+        );
+        status
     }
 }
 
-pub fn has_lists() -> [bool; 4] {
-    let o = ours();
-    [o.pass.is_some(), o.pass_with_failure.is_some(), o.read_sheet.is_some(), o.run_sheet.is_some()]
-}
-
-type P = *const u64;
-type M = *mut u64;
-
-macro_rules! c_call {
-    ($p:expr, ($($t:ty),*), $($a:expr),*) => {{
-        let g: extern "C" fn($($t),*) -> u8 = unsafe { std::mem::transmute($p) };
-        g($($a),*)
-    }};
-}
-
-/// An elementary function; NaN's own refusal where the library has none.
+/// An elementary function; 255 where the library has none.
 pub fn elementary(which: usize, x: f64, out: &mut [u64; 1]) -> u8 {
-    match ours().calls[which] {
-        Some(p) => c_call!(p, (f64, M, usize), x, out.as_mut_ptr(), 1),
-        None => 255,
+    if !has(which) {
+        return 255;
     }
+    Arguments::default().number(x).lent(out).run(symbol(which))
 }
 
 /// What an output place holds before a call: no law gives it, so a word that is written shows.
 const MARK: u64 = 0x7ff4_dead_beef_0001;
 
+/// One list of a call, by its place among the lists, with another length than it should have.
+pub type Bent = Option<(usize, usize)>;
+
+/// Calls ours on inputs i: the refusal's number, the inputs after it (an update's record is lent) and the outputs.
+fn raw(n: usize, i: &[u64], bent: Bent) -> (u8, Vec<u64>, Vec<u64>) {
+    let room = if calls::is_update(n) { 2 } else { CALLS[n].outputs };
+    let (mut w, mut out) = ([i, &[0]].concat(), vec![MARK; room + 1]);
+    let mut lists = 0;
+    let mut length = |l: usize| {
+        lists += 1;
+        bent.filter(|b| b.0 == lists - 1).map_or(l, |b| b.1)
+    };
+    let mut a = Arguments::default();
+    if calls::is_update(n) {
+        a = a.word((n - calls::UPDATE) as u64);
+    }
+    let mut at = 0;
+    for argument in CALLS[n].arguments {
+        a = match *argument {
+            NUMBER => a.number(f64::from_bits(i[at])),
+            GAMMA => a.word(i[at]),
+            l => a.lent(&mut w[at..at + length(l)]),
+        };
+        at += calls::words(*argument);
+    }
+    let status = a.lent(&mut out[..length(room)]).run(symbol(n));
+    w.pop();
+    out.pop();
+    (status, w, out)
+}
+
 /// Calls ours. A refusal must leave every lent word as it was; one that does not is told as 254.
 pub fn call(n: usize, i: &[u64]) -> Answer {
-    let words = CALLS[n].outputs;
-    let mut out = vec![MARK; words];
-    if (calls::UPDATE..calls::UPDATE + 4).contains(&n) {
-        return update(n - calls::UPDATE, i);
-    }
-    let p = ours().calls[n].unwrap();
-    let o = out.as_mut_ptr();
-    let f = |k: usize| f64::from_bits(i[k]);
-    let at = |k: usize| i[k..].as_ptr();
-    let status = match n {
-        0..=9 | 28 => c_call!(p, (f64, M, usize), f(0), o, words),
-        10..=14 => c_call!(p, (f64, f64, M, usize), f(0), f(1), o, words),
-        15 => c_call!(p, (f64, f64, f64, M, usize), f(0), f(1), f(2), o, words),
-        16..=19 => c_call!(p, (P, usize, M, usize), at(0), 9, o, words),
-        24 => c_call!(p, (P, usize, f64, P, usize, M, usize), at(0), 3, f(3), at(4), 9, o, words),
-        25..=27 => {
-            c_call!(p, (P, usize, f64, f64, P, usize, M, usize), at(0), 3, f(3), f(4), at(5), 9, o, words)
-        }
-        29 => c_call!(
-            p,
-            (P, usize, f64, f64, P, usize, P, usize, P, usize, P, usize, M, usize),
-            at(0),
-            4,
-            f(4),
-            f(5),
-            at(6),
-            9,
-            at(15),
-            9,
-            at(24),
-            3,
-            at(27),
-            9,
-            o,
-            words
-        ),
-        30 => c_call!(p, (P, usize, f64, P, usize, M, usize), at(0), 4, f(4), at(5), 3, o, words),
-        31 => c_call!(p, (P, usize, f64, P, usize, P, usize, M, usize), at(0), 4, f(4), at(5), 9, at(14), 3, o, words),
-        32 => {
-            c_call!(p, (f64, u32, f64, f64, f64, f64, f64, M, usize), f(0), i[1] as u32, f(2), f(3), f(4), f(5), f(6), o, words)
-        }
-        33 => c_call!(
-            p,
-            (f64, u32, f64, f64, f64, f64, f64, f64, P, usize, M, usize),
-            f(0),
-            i[1] as u32,
-            f(2),
-            f(3),
-            f(4),
-            f(5),
-            f(6),
-            f(7),
-            at(8),
-            9,
-            o,
-            words
-        ),
-        34 => c_call!(
-            p,
-            (f64, u32, f64, f64, f64, f64, f64, f64, P, usize, f64, M, usize),
-            f(0),
-            i[1] as u32,
-            f(2),
-            f(3),
-            f(4),
-            f(5),
-            f(6),
-            f(7),
-            at(8),
-            3,
-            f(11),
-            o,
-            words
-        ),
-        35 => c_call!(p, (f64, f64, P, usize, M, usize), f(0), f(1), at(2), 3, o, words),
-        36 => c_call!(p, (f64, f64, f64, P, usize, M, usize), f(0), f(1), f(2), at(3), 3, o, words),
-        37 => c_call!(p, (P, usize, f64, P, usize, M, usize), at(0), 4, f(4), at(5), 3, o, words),
-        _ => c_call!(p, (P, usize, f64, M, usize), at(0), 8, f(8), o, words),
-    };
-    answered(status, out)
+    bent_call(n, i, None)
 }
 
-fn answered(status: u8, out: Vec<u64>) -> Answer {
-    if status == 0 {
-        return Answer { status, out };
-    }
-    let kept = out.iter().all(|x| *x == MARK);
-    Answer { status: if kept { status } else { 254 }, out: vec![0; out.len()] }
-}
-
-fn update(model: usize, i: &[u64]) -> Answer {
-    let k = calls::parameters(model);
-    let mut record = i[k..].to_vec();
-    let mut answer = [MARK; 2];
-    let status = c_call!(
-        ours().update.unwrap(),
-        (u64, P, usize, M, usize, M, usize),
-        model as u64,
-        i.as_ptr(),
-        k,
-        record.as_mut_ptr(),
-        36,
-        answer.as_mut_ptr(),
-        2
-    );
-    let refused = |n: u8, kept: bool| Answer { status: if kept { n } else { 254 }, out: vec![0; 38] };
+pub fn bent_call(n: usize, i: &[u64], bent: Bent) -> Answer {
+    let (status, w, out) = raw(n, i, bent);
     if status != 0 {
-        return refused(status, record == i[k..] && answer == [MARK; 2]);
+        let kept = w == i && out.iter().all(|x| *x == MARK);
+        return Answer { status: if kept { status } else { 254 }, out: vec![0; CALLS[n].outputs] };
     }
-    if answer[0] == 2 {
-        return refused(answer[1] as u8, record == i[k..]);
+    if calls::is_update(n) {
+        return Answer { status, out: [&w[CALLS[n].arguments[0]..], &out].concat() };
     }
-    record.extend(answer);
-    Answer { status: 0, out: record }
+    Answer { status, out }
+}
+
+/// The lengths of a call's lists, the lent one for its outputs last.
+pub fn lists(n: usize) -> Vec<usize> {
+    let last = if calls::is_update(n) { 2 } else { CALLS[n].outputs };
+    let given = CALLS[n].arguments.iter().filter(|a| **a != NUMBER && **a != GAMMA);
+    given.copied().chain([last]).collect()
 }
 
 pub fn pass(model: u64, p: &[u64], records: &mut [u64], answers: &mut [u64], counts: &mut [u64]) -> u8 {
-    c_call!(
-        ours().pass.unwrap(),
-        (u64, P, usize, M, usize, M, usize, M, usize),
-        model,
-        p.as_ptr(),
-        p.len(),
-        records.as_mut_ptr(),
-        records.len(),
-        answers.as_mut_ptr(),
-        answers.len(),
-        counts.as_mut_ptr(),
-        counts.len()
-    )
+    Arguments::default().word(model).list(p).lent(records).lent(answers).lent(counts).run("pass")
 }
 
-#[allow(clippy::too_many_arguments)]
-pub fn pass_with_failure(
-    model: u64,
-    p: &[u64],
-    limits: &[u64],
-    law: &[u64],
-    records: &mut [u64],
-    answers: &mut [u64],
-    counts: &mut [u64],
-) -> u8 {
-    c_call!(
-        ours().pass_with_failure.unwrap(),
-        (u64, P, usize, P, usize, P, usize, M, usize, M, usize, M, usize),
-        model,
-        p.as_ptr(),
-        p.len(),
-        limits.as_ptr(),
-        limits.len(),
-        law.as_ptr(),
-        law.len(),
-        records.as_mut_ptr(),
-        records.len(),
-        answers.as_mut_ptr(),
-        answers.len(),
-        counts.as_mut_ptr(),
-        counts.len()
-    )
+/// `given` are the parameters, the limits and the corotated law.
+pub fn pass_with_failure(model: u64, given: [&[u64]; 3], records: &mut [u64], answers: &mut [u64], counts: &mut [u64]) -> u8 {
+    let a = given.iter().fold(Arguments::default().word(model), |a, l| a.list(l));
+    a.lent(records).lent(answers).lent(counts).run("pass_with_failure")
 }
 
 pub fn read_sheet(bytes: &[u8], header: &mut [u64], records: &mut [u64]) -> u8 {
-    c_call!(
-        ours().read_sheet.unwrap(),
-        (*const u8, usize, M, usize, M, usize),
-        bytes.as_ptr(),
-        bytes.len(),
-        header.as_mut_ptr(),
-        header.len(),
-        records.as_mut_ptr(),
-        records.len()
-    )
+    Arguments::default().list(bytes).lent(header).lent(records).run("read_sheet")
 }
 
 pub fn run_sheet(bytes: &[u8], records: &mut [u64], answers: &mut [u64], counts: &mut [u64]) -> u8 {
-    c_call!(
-        ours().run_sheet.unwrap(),
-        (*const u8, usize, M, usize, M, usize, M, usize),
-        bytes.as_ptr(),
-        bytes.len(),
-        records.as_mut_ptr(),
-        records.len(),
-        answers.as_mut_ptr(),
-        answers.len(),
-        counts.as_mut_ptr(),
-        counts.len()
-    )
+    Arguments::default().list(bytes).lent(records).lent(answers).lent(counts).run("run_sheet")
 }

@@ -2,7 +2,7 @@
 //! or 0 in a byte, the inputs as 8 bytes each, low byte first, and after a 0 the outputs likewise: of an update the record after it and the two
 //! places of the answer. A byte 255 ends the list.
 use crate::branches;
-use crate::calls::{self, CALLS};
+use crate::calls;
 use crate::draw::Draw;
 use crate::inside;
 use crate::listed;
@@ -12,7 +12,8 @@ pub fn write(file: &str, seed: u64) {
     let mut bytes = Vec::new();
     let mut total = 0;
     let mut classes = 0;
-    for n in 0..CALLS.len() {
+    // The program has the calls up to alpha.
+    for n in 0..=calls::ALPHA {
         // A few of each kind: the refusal, or the branches taken together.
         let mut kinds: BTreeMap<(u8, Vec<&'static str>), u64> = BTreeMap::new();
         let mut d = Draw(seed.wrapping_mul(0x4000).wrapping_add(n as u64));

@@ -1,32 +1,9 @@
 //! Section 4's sites: each place of the text where nalgebra's own sum, product, norm, determinant, inverse or recompose stands,
-//! run beside nalgebra's on the very numbers met there; and the untouched Rust's distance for each call.
-use crate::calls::{self, CALLS};
-use crate::draw::Draw;
-use crate::inside::{self, finite, Met};
-use crate::ours::{self, Library};
+//! run beside nalgebra's on the very numbers met there.
+use crate::inside::{self, Met};
+use crate::untouched::Untouched;
 use nalgebra::hooks::Op;
-use std::collections::BTreeMap;
-
-pub struct Untouched {
-    call: extern "C" fn(usize, *const u64, *mut u64),
-    factors: extern "C" fn(*const f64, *mut f64),
-    op: extern "C" fn(u32, *const f64, usize, *mut f64, usize) -> u32,
-}
-
-impl Untouched {
-    pub fn open(path: &str) -> Option<Untouched> {
-        let lib = Library::open(path)?;
-        unsafe {
-            Some(Untouched {
-                call: std::mem::transmute::<usize, extern "C" fn(usize, *const u64, *mut u64)>(lib.find("untouched_call")?),
-                factors: std::mem::transmute::<usize, extern "C" fn(*const f64, *mut f64)>(lib.find("untouched_factors")?),
-                op: std::mem::transmute::<usize, extern "C" fn(u32, *const f64, usize, *mut f64, usize) -> u32>(
-                    lib.find("untouched_op")?,
-                ),
-            })
-        }
-    }
-}
+use std::collections::{BTreeMap, BTreeSet};
 
 /// What was seen at one site.
 #[derive(Default)]
@@ -36,12 +13,19 @@ pub struct Seen {
     pub other_bits: u64,
     /// Differences over the summed sizes of the terms (of the inverse and of norms: over the largest entry).
     pub ratios: Vec<f64>,
+    /// Of the inverse: the worst difference over the largest entry and the determinant's condition.
+    pub over_condition: f64,
 }
 
 pub type Sites = BTreeMap<(String, u32, Op), Seen>;
 
 fn name(file: &str) -> String {
     file.rsplit('/').next().unwrap_or(file).to_string()
+}
+
+fn determinant_terms(m: &[f64]) -> f64 {
+    let t = |a: usize, b: usize, c: usize| (m[a] * m[b] * m[c]).abs();
+    t(0, 4, 8) + t(0, 7, 5) + t(1, 3, 8) + t(1, 6, 5) + t(2, 3, 7) + t(2, 6, 4)
 }
 
 /// The summed sizes of the terms behind each output.
@@ -51,10 +35,7 @@ fn sizes(m: &Met) -> Vec<f64> {
     match m.op {
         Op::Sum | Op::Trace => vec![m.input.iter().map(|a| a.abs()).sum()],
         Op::NormSquared => vec![m.input.iter().map(|a| a * a).sum()],
-        Op::Determinant => {
-            let t = |a: usize, b: usize, c: usize| x(a) * x(b) * x(c);
-            vec![t(0, 4, 8) + t(0, 7, 5) + t(1, 3, 8) + t(1, 6, 5) + t(2, 3, 7) + t(2, 6, 4)]
-        }
+        Op::Determinant => vec![determinant_terms(&m.input)],
         Op::MatrixProduct | Op::Recompose => {
             let right = if m.op == Op::Recompose { 12 } else { 9 };
             let scale = |k: usize| if m.op == Op::Recompose { x(9 + k) } else { 1.0 };
@@ -79,17 +60,21 @@ pub fn beside(u: Option<&Untouched>, sites: &mut Sites) {
         if s.times % 4 != 1 || !m.input.iter().all(tame) || !m.output.iter().all(|x| x.is_finite()) {
             continue;
         }
-        let mut o = vec![0.0; m.output.len()];
-        if (u.op)(m.op as u32, m.input.as_ptr(), m.input.len(), o.as_mut_ptr(), o.len()) == 0 {
-            continue;
-        }
+        let Some(o) = u.operation(m) else { continue };
         s.beside += 1;
         if o.iter().zip(&m.output).any(|(a, b)| a.to_bits() != b.to_bits()) {
             s.other_bits += 1;
         }
         let sizes = sizes(m);
         let worst = o.iter().zip(&m.output).zip(&sizes).map(|((a, b), t)| if a == b { 0.0 } else { (a - b).abs() / t });
-        s.ratios.push(worst.fold(0.0, f64::max));
+        let worst = worst.fold(0.0, f64::max);
+        s.ratios.push(worst);
+        if m.op == Op::Inverse {
+            let m = &m.input;
+            let cofactor = |a: usize, b: usize, c: usize, d: usize| m[a] * m[b] - m[c] * m[d];
+            let det = m[0] * cofactor(4, 8, 7, 5) - m[3] * cofactor(1, 8, 7, 2) + m[6] * cofactor(1, 5, 4, 2);
+            s.over_condition = s.over_condition.max(worst * det.abs() / determinant_terms(m));
+        }
     }
 }
 
@@ -104,97 +89,57 @@ pub fn worst_and_median(v: &mut [f64]) -> (f64, f64) {
     }
 }
 
-/// Distances of the untouched Rust from ours, of one call.
-#[derive(Default)]
-pub struct Far {
-    pub distances: Vec<f64>,
-    pub other_branch: u64,
-    pub refused: u64,
-}
-
-/// The hardened moduli, for the energies: their terms cancel near rest, so the result alone is no measure.
-fn moduli(n: usize, i: &[u64]) -> f64 {
-    let f = |k: usize| f64::from_bits(i[k]);
-    match n {
-        26 | 27 => (f(1).abs() + f(2).abs()) * f(4).abs(),
-        30 | 31 => (f(2).abs() + f(3).abs()) * f(4).abs(),
-        _ => 0.0,
-    }
-}
-
-fn distance(a: &[u64], b: &[u64], beside: f64) -> f64 {
-    let f = |x: &u64| f64::from_bits(*x);
-    let largest = b.iter().map(|x| f(x).abs()).fold(0.0, f64::max) + beside;
-    let off = a.iter().zip(b).map(|(x, y)| if x == y { 0.0 } else { (f(x) - f(y)).abs() }).fold(0.0, f64::max);
-    if off == 0.0 {
-        0.0
-    } else {
-        off / largest
+/// The sites that the page lists and the ones met are the same.
+pub fn listed(page: &str, sites: &Sites, failed: &mut bool) {
+    let Ok(text) = std::fs::read_to_string(page) else {
+        println!("{page}: NOT THERE, so its sites are not compared");
+        *failed = true;
+        return;
+    };
+    let cells = |l: &str| l.split('|').map(|c| c.trim().to_string()).collect::<Vec<_>>();
+    let named: BTreeSet<(String, String, String)> = text
+        .lines()
+        .map(cells)
+        .filter(|c| c.len() > 4 && c[2].parse::<u32>().is_ok())
+        .map(|c| (c[1].clone(), c[2].clone(), c[3].clone()))
+        .collect();
+    let met: BTreeSet<(String, String, String)> =
+        sites.keys().map(|(f, l, o)| (f.clone(), l.to_string(), format!("{o:?}"))).collect();
+    for (what, set) in
+        [("met, but not in the page", met.difference(&named)), ("in the page, but never met", named.difference(&met))]
+    {
+        for s in set {
+            *failed = true;
+            println!("{what}: {s:?}");
+        }
     }
 }
 
-/// Ours beside build 1, on factors that nalgebra gives for F.
-pub fn far(u: &Untouched, n: usize, d: &mut Draw, count: u64) -> Far {
-    let mut far = Far::default();
-    let update = (calls::UPDATE..calls::UPDATE + 4).contains(&n);
-    for _ in 0..count {
-        let mut i = d.inputs(n);
-        if !(0..i.len()).all(|k| finite(i[k])) {
-            continue;
-        }
-        let place = match n {
-            20..=23 => Some((calls::parameters(n - 20), calls::parameters(n - 20) + 9)),
-            29 => Some((6, 15)),
-            _ => None,
-        };
-        if let Some((f, at)) = place {
-            let m: Vec<f64> = i[f..f + 9].iter().map(|x| f64::from_bits(*x)).collect();
-            let mut o = [0.0; 21];
-            (u.factors)(m.as_ptr(), o.as_mut_ptr());
-            for k in 0..21 {
-                i[at + k] = o[k].to_bits();
-            }
-        }
-        if n == 30 {
-            // Singular values are not negative.
-            for x in &mut i[5..8] {
-                *x &= !(1 << 63);
-            }
-        }
-        if n == 31 {
-            let m: Vec<f64> = i[5..14].iter().map(|x| f64::from_bits(*x)).collect();
-            let mut o = [0.0; 21];
-            (u.factors)(m.as_ptr(), o.as_mut_ptr());
-            for k in 0..3 {
-                i[14 + k] = o[9 + k].to_bits();
-            }
-        }
-        let a = ours::call(n, &i);
-        if a.status != 0 {
-            far.refused += 1;
-            continue;
-        }
-        let mut o = vec![0; CALLS[n].outputs];
-        (u.call)(n, i.as_ptr(), o.as_mut_ptr());
-        if update {
-            let k = calls::parameters(n - 20);
-            let moved = o[..9] != i[k..k + 9];
-            if moved != (a.out[36] == 1 && a.out[..9] != i[k..k + 9]) {
-                far.other_branch += 1;
-                continue;
-            }
-            let mut worst = distance(&a.out[..9], &o[..9], 0.0);
-            for s in 30..36 {
-                let (x, y) = (f64::from_bits(a.out[s]), f64::from_bits(o[s]));
-                worst = worst.max((x - y).abs() / y.abs().max(1.0));
-            }
-            far.distances.push(worst);
-        } else if n == calls::FAILED {
-            far.other_branch += (a.out != o) as u64;
-            far.distances.push(0.0);
-        } else {
-            far.distances.push(distance(&a.out, &o, moduli(n, &i)));
-        }
+pub fn table(sites: &mut Sites, with_nalgebra: bool, failed: &mut bool) {
+    println!("\nSection 4's sites (sums: worst difference over the terms' summed sizes, in units of 2^-45; others over the largest entry)");
+    println!(
+        "{:<34} {:>4} {:<14} {:>9} {:>8} {:>9} {:>10} {:>10}",
+        "file", "line", "operation", "met", "beside", "in bits", "worst", "median"
+    );
+    for ((file, line, op), s) in sites.iter_mut() {
+        let (w, m) = worst_and_median(&mut s.ratios);
+        let b = SUM_BOUND;
+        let over = with_nalgebra && *op != Op::Inverse && w > b;
+        *failed |= over;
+        println!(
+            "{file:<34} {line:>4} {:<14} {:>9} {:>8} {:>9} {:>10.3e} {:>10.3e}{}",
+            format!("{op:?}"),
+            s.times,
+            s.beside,
+            s.other_bits,
+            w / b,
+            m / b,
+            if over { "  OVER 2^-45" } else { "" }
+        );
     }
-    far
+    let inverse = sites.iter().filter(|(k, _)| k.2 == Op::Inverse).map(|(_, s)| s.over_condition).fold(0.0, f64::max);
+    println!(
+        "The inverse over its determinant's condition (its terms' summed sizes over itself): worst {:.3e}",
+        inverse / SUM_BOUND
+    );
 }

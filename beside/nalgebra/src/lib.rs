@@ -10,15 +10,19 @@ use core::panic::Location;
 /// What the harness answers. `Location` names the file and line of the Rust that made the call.
 pub mod hooks {
     use core::panic::Location;
-    pub const EXP: u32 = 0;
-    pub const LN: u32 = 1;
-    pub const SINH: u32 = 2;
-    pub const SIN: u32 = 3;
-    pub const SQRT: u32 = 4;
-    pub const CBRT: u32 = 5;
-    pub const INV_CBRT: u32 = 6;
-    pub const CBRT_SQUARED: u32 = 7;
-    pub const INV_CBRT_SQUARED: u32 = 8;
+    /// In the order of the first nine calls.
+    #[derive(Copy, Clone, Debug, PartialEq)]
+    pub enum Function {
+        Exp,
+        Ln,
+        Sinh,
+        Sin,
+        Sqrt,
+        Cbrt,
+        InvCbrt,
+        CbrtSquared,
+        InvCbrtSquared,
+    }
 
     #[derive(Copy, Clone, Debug, PartialEq, Eq, PartialOrd, Ord, Hash)]
     pub enum Op {
@@ -39,13 +43,13 @@ pub mod hooks {
     }
 
     extern "Rust" {
-        pub fn beside_elementary(which: u32, x: f64, at: &'static Location<'static>) -> f64;
+        pub fn beside_elementary(which: Function, x: f64, at: &'static Location<'static>) -> f64;
         pub fn beside_site(op: Op, at: &'static Location<'static>, input: &[f64], output: &[f64]);
         pub fn beside_factors() -> &'static [f64; 21];
         pub fn beside_principal() -> [f64; 3];
     }
 }
-use hooks::Op;
+use hooks::{Function, Op};
 
 fn site(op: Op, at: &'static Location<'static>, input: &[f64], output: &[f64]) {
     unsafe { hooks::beside_site(op, at, input, output) }
@@ -454,29 +458,29 @@ macro_rules! asked {
     ($name:ident, $which:ident) => {
         #[track_caller]
         fn $name(self) -> f64 {
-            unsafe { hooks::beside_elementary(hooks::$which, self, Location::caller()) }
+            unsafe { hooks::beside_elementary(Function::$which, self, Location::caller()) }
         }
     };
 }
 
 impl ComplexField for f64 {
-    asked!(exp, EXP);
-    asked!(ln, LN);
-    asked!(sinh, SINH);
-    asked!(sin, SIN);
-    asked!(sqrt, SQRT);
+    asked!(exp, Exp);
+    asked!(ln, Ln);
+    asked!(sinh, Sinh);
+    asked!(sin, Sin);
+    asked!(sqrt, Sqrt);
 
     /// The four powers of the text; ours means the exact third.
     #[track_caller]
     fn powf(self, e: f64) -> f64 {
         let which = if e == 1.0 / 3.0 {
-            hooks::CBRT
+            Function::Cbrt
         } else if e == -1.0 / 3.0 {
-            hooks::INV_CBRT
+            Function::InvCbrt
         } else if e == 2.0 / 3.0 {
-            hooks::CBRT_SQUARED
+            Function::CbrtSquared
         } else if e == -2.0 / 3.0 {
-            hooks::INV_CBRT_SQUARED
+            Function::InvCbrtSquared
         } else {
             panic!("a power that the text does not have")
         };

@@ -1,16 +1,15 @@
 -- The corotated law's energies (document 01, section 5: "Energy takes the product of sigma, `pos_energy` the determinant of F").
 use mathlib.Core.Bool.{Bool, cond, _&&_}
-use mathlib.Core.List.{List}
-use lib.ListN.{getD}
+use mathlib.Core.List.{List, map}
 use lib.Ieee as Ieee
-use lib.Ieee.{Float, nan}
+use lib.Ieee.{Float}
 use Rattle.numbers.specs.Rules.{finite, isNumber}
 use Rattle.numbers.specs.Power.{powiOf}
 use Rattle.numbers.specs.Answer.{answeredOf, given}
 use Rattle.numbers.specs.declared.Elementary.{Elementary}
 use Rattle.numbers.specs.declared.Elementary.the-variants.{Refused}
 use Rattle.physics.specs.Physics.{two}
-use Rattle.tensor.specs.Matrix.{add, sub, mul, div, one, dotOf, productOf, detOf}
+use Rattle.tensor.specs.Matrix.{add, sub, mul, div, one, sumOf, dotOf, productOf, detOf}
 use Rattle.tensor.specs.Finite.{rowFinite, matFinite}
 use Rattle.elasticity_corotated_linear.specs.Law.{lawFinite}
 use Rattle.elasticity_corotated_linear.specs.Stress.{lessOneOf, positiveOf}
@@ -18,7 +17,7 @@ use Rattle.elasticity_corotated_linear.specs.declared.CorotatedLinearEla
 
 -- the squares by the integer power, summed by rising index
 unfoldable pub squaresOf : List Float → Float
-squaresOf e = add (add (powiOf (getD e 0 nan) 2) (powiOf (getD e 1 nan) 2)) (powiOf (getD e 2 nan) 2)
+squaresOf e = sumOf (map (λ x. powiOf x 2) e)
 
 unfoldable pub energyOf : CorotatedLinearElasticity → List Float → Float → Float
 energyOf p s h =

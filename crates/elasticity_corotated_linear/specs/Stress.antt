@@ -1,12 +1,11 @@
 -- The corotated law's stress (document 01, section 5: "Phase exactly 1.0 takes the unsplit path; the tensile part is dropped only at phase 0.0 with the flag").
 use mathlib.Core.Bool.{Bool, cond, _&&_}
-use mathlib.Core.List.{List}
-use lib.ListN.{getD}
+use mathlib.Core.List.{List, map}
 use lib.Ieee as Ieee
-use lib.Ieee.{Float, nan}
+use lib.Ieee.{Float}
 use Rattle.numbers.specs.Rules.{finite, maxOf, minOf}
 use Rattle.physics.specs.Physics.{two}
-use Rattle.tensor.specs.Matrix.{sub, mul, zero, one, three, detOf, mulOf, transposeOf, recomposeOf, matAddOf, matScaleOf, identityTimesOf}
+use Rattle.tensor.specs.Matrix.{sub, mul, zero, one, detOf, mulOf, transposeOf, recomposeOf, matAddOf, matScaleOf, identityTimesOf}
 use Rattle.tensor.specs.Finite.{rowFinite, matFinite}
 use Rattle.tensor.specs.Answer.{answered, givenMatrix}
 use Rattle.tensor.specs.declared.MatrixAnswer.{MatrixAnswer}
@@ -15,15 +14,15 @@ use Rattle.elasticity_corotated_linear.specs.declared.CorotatedLinearEla
 
 -- p is the law, h the elastic hardening, s is sigma, e stands for sigma - 1 or a part of it, j is the determinant of F, c what the tensile part is multiplied by.
 
-abbrev pub lessOneOf : List Float → List Float
-lessOneOf s = three (sub (getD s 0 nan) one) (sub (getD s 1 nan) one) (sub (getD s 2 nan) one)
+unfoldable pub lessOneOf : List Float → List Float
+lessOneOf s = map (λ x. sub x one) s
 
 -- sigma is finite, so sigma - 1 is no NaN that a maximum or a minimum could hide
-abbrev pub positiveOf : List Float → List Float
-positiveOf e = three (maxOf (getD e 0 nan) zero) (maxOf (getD e 1 nan) zero) (maxOf (getD e 2 nan) zero)
+unfoldable pub positiveOf : List Float → List Float
+positiveOf e = map (λ x. maxOf x zero) e
 
-abbrev pub negativeOf : List Float → List Float
-negativeOf e = three (minOf (getD e 0 nan) zero) (minOf (getD e 1 nan) zero) (minOf (getD e 2 nan) zero)
+unfoldable pub negativeOf : List Float → List Float
+negativeOf e = map (λ x. minOf x zero) e
 
 -- 2 mu h times U e V^T, then times F^T
 unfoldable pub deviatoricStress : CorotatedLinearElasticity → Float → List (List Float) → List (List Float) → List Float → List (List Float) → List (List Float)

@@ -1,10 +1,10 @@
 -- The failure rule on given principal stresses, from failure_maximum_stress.rs and document 01, section 5.
 use mathlib.Core.Bool.{Bool, cond, _&&_, _||_}
 use mathlib.Core.List.{List}
-use lib.ListN.{getD}
 use lib.Ieee as Ieee
 use lib.Ieee.{Float, nan, binary64, ofBits}
 use Rattle.numbers.specs.Rules.{finite, maxOf, minOf}
+use Rattle.tensor.specs.Axes.{fromLeft}
 use Rattle.tensor.specs.Matrix.{sub, div}
 use Rattle.tensor.specs.Finite.{rowFinite}
 use Rattle.failure_maximum_stress.specs.declared.MaximumStressFailure.{MaximumStressFailure}
@@ -26,10 +26,10 @@ limitsFinite l = finite (l .«max_principal_stress») && finite (l .«max_shear_
 -- section 4's maximum and minimum, by rising index. The Rust's keep the first of equal stresses: only a zero's sign can
 -- differ, and no comparison below sees it
 abbrev pub largestOf : List Float → Float
-largestOf s = maxOf (maxOf (getD s 0 nan) (getD s 1 nan)) (getD s 2 nan)
+largestOf s = fromLeft maxOf nan s
 
 abbrev pub smallestOf : List Float → Float
-smallestOf s = minOf (minOf (getD s 0 nan) (getD s 1 nan)) (getD s 2 nan)
+smallestOf s = fromLeft minOf nan s
 
 -- max > principal limit or (max - min)/2 > shear limit
 unfoldable pub overLimit : MaximumStressFailure → Float → Float → Bool

@@ -1,7 +1,16 @@
 // The calls for C, Rust and Python hosts: each answers 0 or document 01's refusal number, and writes nothing where it refuses.
-mod numbers_out;
+mod elasticity;
+mod laws_in;
+mod lists_out;
+mod monaghan;
+mod parameters;
+mod passes;
+mod physics_calls;
+mod returns;
+mod sheets;
+mod update;
 
-use numbers_out::put;
+use lists::put;
 ghost use mathlib.Core.Path.{_≡_};
 ghost use Rattle.numbers.specs.Range.{bare};
 ghost use Rattle.exponential.specs.Exp.{expRanged};
@@ -10,7 +19,7 @@ ghost use Rattle.logarithm.specs.Ln.{lnRanged};
 ghost use Rattle.sine.specs.Sine.{sinRanged};
 ghost use Rattle.square_root.specs.Sqrt.{sqrtRanged};
 ghost use Rattle.thirds.specs.Thirds.{cbrtRanged, invCbrtRanged, cbrtSquaredRanged, invCbrtSquaredRanged};
-ghost use Rattle.host.specs.Out.{numberCode, numberOut};
+ghost use Rattle.lists.specs.Out.{numberCode, numberOut};
 
 #[no_mangle]
 pub extern "C" fn pasoletu_exp(x: f64, out: &mut [u64]) -> u8

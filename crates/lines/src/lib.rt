@@ -4,20 +4,45 @@ mod whole;
 use libc::STDOUT_FILENO;
 pub use whole::Input;
 pub use whole::read_whole;
+ghost use mathlib.Core.Path.{_≡_};
+ghost use mathlib.Core.Bool.{false};
+ghost use Prim.Native.Nat.{_<_};
+ghost use lib.ListN.{length};
+
+// Each part is written only where those before it were: what a failed output holds is a start of the answer.
+fn print_stored(amount: u64) -> bool {
+    if !io::write_all(STDOUT_FILENO, b" stored ") {
+        return false;
+    }
+    io::print_hex(STDOUT_FILENO, amount, 16)
+}
+
+fn print_words(words: &[u8], number: u64) -> bool {
+    if !io::write_all(STDOUT_FILENO, words) {
+        return false;
+    }
+    io::print_decimal(STDOUT_FILENO, number)
+}
+
+fn print_outcome(code: u64, value: u64) -> bool {
+    if code == 0 {
+        io::write_all(STDOUT_FILENO, b" untouched")
+    } else if code == 1 {
+        print_stored(value)
+    } else {
+        print_words(b" refused ", value)
+    }
+}
 
 // One particle's line; whether all of it was written.
 fn print_line(i: usize, code: u64, value: u64) -> bool {
-    let number = io::print_decimal(STDOUT_FILENO, i as u64);
-    let rest = if code == 0 {
-        io::write_all(STDOUT_FILENO, b" untouched")
-    } else if code == 1 {
-        let word = io::write_all(STDOUT_FILENO, b" stored ");
-        word & io::print_hex(STDOUT_FILENO, value, 16)
-    } else {
-        let word = io::write_all(STDOUT_FILENO, b" refused ");
-        word & io::print_decimal(STDOUT_FILENO, value)
-    };
-    number & rest & io::write_all(STDOUT_FILENO, b"\n")
+    if !io::print_decimal(STDOUT_FILENO, i as u64) {
+        return false;
+    }
+    if !print_outcome(code, value) {
+        return false;
+    }
+    io::write_all(STDOUT_FILENO, b"\n")
 }
 
 // The lines of the first n particles, as far as they can be written.
@@ -36,9 +61,10 @@ fn print_lines(answers: &[u64], n: usize) -> bool {
 }
 
 fn print_sheet(answers: &[u64], n: usize) -> bool {
-    let word = io::write_all(STDOUT_FILENO, b"particles ");
-    let number = io::print_decimal(STDOUT_FILENO, n as u64);
-    if !(word & number & io::write_all(STDOUT_FILENO, b"\n")) {
+    if !print_words(b"particles ", n as u64) {
+        return false;
+    }
+    if !io::write_all(STDOUT_FILENO, b"\n") {
         return false;
     }
     if !print_lines(answers, n) {
@@ -48,13 +74,16 @@ fn print_sheet(answers: &[u64], n: usize) -> bool {
 }
 
 fn print_refused(refusal: u8) -> bool {
-    let word = io::write_all(STDOUT_FILENO, b"sheet refused ");
-    let number = io::print_decimal(STDOUT_FILENO, refusal as u64);
-    word & number & io::write_all(STDOUT_FILENO, b"\n")
+    if !print_words(b"sheet refused ", refusal as u64) {
+        return false;
+    }
+    io::write_all(STDOUT_FILENO, b"\n")
 }
 
 // Runs the sheet in the first n bytes of the room and prints it; whether all of it was written.
-pub fn print_answer(room: &[u8], n: usize) -> bool {
+pub fn print_answer(room: &[u8], n: usize) -> bool
+    ensures { λ r. ⌜ (length (now (room .entry)) < n → r ≡ false) ⌝ }
+{
     if room.len() < n {
         return false;
     }

@@ -1,7 +1,9 @@
 -- The model choice, and what its law makes of one record (document 01, sections 6 and 7).
-use mathlib.Core.Bool.{Bool}
+use mathlib.Core.Bool.{Bool, cond}
 use mathlib.Core.List.{List}
 use Prim.Native.Nat.{ℕ}
+use lib.Dec.{eqb}
+use lib.ListN.{length}
 use lib.Ieee.{Float}
 use Rattle.law.specs.declared.Outcome.{Outcome}
 use Rattle.law.specs.declared.Outcome.the-variants.{Untouched, Stored, Refused}
@@ -13,7 +15,7 @@ use Rattle.plasticity_drucker_prager.specs.Law as drucker-prager-law
 use Rattle.plasticity_drucker_prager.specs.DruckerPrager as drucker-prager
 use Rattle.plasticity_nacc.specs.Law as nacc-law
 use Rattle.plasticity_nacc.specs.Nacc as nacc
-use Rattle.record.specs.Layout.{uAt, vtAt, stateAt, putShape, putPlasticDeterminant, putPlasticHardening, putElasticHardening, putLogGain, putAlpha}
+use Rattle.record.specs.Layout.{floats, uAt, vtAt, stateAt, putShape, putPlasticDeterminant, putPlasticHardening, putElasticHardening, putLogGain, putAlpha}
 use Rattle.particles.specs.declared.choice.Model.{Model}
 use Rattle.particles.specs.declared.choice.Model.the-variants.{Snow, Rankine, DruckerPrager, Nacc}
 use Rattle.particles.specs.Pass.{Worked}
@@ -66,3 +68,10 @@ kept m (Refused n) r s = r
 unfoldable pub recordLaw : Model → List ℕ → Worked
 recordLaw m r =
     record { outcome = updatedAt m r .outcome; after = kept m (updatedAt m r .outcome) r (updatedAt m r .state) }
+
+-- one record by itself: refusal 8 where the list is no record
+abbrev pub recordOutcome : Model → List ℕ → Outcome
+recordOutcome m r = cond (eqb (length r) floats) (recordLaw m r .outcome) (Refused 8)
+
+abbrev pub recordAfter : Model → List ℕ → List ℕ
+recordAfter m r = cond (eqb (length r) floats) (recordLaw m r .after) r

@@ -2,10 +2,10 @@
 -- 2mu h (sigma - 1) sigma + lambda h (J - 1) J, with h the elastic hardening and J the product of sigma, split by phase as section 5 says".
 use mathlib.Core.Bool.{cond}
 use mathlib.Core.List.{List}
-use lib.ListN.{getD}
 use lib.Ieee as Ieee
-use lib.Ieee.{Float, nan}
+use lib.Ieee.{Float}
 use Rattle.physics.specs.Physics.{two}
+use Rattle.tensor.specs.Axes.{pairwise}
 use Rattle.tensor.specs.Matrix.{sub, mul, one, three, productOf, rowAddOf, rowScaleOf}
 use Rattle.elasticity_corotated_linear.specs.declared.CorotatedLinearElasticity.{CorotatedLinearElasticity}
 use Rattle.elasticity_corotated_linear.specs.Stress.{lessOneOf, positiveOf, negativeOf, phaseCoeff}
@@ -14,11 +14,8 @@ use Rattle.elasticity_corotated_linear.specs.Stress.{lessOneOf, positiveOf, neg
 unfoldable pub stretchedOf : CorotatedLinearElasticity → Float → Float → Float → Float
 stretchedOf p h e s = mul (mul (mul (mul two (p .mu)) h) e) s
 
-abbrev pub deviatoricOf : CorotatedLinearElasticity → Float → List Float → List Float → List Float
-deviatoricOf p h e s =
-    three (stretchedOf p h (getD e 0 nan) (getD s 0 nan))
-    (stretchedOf p h (getD e 1 nan) (getD s 1 nan))
-    (stretchedOf p h (getD e 2 nan) (getD s 2 nan))
+unfoldable pub deviatoricOf : CorotatedLinearElasticity → Float → List Float → List Float → List Float
+deviatoricOf p h e s = pairwise (stretchedOf p h) e s
 
 -- lambda h (J - 1) J, the same for each of the three
 unfoldable pub volumetricOf : CorotatedLinearElasticity → Float → Float → Float

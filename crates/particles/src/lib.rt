@@ -13,3 +13,4 @@ pub use failure::pass_with_failure;
 pub use list::Counts;
 pub use list::Passed;
 pub use list::pass;
+pub use list::update_record;

@@ -6,7 +6,7 @@ ghost use mathlib.Core.Path.{_≡_};
 ghost use Prim.Native.Nat.{_+_, _*_, _^_, _≤_, _<_};
 ghost use lib.ListN.{length};
 ghost use Rattle.record.specs.Layout.{floats};
-ghost use Rattle.particles.specs.Model.{updatedAt, recordLaw};
+ghost use Rattle.particles.specs.Model.{updatedAt, recordLaw, recordOutcome, recordAfter};
 ghost use Rattle.particles.specs.Pass.{codeOf, valueOf, answered, recordAt, replaced, worked, answers, counted, counts, passed, passRecords, passAnswers};
 
 // How many records were left untouched, stored and refused.
@@ -49,6 +49,17 @@ pub fn step(m: Model, r: &mut [u64]) -> Outcome
         Outcome::Refused(_) => {}
     }
     o
+}
+
+// One record by itself. A list of another length is refused by 8 and keeps its bits.
+pub fn update_record(m: Model, r: &mut [u64]) -> Outcome
+    ensures { λ x. ⌜ x ≡ recordOutcome m (now (r .entry)) ⌝ }
+    ensures { λ x. ⌜ now (r .exit) ≡ recordAfter m (now (r .entry)) ⌝ }
+{
+    if r.len() == record::FLOATS {
+        return step(m, r);
+    }
+    Outcome::Refused(8)
 }
 
 // The answer's first number: 0 untouched, 1 stored, 2 refused.

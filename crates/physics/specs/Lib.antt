@@ -1,2 +1,3 @@
 pub mod Physics
 pub mod Quadratic
+pub mod Norm

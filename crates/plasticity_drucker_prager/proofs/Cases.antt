@@ -8,7 +8,7 @@ use Rattle.numbers.specs.Rules.{finite, isNumber}
 use Rattle.numbers.specs.declared.Elementary.the-variants.{Value}
 use Rattle.logarithm.specs.Worked.{lnOf}
 use Rattle.exact.specs.RootOf.{sqrtOf}
-use Rattle.tensor.specs.Matrix.{mul, div, zero, one, three, rowsOf}
+use Rattle.tensor.specs.Matrix.{mul, div, zero, one, three, sumOf, productOf, dotOf, scaledRowOf, rowsOf}
 use Rattle.law.specs.declared.Outcome.the-variants.{Stored}
 use Rattle.law.specs.declared.State.{State}
 use Rattle.plasticity_drucker_prager.specs.declared.Branch.the-variants.{Isotropic}
@@ -42,7 +42,7 @@ unfolding logsOf joinedOf isNumber Ieee.le Ieee.lt Ieee.eq ofBits
 logs h = simp h
 
 strains : (p : DruckerPragerPlasticity) (a : Float) → sqrtOf zero ≡ zero → strainedOf p ones (strainOf (three zero zero zero) zero) a ≡ tip
-unfolding strainedOf strainOf deviatoricOf choiceOf returnedOf tipOf isNumber Ieee.add Ieee.sub Ieee.mul Ieee.div Ieee.le Ieee.lt Ieee.eq ofBits
+unfolding sumOf dotOf strainedOf strainOf deviatoricOf choiceOf returnedOf tipOf isNumber Ieee.add Ieee.sub Ieee.mul Ieee.div Ieee.le Ieee.lt Ieee.eq ofBits
 strains p a h = simp h
 
 -- the projection: sigma all ones and dq 0, whatever alpha is
@@ -69,7 +69,7 @@ rested =
     }
 
 moved : (l m : Float) → lnOf one ≡ zero → movedOf (defaultsOf l m) ones zero identity identity rested .outcome ≡ Stored zero
-unfolding movedOf gainedOf druckerStore differenceOf determinantOf correctedOf finite isNumber Ieee.add Ieee.sub Ieee.mul Ieee.div Ieee.le Ieee.lt Ieee.eq ofBits
+unfolding productOf sumOf dotOf scaledRowOf movedOf gainedOf druckerStore differenceOf determinantOf correctedOf finite isNumber Ieee.add Ieee.sub Ieee.mul Ieee.div Ieee.le Ieee.lt Ieee.eq ofBits
 moved l m h = simp h
 
 run :

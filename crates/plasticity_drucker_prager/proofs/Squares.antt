@@ -1,14 +1,15 @@
--- A sum of three squares is a NaN exactly where an entry is: what the projection tests for all entries at once.
+-- A sum of squares is a NaN exactly where an entry is: what the projection tests for all entries at once.
 use mathlib.Core.Bool.{Bool, true, false, cond, _&&_}
-use mathlib.Core.List.{List}
+use mathlib.Core.List.{List, [], _∷_, foldl, map}
 use mathlib.Core.Path.{_≡_, refl}
 use Prim.Native.Nat.{ℕ, zero, suc, _+_, _-_, _*_, _/_, _%_, _^_, compare}
 use lib.Dec.{ltb}
 use lib.IntN.{ℤ}
-use lib.ListN.{getD}
 use lib.Ieee as Ieee
 use lib.Ieee.{Float, nan, inf, fin, binary64, round, units, odd, sum, low, prec, emax, size, nearest, up, down}
 use Rattle.numbers.specs.Rules.{isNumber}
+use Rattle.tensor.specs.Axes.{allOf, pairwise}
+use Rattle.tensor.specs.Matrix.{add, mul, sumOf, dotOf}
 use Rattle.plasticity_drucker_prager.specs.Projection.{allNumbers}
 
 -- a NaN, or no NaN and no sign; the index says which
@@ -63,6 +64,12 @@ number none = refl
 number top = refl
 number some = refl
 
-pub all-numbers :
-    (e : List Float) → allNumbers e ≡ (isNumber (getD e 0 nan) && isNumber (getD e 1 nan)) && isNumber (getD e 2 nan)
-all-numbers e = number (plus (plus (square (getD e 0 nan)) (square (getD e 1 nan))) (square (getD e 2 nan)))
+-- a square that is put to the sum of those before it
+summed : {a : Bool} {x : Float} → Square a x → (e : List Float) → Square (foldl _&&_ a (map isNumber e)) (foldl add x (pairwise mul e e))
+summed p [] = p
+summed p (y ∷ e) = summed (plus p (square y)) e
+
+pub all-numbers : (e : List Float) → allNumbers e ≡ allOf isNumber e
+unfolding dotOf sumOf isNumber Ieee.ofBits
+all-numbers [] = refl
+all-numbers (x ∷ e) = number (summed (square x) e)

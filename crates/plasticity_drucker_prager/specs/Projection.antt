@@ -1,6 +1,6 @@
 -- The Drucker-Prager projection (document 01, section 5; plasticity_drucker_prager.rs, `project_deformation_gradient`).
 use mathlib.Core.Bool.{Bool, cond, _&&_}
-use mathlib.Core.List.{List}
+use mathlib.Core.List.{List, map}
 use Prim.Native.Nat.{ℕ}
 use lib.ListN.{getD}
 use lib.Ieee as Ieee
@@ -11,8 +11,9 @@ use Rattle.numbers.specs.declared.Elementary.{Elementary}
 use Rattle.numbers.specs.declared.Elementary.the-variants as elementary
 use Rattle.exponential.specs.Exp.{expRanged}
 use Rattle.logarithm.specs.Ln.{lnRanged}
-use Rattle.square_root.specs.Sqrt.{sqrtRanged}
-use Rattle.tensor.specs.Matrix.{add, sub, mul, div, zero, one, three, dotOf}
+use Rattle.physics.specs.Norm.{normOf}
+use Rattle.tensor.specs.Axes.{allOf, pairwise}
+use Rattle.tensor.specs.Matrix.{add, sub, mul, div, zero, one, three, sumOf, dotOf}
 use Rattle.tensor.specs.Finite.{rowFinite}
 use Rattle.tensor.specs.Answer.{zeroRow}
 use Rattle.plasticity_drucker_prager.specs.declared.Branch.{Branch}
@@ -47,25 +48,15 @@ allNumbers e = isNumber (dotOf e e)
 unfoldable pub expsOf : List Float → Triple
 expsOf e = cond (allNumbers e) (joinedOf (expAt e 0) (expAt e 1) (expAt e 2)) (triple.Refused 3)
 
--- by rising index
-abbrev pub sumOf : List Float → Float
-sumOf e = add (add (getD e 0 nan) (getD e 1 nan)) (getD e 2 nan)
-
--- the root of the sum of squares
-abbrev pub normOf : List Float → Elementary
-normOf e = onPath (dotOf e e) (sqrtRanged (dotOf e e))
-
 -- "Strain is log sigma + gain/3."
 unfoldable pub strainOf : List Float → Float → List Float
-strainOf logs gain =
-    three (add (getD logs 0 nan) (div gain dim)) (add (getD logs 1 nan) (div gain dim)) (add (getD logs 2 nan) (div gain dim))
+strainOf logs gain = map (λ x. add x (div gain dim)) logs
 
 unfoldable pub deviatoricOf : List Float → Float → List Float
-deviatoricOf e trace =
-    three (sub (getD e 0 nan) (div trace dim)) (sub (getD e 1 nan) (div trace dim)) (sub (getD e 2 nan) (div trace dim))
+deviatoricOf e trace = map (λ x. sub x (div trace dim)) e
 
 abbrev pub allZero : List Float → Bool
-allZero d = Ieee.eq (getD d 0 nan) zero && Ieee.eq (getD d 1 nan) zero && Ieee.eq (getD d 2 nan) zero
+allZero d = allOf (λ x. Ieee.eq x zero) d
 
 -- norm + (3 lambda + 2 mu) / (2 mu) trace alpha
 unfoldable pub gammaOf : DruckerPragerPlasticity → Float → Float → Float → Float
@@ -100,10 +91,7 @@ tipOf b (elementary.Refused n) = refusedProjection n
 
 -- the strain less gamma times the deviatoric part over its norm
 unfoldable pub backOf : List Float → List Float → Float → Float → List Float
-backOf e d gamma norm =
-    three (sub (getD e 0 nan) (mul gamma (div (getD d 0 nan) norm)))
-    (sub (getD e 1 nan) (mul gamma (div (getD d 1 nan) norm)))
-    (sub (getD e 2 nan) (mul gamma (div (getD d 2 nan) norm)))
+backOf e d gamma norm = pairwise (λ x y. sub x (mul gamma (div y norm))) e d
 
 -- once the exponentials are known; dq is gamma
 unfoldable pub surfaceOf : Branch → Float → Triple → Projected

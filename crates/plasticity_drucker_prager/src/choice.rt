@@ -3,14 +3,7 @@ use crate::Branch;
 use crate::DruckerPragerPlasticity;
 use numbers::Elementary;
 ghost use mathlib.Core.Path.{_≡_};
-ghost use Rattle.plasticity_drucker_prager.specs.Projection.{sumOf, strainOf, deviatoricOf, allZero, normOf, gammaOf, yieldChoice, choiceOf};
-
-// By rising index.
-pub fn sum(e: [f64; 3]) -> f64
-    ensures { λ r. ⌜ r ≡ sumOf e ⌝ }
-{
-    e[0] + e[1] + e[2]
-}
+ghost use Rattle.plasticity_drucker_prager.specs.Projection.{strainOf, deviatoricOf, allZero, gammaOf, yieldChoice, choiceOf};
 
 // A third of the gain is added to each logarithm.
 pub fn strain(logs: [f64; 3], gain: f64) -> [f64; 3]
@@ -34,13 +27,6 @@ fn all_zero(d: [f64; 3]) -> bool
     ensures { λ r. ⌜ r ≡ allZero d ⌝ }
 {
     (d[0] == 0.0) & (d[1] == 0.0) & (d[2] == 0.0)
-}
-
-// The root of the sum of squares.
-pub fn norm(e: [f64; 3]) -> Elementary
-    ensures { λ r. ⌜ r ≡ normOf e ⌝ }
-{
-    square_root::sqrt_on_path(tensor::dot(e, e))
 }
 
 impl DruckerPragerPlasticity {
@@ -82,7 +68,7 @@ impl DruckerPragerPlasticity {
             } else if trace > 0.0 {
                 Branch::Expanding(trace, 0.0)
             } else {
-                self.choose_yield(norm(d), trace, alpha)
+                self.choose_yield(physics::norm_on_path(d), trace, alpha)
             }
         } else {
             Branch::Refused(3)

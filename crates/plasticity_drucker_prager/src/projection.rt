@@ -110,8 +110,8 @@ fn returned(b: Branch, sigma: [f64; 3], e: [f64; 3], d: [f64; 3]) -> Projected
     ensures { λ r. ⌜ r ≡ returnedOf b sigma e d ⌝ }
 {
     match b {
-        Branch::Isotropic(x, y) => tip(Branch::Isotropic(x, y), choice::norm(e)),
-        Branch::Expanding(x, y) => tip(Branch::Expanding(x, y), choice::norm(e)),
+        Branch::Isotropic(x, y) => tip(Branch::Isotropic(x, y), physics::norm_on_path(e)),
+        Branch::Expanding(x, y) => tip(Branch::Expanding(x, y), physics::norm_on_path(e)),
         Branch::Inside(x, y) => Projected {
             branch: Branch::Inside(x, y),
             sigma,
@@ -143,7 +143,7 @@ impl DruckerPragerPlasticity {
     fn strained(self, sigma: [f64; 3], e: [f64; 3], alpha: f64) -> Projected
         ensures { λ r. ⌜ r ≡ strainedOf self sigma e alpha ⌝ }
     {
-        let trace = choice::sum(e);
+        let trace = tensor::sum(e);
         let d = choice::deviatoric(e, trace);
         returned(self.choose(trace, d, alpha), sigma, e, d)
     }

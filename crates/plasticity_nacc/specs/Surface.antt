@@ -1,6 +1,6 @@
 -- NACC's projection to the yield surface (document 01, section 5; plasticity_nacc.rs).
 use mathlib.Core.Bool.{Bool, cond}
-use mathlib.Core.List.{List}
+use mathlib.Core.List.{List, map}
 use Prim.Native.Nat.{ℕ}
 use lib.ListN.{getD}
 use lib.Ieee as Ieee
@@ -38,10 +38,7 @@ rootsOf e = cond (isNumber (dotOf e e)) (joinedOf (rootAt e 0) (rootAt e 1) (roo
 
 -- k s_tr / |s_tr| + mean
 unfoldable pub spreadOf : Float → List Float → Float → Float → List Float
-spreadOf k s norm mean =
-    three (add (mul k (div (getD s 0 nan) norm)) mean)
-    (add (mul k (div (getD s 1 nan) norm)) mean)
-    (add (mul k (div (getD s 2 nan) norm)) mean)
+spreadOf k s norm mean = map (λ x. add (mul k (div x norm)) mean) s
 
 -- once the singular values are known
 unfoldable pub landedOf : Branch → Triple → Float → Stepped

@@ -1,25 +1,23 @@
 -- The NACC trial state (plasticity_nacc.rs, `project_deformation_gradient` down to the first test; document 01, section 6).
-use mathlib.Core.List.{List}
-use lib.ListN.{getD}
+use mathlib.Core.List.{List, map}
 use lib.Ieee as Ieee
-use lib.Ieee.{Float, nan, binary64, ofBits}
+use lib.Ieee.{Float, binary64, ofBits}
 use Rattle.numbers.specs.Rules.{maxOf}
 use Rattle.numbers.specs.Range.{onPath}
 use Rattle.numbers.specs.declared.Elementary.{Elementary}
 use Rattle.numbers.specs.declared.Elementary.the-variants.{Value, Refused}
 use Rattle.exponential.specs.Sinh.{sinhRanged}
-use Rattle.tensor.specs.Matrix.{add, sub, mul, div, zero, one, three, dotOf}
+use Rattle.tensor.specs.Matrix.{add, sub, mul, div, zero, one, sumOf, dotOf}
 use Rattle.plasticity_nacc.specs.declared.NaccPlasticity.{NaccPlasticity}
 use Rattle.plasticity_nacc.specs.declared.Trial.{Trial}
 use Rattle.plasticity_nacc.specs.Law.{two, dim}
 
-abbrev pub squaredOf : List Float → List Float
-squaredOf s =
-    three (mul (getD s 0 nan) (getD s 0 nan)) (mul (getD s 1 nan) (getD s 1 nan)) (mul (getD s 2 nan) (getD s 2 nan))
+unfoldable pub squaredOf : List Float → List Float
+squaredOf s = map (λ x. mul x x) s
 
--- a third of the sum, by rising index
+-- the sum over the number of axes
 abbrev pub meanOf : List Float → Float
-meanOf q = div (add (add (getD q 0 nan) (getD q 1 nan)) (getD q 2 nan)) dim
+meanOf q = div (sumOf q) dim
 
 -- xi max(-alpha, 0): alpha is finite, so the maximum hides no NaN
 unfoldable pub softeningOf : NaccPlasticity → Float → Float
@@ -39,10 +37,7 @@ p0OnPath p alpha = p0Of p (onPath (softeningOf p alpha) (sinhRanged (softeningOf
 
 -- mu w (sigma^2 - mean), with w the power -2/3 of j
 unfoldable pub stressOf : NaccPlasticity → Float → List Float → Float → List Float
-stressOf p w q mean =
-    three (mul (mul (p .mu) w) (sub (getD q 0 nan) mean))
-    (mul (mul (p .mu) w) (sub (getD q 1 nan) mean))
-    (mul (mul (p .mu) w) (sub (getD q 2 nan) mean))
+stressOf p w q mean = map (λ x. mul (mul (p .mu) w) (sub x mean)) q
 
 -- -(kappa/2 (j - 1/j)) j
 unfoldable pub pressureOf : NaccPlasticity → Float → Float

@@ -19,7 +19,7 @@ fn squared(sigma: [f64; 3]) -> [f64; 3]
 fn mean(q: [f64; 3]) -> f64
     ensures { λ r. ⌜ r ≡ meanOf q ⌝ }
 {
-    (q[0] + q[1] + q[2]) / 3.0
+    tensor::sum(q) / 3.0
 }
 
 impl NaccPlasticity {

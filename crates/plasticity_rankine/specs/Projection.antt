@@ -2,11 +2,10 @@
 use mathlib.Core.Bool.{Bool, cond, _&&_}
 use mathlib.Core.List.{List}
 use Prim.Native.Nat.{ℕ}
-use lib.ListN.{getD}
 use lib.Ieee as Ieee
-use lib.Ieee.{Float, nan, binary64, ofBits}
+use lib.Ieee.{Float, binary64, ofBits}
 use Rattle.numbers.specs.Rules.{finite, isNumber}
-use Rattle.tensor.specs.Matrix.{add, sub, mul, div, zero}
+use Rattle.tensor.specs.Matrix.{add, sub, mul, div, zero, sumOf}
 use Rattle.tensor.specs.Finite.{rowFinite}
 use Rattle.tensor.specs.Answer.{zeroRow}
 use Rattle.plasticity_rankine.specs.declared.Branch.{Branch}
@@ -14,17 +13,13 @@ use Rattle.plasticity_rankine.specs.declared.Branch.the-variants.{Untouc
 use Rattle.plasticity_rankine.specs.declared.Projected.{Projected}
 use Rattle.plasticity_rankine.specs.declared.RankinePlasticity.{RankinePlasticity}
 use Rattle.plasticity_rankine.specs.declared.Sorted.{Sorted}
-use Rattle.plasticity_rankine.specs.Sorting.{sortedOf, rankOf, arrangeOf, restoreOf}
+use Rattle.plasticity_rankine.specs.Sorting.{sortedOf, orderOf, arrangeOf, restoreOf}
 
 abbrev pub two : Float
 two = ofBits binary64 0x4000_0000_0000_0000
 
 abbrev pub thrice : Float
 thrice = ofBits binary64 0x4008_0000_0000_0000
-
--- by rising index
-abbrev pub sumOf : List Float → Float
-sumOf e = add (add (getD e 0 nan) (getD e 1 nan)) (getD e 2 nan)
 
 -- the left sides of the three tests: lambda S + 2mu a, (2mu + lambda) b + lambda (S - a), (2mu + 3lambda) c
 unfoldable pub firstSide : RankinePlasticity → Float → Float → Float
@@ -72,7 +67,7 @@ returnedOf p s S r (Refused n) = sortedOf zero zero zero
 
 unfoldable pub projectedOf : RankinePlasticity → List Float → Float → Projected
 projectedOf p e s =
-    let k = rankOf e in
+    let k = orderOf e in
     let b = choiceOf p s (sumOf e) (arrangeOf k e) in
     record { branch = b; strains = restoreOf k (returnedOf p s (sumOf e) (arrangeOf k e) b) }
 

@@ -9,10 +9,10 @@ use Rattle.numbers.specs.Range.{onPath}
 use Rattle.numbers.specs.declared.Elementary.{Elementary}
 use Rattle.numbers.specs.declared.Elementary.the-variants as elementary
 use Rattle.logarithm.specs.Ln.{lnRanged}
-use Rattle.square_root.specs.Sqrt.{sqrtRanged}
 use Rattle.exponential.specs.Exp.{expRanged}
 use Rattle.physics.specs.Physics.{lambdaOf, shearModulusOf}
-use Rattle.tensor.specs.Matrix.{add, sub, mul, one, three, dotOf, rowSubOf, recomposeOf, rowsOf}
+use Rattle.physics.specs.Norm.{normOf}
+use Rattle.tensor.specs.Matrix.{add, sub, mul, one, three, rowSubOf, recomposeOf, rowsOf}
 use Rattle.tensor.specs.Finite.{rowFinite, matFinite}
 use Rattle.law.specs.State.{inputsFinite, refused}
 use Rattle.law.specs.declared.Outcome.the-variants as outcome
@@ -60,12 +60,9 @@ grownOf p h (elementary.Value norm) =
     (elementary.Refused 3)
 grownOf p h (elementary.Refused n) = elementary.Refused n
 
--- the norm of the change is the root of the sum of squares
-abbrev pub squaresOf : List Float → List Float → Float
-squaresOf old new = dotOf (rowSubOf old new) (rowSubOf old new)
-
+-- by the norm of the change
 unfoldable pub hardeningOf : RankinePlasticity → Float → List Float → List Float → Elementary
-hardeningOf p h old new = grownOf p h (onPath (squaresOf old new) (sqrtRanged (squaresOf old new)))
+hardeningOf p h old new = grownOf p h (normOf (rowSubOf old new))
 
 -- F, sigma and the plastic hardening are new
 abbrev pub stateOf : List (List Float) → List Float → Float → State → State

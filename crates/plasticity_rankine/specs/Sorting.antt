@@ -1,7 +1,8 @@
--- Three strains sorted upwards and put back (document 01, section 5: equal ones keep index order).
+-- Strains sorted upwards and put back, over however many axes (document 01, section 5: "equal ones keep index order").
 use mathlib.Core.Bool.{cond}
-use mathlib.Core.List.{List}
-use lib.ListN.{getD}
+use mathlib.Core.List.{List, [], _∷_, map, reverse}
+use Prim.Native.Nat.{ℕ, zero, suc}
+use lib.ListN.{length, getD, set}
 use lib.Ieee as Ieee
 use lib.Ieee.{Float, nan}
 use Rattle.tensor.specs.Matrix.{three}
@@ -9,31 +10,51 @@ use Rattle.plasticity_rankine.specs.declared.Rank.{Rank}
 use Rattle.plasticity_rankine.specs.declared.Rank.the-variants.{R012, R021, R102, R120, R201, R210}
 use Rattle.plasticity_rankine.specs.declared.Sorted.{Sorted}
 
--- the indexes of the lowest, the middle and the highest
-unfoldable pub rankOf : List Float → Rank
-rankOf e =
-    let x = getD e 0 nan in
-    let y = getD e 1 nan in
-    let z = getD e 2 nan in
-    cond (Ieee.le x y) (cond (Ieee.le y z) R012 (cond (Ieee.le x z) R021 R201))
-    (cond (Ieee.le x z) R102 (cond (Ieee.le y z) R120 R210))
+-- the index i among lower ones that stand from the highest strain down: before the first whose strain is at most its own
+abbrev pub placedOf : List Float → ℕ → List ℕ → List ℕ
+placedOf e i [] = i ∷ []
+placedOf e i (j ∷ js) = cond (Ieee.le (getD e j nan) (getD e i nan)) (i ∷ j ∷ js) (j ∷ placedOf e i js)
+
+-- the indexes below n, from the highest strain down
+abbrev pub downOf : List Float → ℕ → List ℕ
+downOf e zero = []
+downOf e (suc n) = placedOf e n (downOf e n)
+
+-- the indexes from the lowest strain up
+unfoldable pub orderOf : List Float → List ℕ
+orderOf e = reverse (downOf e (length e))
+
+-- the strains in an order of indexes
+abbrev pub arrangedOf : List ℕ → List Float → List Float
+arrangedOf ks e = map (λ k. getD e k nan) ks
+
+-- strains that stand in an order of indexes, each put at its index in e
+abbrev pub putOf : List ℕ → List Float → List Float → List Float
+putOf (k ∷ ks) (v ∷ vs) e = putOf ks vs (set e k v)
+putOf (k ∷ ks) [] e = e
+putOf [] vs e = e
+
+-- back in index order
+abbrev pub restoredOf : List ℕ → List Float → List Float
+restoredOf ks vs = putOf ks vs vs
+
+-- ---- three axes
+-- what the six orders stand for
+abbrev pub indexesOf : Rank → List ℕ
+indexesOf R012 = 0 ∷ 1 ∷ 2 ∷ []
+indexesOf R021 = 0 ∷ 2 ∷ 1 ∷ []
+indexesOf R102 = 1 ∷ 0 ∷ 2 ∷ []
+indexesOf R120 = 1 ∷ 2 ∷ 0 ∷ []
+indexesOf R201 = 2 ∷ 0 ∷ 1 ∷ []
+indexesOf R210 = 2 ∷ 1 ∷ 0 ∷ []
 
 abbrev pub sortedOf : Float → Float → Float → Sorted
 sortedOf c b a = record { low = c; mid = b; high = a }
 
-abbrev pub arrangeOf : Rank → List Float → Sorted
-arrangeOf R012 e = sortedOf (getD e 0 nan) (getD e 1 nan) (getD e 2 nan)
-arrangeOf R021 e = sortedOf (getD e 0 nan) (getD e 2 nan) (getD e 1 nan)
-arrangeOf R102 e = sortedOf (getD e 1 nan) (getD e 0 nan) (getD e 2 nan)
-arrangeOf R120 e = sortedOf (getD e 1 nan) (getD e 2 nan) (getD e 0 nan)
-arrangeOf R201 e = sortedOf (getD e 2 nan) (getD e 0 nan) (getD e 1 nan)
-arrangeOf R210 e = sortedOf (getD e 2 nan) (getD e 1 nan) (getD e 0 nan)
+abbrev pub arrangeOf : List ℕ → List Float → Sorted
+arrangeOf ks e =
+    let l = arrangedOf ks e in
+    sortedOf (getD l 0 nan) (getD l 1 nan) (getD l 2 nan)
 
--- back in index order
-abbrev pub restoreOf : Rank → Sorted → List Float
-restoreOf R012 r = three (r .low) (r .mid) (r .high)
-restoreOf R021 r = three (r .low) (r .high) (r .mid)
-restoreOf R102 r = three (r .mid) (r .low) (r .high)
-restoreOf R120 r = three (r .high) (r .low) (r .mid)
-restoreOf R201 r = three (r .mid) (r .high) (r .low)
-restoreOf R210 r = three (r .high) (r .mid) (r .low)
+abbrev pub restoreOf : List ℕ → Sorted → List Float
+restoreOf ks r = restoredOf ks (three (r .low) (r .mid) (r .high))

@@ -5,14 +5,7 @@ use crate::Sorted;
 use crate::sorting;
 ghost use mathlib.Core.Path.{_≡_};
 ghost use Rattle.plasticity_rankine.specs.Sorting.{sortedOf};
-ghost use Rattle.plasticity_rankine.specs.Projection.{sumOf, firstSide, secondSide, thirdSide, backOne, backTwo, backAll, lastChoice, nextChoice, choiceOf, returnedOf, projectedOf, parametersFinite, moduliFinite, refusedStrains, projectOf};
-
-// By rising index.
-fn sum(e: [f64; 3]) -> f64
-    ensures { λ r. ⌜ r ≡ sumOf e ⌝ }
-{
-    e[0] + e[1] + e[2]
-}
+ghost use Rattle.plasticity_rankine.specs.Projection.{firstSide, secondSide, thirdSide, backOne, backTwo, backAll, lastChoice, nextChoice, choiceOf, returnedOf, projectedOf, parametersFinite, moduliFinite, refusedStrains, projectOf};
 
 fn refused_strains(n: u8) -> Projected
     ensures { λ r. ⌜ r ≡ refusedStrains n ⌝ }
@@ -135,7 +128,7 @@ impl RankinePlasticity {
         ensures { λ r. ⌜ r ≡ projectedOf self e s ⌝ }
     {
         let k = sorting::rank(e);
-        let sum = sum(e);
+        let sum = tensor::sum(e);
         let r = sorting::arrange(k, e);
         let b = self.choose(s, sum, r);
         let strains = sorting::restore(k, self.returned(s, sum, r, b));

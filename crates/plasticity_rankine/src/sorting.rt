@@ -1,11 +1,11 @@
 use crate::Rank;
 use crate::Sorted;
 ghost use mathlib.Core.Path.{_≡_};
-ghost use Rattle.plasticity_rankine.specs.Sorting.{rankOf, sortedOf, arrangeOf, restoreOf};
+ghost use Rattle.plasticity_rankine.specs.Sorting.{orderOf, indexesOf, sortedOf, arrangeOf, restoreOf};
 
 // Which of the six orders; equal strains keep index order.
 pub fn rank(e: [f64; 3]) -> Rank
-    ensures { λ r. ⌜ r ≡ rankOf e ⌝ }
+    ensures { λ r. ⌜ indexesOf r ≡ orderOf e ⌝ }
 {
     if e[0] <= e[1] {
         if e[1] <= e[2] {
@@ -31,7 +31,7 @@ pub fn sorted(low: f64, mid: f64, high: f64) -> Sorted
 }
 
 pub fn arrange(k: Rank, e: [f64; 3]) -> Sorted
-    ensures { λ r. ⌜ r ≡ arrangeOf k e ⌝ }
+    ensures { λ r. ⌜ r ≡ arrangeOf (indexesOf k) e ⌝ }
 {
     match k {
         Rank::R012 => sorted(e[0], e[1], e[2]),
@@ -45,7 +45,7 @@ pub fn arrange(k: Rank, e: [f64; 3]) -> Sorted
 
 // Back in index order.
 pub fn restore(k: Rank, r: Sorted) -> [f64; 3]
-    ensures { λ x. ⌜ x ≡ restoreOf k r ⌝ }
+    ensures { λ x. ⌜ x ≡ restoreOf (indexesOf k) r ⌝ }
 {
     match k {
         Rank::R012 => [r.low, r.mid, r.high],

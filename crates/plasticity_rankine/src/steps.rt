@@ -6,7 +6,7 @@ use law::State;
 use law::Updated;
 use numbers::Elementary;
 ghost use mathlib.Core.Path.{_≡_};
-ghost use Rattle.plasticity_rankine.specs.Rankine.{joinedOf, logsOf, expsOf, softStrengthOf, grownOf, squaresOf, hardeningOf, stateOf, rankineStore, rankineFinish};
+ghost use Rattle.plasticity_rankine.specs.Rankine.{joinedOf, logsOf, expsOf, softStrengthOf, grownOf, hardeningOf, stateOf, rankineStore, rankineFinish};
 
 // Three answers in index order: the first refusal is handed on.
 fn joined(a: Elementary, b: Elementary, c: Elementary) -> Triple
@@ -44,13 +44,6 @@ pub fn exps(e: [f64; 3]) -> Triple
     )
 }
 
-fn squares(old: [f64; 3], new: [f64; 3]) -> f64
-    ensures { λ r. ⌜ r ≡ squaresOf old new ⌝ }
-{
-    let d = tensor::row_sub(old, new);
-    tensor::dot(d, d)
-}
-
 impl RankinePlasticity {
     // The hardening starts from 1.
     pub(crate) fn soft_strength(self, h: f64) -> f64
@@ -80,7 +73,7 @@ impl RankinePlasticity {
     pub(crate) fn hardening(self, h: f64, old: [f64; 3], new: [f64; 3]) -> Elementary
         ensures { λ r. ⌜ r ≡ hardeningOf self h old new ⌝ }
     {
-        self.grown(h, square_root::sqrt_on_path(squares(old, new)))
+        self.grown(h, physics::norm_on_path(tensor::row_sub(old, new)))
     }
 }
 

@@ -1,15 +1,14 @@
 -- Snow (document 01, section 5; plasticity_snow.rs).
 use mathlib.Core.Bool.{Bool, cond, _&&_}
-use mathlib.Core.List.{List}
+use mathlib.Core.List.{List, map}
 use Prim.Native.Nat.{ℕ}
-use lib.ListN.{getD}
-use lib.Ieee.{Float, nan, binary64, ofBits}
+use lib.Ieee.{Float, binary64, ofBits}
 use Rattle.numbers.specs.Rules.{finite, maxOf, minOf}
 use Rattle.numbers.specs.Range.{onPath}
 use Rattle.numbers.specs.declared.Elementary.{Elementary}
 use Rattle.numbers.specs.declared.Elementary.the-variants as elementary
 use Rattle.exponential.specs.Exp.{expRanged}
-use Rattle.tensor.specs.Matrix.{add, sub, mul, div, three, productOf, recomposeOf, rowsOf}
+use Rattle.tensor.specs.Matrix.{add, sub, mul, div, productOf, recomposeOf, rowsOf}
 use Rattle.tensor.specs.Finite.{rowFinite, matFinite}
 use Rattle.law.specs.State.{inputsFinite, refused}
 use Rattle.law.specs.declared.Outcome.the-variants.{Stored}
@@ -34,7 +33,7 @@ abbrev pub clampOf : SnowPlasticity → Float → Float
 clampOf p e = minOf (maxOf e (sub one (p .«min_epsilon»))) (add one (p .«max_epsilon»))
 
 abbrev pub clampedOf : SnowPlasticity → List Float → List Float
-clampedOf p s = three (clampOf p (getD s 0 nan)) (clampOf p (getD s 1 nan)) (clampOf p (getD s 2 nan))
+clampedOf p s = map (clampOf p) s
 
 -- the plastic determinant is multiplied by old product over new product
 abbrev pub determinantOf : Float → List Float → List Float → Float

@@ -5,11 +5,11 @@ use lib.Ieee.{binary64, ofBits}
 use Rattle.exact.specs.Units.{mag, L}
 use Rattle.numbers.specs.Rules.{finite, isNumber}
 use Rattle.exponential.specs.Worked.{expOf, expBits, packOf, partOf, tailOf}
-use Rattle.tensor.specs.Matrix.{one}
+use Rattle.tensor.specs.Matrix.{one, sumOf, productOf, dotOf, scaledRowOf}
 use Rattle.law.specs.declared.Outcome.the-variants.{Stored}
 use Rattle.plasticity_snow.specs.Snow.{defaults, snowUpdate, snowRun}
 use Rattle.proved_cases.specs.Table.{identity, rested}
 
 pub example : snowUpdate defaults identity identity rested .outcome ≡ Stored one
-unfolding snowUpdate snowRun expOf expBits packOf partOf tailOf mag L finite isNumber ofBits Ieee.add Ieee.sub Ieee.mul Ieee.div Ieee.neg Ieee.le Ieee.lt Ieee.eq
+unfolding snowUpdate snowRun productOf sumOf dotOf scaledRowOf expOf expBits packOf partOf tailOf mag L finite isNumber ofBits Ieee.add Ieee.sub Ieee.mul Ieee.div Ieee.neg Ieee.le Ieee.lt Ieee.eq
 example = refl

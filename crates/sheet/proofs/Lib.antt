@@ -6,4 +6,7 @@ pub mod Rooms
 pub mod Pieces
 pub mod Format
 pub mod Refusals
+pub mod AllSheets
+pub mod Reasons
+pub mod Ended
 pub mod Examples

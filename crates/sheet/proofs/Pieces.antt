@@ -36,11 +36,11 @@ pub after : (s : List ℕ) (at : ℕ) (p q : List ℕ) (k : ℕ) → drop at s �
 after s at p q k e n = sym (drop-drop k at s) ∙ ap (drop k) e ∙ drop-at p q k n
 
 -- NUMBERS
-one-spelled : (n : ℕ) → n < 128 → n ∷ [] ≡ spellNumber n
+pub one-spelled : (n : ℕ) → n < 128 → n ∷ [] ≡ spellNumber n
 unfolding spellNumber
 one-spelled n h = rw (lt-ltb n 128 h)
 
-two-spelled : (low high : ℕ) → 128 ≤ low → low < 256 → (high ≡ 0 → ⊥) → low ∷ high ∷ [] ≡ spellNumber (low - 128 + high * 128)
+pub two-spelled : (low high : ℕ) → 128 ≤ low → low < 256 → (high ≡ 0 → ⊥) → low ∷ high ∷ [] ≡ spellNumber (low - 128 + high * 128)
 unfolding spellNumber
 two-spelled low high l h z =
     let n = low - 128 + high * 128 in
@@ -126,13 +126,13 @@ word-below (x ∷ l) b =
     omega arith
 
 -- the bytes of a list that has a word in front
-front-bytes : (l : List ℕ) → Below 256 l → 8 ≤ length l → l ≡ spellBytes 8 (wordOf (take 8 l)) ++ drop 8 l
+pub front-bytes : (l : List ℕ) → Below 256 l → 8 ≤ length l → l ≡ spellBytes 8 (wordOf (take 8 l)) ++ drop 8 l
 front-bytes l b h =
     let n : length (take 8 l) ≡ 8 = simp length-take (omega arith) in
     let e : spellBytes 8 (wordOf (take 8 l)) ≡ take 8 l = ap (λ (k : ℕ). spellBytes k (wordOf (take 8 l))) (sym n) ∙ bytes-of-word (take 8 l) (below-take 256 8 l b) in
     rw e (sym (take-append-drop 8 l))
 
-front-below : (l : List ℕ) → Below 256 l → 8 ≤ length l → wordOf (take 8 l) < 2 ^ 64
+pub front-below : (l : List ℕ) → Below 256 l → 8 ≤ length l → wordOf (take 8 l) < 2 ^ 64
 front-below l b h =
     let n : length (take 8 l) ≡ 8 = simp length-take (omega arith) in
     rw n at (word-below (take 8 l) (below-take 256 8 l b))
@@ -152,7 +152,7 @@ word-spelled s at w next b e =
 pub word-front : (w : ℕ) (rest : List ℕ) → w < 2 ^ 64 → wordOf (take 8 (spellBytes 8 w ++ rest)) ≡ w
 word-front w rest h = rw (take-at (spellBytes 8 w) rest 8 (bytes-length 8 w)) (word-of-bytes 8 w h)
 
-word-read : (s : List ℕ) (at w : ℕ) (rest : List ℕ) → w < 2 ^ 64 → drop at s ≡ spellBytes 8 w ++ rest → wordAt s at ≡ Word·Read w (at + 8)
+pub word-read : (s : List ℕ) (at w : ℕ) (rest : List ℕ) → w < 2 ^ 64 → drop at s ≡ spellBytes 8 w ++ rest → wordAt s at ≡ Word·Read w (at + 8)
 unfolding wordAt
 word-read s at w rest h d =
     let n : 8 ≤ length (spellBytes 8 w ++ rest) = omega (arith, length-append (spellBytes 8 w) rest, bytes-length 8 w) in

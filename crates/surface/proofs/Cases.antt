@@ -34,7 +34,10 @@ fair =
       ranges = record { mu-low = lit≤ tt; mu-high = lit≤ tt; la-low = lit≤ tt; la-high = lit≤ tt; s-size = lit≤ tt };
     }
 
-strains : Each Strain (three (ofBits binary64 0xbfeeee4b4d5ab1d0) (ofBits binary64 0xc00f3410c3210a64) (ofBits binary64 0xc00b6045575bbf0a))
+abbrev given : List Float
+given = three (ofBits binary64 0xbfeeee4b4d5ab1d0) (ofBits binary64 0xc00f3410c3210a64) (ofBits binary64 0xc00b6045575bbf0a)
+
+strains : Each Strain given
 unfolding ofBits fits mag L
 strains = (record { fine = (tt, tt); size = lit≤ tt }, (record { fine = (tt, tt); size = lit≤ tt }, (record { fine = (tt, tt); size = lit≤ tt }, tt)))
 
@@ -65,3 +68,20 @@ half-moved = three (ofBits binary64 0x3ffa998174105cc8) (ofBits binary64 0xbffb0
 half-moved-is-off : Each (Below (of (ofBits binary64 0x4012a272469e8452) zero) (ofBits binary64 0xc02f72fd2d6aca41) half-moved) half-moved → ⊥
 unfolding ofBits val mag L
 half-moved-is-off h = off tt (h .0)
+
+-- all should move, and 2mu + 2lambda divides: no stress reaches the strength
+abbrev over-divided : List Float
+over-divided = three (ofBits binary64 0xc0068458f7efec5a) (ofBits binary64 0xc0068458f7efec5a) (ofBits binary64 0xc0068458f7efec5a)
+
+over-divided-is-off : Some (Reaches (of (ofBits binary64 0x401a30a5e689adfd) (ofBits binary64 0x3fd81f81c2df15e6)) (ofBits binary64 0xc0437d5a6f7658bd) over-divided) over-divided
+    → ⊥
+unfolding ofBits val mag L
+over-divided-is-off (inl h) = off tt h
+over-divided-is-off (inr (inl h)) = off tt h
+over-divided-is-off (inr (inr (inl h))) = off tt h
+over-divided-is-off (inr (inr (inr h))) = h
+
+-- nothing is done where one strain should move: its stress is above the strength
+nothing-is-off : Each (Below law strength given) given → ⊥
+unfolding ofBits val mag L
+nothing-is-off h = off tt (h .0)

@@ -1,8 +1,9 @@
 -- The Rankine projection of strains in index order: sorted upwards, returned, and put back
 use mathlib.Core.Path.{_≡_, refl, sym, ap, _∙_, subst}
 use mathlib.Core.Logic.{inl, inr}
-use Prim.Native.Nat.{_*_}
+use Prim.Native.Nat.{ℕ, _*_}
 use mathlib.Core.Bool.{Bool, true, false, not, cond}
+use mathlib.Core.List.{List, [], _∷_}
 use lib.Dec.{T}
 use lib.IntN.{pos, _+ℤ_, _*ℤ_}
 use lib.Ieee.{Float, le}
@@ -13,21 +14,42 @@ use Rattle.exact.specs.Value.{val}
 use Rattle.exact.specs.OrderLe.{le-val}
 use Rattle.exact.specs.Distances.{not-le-val}
 use Rattle.numbers.specs.Rules.{isNumber}
-use Rattle.tensor.specs.Matrix.{three}
+use Rattle.tensor.specs.Matrix.{three, sumOf}
 use Rattle.plasticity_rankine.specs.declared.RankinePlasticity.{RankinePlasticity}
 use Rattle.plasticity_rankine.specs.declared.Sorted.{Sorted}
 use Rattle.plasticity_rankine.specs.declared.Rank.{Rank}
-use Rattle.plasticity_rankine.specs.declared.Rank.the-variants.{R012, R021, R102, R120, R201, R210}
+use Rattle.plasticity_rankine.specs.declared.Rank.the-variants as rank
 use Rattle.plasticity_rankine.specs.declared.Branch.{Branch}
 use Rattle.plasticity_rankine.specs.declared.Branch.the-variants.{Untouched, One, Two, All, Refused}
-use Rattle.plasticity_rankine.specs.Sorting.{rankOf, arrangeOf, restoreOf}
-use Rattle.plasticity_rankine.specs.Projection.{sumOf, firstSide, secondSide, thirdSide, lastChoice, nextChoice, choiceOf, returnedOf, projectedOf}
+use Rattle.plasticity_rankine.specs.Sorting.{orderOf, indexesOf, arrangeOf, restoreOf}
+use Rattle.plasticity_rankine.proofs.Orders.{rankOf, order-of-three}
+use Rattle.plasticity_rankine.specs.Projection.{firstSide, secondSide, thirdSide, lastChoice, nextChoice, choiceOf, returnedOf, projectedOf}
 use Rattle.surface.specs.Axes.{Each, Some, total}
 use Rattle.surface.specs.Surface.{modulus, Under, Below, Reaches, Fair, Strain, Settled, OnSurface, firstTest}
 use Rattle.surface.proofs.Branches.{Upwards, principal, Held, OnYield, untouched, one-back, two-back, all-back}
 
 -- ---- there and back
-total-restore : (k : Rank) (r : Sorted) → total (restoreOf k r) ≡ val (r .low) +ℤ val (r .mid) +ℤ val (r .high)
+-- the orders of three axes
+data Order : List ℕ → Type 0 where
+  R012 : Order (0 ∷ 1 ∷ 2 ∷ [])
+  R021 : Order (0 ∷ 2 ∷ 1 ∷ [])
+  R102 : Order (1 ∷ 0 ∷ 2 ∷ [])
+  R120 : Order (1 ∷ 2 ∷ 0 ∷ [])
+  R201 : Order (2 ∷ 0 ∷ 1 ∷ [])
+  R210 : Order (2 ∷ 1 ∷ 0 ∷ [])
+
+of-rank : (k : Rank) → Order (indexesOf k)
+of-rank rank.R012 = R012
+of-rank rank.R021 = R021
+of-rank rank.R102 = R102
+of-rank rank.R120 = R120
+of-rank rank.R201 = R201
+of-rank rank.R210 = R210
+
+order : (x y z : Float) → Order (orderOf (three x y z))
+order x y z = subst Order (sym (order-of-three x y z)) (of-rank (rankOf (le x y) (le y z) (le x z)))
+
+total-restore : {k : List ℕ} → Order k → (r : Sorted) → total (restoreOf k r) ≡ val (r .low) +ℤ val (r .mid) +ℤ val (r .high)
 total-restore R012 r = ring 3 (val (r .low), (val (r .mid), (val (r .high), tt))) (var 0 :+ (var 1 :+ (var 2 :+ con (pos 0)))) (var 0 :+ var 1 :+ var 2) tt
 total-restore R021 r = ring 3 (val (r .low), (val (r .mid), (val (r .high), tt))) (var 0 :+ (var 2 :+ (var 1 :+ con (pos 0)))) (var 0 :+ var 1 :+ var 2) tt
 total-restore R102 r = ring 3 (val (r .low), (val (r .mid), (val (r .high), tt))) (var 1 :+ (var 0 :+ (var 2 :+ con (pos 0)))) (var 0 :+ var 1 :+ var 2) tt
@@ -38,7 +60,7 @@ total-restore R210 r = ring 3 (val (r .low), (val (r .mid), (val (r .high), tt))
 total-three : (x y z : Float) → val x +ℤ val y +ℤ val z ≡ total (three x y z)
 total-three x y z = ring 3 (val x, (val y, (val z, tt))) (var 0 :+ var 1 :+ var 2) (var 0 :+ (var 1 :+ (var 2 :+ con (pos 0)))) tt
 
-and-back : (k : Rank) (x y z : Float) → restoreOf k (arrangeOf k (three x y z)) ≡ three x y z
+and-back : {k : List ℕ} → Order k → (x y z : Float) → restoreOf k (arrangeOf k (three x y z)) ≡ three x y z
 and-back R012 x y z = refl
 and-back R021 x y z = refl
 and-back R102 x y z = refl
@@ -51,7 +73,7 @@ record Laid (F : Float → Type 0) (r : Sorted) : Type 0 where
   mid : F (r .mid)
   high : F (r .high)
 
-laid : (F : Float → Type 0) (k : Rank) (x y z : Float) → F x → F y → F z → Laid F (arrangeOf k (three x y z))
+laid : (F : Float → Type 0) {k : List ℕ} → Order k → (x y z : Float) → F x → F y → F z → Laid F (arrangeOf k (three x y z))
 laid F R012 x y z a b c = record { low = a; mid = b; high = c }
 laid F R021 x y z a b c = record { low = a; mid = c; high = b }
 laid F R102 x y z a b c = record { low = b; mid = a; high = c }
@@ -59,7 +81,7 @@ laid F R120 x y z a b c = record { low = b; mid = c; high = a }
 laid F R201 x y z a b c = record { low = c; mid = a; high = b }
 laid F R210 x y z a b c = record { low = c; mid = b; high = a }
 
-put : (F : Float → Type 0) (k : Rank) (r : Sorted) → F (r .low) → F (r .mid) → F (r .high) → Each F (restoreOf k r)
+put : (F : Float → Type 0) {k : List ℕ} → Order k → (r : Sorted) → F (r .low) → F (r .mid) → F (r .high) → Each F (restoreOf k r)
 put F R012 r a b c = (a, (b, (c, tt)))
 put F R021 r a b c = (a, (c, (b, tt)))
 put F R102 r a b c = (b, (a, (c, tt)))
@@ -67,7 +89,7 @@ put F R120 r a b c = (c, (a, (b, tt)))
 put F R201 r a b c = (b, (c, (a, tt)))
 put F R210 r a b c = (c, (b, (a, tt)))
 
-one : (F : Float → Type 0) (k : Rank) (r : Sorted) → F (r .high) → Some F (restoreOf k r)
+one : (F : Float → Type 0) {k : List ℕ} → Order k → (r : Sorted) → F (r .high) → Some F (restoreOf k r)
 one F R012 r h = inr (inr (inl h))
 one F R021 r h = inr (inl h)
 one F R102 r h = inr (inr (inl h))
@@ -81,7 +103,7 @@ record Ordered (r : Sorted) : Type 0 where
 
 ordered : (x y z : Float) (a b c : Bool) → (T a → val x ≤ᶻ val y) → (T (not a) → val y ≤ᶻ val x) → (T b → val y ≤ᶻ val z) → (T (not b) → val z ≤ᶻ val y)
     → (T c → val x ≤ᶻ val z) → (T (not c) → val z ≤ᶻ val x)
-    → Ordered (arrangeOf (cond a (cond b R012 (cond c R021 R201)) (cond c R102 (cond b R120 R210))) (three x y z))
+    → Ordered (arrangeOf (indexesOf (rankOf a b c)) (three x y z))
 ordered x y z true true c h h' i i' j j' = record { low-mid = h tt; mid-high = i tt }
 ordered x y z true false true h h' i i' j j' = record { low-mid = j tt; mid-high = i' tt }
 ordered x y z true false false h h' i i' j j' = record { low-mid = j' tt; mid-high = h tt }
@@ -89,17 +111,18 @@ ordered x y z false b true h h' i i' j j' = record { low-mid = h' tt; mid-high =
 ordered x y z false true false h h' i i' j j' = record { low-mid = i tt; mid-high = j' tt }
 ordered x y z false false false h h' i i' j j' = record { low-mid = i' tt; mid-high = h' tt }
 
-upwards : (x y z : Float) → Each Strain (three x y z) → Upwards x y z (arrangeOf (rankOf (three x y z)) (three x y z))
-unfolding rankOf
+upwards : (x y z : Float) → Each Strain (three x y z) → Upwards x y z (arrangeOf (orderOf (three x y z)) (three x y z))
 upwards x y z i =
-    let k = rankOf (three x y z) in
+    let k = orderOf (three x y z) in
+    let d = order x y z in
     let a = i .0 in
     let b = i .1 .0 in
     let c = i .1 .1 .0 in
-    let s = laid Strain k x y z a b c in
+    let s = laid Strain d x y z a b c in
     let o =
-    ordered x y z (le x y) (le y z) (le x z) (le-val x y (a .fine) (b .fine)) (not-le-val x y (a .fine) (b .fine)) (le-val y z (b .fine) (c .fine))
-    (not-le-val y z (b .fine) (c .fine)) (le-val x z (a .fine) (c .fine)) (not-le-val x z (a .fine) (c .fine)) in
+    subst (λ l. Ordered (arrangeOf l (three x y z))) (sym (order-of-three x y z))
+    (ordered x y z (le x y) (le y z) (le x z) (le-val x y (a .fine) (b .fine)) (not-le-val x y (a .fine) (b .fine)) (le-val y z (b .fine) (c .fine))
+    (not-le-val y z (b .fine) (c .fine)) (le-val x z (a .fine) (c .fine)) (not-le-val x z (a .fine) (c .fine))) in
     record {
       first = a;
       second = b;
@@ -109,29 +132,29 @@ upwards x y z i =
       high = s .high;
       low-mid = o .low-mid;
       mid-high = o .mid-high;
-      sum = total-three x y z ∙ ap total (sym (and-back k x y z)) ∙ total-restore k (arrangeOf k (three x y z));
+      sum = total-three x y z ∙ ap total (sym (and-back d x y z)) ∙ total-restore d (arrangeOf k (three x y z));
     }
 
 -- ---- bounds in index order
-below : (law : RankinePlasticity) (s : Float) (k : Rank) (r : Sorted) → Held law s r → Each (Below law s (restoreOf k r)) (restoreOf k r)
-below law s k r h =
+below : (law : RankinePlasticity) (s : Float) {k : List ℕ} → Order k → (r : Sorted) → Held law s r → Each (Below law s (restoreOf k r)) (restoreOf k r)
+below law s {k} d r h =
     subst (λ t. Each (λ w. Under (val (law .lambda) *ℤ t +ℤ pos 2 *ℤ val (law .mu) *ℤ val w) (val s *ℤ pos L) (modulus law * L)) (restoreOf k r))
-    (sym (total-restore k r))
-    (put (λ w. Under (principal law r w) (val s *ℤ pos L) (modulus law * L)) k r (h .low) (h .mid) (h .high))
+    (sym (total-restore d r))
+    (put (λ w. Under (principal law r w) (val s *ℤ pos L) (modulus law * L)) d r (h .low) (h .mid) (h .high))
 
-reaches : (law : RankinePlasticity) (s : Float) (k : Rank) (r : Sorted) → Under (val s *ℤ pos L) (principal law r (r .high)) (modulus law * L)
+reaches : (law : RankinePlasticity) (s : Float) {k : List ℕ} → Order k → (r : Sorted) → Under (val s *ℤ pos L) (principal law r (r .high)) (modulus law * L)
     → Some (Reaches law s (restoreOf k r)) (restoreOf k r)
-reaches law s k r h =
+reaches law s {k} d r h =
     subst (λ t. Some (λ w. Under (val s *ℤ pos L) (val (law .lambda) *ℤ t +ℤ pos 2 *ℤ val (law .mu) *ℤ val w) (modulus law * L)) (restoreOf k r))
-    (sym (total-restore k r))
-    (one (λ w. Under (val s *ℤ pos L) (principal law r w) (modulus law * L)) k r h)
+    (sym (total-restore d r))
+    (one (λ w. Under (val s *ℤ pos L) (principal law r w) (modulus law * L)) d r h)
 
-on-surface : (law : RankinePlasticity) (s : Float) (k : Rank) (r : Sorted) → OnYield law s r → OnSurface law s (restoreOf k r)
-on-surface law s k r y =
+on-surface : (law : RankinePlasticity) (s : Float) {k : List ℕ} → Order k → (r : Sorted) → OnYield law s r → OnSurface law s (restoreOf k r)
+on-surface law s {k} d r y =
     record {
-      fine = put Fin64 k r (y .fine-low) (y .fine-mid) (y .fine-high);
-      below = below law s k r (y .held);
-      reaches = reaches law s k r (y .reaches);
+      fine = put Fin64 d r (y .fine-low) (y .fine-mid) (y .fine-high);
+      below = below law s d r (y .held);
+      reaches = reaches law s d r (y .reaches);
     }
 
 -- ---- the branch
@@ -160,13 +183,15 @@ record Moved (law : RankinePlasticity) (s S : Float) (r : Sorted) (b : Branch) :
 module _ {law : RankinePlasticity} {s : Float} (g : Fair law s) (x y z : Float) (i : Each Strain (three x y z)) where
   -- where the first test holds
   pub inside : T (firstTest law (three x y z) s) → Each (Below law s (three x y z)) (three x y z)
+  unfolding sumOf
   inside h =
-      let k = rankOf (three x y z) in
-      subst (λ t. Each (Below law s t) t) (and-back k x y z) (below law s k (arrangeOf k (three x y z)) (untouched g (upwards x y z i) h))
+      let k = orderOf (three x y z) in
+      let d = order x y z in
+      subst (λ t. Each (Below law s t) t) (and-back d x y z) (below law s d (arrangeOf k (three x y z)) (untouched g (upwards x y z i) h))
 
   moved : (r : Sorted) → Upwards x y z r → T (not (le (firstSide law (sumOf (three x y z)) (r .high)) s)) → Settled (choiceOf law s (sumOf (three x y z)) r)
       → Moved law s (sumOf (three x y z)) r (choiceOf law s (sumOf (three x y z)) r)
-  unfolding choiceOf nextChoice lastChoice
+  unfolding sumOf choiceOf nextChoice lastChoice
   moved r d h t =
       let S = sumOf (three x y z) in
       pick (Moved law s S r) (isNumber (firstSide law S (r .high))) (le (firstSide law S (r .high)) s) (isNumber (secondSide law S (r .high) (r .mid)))
@@ -179,13 +204,13 @@ module _ {law : RankinePlasticity} {s : Float} (g : Fair law s) (x y z : Float) 
 
   -- and where it fails
   pub outside : T (not (firstTest law (three x y z) s))
-      → let k = rankOf (three x y z) in let r = arrangeOf k (three x y z) in let b = choiceOf law s (sumOf (three x y z)) r in Settled b
+      → let k = orderOf (three x y z) in let r = arrangeOf k (three x y z) in let b = choiceOf law s (sumOf (three x y z)) r in Settled b
       → Moves b × OnSurface law s (restoreOf k (returnedOf law s (sumOf (three x y z)) r b))
   outside h t =
-      let k = rankOf (three x y z) in
+      let k = orderOf (three x y z) in
       let r = arrangeOf k (three x y z) in
       let m = moved r (upwards x y z i) h t in
-      (m .moves, on-surface law s k (returnedOf law s (sumOf (three x y z)) r (choiceOf law s (sumOf (three x y z)) r)) (m .yields))
+      (m .moves, on-surface law s (order x y z) (returnedOf law s (sumOf (three x y z)) r (choiceOf law s (sumOf (three x y z)) r)) (m .yields))
 
 kept : (law : RankinePlasticity) (s S : Float) (r : Sorted) (n l : Bool) (x y : Float) (B : Branch) → T l
     → Settled (cond n (cond l (Untouched x y) B) (Refused 3))
@@ -200,7 +225,7 @@ pub same : (law : RankinePlasticity) (s x y z : Float) → T (firstTest law (thr
 unfolding projectedOf choiceOf
 same law s x y z t h =
     let e = three x y z in
-    let k = rankOf e in
+    let k = orderOf e in
     let r = arrangeOf k e in
     let c = firstSide law (sumOf e) (r .high) in
-    ap (restoreOf k) (kept law s (sumOf e) r (isNumber c) (le c s) c s (nextChoice law s (sumOf e) r) t h) ∙ and-back k x y z
+    ap (restoreOf k) (kept law s (sumOf e) r (isNumber c) (le c s) c s (nextChoice law s (sumOf e) r) t h) ∙ and-back (order x y z) x y z

@@ -2,5 +2,10 @@ pub mod Scale
 pub mod Bounds
 pub mod Branches
 pub mod Indexed
+pub mod Strains
 pub mod Update
+pub mod Places
+pub mod Passes
+pub mod Records
 pub mod Cases
+pub mod Examples

@@ -5,6 +5,7 @@ use mathlib.Core.Bool.{Bool, not}
 use mathlib.Core.List.{List, []}
 use Prim.Native.Nat.{ℕ, _+_, _*_, _^_, _≤_}
 use lib.Dec.{T}
+use lib.ListN.{length}
 use lib.IntN.{ℤ, pos, _+ℤ_, _*ℤ_}
 use lib.Ieee as Ieee
 use lib.Ieee.{Float}
@@ -12,7 +13,7 @@ use Rattle.exact.specs.Units.{L, mag, Fin64}
 use Rattle.exact.specs.Integers.{_≤ᶻ_}
 use Rattle.exact.specs.Value.{val}
 use Rattle.numbers.specs.Rules.{finite}
-use Rattle.tensor.specs.Matrix.{three}
+use Rattle.tensor.specs.Matrix.{sub, one, three, sumOf}
 use Rattle.law.specs.declared.Outcome.{Outcome}
 use Rattle.law.specs.declared.Outcome.the-variants.{Untouched, Stored, Refused}
 use Rattle.law.specs.declared.State.{State}
@@ -22,9 +23,9 @@ use Rattle.plasticity_rankine.specs.declared.RankineArguments.{RankineArguments
 use Rattle.plasticity_rankine.specs.declared.RankinePlasticity.{RankinePlasticity}
 use Rattle.plasticity_rankine.specs.declared.Triple.{Triple}
 use Rattle.plasticity_rankine.specs.declared.Triple.the-variants as triple
-use Rattle.plasticity_rankine.specs.Sorting.{rankOf, arrangeOf}
-use Rattle.plasticity_rankine.specs.Projection.{sumOf, firstSide, projectedOf, projectOf}
-use Rattle.plasticity_rankine.specs.Rankine.{logsOf, expsOf, softStrengthOf, untouchedOf, rankineUpdate, lawOf, argumentsUpdate}
+use Rattle.plasticity_rankine.specs.Sorting.{orderOf, arrangeOf}
+use Rattle.plasticity_rankine.specs.Projection.{firstSide, projectedOf, projectOf}
+use Rattle.plasticity_rankine.specs.Rankine.{logsOf, expsOf, untouchedOf, rankineUpdate, lawOf, argumentsUpdate}
 use Rattle.surface.specs.Axes.{Each, Some, total}
 
 -- ---- exact stresses
@@ -64,10 +65,18 @@ pub record Fair (p : RankinePlasticity) (s : Float) : Type 0 where
   pub s-fine : Fin64 s
   pub ranges : Ranges p s
 
--- a log strain in -4 to 4
+-- in -4 to 4
+abbrev pub Small : Float → Type 0
+Small x = mag x ≤ 4 * L
+
+-- a strain in -4 to 4 as a finite f64
 pub record Strain (x : Float) : Type 0 where
   pub fine : Fin64 x
-  pub size : mag x ≤ 4 * L
+  pub size : Small x
+
+-- a number that an f64 holds; in the code each one is
+abbrev pub F64 : Float → Type 0
+F64 x = T (Ieee.fits Ieee.binary64 x)
 
 abbrev pub Accepted : Outcome → Type 0
 Accepted Untouched = Unit {0}
@@ -83,25 +92,28 @@ numbersOf (triple.Refused n) = []
 abbrev pub logStrains : State → List Float
 logStrains st = numbersOf (logsOf (st .sigma))
 
--- the softened strength, as the update works it
+-- the softened strength, as the update works it: s = strength - (hardening - 1)
 abbrev pub softened : RankinePlasticity → State → Float
-softened p st = softStrengthOf p (st .«plastic_hardening»)
+softened p st = sub (p .«tensile_strength») (sub (st .«plastic_hardening») one)
 
+-- not refused, the ranges of the moduli and of s, and log strains in -4 to 4: that these are finite f64 is the logarithm's own law
 pub record Taken (p : RankinePlasticity) (u vt : List (List Float)) (st : State) : Type 0 where
   pub accepted : Accepted (rankineUpdate p u vt st .outcome)
   pub fair : Fair p (softened p st)
-  pub strains : Each Strain (logStrains st)
+  pub sigma : Each F64 (st .sigma)
+  pub strains : Each Small (logStrains st)
 
 -- the same of the law that `new` makes: its moduli are f64, and finite where nothing is refused
 pub record TakenBy (a : RankineArguments) (u vt : List (List Float)) (st : State) : Type 0 where
   pub accepted : Accepted (argumentsUpdate a u vt st .outcome)
   pub s-finite : T (finite (softened (lawOf a) st))
   pub ranges : Ranges (lawOf a) (softened (lawOf a) st)
-  pub strains : Each Strain (logStrains st)
+  pub sigma : Each F64 (st .sigma)
+  pub strains : Each Small (logStrains st)
 
 -- the first yield test: lambda S + 2mu a <= s in floats
 abbrev pub firstTest : RankinePlasticity → List Float → Float → Bool
-firstTest p e s = Ieee.le (firstSide p (sumOf e) (arrangeOf (rankOf e) e .high)) s
+firstTest p e s = Ieee.le (firstSide p (sumOf e) (arrangeOf (orderOf e) e .high)) s
 
 -- ---- what is promised
 -- where the test holds: the state is handed back as it came, and no stress is above
@@ -124,7 +136,9 @@ pub record Returned (p : RankinePlasticity) (u vt : List (List Float)) (st : Sta
   pub stored : rankineUpdate p u vt st .outcome ≡ Stored hardening
   pub written : rankineUpdate p u vt st .state .«plastic_hardening» ≡ hardening
   pub capped : T (Ieee.le hardening (p .«tensile_strength»))
+  pub f64 : F64 (p .«tensile_strength») → F64 hardening
   pub sigma : rankineUpdate p u vt st .state .sigma ≡ numbersOf (expsOf (projectedStrains p st))
+  pub axes : length (numbersOf (expsOf (projectedStrains p st))) ≡ 3
   pub on-surface : OnSurface p (softened p st) (projectedStrains p st)
 
 pub record Demand3 (p : RankinePlasticity) (u vt : List (List Float)) (st : State) : Type 0 where

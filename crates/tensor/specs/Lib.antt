@@ -1,3 +1,4 @@
+pub mod Axes
 pub mod Matrix
 pub mod Finite
 pub mod Answer

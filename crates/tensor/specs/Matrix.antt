@@ -1,9 +1,10 @@
 -- Matrices of three rows of three, as lists of rows, with the orders of document 01, section 4.
-use mathlib.Core.List.{List, [], _∷_}
-use Prim.Native.Nat.{ℕ}
+use mathlib.Core.List.{List, [], _∷_, map}
+use Prim.Native.Nat.{ℕ, suc}
 use lib.ListN.{getD}
 use lib.Ieee as Ieee
 use lib.Ieee.{Float, nan, binary64, ofBits}
+use Rattle.tensor.specs.Axes.{fromLeft, pairwise}
 use Rattle.tensor.specs.declared.Rows.{Rows}
 
 abbrev pub add : Float → Float → Float
@@ -38,13 +39,14 @@ transposeOf m =
     (three (at m 0 2) (at m 1 2) (at m 2 2))
 
 -- sums and products go by rising index, from the left
-abbrev pub dotOf : List Float → List Float → Float
-dotOf a b =
-    add (add (mul (getD a 0 nan) (getD b 0 nan)) (mul (getD a 1 nan) (getD b 1 nan)))
-    (mul (getD a 2 nan) (getD b 2 nan))
+unfoldable pub sumOf : List Float → Float
+sumOf e = fromLeft add zero e
 
-abbrev pub productOf : List Float → Float
-productOf s = mul (mul (getD s 0 nan) (getD s 1 nan)) (getD s 2 nan)
+unfoldable pub productOf : List Float → Float
+productOf s = fromLeft mul one s
+
+unfoldable pub dotOf : List Float → List Float → Float
+dotOf a b = sumOf (pairwise mul a b)
 
 -- a row times the columns, the rows of t
 abbrev pub rowTimesOf : List Float → List (List Float) → List Float
@@ -63,9 +65,8 @@ detOf m =
     (mul (at m 0 1) (sub (mul (at m 1 0) (at m 2 2)) (mul (at m 2 0) (at m 1 2)))))
     (mul (at m 0 2) (sub (mul (at m 1 0) (at m 2 1)) (mul (at m 2 0) (at m 1 1))))
 
-abbrev pub scaledRowOf : List Float → List Float → List Float
-scaledRowOf u s =
-    three (mul (getD u 0 nan) (getD s 0 nan)) (mul (getD u 1 nan) (getD s 1 nan)) (mul (getD u 2 nan) (getD s 2 nan))
+unfoldable pub scaledRowOf : List Float → List Float → List Float
+scaledRowOf u s = pairwise mul u s
 
 abbrev pub scaledOf : List (List Float) → List Float → List (List Float)
 scaledOf u s = three (scaledRowOf (getD u 0 []) s) (scaledRowOf (getD u 1 []) s) (scaledRowOf (getD u 2 []) s)
@@ -74,21 +75,23 @@ scaledOf u s = three (scaledRowOf (getD u 0 []) s) (scaledRowOf (getD u 1 []) s)
 abbrev pub recomposeOf : List (List Float) → List Float → List (List Float) → List (List Float)
 recomposeOf u s vt = mulOf (scaledOf u s) vt
 
--- the diagonal's sum, by rising index
-abbrev pub traceOf : List (List Float) → Float
-traceOf m = add (add (at m 0 0) (at m 1 1)) (at m 2 2)
+-- the diagonal, its first entry in column i
+abbrev pub diagonalFrom : ℕ → List (List Float) → List Float
+diagonalFrom i [] = []
+diagonalFrom i (row ∷ rows) = getD row i nan ∷ diagonalFrom (suc i) rows
+
+unfoldable pub traceOf : List (List Float) → Float
+traceOf m = sumOf (diagonalFrom 0 m)
 
 -- sums, differences and multiples go entry by entry
-abbrev pub rowAddOf : List Float → List Float → List Float
-rowAddOf a b =
-    three (add (getD a 0 nan) (getD b 0 nan)) (add (getD a 1 nan) (getD b 1 nan)) (add (getD a 2 nan) (getD b 2 nan))
+unfoldable pub rowAddOf : List Float → List Float → List Float
+rowAddOf a b = pairwise add a b
 
-abbrev pub rowSubOf : List Float → List Float → List Float
-rowSubOf a b =
-    three (sub (getD a 0 nan) (getD b 0 nan)) (sub (getD a 1 nan) (getD b 1 nan)) (sub (getD a 2 nan) (getD b 2 nan))
+unfoldable pub rowSubOf : List Float → List Float → List Float
+rowSubOf a b = pairwise sub a b
 
-abbrev pub rowScaleOf : Float → List Float → List Float
-rowScaleOf k a = three (mul k (getD a 0 nan)) (mul k (getD a 1 nan)) (mul k (getD a 2 nan))
+unfoldable pub rowScaleOf : Float → List Float → List Float
+rowScaleOf k a = map (mul k) a
 
 abbrev pub matAddOf : List (List Float) → List (List Float) → List (List Float)
 matAddOf a b = three (rowAddOf (getD a 0 []) (getD b 0 [])) (rowAddOf (getD a 1 []) (getD b 1 [])) (rowAddOf (getD a 2 []) (getD b 2 []))

@@ -1,12 +1,12 @@
 -- Whether no entry is a NaN (document 01, section 6, number 3).
-use mathlib.Core.Bool.{Bool, _&&_}
-use mathlib.Core.List.{List, []}
-use lib.ListN.{getD}
-use lib.Ieee.{Float, nan}
+use mathlib.Core.Bool.{Bool}
+use mathlib.Core.List.{List}
+use lib.Ieee.{Float}
 use Rattle.numbers.specs.Rules.{isNumber}
+use Rattle.tensor.specs.Axes.{allOf}
 
 abbrev pub rowNumber : List Float → Bool
-rowNumber a = isNumber (getD a 0 nan) && isNumber (getD a 1 nan) && isNumber (getD a 2 nan)
+rowNumber a = allOf isNumber a
 
 unfoldable pub matNumber : List (List Float) → Bool
-matNumber m = rowNumber (getD m 0 []) && rowNumber (getD m 1 []) && rowNumber (getD m 2 [])
+matNumber m = allOf rowNumber m

@@ -32,6 +32,7 @@ pub use matrix::row_finite;
 pub use matrix::row_scale;
 pub use matrix::row_sub;
 pub use matrix::rows_finite;
+pub use matrix::sum;
 pub use matrix::to_rows;
 pub use matrix::trace;
 pub use matrix::transpose;

@@ -1,6 +1,6 @@
 use crate::Rows;
 ghost use mathlib.Core.Path.{_≡_};
-ghost use Rattle.tensor.specs.Matrix.{detOf, scaledRowOf, scaledOf, recomposeOf, transposeOf, dotOf, rowTimesOf, mulColsOf, mulOf, productOf, rowsOf, ofRows, traceOf, rowAddOf, rowSubOf, rowScaleOf, matAddOf, matSubOf, matScaleOf, identityTimesOf, matVecOf};
+ghost use Rattle.tensor.specs.Matrix.{detOf, scaledRowOf, scaledOf, recomposeOf, transposeOf, dotOf, rowTimesOf, mulColsOf, mulOf, sumOf, productOf, rowsOf, ofRows, traceOf, rowAddOf, rowSubOf, rowScaleOf, matAddOf, matSubOf, matScaleOf, identityTimesOf, matVecOf};
 ghost use Rattle.tensor.specs.Finite.{rowFinite, matFinite, rowsFinite};
 
 pub fn transpose(m: [[f64; 3]; 3]) -> [[f64; 3]; 3]
@@ -69,6 +69,13 @@ pub fn recompose(u: [[f64; 3]; 3], s: [f64; 3], vt: [[f64; 3]; 3]) -> [[f64; 3];
     ensures { λ r. ⌜ r ≡ recomposeOf u s vt ⌝ }
 {
     mat_mul(scaled(u, s), vt)
+}
+
+// The sum of the entries, by rising index.
+pub fn sum(e: [f64; 3]) -> f64
+    ensures { λ r. ⌜ r ≡ sumOf e ⌝ }
+{
+    e[0] + e[1] + e[2]
 }
 
 // The product of the entries, by rising index.

@@ -1,5 +1,6 @@
 use lib.ListN.{length-take}
 use native.Mathlib.Omega.{arith}
+use native.Mathlib.Nat.{lt-irrefl, lt-of-lt-of-le}
 use borrow.Author.Needs.{needs}
 use Rattle.lines.proofs.print_answer.Statement.{statement}
 use Rattle.lines.proofs.print_answer.Tie as tie
@@ -29,10 +30,10 @@ print-sheet-requires : tie.Need-print-sheet-requires
 print-sheet-requires c κs = search needs
 
 returns-2 : tie.Need-returns-2
-returns-2 c = search needs
+returns-2 c = λ h. absurd (lt-irrefl _ (lt-of-lt-of-le h (c .before .before .before .before .before .before .before .before .before .if1 .left)))
 
 returns-3 : tie.Need-returns-3
-returns-3 c = search needs
+returns-3 c = λ h. absurd (lt-irrefl _ (lt-of-lt-of-le h (c .before .before .before .before .before .before .before .before .before .before .if1 .left)))
 
 pub print-answer-spec : {M : Type 1} → statement M
 print-answer-spec =

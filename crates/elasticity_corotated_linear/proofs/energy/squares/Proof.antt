@@ -1,5 +1,8 @@
 use Rattle.elasticity_corotated_linear.specs.Energy.{squaresOf}
 use borrow.Author.Needs.{needs}
+use Rattle.tensor.specs.Matrix.{sumOf}
+use lib.Ieee.{nan}
+use Rattle.tensor.specs.Axes.{of-one}
 use Rattle.elasticity_corotated_linear.proofs.energy.squares.Statement.{statement}
 use Rattle.elasticity_corotated_linear.proofs.energy.squares.Tie as tie
 
@@ -22,9 +25,10 @@ powi-requires-3 : tie.Need-powi-requires-3
 powi-requires-3 c κs = search needs
 
 returns : tie.Need-returns
-unfolding squaresOf
+unfolding squaresOf sumOf
 returns c =
     simp (c .powi3 .ensures, c .before .powi2 .ensures, c .before .before .powi .ensures)
+    (of-one squaresOf nan (c .before .before .before .args .t1) (search needs))
 
 pub squares-spec : {M : Type 1} → statement M
 squares-spec =

@@ -17,8 +17,8 @@ all-zero-requires c κs = search needs
 array-read-t16 : tie.Need-array-read-t16
 array-read-t16 c = search needs
 
-norm-requires : tie.Need-norm-requires
-norm-requires c κs = search needs
+norm-on-path-requires : tie.Need-norm-on-path-requires
+norm-on-path-requires c κs = search needs
 
 choose-yield-requires : tie.Need-choose-yield-requires
 choose-yield-requires c κs = search needs
@@ -44,7 +44,7 @@ returns-3 c =
     let t0 = c .before .before .if3 .left in
     let t1 = simp (c .before .before .before .before .all-zero .ensures) at (c .before .before .before .if2 .left) in
     let t2 = simp (c .before .before .before .before .before .before .is-number .ensures, c .before .before .before .before .before .before .before .dot .ensures) at (c .before .before .before .before .before .if1 .taken) in
-    simp (c .choose-yield .ensures, c .before .norm .ensures, t0, t1, t2)
+    simp (c .choose-yield .ensures, c .before .norm-on-path .ensures, t0, t1, t2)
 
 returns-4 : tie.Need-returns-4
 unfolding choiceOf
@@ -60,7 +60,7 @@ choose-spec =
     is-number-requires
     all-zero-requires
     array-read-t16
-    norm-requires
+    norm-on-path-requires
     choose-yield-requires
     returns
     returns-2

@@ -6,8 +6,8 @@ use Rattle.plasticity_drucker_prager.proofs.projection.returned.Tie as 
 enum-known-b : tie.Need-enum-known-b
 enum-known-b c = search needs
 
-norm-requires : tie.Need-norm-requires
-norm-requires c κs = search needs
+norm-on-path-requires : tie.Need-norm-on-path-requires
+norm-on-path-requires c κs = search needs
 
 tip-requires : tie.Need-tip-requires
 tip-requires c κs = search needs
@@ -15,8 +15,8 @@ tip-requires c κs = search needs
 enum-known-b-2 : tie.Need-enum-known-b-2
 enum-known-b-2 c = search needs
 
-norm-requires-2 : tie.Need-norm-requires-2
-norm-requires-2 c κs = search needs
+norm-on-path-requires-2 : tie.Need-norm-on-path-requires-2
+norm-on-path-requires-2 c κs = search needs
 
 tip-requires-2 : tie.Need-tip-requires-2
 tip-requires-2 c κs = search needs
@@ -46,13 +46,13 @@ returns : tie.Need-returns
 unfolding returnedOf
 returns c =
     let t0 = c .before .before .before .b .given .1 in
-    simp (c .tip .ensures, c .before .norm .ensures, t0)
+    simp (c .tip .ensures, c .before .norm-on-path .ensures, t0)
 
 returns-2 : tie.Need-returns-2
 unfolding returnedOf
 returns-2 c =
     let t0 = c .before .before .before .b2 .given .1 in
-    simp (c .tip2 .ensures, c .before .norm2 .ensures, t0)
+    simp (c .tip2 .ensures, c .before .norm-on-path2 .ensures, t0)
 
 returns-3 : tie.Need-returns-3
 unfolding returnedOf
@@ -77,10 +77,10 @@ returned-spec =
     tie.close
     (tie.spec
     enum-known-b
-    norm-requires
+    norm-on-path-requires
     tip-requires
     enum-known-b-2
-    norm-requires-2
+    norm-on-path-requires-2
     tip-requires-2
     enum-known-b-3
     enum-known-b-4

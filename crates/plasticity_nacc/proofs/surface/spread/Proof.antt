@@ -1,6 +1,7 @@
-use mathlib.Core.Path.{refl}
 use Rattle.plasticity_nacc.specs.Surface.{spreadOf}
 use borrow.Author.Needs.{needs}
+use lib.Ieee.{nan}
+use Rattle.tensor.specs.Axes.{of-one}
 use Rattle.plasticity_nacc.proofs.surface.spread.Statement.{statement}
 use Rattle.plasticity_nacc.proofs.surface.spread.Tie as tie
 
@@ -15,7 +16,7 @@ array-read-t20 c = search needs
 
 returns : tie.Need-returns
 unfolding spreadOf
-returns c = refl
+returns c = of-one (λ s. spreadOf (c .args .k) s (c .args .norm) (c .args .mean)) nan (c .args .t2) (search needs)
 
 pub spread-spec : {M : Type 1} → statement M
 spread-spec = tie.close (tie.spec array-read-t8 array-read-t14 array-read-t20 returns)

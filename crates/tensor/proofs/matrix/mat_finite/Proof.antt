@@ -1,4 +1,7 @@
 use borrow.Author.Needs.{needs}
+use mathlib.Core.List.{[]}
+use Rattle.tensor.specs.Axes.{of-one}
+use Rattle.tensor.specs.Finite.{matFinite}
 use Rattle.tensor.proofs.matrix.mat_finite.Statement.{statement}
 use Rattle.tensor.proofs.matrix.mat_finite.Tie as tie
 
@@ -23,6 +26,7 @@ row-finite-requires-3 c κs = search needs
 returns : tie.Need-returns
 returns c =
     simp (c .row-finite3 .ensures, c .before .before .row-finite2 .ensures, c .before .before .before .before .row-finite .ensures)
+    (of-one matFinite [] (c .before .before .before .before .before .before .args .t1) (search needs))
 
 pub mat-finite-spec : {M : Type 1} → statement M
 mat-finite-spec =

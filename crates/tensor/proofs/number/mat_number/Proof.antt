@@ -1,5 +1,7 @@
 use Rattle.tensor.specs.Number.{matNumber}
 use borrow.Author.Needs.{needs}
+use mathlib.Core.List.{[]}
+use Rattle.tensor.specs.Axes.{of-one}
 use Rattle.tensor.proofs.number.mat_number.Statement.{statement}
 use Rattle.tensor.proofs.number.mat_number.Tie as tie
 
@@ -25,6 +27,7 @@ returns : tie.Need-returns
 unfolding matNumber
 returns c =
     simp (c .row-number3 .ensures, c .before .before .row-number2 .ensures, c .before .before .before .before .row-number .ensures)
+    (of-one matNumber [] (c .before .before .before .before .before .before .args .t1) (search needs))
 
 pub mat-number-spec : {M : Type 1} → statement M
 mat-number-spec =

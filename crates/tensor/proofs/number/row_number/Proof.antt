@@ -1,4 +1,7 @@
 use borrow.Author.Needs.{needs}
+use lib.Ieee.{nan}
+use Rattle.tensor.specs.Axes.{of-one}
+use Rattle.tensor.specs.Number.{rowNumber}
 use Rattle.tensor.proofs.number.row_number.Statement.{statement}
 use Rattle.tensor.proofs.number.row_number.Tie as tie
 
@@ -23,6 +26,7 @@ is-number-requires-3 c κs = search needs
 returns : tie.Need-returns
 returns c =
     simp (c .is-number3 .ensures, c .before .is-number2 .ensures, c .before .before .is-number .ensures)
+    (of-one rowNumber nan (c .before .before .before .args .t1) (search needs))
 
 pub row-number-spec : {M : Type 1} → statement M
 row-number-spec =

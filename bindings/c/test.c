@@ -1,0 +1,393 @@
+/* Checks header and library together: every call of pasoletu.h, its lengths, and that a refusal writes nothing.
+ * The values are document 01's (section 7's example; section 8: P1 to P12) and such as are worked by hand.
+ * The last line is 'N passed, M failed'. */
+#include <pasoletu.h>
+#include <stdio.h>
+#include <string.h>
+
+static int passed, failed;
+
+static void check(int holds, int line, const char *what)
+{
+    if (holds) {
+        passed++;
+    } else {
+        failed++;
+        printf("test.c:%d: FAILED: %s\n", line, what);
+    }
+}
+
+#define CHECK(holds) check((holds), __LINE__, #holds)
+
+/* Room for answers, with a mark that no call gives. */
+static double out[PASOLETU_FLOATS];
+static const double MARK = -12345.678;
+
+static void mark(void)
+{
+    for (int k = 0; k < PASOLETU_FLOATS; k++)
+        out[k] = MARK;
+}
+
+static int marked_from(int from)
+{
+    for (int k = from; k < PASOLETU_FLOATS; k++)
+        if (out[k] != MARK)
+            return 0;
+    return 1;
+}
+
+static int same(const void *a, const void *b, size_t doubles)
+{
+    return memcmp(a, b, doubles * sizeof(double)) == 0;
+}
+
+/* Within 2^-40 of the larger of 1 and its own size: for values that are not exact. */
+static int near(double x, double wanted)
+{
+    double size = wanted < 0 ? -wanted : wanted;
+    double far = (x > wanted ? x - wanted : wanted - x) / (size > 1 ? size : 1);
+    return far <= 1.0 / 1099511627776.0;
+}
+
+/* A call whose last two arguments are out and its length n: it is done with n and writes n places, and one more or one
+ * less than n is refused by 8 with nothing written. After it `out` holds the answer. */
+#define DONE(n, call, ...)                                          \
+    do {                                                            \
+        mark();                                                     \
+        CHECK(call(__VA_ARGS__, out, (n) + 1) == PASOLETU_LENGTH);  \
+        CHECK(call(__VA_ARGS__, out, (n) - 1) == PASOLETU_LENGTH);  \
+        CHECK(marked_from(0));                                      \
+        CHECK(call(__VA_ARGS__, out, (n)) == PASOLETU_DONE);        \
+        CHECK(marked_from(n));                                      \
+    } while (0)
+
+/* A call that is refused by r and writes nothing. */
+#define REFUSED(r, n, call, ...)                                    \
+    do {                                                            \
+        mark();                                                     \
+        CHECK(call(__VA_ARGS__, out, (n)) == (r));                  \
+        CHECK(marked_from(0));                                      \
+    } while (0)
+
+static const double I[9] = {1, 0, 0, 0, 1, 0, 0, 0, 1};
+static const double TWICE[9] = {2, 0, 0, 0, 2, 0, 0, 0, 2};
+static const double SNOW[3] = {PASOLETU_SNOW_MIN_EPSILON, PASOLETU_SNOW_MAX_EPSILON, PASOLETU_SNOW_HARDENING_COEFF};
+
+static double infinity(void) { return pasoletu_amount(UINT64_C(0x7ff0000000000000)); }
+static double nan_with_payload(void) { return pasoletu_amount(UINT64_C(0xfff8000000c0ffee)); }
+
+static void elementary(void)
+{
+    DONE(1, pasoletu_exp, 0.0);
+    CHECK(out[0] == 1.0);
+    DONE(1, pasoletu_exp, 1.0);
+    CHECK(near(out[0], 2.718281828459045));
+    REFUSED(2, 1, pasoletu_exp, 700.5);
+    REFUSED(1, 1, pasoletu_exp, infinity());
+    DONE(1, pasoletu_ln, 1.0);
+    CHECK(out[0] == 0.0);
+    DONE(1, pasoletu_ln, 10.0);
+    CHECK(near(out[0], 2.302585092994046));
+    REFUSED(2, 1, pasoletu_ln, 0.0);
+    DONE(1, pasoletu_sinh, 1.0);
+    CHECK(near(out[0], 1.1752011936438014));
+    REFUSED(2, 1, pasoletu_sinh, -701.0);
+    DONE(1, pasoletu_sin, 1.0);
+    CHECK(near(out[0], 0.8414709848078965));
+    REFUSED(2, 1, pasoletu_sin, 8.5);
+    DONE(1, pasoletu_sqrt, 2.0);
+    CHECK(out[0] == 1.4142135623730951);
+    REFUSED(2, 1, pasoletu_sqrt, -1.0);
+    REFUSED(1, 1, pasoletu_sqrt, nan_with_payload());
+    DONE(1, pasoletu_cbrt, 8.0);
+    CHECK(near(out[0], 2.0));
+    DONE(1, pasoletu_inv_cbrt, 8.0);
+    CHECK(near(out[0], 0.5));
+    DONE(1, pasoletu_cbrt_squared, 8.0);
+    CHECK(near(out[0], 4.0));
+    DONE(1, pasoletu_inv_cbrt_squared, 8.0);
+    CHECK(near(out[0], 0.25));
+    REFUSED(2, 1, pasoletu_cbrt, -8.0);
+    REFUSED(2, 1, pasoletu_inv_cbrt_squared, 0.0);
+}
+
+static void physics(void)
+{
+    const double shear[9] = {0, 2, 0, 0, 0, 0, 0, 0, 0}, diagonal[9] = {1, 0, 0, 0, 2, 0, 0, 0, 3};
+    const double spin[9] = {0, 1, 0, -1, 0, 0, 0, 0, 0}, rate[9] = {0, 1, 0, 1, 0, 0, 0, 0, 0};
+    const double deviatoric[9] = {-1, 0, 0, 0, 0, 0, 0, 0, 1}, v[3] = {1, 2, 3};
+    DONE(1, pasoletu_inv_exact, 0.0); /* P4 */
+    CHECK(out[0] == 0.0);
+    DONE(1, pasoletu_inv_exact, 4.0);
+    CHECK(out[0] == 0.25);
+    REFUSED(3, 1, pasoletu_inv_exact, 1e-310);
+    DONE(1, pasoletu_shear_modulus, 10.0, 0.25);
+    CHECK(out[0] == 4.0);
+    DONE(1, pasoletu_bulk_modulus, 3.0, 0.25);
+    CHECK(out[0] == 2.0);
+    REFUSED(3, 1, pasoletu_bulk_modulus, 3.0, 0.5);
+    DONE(1, pasoletu_shear_modulus_from_lame, 7.0, 3.0);
+    CHECK(out[0] == 3.0);
+    DONE(1, pasoletu_bulk_modulus_from_lame, 1.0, 3.0);
+    CHECK(out[0] == 3.0);
+    DONE(2, pasoletu_lame_lambda_mu, 10.0, 0.25);
+    CHECK(out[0] == 4.0 && out[1] == 4.0);
+    DONE(2, pasoletu_solve_quadratic, 1.0, -3.0, 2.0);
+    CHECK(out[0] == 2.0 && out[1] == 1.0);
+    REFUSED(2, 2, pasoletu_solve_quadratic, 1.0, 0.0, 1.0);
+    REFUSED(3, 2, pasoletu_solve_quadratic, 0.0, 1.0, 1.0);
+    DONE(9, pasoletu_spin_tensor, shear, 9);
+    for (int k = 0; k < 9; k++)
+        CHECK(out[k] == spin[k]);
+    DONE(9, pasoletu_strain_rate, shear, 9);
+    for (int k = 0; k < 9; k++)
+        CHECK(out[k] == rate[k]);
+    DONE(9, pasoletu_deviatoric_part, diagonal, 9);
+    for (int k = 0; k < 9; k++)
+        CHECK(out[k] == deviatoric[k]);
+    DONE(1, pasoletu_spherical_part, diagonal, 9);
+    CHECK(out[0] == 2.0);
+    REFUSED(8, 9, pasoletu_strain_rate, shear, 8);
+    DONE(3, pasoletu_decomposed_times, 2.0, deviatoric, 9, v, 3);
+    CHECK(out[0] == 1.0 && out[1] == 4.0 && out[2] == 9.0);
+    REFUSED(8, 3, pasoletu_decomposed_times, 2.0, deviatoric, 9, v, 2);
+}
+
+/* Phase 0.5 weakens tension by phase_coeff(0.5) = 0.25075; lambda 1, mu 3 and hardening 2 make the bulk modulus 6; F's
+ * determinant is 8. */
+static void neo_hookean(void)
+{
+    const double law[3] = {PASOLETU_NEO_HOOKEAN_CFL_COEFF, 1, 3}, gone[9] = {0}, half[9] = {0.5, 0, 0, 0, 1, 0, 0, 0, 1};
+    const double volumetric = 3 * (31.5 - 2.0794415416798357);
+    DONE(9, pasoletu_neo_hookean_kirchhoff_stress, law, 3, 0.5, 2.0, TWICE, 9);
+    for (int k = 0; k < 9; k++)
+        CHECK(near(out[k], k % 4 == 0 ? 189 * 0.25075 : 0.0));
+    DONE(9, pasoletu_neo_hookean_fpk_stress, law, 3, 2.0, TWICE, 9);
+    for (int k = 0; k < 9; k++)
+        CHECK(near(out[k], k % 4 == 0 ? 94.5 : 0.0));
+    DONE(1, pasoletu_neo_hookean_elastic_energy_density, law, 3, 0.5, 2.0, TWICE, 9);
+    CHECK(near(out[0], volumetric * 0.25075));
+    DONE(1, pasoletu_neo_hookean_pos_energy, law, 3, 0.5, 2.0, TWICE, 9);
+    CHECK(near(out[0], volumetric * 0.5));
+    DONE(1, pasoletu_neo_hookean_pos_energy, law, 3, 0.5, 2.0, half, 9); /* below determinant 1 the deviatoric part */
+    CHECK(near(out[0], 3 * (2.25 * 1.5874010519681994 - 3) * 0.25075));
+    REFUSED(2, 9, pasoletu_neo_hookean_kirchhoff_stress, law, 3, 1.0, 1.0, gone, 9);
+    REFUSED(8, 9, pasoletu_neo_hookean_kirchhoff_stress, law, 4, 1.0, 1.0, I, 9);
+    REFUSED(1, 1, pasoletu_neo_hookean_pos_energy, law, 3, infinity(), 1.0, I, 9);
+    DONE(1, pasoletu_phase_coeff, 0.0); /* P5 */
+    CHECK(out[0] == 0.001);
+    DONE(1, pasoletu_phase_coeff, 1.0);
+    CHECK(out[0] == 1.0);
+}
+
+/* F is diag(2, 1, 1) turned: U a quarter turn, V^T the identity. lambda 3, mu 1, hardening 2. */
+static void corotated(void)
+{
+    const double law[4] = {1, PASOLETU_COROTATED_CFL_COEFF, 3, 1}, odd[4] = {-0.0, 0.9, 3, 1};
+    const double f[9] = {0, -1, 0, 2, 0, 0, 0, 0, 1}, u[9] = {0, -1, 0, 1, 0, 0, 0, 0, 1}, sigma[3] = {2, 1, 1};
+    DONE(9, pasoletu_corotated_kirchhoff_stress, law, 4, 1.0, 2.0, f, 9, u, 9, sigma, 3, I, 9);
+    for (int k = 0; k < 9; k++)
+        CHECK(out[k] == (k == 4 ? 20.0 : k % 4 == 0 ? 12.0 : 0.0));
+    DONE(9, pasoletu_corotated_kirchhoff_stress, law, 4, 0.0, 2.0, f, 9, u, 9, sigma, 3, I, 9);
+    for (int k = 0; k < 9; k++)
+        CHECK(out[k] == 0.0);
+    REFUSED(6, 9, pasoletu_corotated_kirchhoff_stress, odd, 4, 1.0, 2.0, f, 9, u, 9, sigma, 3, I, 9);
+    REFUSED(8, 9, pasoletu_corotated_kirchhoff_stress, law, 4, 1.0, 2.0, f, 9, u, 9, sigma, 4, I, 9);
+    DONE(1, pasoletu_corotated_elastic_energy_density, law, 4, 2.0, sigma, 3);
+    CHECK(out[0] == 5.0);
+    DONE(1, pasoletu_corotated_pos_energy, law, 4, 2.0, f, 9, sigma, 3);
+    CHECK(out[0] == 5.0);
+    DONE(1, pasoletu_corotated_pos_energy, law, 4, 2.0, I, 9, sigma, 3);
+    CHECK(out[0] == 2.0);
+}
+
+/* Mass 2 in volume 4: the density at rest is 0.5. */
+static void monaghan(void)
+{
+    const double v[3] = {3, 4, 0}, shear[9] = {0, 2, 0, 0, 0, 0, 0, 0, 0};
+    DONE(1, pasoletu_monaghan_pressure, 10.0, 2, 0.0, 1.0, 1.0, 1.0, 2.0); /* P6 */
+    CHECK(out[0] == 30.0);
+    DONE(1, pasoletu_monaghan_pressure, 10.0, 2, 0.0, 1.0, 1.0, 1.0, 0.0); /* P7 */
+    CHECK(out[0] == -1.0);
+    DONE(1, pasoletu_monaghan_pressure, 10.0, 0, 0.0, 1.0, 1.0, 1.0, 2.0); /* P8 */
+    CHECK(out[0] == 0.0);
+    DONE(1, pasoletu_monaghan_pressure, 10.0, UINT32_C(4294967295), 0.0, 1.0, 1.0, 1.0, 0.5); /* P9 */
+    CHECK(out[0] == 10.0);
+    DONE(1, pasoletu_monaghan_pressure, 10.0, 2, 0.5, 7.0, 2.0, 4.0, 1.0);
+    CHECK(out[0] == 30.0);
+    DONE(1, pasoletu_monaghan_pressure, 10.0, 2, 0.5, 7.0, 2.0, 4.0, 0.0);
+    CHECK(out[0] == -7.0);
+    REFUSED(3, 1, pasoletu_monaghan_pressure, 10.0, 0, 0.0, 1.0, 0.0, 0.0, 1.0);
+    DONE(9, pasoletu_monaghan_kirchhoff_stress, 10.0, 2, 0.5, 7.0, 2.0, 4.0, 1.0, 3.0, shear, 9);
+    for (int k = 0; k < 9; k++)
+        CHECK(out[k] == (k % 4 == 0 ? -90.0 : k == 1 || k == 3 ? 3.0 : 0.0));
+    DONE(1, pasoletu_monaghan_timestep_bound, 10.0, 2, 0.5, 7.0, 0.5, 2.0, 4.0, 1.0, v, 3, 3.0);
+    CHECK(near(out[0], 0.12909944487358055));
+    DONE(1, pasoletu_monaghan_timestep_bound, 10.0, 2, 0.5, 7.0, 2.0, 2.0, 4.0, 1.0, v, 3, 3.0);
+    CHECK(near(out[0], 0.18973665961010278));
+}
+
+static void parts_of_laws(void)
+{
+    const double ones[3] = {1, 1, 1}, mixed[3] = {nan_with_payload(), 2, 1}, strains[3] = {3, 1, 0};
+    const double at_limit[3] = {5, 0, 0}, sheared[3] = {4, 0, -1}, two[3] = {2, 0, 0}, rankine[4] = {1, 0, 2, 0};
+    const double cone[8] = {PASOLETU_DRUCKER_PRAGER_H0, PASOLETU_DRUCKER_PRAGER_H1, PASOLETU_DRUCKER_PRAGER_H2,
+                            PASOLETU_DRUCKER_PRAGER_H3, 4, 4, 0, PASOLETU_DRUCKER_PRAGER_VOLUME_CORRECTION};
+    const double odd[8] = {0, 0, 0, 0, 4, 4, 2, 1};
+    uint64_t verdict[1] = {7};
+    CHECK(pasoletu_failed(5, 9, at_limit, 3, verdict, 2) == 8 && pasoletu_failed(5, 9, at_limit, 2, verdict, 1) == 8);
+    CHECK(pasoletu_failed(5, infinity(), at_limit, 3, verdict, 1) == 1);
+    CHECK(verdict[0] == 7);
+    CHECK(pasoletu_failed(5, 9, at_limit, 3, verdict, 1) == 0 && verdict[0] == 0); /* P10 */
+    CHECK(pasoletu_failed(5, 2, sheared, 3, verdict, 1) == 0 && verdict[0] == 1);  /* P11 */
+    CHECK(pasoletu_failed(1, 100, two, 3, verdict, 1) == 0 && verdict[0] == 1);
+    CHECK(pasoletu_failed(100, 1, two, 3, verdict, 1) == 0 && verdict[0] == 0);
+    DONE(3, pasoletu_snow_clamp, SNOW[0], SNOW[1], SNOW[2], ones, 3); /* P1 */
+    CHECK(out[0] == 1.0 && out[1] == 1.0 && out[2] == 1.0);
+    DONE(3, pasoletu_snow_clamp, SNOW[0], SNOW[1], SNOW[2], mixed, 3); /* P2, P3 */
+    CHECK(out[0] == 1.0 - 0.025 && out[1] == 1.0 + 0.0045 && out[2] == 1.0);
+    DONE(3, pasoletu_rankine_project, rankine, 4, 2.0, strains, 3);
+    CHECK(out[0] == 2.0 && out[1] == 1.0 && out[2] == 0.0);
+    REFUSED(1, 3, pasoletu_rankine_project, rankine, 4, infinity(), strains, 3);
+    DONE(1, pasoletu_drucker_prager_alpha, cone, 8, 0.0);
+    CHECK(near(out[0], 0.26776504281585317));
+    REFUSED(6, 1, pasoletu_drucker_prager_alpha, odd, 8, 0.0);
+    REFUSED(2, 1, pasoletu_drucker_prager_alpha, cone, 8, 1e5);
+}
+
+static void at_rest(double *r)
+{
+    memset(r, 0, PASOLETU_FLOATS * sizeof(double));
+    memcpy(r + PASOLETU_F, I, sizeof I);
+    memcpy(r + PASOLETU_U, I, sizeof I);
+    memcpy(r + PASOLETU_VT, I, sizeof I);
+    for (int k = 0; k < 3; k++)
+        r[PASOLETU_SIGMA + k] = 1;
+    r[PASOLETU_PHASE] = r[PASOLETU_PLASTIC_DETERMINANT] = 1;
+    r[PASOLETU_PLASTIC_HARDENING] = r[PASOLETU_ELASTIC_HARDENING] = 1;
+}
+
+static void update(void)
+{
+    const double cone[8] = {0.6, 0.2, 0.2, 0.2, 4, 4, 0, 1}, idle[8] = {0.6, 0.2, 0.2, 0.2, 4, 4, 1, 1};
+    double r[PASOLETU_FLOATS + 1], was[PASOLETU_FLOATS];
+    uint64_t answer[2] = {77, 77};
+    at_rest(r);
+    memcpy(was, r, sizeof was);
+    CHECK(pasoletu_update(PASOLETU_SNOW, SNOW, 3, r, 37, answer, 2) == 8);
+    CHECK(pasoletu_update(PASOLETU_SNOW, SNOW, 3, r, 36, answer, 1) == 8);
+    CHECK(pasoletu_update(PASOLETU_SNOW, SNOW, 2, r, 36, answer, 2) == 8);
+    CHECK(pasoletu_update(4, SNOW, 3, r, 36, answer, 2) == 6);
+    CHECK(answer[0] == 77 && answer[1] == 77 && same(r, was, 36));
+    CHECK(pasoletu_update(PASOLETU_SNOW, SNOW, 3, r, 36, answer, 2) == 0); /* section 7's example */
+    CHECK(answer[0] == PASOLETU_STORED && answer[1] == UINT64_C(0x3ff0000000000000) && same(r, was, 36));
+    CHECK(pasoletu_update(PASOLETU_DRUCKER_PRAGER, cone, 8, r, 36, answer, 2) == 0); /* P12 */
+    CHECK(answer[0] == PASOLETU_STORED && pasoletu_amount(answer[1]) == 0.0);
+    CHECK(pasoletu_update(PASOLETU_DRUCKER_PRAGER, idle, 8, r, 36, answer, 2) == 0);
+    CHECK(answer[0] == PASOLETU_UNTOUCHED && answer[1] == 0);
+    r[PASOLETU_SIGMA] = nan_with_payload();
+    memcpy(was, r, sizeof was);
+    CHECK(pasoletu_update(PASOLETU_SNOW, SNOW, 3, r, 36, answer, 2) == 1);
+    CHECK(answer[0] == PASOLETU_UNTOUCHED && same(r, was, 36));
+}
+
+#define N 4
+
+static void passes(void)
+{
+    const double bad[3] = {0.025, infinity(), 10}, limits[2] = {9.5, 100}, corotated[4] = {1, 0.9, 3, 1};
+    const double odd[4] = {0.5, 0.9, 3, 1}, higher[2] = {12, 100};
+    double r[N * PASOLETU_FLOATS], was[N * PASOLETU_FLOATS];
+    uint64_t a[N * PASOLETU_ANSWERS + 1], c[4];
+    for (int k = 0; k < N; k++)
+        at_rest(r + 36 * k);
+    r[36 + PASOLETU_U] = nan_with_payload();
+    r[2 * 36 + PASOLETU_SIGMA] = 2;
+    r[3 * 36 + PASOLETU_PLASTIC_DETERMINANT] = -1000;
+    memcpy(was, r, sizeof was);
+    for (int k = 0; k < N * 2 + 1; k++)
+        a[k] = 99;
+    c[0] = c[1] = c[2] = c[3] = 99;
+    CHECK(pasoletu_pass(PASOLETU_SNOW, SNOW, 3, r, N * 36 - 1, a, N * 2, c, 3) == 8);
+    CHECK(pasoletu_pass(PASOLETU_SNOW, SNOW, 3, r, N * 36, a, N * 2 + 1, c, 3) == 8);
+    CHECK(pasoletu_pass(PASOLETU_SNOW, SNOW, 3, r, N * 36, a, N * 2, c, 4) == 8);
+    CHECK(pasoletu_pass(4, SNOW, 3, r, N * 36, a, N * 2, c, 3) == 6);
+    CHECK(same(r, was, N * 36) && a[0] == 99 && a[7] == 99 && c[0] == 99);
+    CHECK(pasoletu_pass(PASOLETU_SNOW, SNOW, 3, r, N * 36, a, N * 2, c, 3) == 0);
+    CHECK(a[0] == PASOLETU_STORED && pasoletu_amount(a[1]) == 1.0);
+    CHECK(a[2] == PASOLETU_REFUSED && a[3] == 1 && same(r + 36, was + 36, 36));
+    CHECK(a[4] == PASOLETU_STORED && r[2 * 36 + PASOLETU_SIGMA] == 1.0045 && r[2 * 36] == 1.0045);
+    CHECK(a[6] == PASOLETU_REFUSED && a[7] == 2 && same(r + 3 * 36, was + 3 * 36, 36));
+    CHECK(a[8] == 99 && c[0] == 0 && c[1] == 2 && c[2] == 2 && c[3] == 99);
+    CHECK(pasoletu_pass(PASOLETU_SNOW, bad, 3, r, N * 36, a, N * 2, c, 3) == 0);
+    CHECK(a[0] == PASOLETU_REFUSED && a[1] == 1 && a[6] == PASOLETU_REFUSED && a[7] == 1 && c[2] == 4);
+
+    /* With failure: particle 2 as it came has the principal stresses 10, 6, 6; particle 0 none. */
+    memcpy(r, was, sizeof r);
+    CHECK(pasoletu_pass_with_failure(PASOLETU_SNOW, SNOW, 3, limits, 2, odd, 4, r, N * 36, a, N * 2, c, 4) == 6);
+    CHECK(pasoletu_pass_with_failure(PASOLETU_SNOW, SNOW, 3, limits, 1, corotated, 4, r, N * 36, a, N * 2, c, 4) == 8);
+    CHECK(pasoletu_pass_with_failure(PASOLETU_SNOW, SNOW, 3, limits, 2, corotated, 4, r, N * 36, a, N * 2, c, 3) == 8);
+    CHECK(same(r, was, N * 36));
+    CHECK(pasoletu_pass_with_failure(PASOLETU_SNOW, SNOW, 3, limits, 2, corotated, 4, r, N * 36, a, N * 2, c, 4) == 0);
+    CHECK(r[PASOLETU_PHASE] == 1.0 && r[2 * 36 + PASOLETU_PHASE] == 0.0 && a[4] == PASOLETU_STORED);
+    CHECK(a[2] == PASOLETU_REFUSED && same(r + 36, was + 36, 36) && same(r + 3 * 36, was + 3 * 36, 36));
+    CHECK(c[0] == 0 && c[1] == 2 && c[2] == 2 && c[3] == 1);
+    memcpy(r, was, sizeof r);
+    CHECK(pasoletu_pass_with_failure(PASOLETU_SNOW, SNOW, 3, higher, 2, corotated, 4, r, N * 36, a, N * 2, c, 4) == 0);
+    CHECK(r[2 * 36 + PASOLETU_PHASE] == 1.0 && a[4] == PASOLETU_STORED && c[3] == 0);
+}
+
+static void sheets(void)
+{
+    static double r[3 * PASOLETU_FLOATS], rest[PASOLETU_FLOATS];
+    static uint8_t s[1 + 3 * 8 + 1 + PASOLETU_FLOATS * 8 + 1];
+    const size_t whole = sizeof s - 1;
+    uint64_t h[PASOLETU_HEADER], a[6], c[4];
+    at_rest(rest);
+    s[0] = PASOLETU_SNOW; /* x86-64 keeps the low byte first, as sheets do */
+    memcpy(s + 1, SNOW, sizeof SNOW);
+    s[25] = 1;
+    memcpy(s + 26, rest, sizeof rest);
+    for (int k = 0; k < 3 * 36; k++)
+        r[k] = MARK;
+    h[0] = a[0] = c[0] = 99;
+    CHECK(pasoletu_read_sheet(s, whole, h, 10, r, 36) == 8);
+    CHECK(pasoletu_read_sheet(s, whole, h, 11, r, 35) == 8);
+    CHECK(pasoletu_read_sheet(s, whole, h, 11, r, 0) == 8);
+    CHECK(pasoletu_read_sheet(s, whole - 1, h, 11, r, 36) == 4);
+    CHECK(pasoletu_read_sheet(s, whole + 1, h, 11, r, 36) == 7);
+    CHECK(pasoletu_run_sheet(s, whole - 1, r, 3 * 36, a, 6, c, 4) == 4);
+    CHECK(pasoletu_run_sheet(s, whole, r, 3 * 36, a, 4, c, 4) == 8);
+    CHECK(h[0] == 99 && a[0] == 99 && c[0] == 99 && r[0] == MARK);
+    CHECK(pasoletu_read_sheet(s, whole, h, 11, r, 3 * 36) == 0);
+    CHECK(h[PASOLETU_HEADER_MODEL] == PASOLETU_SNOW && same(h + PASOLETU_HEADER_PARAMETERS, SNOW, 3));
+    CHECK(h[4] == 0 && h[8] == 0 && h[PASOLETU_HEADER_COUNT] == 1 && h[PASOLETU_HEADER_PLACE] == 26);
+    CHECK(same(r, rest, 36) && r[36] == MARK);
+    a[2] = 99;
+    CHECK(pasoletu_run_sheet(s, whole, r, 3 * 36, a, 6, c, 4) == 0);
+    CHECK(a[0] == PASOLETU_STORED && a[1] == UINT64_C(0x3ff0000000000000) && a[2] == 99 && r[36] == MARK);
+    CHECK(c[0] == 1 && c[1] == 0 && c[2] == 1 && c[3] == 0);
+    s[0] = 4;
+    CHECK(pasoletu_run_sheet(s, whole, r, 36, a, 2, c, 4) == 6);
+    s[0] = 0x80;
+    s[1] = 0;
+    CHECK(pasoletu_run_sheet(s, whole, r, 36, a, 2, c, 4) == 5);
+}
+
+int main(void)
+{
+    for (uint64_t k = 0; k < 10; k++)
+        CHECK(strlen(pasoletu_refusal_text(k)) > 10);
+    elementary();
+    physics();
+    neo_hookean();
+    corotated();
+    monaghan();
+    parts_of_laws();
+    update();
+    passes();
+    sheets();
+    printf("%d passed, %d failed\n", passed, failed);
+    return failed != 0;
+}

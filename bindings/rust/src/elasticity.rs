@@ -1,0 +1,144 @@
+//! Stress and energy of the two solid laws.
+use crate::calls::*;
+use crate::math::{Matrix, Real, Vector};
+use crate::{utils, Refusal};
+
+/// Neo-Hookean stress and energy (elasticity_neo_hookean.rs). Each call is refused by 1 for an input that is not finite, by 2
+/// where F's determinant lies outside the range of the powers and the logarithm, by 3 for a NaN or a result not finite.
+#[derive(Copy, Clone, Debug, PartialEq)]
+pub struct NeoHookeanElasticity {
+    pub cfl_coeff: Real,
+    pub lambda: Real,
+    pub mu: Real,
+}
+
+impl NeoHookeanElasticity {
+    /// Refused by 1 for an argument and by 3 for a modulus that is not finite.
+    pub fn new(young_modulus: Real, poisson_ratio: Real) -> Result<Self, Refusal> {
+        let (lambda, mu) = utils::lame_lambda_mu(young_modulus, poisson_ratio).map_err(|r| r.of("NeoHookeanElasticity::new"))?;
+        Ok(Self { cfl_coeff: 0.5, lambda, mu })
+    }
+
+    fn law(&self) -> [Real; 3] {
+        [self.cfl_coeff, self.lambda, self.mu]
+    }
+
+    /// The first Piola-Kirchhoff stress; no split and no phase.
+    pub fn fpk_stress(&self, deformation_gradient: &Matrix<Real>, hardening: Real) -> Result<Matrix<Real>, Refusal> {
+        matrix("NeoHookeanElasticity::fpk_stress", |out, n| unsafe {
+            pasoletu_neo_hookean_fpk_stress(self.law().as_ptr(), 3, hardening, entries(deformation_gradient), 9, out, n)
+        })
+    }
+
+    pub fn kirchhoff_stress(
+        &self,
+        particle_phase: Real,
+        particle_elastic_hardening: Real,
+        particle_deformation_gradient: &Matrix<Real>,
+    ) -> Result<Matrix<Real>, Refusal> {
+        let (law, f) = (self.law(), entries(particle_deformation_gradient));
+        matrix("NeoHookeanElasticity::kirchhoff_stress", |out, n| unsafe {
+            let (phase, hardening) = (particle_phase, particle_elastic_hardening);
+            pasoletu_neo_hookean_kirchhoff_stress(law.as_ptr(), 3, phase, hardening, f, 9, out, n)
+        })
+    }
+
+    pub fn phase_coeff(phase: Real) -> Result<Real, Refusal> {
+        number("NeoHookeanElasticity::phase_coeff", |out, n| unsafe { pasoletu_phase_coeff(phase, out, n) })
+    }
+
+    pub fn is_fluid(&self) -> bool {
+        false
+    }
+
+    /// Below determinant 1 the volumetric part is the tensile one, as the Rust has it.
+    pub fn elastic_energy_density(
+        &self,
+        particle_phase: Real,
+        elastic_hardening: Real,
+        deformation_gradient: &Matrix<Real>,
+    ) -> Result<Real, Refusal> {
+        let (law, f) = (self.law(), entries(deformation_gradient));
+        number("NeoHookeanElasticity::elastic_energy_density", |out, n| unsafe {
+            let (phase, hardening) = (particle_phase, elastic_hardening);
+            pasoletu_neo_hookean_elastic_energy_density(law.as_ptr(), 3, phase, hardening, f, 9, out, n)
+        })
+    }
+
+    /// The positive part of the energy.
+    pub fn pos_energy(
+        &self,
+        particle_phase: Real,
+        particle_elastic_hardening: Real,
+        particle_deformation_gradient: &Matrix<Real>,
+    ) -> Result<Real, Refusal> {
+        let (law, f) = (self.law(), entries(particle_deformation_gradient));
+        number("NeoHookeanElasticity::pos_energy", |out, n| unsafe {
+            let (phase, hardening) = (particle_phase, particle_elastic_hardening);
+            pasoletu_neo_hookean_pos_energy(law.as_ptr(), 3, phase, hardening, f, 9, out, n)
+        })
+    }
+}
+
+/// Corotated linear stress and energy (elasticity_corotated_linear.rs). The factors of F are given. Each call is refused by 1
+/// for an input that is not finite and by 3 for a NaN or a result that is not finite.
+#[derive(Copy, Clone, Debug, PartialEq)]
+pub struct CorotatedLinearElasticity {
+    pub split_stress_on_failure: bool,
+    pub cfl_coeff: Real,
+    pub lambda: Real,
+    pub mu: Real,
+}
+
+impl CorotatedLinearElasticity {
+    /// Refused by 1 for an argument and by 3 for a modulus that is not finite.
+    pub fn new(young_modulus: Real, poisson_ratio: Real) -> Result<Self, Refusal> {
+        let (lambda, mu) =
+            utils::lame_lambda_mu(young_modulus, poisson_ratio).map_err(|r| r.of("CorotatedLinearElasticity::new"))?;
+        Ok(Self { split_stress_on_failure: true, cfl_coeff: 0.9, lambda, mu })
+    }
+
+    pub(crate) fn law(&self) -> [Real; 4] {
+        [flag(self.split_stress_on_failure), self.cfl_coeff, self.lambda, self.mu]
+    }
+
+    pub fn kirchhoff_stress(
+        &self,
+        phase: Real,
+        hardening: Real,
+        deformation_gradient: &Matrix<Real>,
+        u: &Matrix<Real>,
+        singular_values: &Vector<Real>,
+        v_t: &Matrix<Real>,
+    ) -> Result<Matrix<Real>, Refusal> {
+        let (law, f, u, s, v_t) = (self.law(), entries(deformation_gradient), entries(u), singular_values.as_ptr(), entries(v_t));
+        matrix("CorotatedLinearElasticity::kirchhoff_stress", |out, n| unsafe {
+            pasoletu_corotated_kirchhoff_stress(law.as_ptr(), 4, phase, hardening, f, 9, u, 9, s, 3, v_t, 9, out, n)
+        })
+    }
+
+    /// Takes the product of the singular values for the determinant.
+    pub fn elastic_energy_density(&self, singular_values: &Vector<Real>, elastic_hardening: Real) -> Result<Real, Refusal> {
+        let (law, s) = (self.law(), singular_values.as_ptr());
+        number("CorotatedLinearElasticity::elastic_energy_density", |out, n| unsafe {
+            pasoletu_corotated_elastic_energy_density(law.as_ptr(), 4, elastic_hardening, s, 3, out, n)
+        })
+    }
+
+    /// The positive part of the energy. Takes the determinant of F.
+    pub fn pos_energy(
+        &self,
+        deformation_gradient: &Matrix<Real>,
+        singular_values: &Vector<Real>,
+        elastic_hardening: Real,
+    ) -> Result<Real, Refusal> {
+        let (law, f, s) = (self.law(), entries(deformation_gradient), singular_values.as_ptr());
+        number("CorotatedLinearElasticity::pos_energy", |out, n| unsafe {
+            pasoletu_corotated_pos_energy(law.as_ptr(), 4, elastic_hardening, f, 9, s, 3, out, n)
+        })
+    }
+
+    pub fn is_fluid(&self) -> bool {
+        false
+    }
+}

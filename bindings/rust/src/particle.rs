@@ -1,0 +1,98 @@
+use crate::math::{Matrix, Vector};
+
+/// A particle: the 36 floats of document 01's record (section 7), with the names that the Rust gives them.
+///
+/// The laws take the factors F = U diag(sigma) V^T as they stand here: the host decomposes F and does not lend factors of
+/// another F. An update that stores writes `deformation_gradient`, `singular_values` and the scalars that its law names;
+/// `u` and `v_t` stay.
+#[derive(Copy, Clone, Debug, PartialEq)]
+#[repr(C)]
+pub struct Particle {
+    /// F, row by row. (nalgebra keeps columns together: take `m.transpose().into()`.)
+    pub deformation_gradient: Matrix<f64>,
+    pub u: Matrix<f64>,
+    /// sigma, in the order of U's columns.
+    pub singular_values: Vector<f64>,
+    /// V^T, row by row.
+    pub v_t: Matrix<f64>,
+    /// 1.0 whole, 0.0 failed.
+    pub phase: f64,
+    pub plastic_deformation_gradient_det: f64,
+    pub plastic_hardening: f64,
+    pub elastic_hardening: f64,
+    pub log_vol_gain: f64,
+    pub nacc_alpha: f64,
+}
+
+const IDENTITY: Matrix<f64> = [[1.0, 0.0, 0.0], [0.0, 1.0, 0.0], [0.0, 0.0, 1.0]];
+
+/// The name of each of the 36 floats.
+#[rustfmt::skip]
+const NAMES: [&str; Particle::FLOATS] = [
+    "deformation_gradient[0][0]", "deformation_gradient[0][1]", "deformation_gradient[0][2]",
+    "deformation_gradient[1][0]", "deformation_gradient[1][1]", "deformation_gradient[1][2]",
+    "deformation_gradient[2][0]", "deformation_gradient[2][1]", "deformation_gradient[2][2]",
+    "u[0][0]", "u[0][1]", "u[0][2]", "u[1][0]", "u[1][1]", "u[1][2]", "u[2][0]", "u[2][1]", "u[2][2]",
+    "singular_values[0]", "singular_values[1]", "singular_values[2]",
+    "v_t[0][0]", "v_t[0][1]", "v_t[0][2]", "v_t[1][0]", "v_t[1][1]", "v_t[1][2]", "v_t[2][0]", "v_t[2][1]", "v_t[2][2]",
+    "phase", "plastic_deformation_gradient_det", "plastic_hardening", "elastic_hardening", "log_vol_gain", "nacc_alpha",
+];
+
+impl Particle {
+    /// How many floats a particle has.
+    pub const FLOATS: usize = 36;
+
+    /// A whole particle at rest: F, U and V^T the identity, sigma, determinant and hardenings 1, gain and alpha 0.
+    pub const REST: Particle = Particle {
+        deformation_gradient: IDENTITY,
+        u: IDENTITY,
+        singular_values: [1.0; 3],
+        v_t: IDENTITY,
+        phase: 1.0,
+        plastic_deformation_gradient_det: 1.0,
+        plastic_hardening: 1.0,
+        elastic_hardening: 1.0,
+        log_vol_gain: 0.0,
+        nacc_alpha: 0.0,
+    };
+
+    /// A whole particle stretched along the axes: F is diag(sigma), U and V^T the identity.
+    pub fn stretched(sigma: Vector<f64>) -> Particle {
+        let [a, b, c] = sigma;
+        let f = [[a, 0.0, 0.0], [0.0, b, 0.0], [0.0, 0.0, c]];
+        Particle { deformation_gradient: f, singular_values: sigma, ..Particle::REST }
+    }
+
+    /// The floats in the record's order: F, U, sigma, V^T and the six scalars.
+    pub fn floats(&self) -> &[f64; Particle::FLOATS] {
+        // The fields are the 36 floats in order, with no room between them.
+        unsafe { &*(self as *const Particle).cast() }
+    }
+
+    pub fn floats_mut(&mut self) -> &mut [f64; Particle::FLOATS] {
+        unsafe { &mut *(self as *mut Particle).cast() }
+    }
+
+    /// The name of the first float that is NaN or infinite.
+    pub fn first_not_finite(&self) -> Option<&'static str> {
+        let k = self.floats().iter().position(|x| !x.is_finite())?;
+        Some(NAMES[k])
+    }
+}
+
+impl Default for Particle {
+    fn default() -> Particle {
+        Particle::REST
+    }
+}
+
+impl From<[f64; Particle::FLOATS]> for Particle {
+    fn from(floats: [f64; Particle::FLOATS]) -> Particle {
+        let mut particle = Particle::REST;
+        *particle.floats_mut() = floats;
+        particle
+    }
+}
+
+const _: () = assert!(std::mem::size_of::<Particle>() == Particle::FLOATS * std::mem::size_of::<f64>());
+const _: () = assert!(std::mem::align_of::<Particle>() == std::mem::align_of::<f64>());

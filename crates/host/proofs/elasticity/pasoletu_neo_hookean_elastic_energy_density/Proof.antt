@@ -1,0 +1,46 @@
+use borrow.Author.Needs.{needs}
+use Rattle.host.specs.Calls.{neoHookeanElasticEnergyDensity}
+use Rattle.host.proofs.elasticity.pasoletu_neo_hookean_elastic_energy_density.Statement.{
+  statement,
+}
+use Rattle.host.proofs.elasticity.pasoletu_neo_hookean_elastic_energy_density.Tie as tie
+
+neo-hookean-requires : tie.Need-neo-hookean-requires
+neo-hookean-requires c κs = search needs
+
+matrix-requires : tie.Need-matrix-requires
+matrix-requires c κs = search needs
+
+elastic-energy-density-requires : tie.Need-elastic-energy-density-requires
+elastic-energy-density-requires c κs = search needs
+
+sized-requires : tie.Need-sized-requires
+sized-requires c κs = search needs
+
+put-requires : tie.Need-put-requires
+put-requires c κs = search needs
+
+same-length : tie.Need-same-length
+same-length c = search needs
+
+returns : tie.Need-returns
+unfolding neoHookeanElasticEnergyDensity
+returns c =
+    let p = c .before .before .put .ensures in
+    let e0 = c .before .before .before .before .sized .ensures in
+    let e1 = c .before .before .before .before .before .elastic-energy-density .ensures in
+    let e2 = c .before .before .before .before .before .before .matrix .ensures in
+    let e3 = c .before .before .before .before .before .before .before .neo-hookean .ensures in
+    (simp (p .0, e0, e1, e2, e3), simp (p .1, e0, e1, e2, e3))
+
+pub pasoletu-neo-hookean-elastic-energy-density-spec : {M : Type 1} → statement M
+pasoletu-neo-hookean-elastic-energy-density-spec =
+    tie.close
+    (tie.spec
+    neo-hookean-requires
+    matrix-requires
+    elastic-energy-density-requires
+    sized-requires
+    put-requires
+    same-length
+    returns)

@@ -1,0 +1,44 @@
+use borrow.Author.Needs.{needs}
+use Rattle.host.specs.Calls.{neoHookeanFpkStress}
+use Rattle.host.proofs.elasticity.pasoletu_neo_hookean_fpk_stress.Statement.{statement}
+use Rattle.host.proofs.elasticity.pasoletu_neo_hookean_fpk_stress.Tie as tie
+
+neo-hookean-requires : tie.Need-neo-hookean-requires
+neo-hookean-requires c κs = search needs
+
+matrix-requires : tie.Need-matrix-requires
+matrix-requires c κs = search needs
+
+fpk-stress-requires : tie.Need-fpk-stress-requires
+fpk-stress-requires c κs = search needs
+
+sized-matrix-requires : tie.Need-sized-matrix-requires
+sized-matrix-requires c κs = search needs
+
+put-matrix-requires : tie.Need-put-matrix-requires
+put-matrix-requires c κs = search needs
+
+same-length : tie.Need-same-length
+same-length c = search needs
+
+returns : tie.Need-returns
+unfolding neoHookeanFpkStress
+returns c =
+    let p = c .before .before .put-matrix .ensures in
+    let e0 = c .before .before .before .before .sized-matrix .ensures in
+    let e1 = c .before .before .before .before .before .fpk-stress .ensures in
+    let e2 = c .before .before .before .before .before .before .matrix .ensures in
+    let e3 = c .before .before .before .before .before .before .before .neo-hookean .ensures in
+    (simp (p .0, e0, e1, e2, e3), simp (p .1, e0, e1, e2, e3))
+
+pub pasoletu-neo-hookean-fpk-stress-spec : {M : Type 1} → statement M
+pasoletu-neo-hookean-fpk-stress-spec =
+    tie.close
+    (tie.spec
+    neo-hookean-requires
+    matrix-requires
+    fpk-stress-requires
+    sized-matrix-requires
+    put-matrix-requires
+    same-length
+    returns)

@@ -1,0 +1,22 @@
+use borrow.Author.Needs.{needs}
+use Rattle.host.proofs.elasticity.pasoletu_phase_coeff.Statement.{statement}
+use Rattle.host.proofs.elasticity.pasoletu_phase_coeff.Tie as tie
+
+phase-coeff-requires : tie.Need-phase-coeff-requires
+phase-coeff-requires c κs = search needs
+
+put-requires : tie.Need-put-requires
+put-requires c κs = search needs
+
+same-length : tie.Need-same-length
+same-length c = search needs
+
+returns : tie.Need-returns
+returns c =
+    let p = c .before .before .put .ensures in
+    let e0 = c .before .before .before .before .phase-coeff .ensures in
+    (simp (p .0, e0), simp (p .1, e0))
+
+pub pasoletu-phase-coeff-spec : {M : Type 1} → statement M
+pasoletu-phase-coeff-spec =
+    tie.close (tie.spec phase-coeff-requires put-requires same-length returns)

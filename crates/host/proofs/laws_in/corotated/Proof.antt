@@ -1,0 +1,29 @@
+use borrow.Author.Needs.{needs}
+use Rattle.host.proofs.laws_in.corotated.Statement.{statement}
+use Rattle.host.proofs.laws_in.corotated.Tie as tie
+
+word-requires : tie.Need-word-requires
+word-requires c κs = search needs
+
+float-requires : tie.Need-float-requires
+float-requires c κs = search needs
+
+float-requires-2 : tie.Need-float-requires-2
+float-requires-2 c κs = search needs
+
+float-requires-3 : tie.Need-float-requires-3
+float-requires-3 c κs = search needs
+
+returns : tie.Need-returns
+returns c =
+    simp (c .float3 .ensures, c .before .float2 .ensures, c .before .before .float .ensures, c .before .before .before .word .ensures)
+
+pub corotated-spec : {M : Type 1} → statement M
+corotated-spec =
+    tie.close
+    (tie.spec
+    word-requires
+    float-requires
+    float-requires-2
+    float-requires-3
+    returns)

@@ -1,0 +1,19 @@
+use borrow.Author.Needs.{needs}
+use Rattle.host.proofs.laws_in.neo_hookean.Statement.{statement}
+use Rattle.host.proofs.laws_in.neo_hookean.Tie as tie
+
+float-requires : tie.Need-float-requires
+float-requires c κs = search needs
+
+float-requires-2 : tie.Need-float-requires-2
+float-requires-2 c κs = search needs
+
+float-requires-3 : tie.Need-float-requires-3
+float-requires-3 c κs = search needs
+
+returns : tie.Need-returns
+returns c =
+    simp (c .float3 .ensures, c .before .float2 .ensures, c .before .before .float .ensures)
+
+pub neo-hookean-spec : {M : Type 1} → statement M
+neo-hookean-spec = tie.close (tie.spec float-requires float-requires-2 float-requires-3 returns)

@@ -1,0 +1,22 @@
+use borrow.Author.Needs.{needs}
+use Rattle.host.proofs.physics_calls.pasoletu_bulk_modulus.Statement.{statement}
+use Rattle.host.proofs.physics_calls.pasoletu_bulk_modulus.Tie as tie
+
+bulk-modulus-requires : tie.Need-bulk-modulus-requires
+bulk-modulus-requires c κs = search needs
+
+put-requires : tie.Need-put-requires
+put-requires c κs = search needs
+
+same-length : tie.Need-same-length
+same-length c = search needs
+
+returns : tie.Need-returns
+returns c =
+    let p = c .before .before .put .ensures in
+    let e0 = c .before .before .before .before .bulk-modulus .ensures in
+    (simp (p .0, e0), simp (p .1, e0))
+
+pub pasoletu-bulk-modulus-spec : {M : Type 1} → statement M
+pasoletu-bulk-modulus-spec =
+    tie.close (tie.spec bulk-modulus-requires put-requires same-length returns)

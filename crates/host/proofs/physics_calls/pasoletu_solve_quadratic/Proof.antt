@@ -1,0 +1,22 @@
+use borrow.Author.Needs.{needs}
+use Rattle.host.proofs.physics_calls.pasoletu_solve_quadratic.Statement.{statement}
+use Rattle.host.proofs.physics_calls.pasoletu_solve_quadratic.Tie as tie
+
+solve-quadratic-requires : tie.Need-solve-quadratic-requires
+solve-quadratic-requires c κs = search needs
+
+put-pair-requires : tie.Need-put-pair-requires
+put-pair-requires c κs = search needs
+
+same-length : tie.Need-same-length
+same-length c = search needs
+
+returns : tie.Need-returns
+returns c =
+    let p = c .before .before .put-pair .ensures in
+    let e0 = c .before .before .before .before .solve-quadratic .ensures in
+    (simp (p .0, e0), simp (p .1, e0))
+
+pub pasoletu-solve-quadratic-spec : {M : Type 1} → statement M
+pasoletu-solve-quadratic-spec =
+    tie.close (tie.spec solve-quadratic-requires put-pair-requires same-length returns)

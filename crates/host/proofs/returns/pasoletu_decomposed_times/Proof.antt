@@ -1,0 +1,44 @@
+use borrow.Author.Needs.{needs}
+use Rattle.host.specs.Calls.{decomposedTimes}
+use Rattle.host.proofs.returns.pasoletu_decomposed_times.Statement.{statement}
+use Rattle.host.proofs.returns.pasoletu_decomposed_times.Tie as tie
+
+decomposed-requires : tie.Need-decomposed-requires
+decomposed-requires c κs = search needs
+
+row-requires : tie.Need-row-requires
+row-requires c κs = search needs
+
+times-requires : tie.Need-times-requires
+times-requires c κs = search needs
+
+sized-vector-requires : tie.Need-sized-vector-requires
+sized-vector-requires c κs = search needs
+
+put-vector-requires : tie.Need-put-vector-requires
+put-vector-requires c κs = search needs
+
+same-length : tie.Need-same-length
+same-length c = search needs
+
+returns : tie.Need-returns
+unfolding decomposedTimes
+returns c =
+    let p = c .before .before .put-vector .ensures in
+    let e0 = c .before .before .before .before .sized-vector .ensures in
+    let e1 = c .before .before .before .before .before .times .ensures in
+    let e2 = c .before .before .before .before .before .before .row .ensures in
+    let e3 = c .before .before .before .before .before .before .before .decomposed .ensures in
+    (simp (p .0, e0, e1, e2, e3), simp (p .1, e0, e1, e2, e3))
+
+pub pasoletu-decomposed-times-spec : {M : Type 1} → statement M
+pasoletu-decomposed-times-spec =
+    tie.close
+    (tie.spec
+    decomposed-requires
+    row-requires
+    times-requires
+    sized-vector-requires
+    put-vector-requires
+    same-length
+    returns)

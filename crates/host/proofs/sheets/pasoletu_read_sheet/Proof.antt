@@ -1,0 +1,33 @@
+use borrow.Author.Tests.{eq-eqb, ne-eqb}
+use borrow.Author.Needs.{needs}
+use Rattle.host.proofs.sheets.pasoletu_read_sheet.Statement.{statement}
+use Rattle.host.proofs.sheets.pasoletu_read_sheet.Tie as tie
+
+returns : tie.Need-returns
+returns c =
+    let e = ne-eqb _ _ (c .if1 .taken) in
+    (simp e, (simp e, simp e))
+
+read-requires : tie.Need-read-requires
+read-requires c κs = search needs
+
+put-header-requires : tie.Need-put-header-requires
+put-header-requires c κs = search needs
+
+same-length : tie.Need-same-length
+same-length c = search needs
+
+same-length-2 : tie.Need-same-length-2
+same-length-2 c = search needs
+
+returns-2 : tie.Need-returns-2
+returns-2 c =
+    let h = c .before .before .put-header .ensures in
+    let r = c .before .before .before .before .before .before .read .ensures in
+    let e = eq-eqb _ _ (c .before .before .before .before .before .before .before .before .if1 .left) in
+    (simp (h .0, r .0, e), (simp (h .1, r .0, e), simp (r .1, e)))
+
+pub pasoletu-read-sheet-spec : {M : Type 1} → statement M
+pasoletu-read-sheet-spec =
+    tie.close
+    (tie.spec returns read-requires put-header-requires same-length same-length-2 returns-2)

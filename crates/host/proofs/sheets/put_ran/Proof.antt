@@ -1,0 +1,26 @@
+use mathlib.Core.Path.{refl}
+use borrow.Author.Tests.{eq-eqb, ne-eqb}
+use borrow.Author.Needs.{needs}
+use Rattle.host.proofs.sheets.put_ran.Statement.{statement}
+use Rattle.host.proofs.sheets.put_ran.Tie as tie
+
+slice-aggregate-copy : tie.Need-slice-aggregate-copy
+slice-aggregate-copy c = search needs
+
+copy-requires : tie.Need-copy-requires
+copy-requires c κs = search needs
+
+same-length : tie.Need-same-length
+same-length c = search needs
+
+returns : tie.Need-returns
+returns c =
+    let e = eq-eqb _ _ (c .before .before .before .before .before .before .if1 .taken) in
+    (refl, simp (c .before .before .copy .ensures, e))
+
+returns-2 : tie.Need-returns-2
+returns-2 c = (refl, simp (ne-eqb _ _ (c .if1 .left)))
+
+pub put-ran-spec : {M : Type 1} → statement M
+put-ran-spec =
+    tie.close (tie.spec slice-aggregate-copy copy-requires same-length returns returns-2)

@@ -1,0 +1,141 @@
+-- The answers of the calls that read lists: each law's own answer, after 8 for a length and 6 for a flag (document 01, section 6).
+use mathlib.Core.Bool.{_&&_}
+use mathlib.Core.List.{List}
+use Prim.Native.Nat.{ℕ}
+use lib.ListN.{getD}
+use lib.Ieee.{Float}
+use Rattle.numbers.specs.Rules.{finite}
+use Rattle.numbers.specs.Answer.{answeredOf, given}
+use Rattle.numbers.specs.declared.Elementary.{Elementary}
+use Rattle.tensor.specs.Finite.{rowFinite, matFinite}
+use Rattle.tensor.specs.Answer.{answered, answeredVector, givenMatrix, givenVector, refusedVector}
+use Rattle.tensor.specs.Decomposed.{deviatoricOf, sphericalOf, timesOf, tensorFinite}
+use Rattle.tensor.specs.declared.VectorAnswer.{VectorAnswer}
+use Rattle.tensor.specs.declared.MatrixAnswer.{MatrixAnswer}
+use Rattle.physics.specs.Physics.{spinTensorOf, strainRateOf}
+use Rattle.elasticity_neo_hookean.specs.Stress as neo
+use Rattle.elasticity_neo_hookean.specs.Energy as neoEnergy
+use Rattle.elasticity_corotated_linear.specs.Stress as corotated
+use Rattle.elasticity_corotated_linear.specs.Energy as corotatedEnergy
+use Rattle.eos_monaghan_sph.specs.Stress as monaghan
+use Rattle.eos_monaghan_sph.specs.Timestep as timestep
+use Rattle.eos_monaghan_sph.specs.declared.MonaghanSphEos.{MonaghanSphEos}
+use Rattle.failure_maximum_stress.specs.Failure.{verdictOf}
+use Rattle.failure_maximum_stress.specs.declared.MaximumStressFailure.{MaximumStressFailure}
+use Rattle.failure_maximum_stress.specs.declared.Verdict.{Verdict}
+use Rattle.plasticity_snow.specs.Snow.{clampedOf}
+use Rattle.plasticity_snow.specs.declared.SnowPlasticity.{SnowPlasticity}
+use Rattle.plasticity_rankine.specs.Projection.{projectOf}
+use Rattle.plasticity_rankine.specs.Rankine.{argumentsFinite, madeOf}
+use Rattle.plasticity_rankine.specs.declared.RankineArguments.{RankineArguments}
+use Rattle.plasticity_rankine.specs.declared.Projected.{Projected}
+use Rattle.plasticity_rankine.specs.declared.Branch.{Branch}
+use Rattle.plasticity_rankine.specs.declared.Branch.the-variants as branch
+use Rattle.plasticity_rankine.specs.declared.Made.{Made}
+use Rattle.plasticity_rankine.specs.declared.Made.the-variants as made
+use Rattle.plasticity_drucker_prager.specs.Alpha.{alphaOf}
+use Rattle.record.specs.Layout.{rowAt, matAt}
+use Rattle.lists.specs.Refused.{has, sizedNumber, sizedVector, sizedMatrix, sizedVerdict, flaggedNumber, flaggedMatrix}
+use Rattle.run.specs.Run.{rankineOf, druckerPragerOf}
+use Rattle.host.specs.Laws.{neoHookeanOf, corotatedOf, decomposedOf}
+
+-- ---- physics.rs
+unfoldable pub spinTensor : List ℕ → MatrixAnswer
+spinTensor m = sizedMatrix (has 9 m) (givenMatrix (matFinite (matAt m 0)) (answered (spinTensorOf (matAt m 0))))
+
+unfoldable pub strainRate : List ℕ → MatrixAnswer
+strainRate m = sizedMatrix (has 9 m) (givenMatrix (matFinite (matAt m 0)) (answered (strainRateOf (matAt m 0))))
+
+unfoldable pub deviatoricPart : List ℕ → MatrixAnswer
+deviatoricPart m = sizedMatrix (has 9 m) (givenMatrix (matFinite (matAt m 0)) (answered (deviatoricOf (matAt m 0))))
+
+unfoldable pub sphericalPart : List ℕ → Elementary
+sphericalPart m = sizedNumber (has 9 m) (given (matFinite (matAt m 0)) (answeredOf (sphericalOf (matAt m 0))))
+
+-- ---- neo-Hookean
+unfoldable pub neoHookeanFpkStress : List ℕ → Float → List ℕ → MatrixAnswer
+neoHookeanFpkStress p h f = sizedMatrix (has 3 p && has 9 f) (neo.fpkStress (neoHookeanOf p) (matAt f 0) h)
+
+unfoldable pub neoHookeanKirchhoffStress : List ℕ → Float → Float → List ℕ → MatrixAnswer
+neoHookeanKirchhoffStress p phase h f = sizedMatrix (has 3 p && has 9 f) (neo.kirchhoffStress (neoHookeanOf p) phase h (matAt f 0))
+
+unfoldable pub neoHookeanElasticEnergyDensity : List ℕ → Float → Float → List ℕ → Elementary
+neoHookeanElasticEnergyDensity p phase h f = sizedNumber (has 3 p && has 9 f) (neoEnergy.elasticEnergyDensity (neoHookeanOf p) phase h (matAt f 0))
+
+unfoldable pub neoHookeanPosEnergy : List ℕ → Float → Float → List ℕ → Elementary
+neoHookeanPosEnergy p phase h f = sizedNumber (has 3 p && has 9 f) (neoEnergy.posEnergy (neoHookeanOf p) phase h (matAt f 0))
+
+-- ---- corotated
+unfoldable pub corotatedKirchhoffStress : List ℕ → Float → Float → List ℕ → List ℕ → List ℕ → List ℕ → MatrixAnswer
+corotatedKirchhoffStress p phase h f u sigma vt =
+    sizedMatrix (has 4 p && has 9 f && has 9 u && has 3 sigma && has 9 vt)
+    (flaggedMatrix (getD p 0 0) (corotated.kirchhoffStress (corotatedOf p) phase h (matAt f 0) (matAt u 0) (rowAt sigma 0) (matAt vt 0)))
+
+unfoldable pub corotatedElasticEnergyDensity : List ℕ → Float → List ℕ → Elementary
+corotatedElasticEnergyDensity p h sigma =
+    sizedNumber (has 4 p && has 3 sigma)
+    (flaggedNumber (getD p 0 0) (corotatedEnergy.elasticEnergyDensity (corotatedOf p) (rowAt sigma 0) h))
+
+unfoldable pub corotatedPosEnergy : List ℕ → Float → List ℕ → List ℕ → Elementary
+corotatedPosEnergy p h f sigma =
+    sizedNumber (has 4 p && has 9 f && has 3 sigma)
+    (flaggedNumber (getD p 0 0) (corotatedEnergy.posEnergy (corotatedOf p) (matAt f 0) (rowAt sigma 0) h))
+
+-- ---- Monaghan
+abbrev pub eosOf : Float → ℕ → Float → Float → MonaghanSphEos
+eosOf pressure gamma viscosity negative =
+    record { pressure0 = pressure; gamma = gamma; viscosity = viscosity; «max_neg_pressure» = negative }
+
+unfoldable pub monaghanKirchhoffStress : MonaghanSphEos → Float → Float → Float → Float → List ℕ → MatrixAnswer
+monaghanKirchhoffStress law mass volume density det gradient =
+    sizedMatrix (has 9 gradient) (monaghan.kirchhoffStressOf law mass volume density det (matAt gradient 0))
+
+unfoldable pub monaghanTimestepBound : MonaghanSphEos → Float → Float → Float → Float → List ℕ → Float → Elementary
+monaghanTimestepBound law j mass volume density velocity width =
+    sizedNumber (has 3 velocity) (timestep.timestepBoundOf law j mass volume density (rowAt velocity 0) width)
+
+-- ---- the verdict, and the bare clamp, which has no refusal of its own
+unfoldable pub failed : Float → Float → List ℕ → Verdict
+failed principal shear s =
+    sizedVerdict (has 3 s) (verdictOf (record { «max_principal_stress» = principal; «max_shear_stress» = shear }) (rowAt s 0))
+
+abbrev pub vectorOf : List Float → VectorAnswer
+vectorOf v = record { refusal = 0; vector = v }
+
+abbrev pub snowOf : Float → Float → Float → SnowPlasticity
+snowOf low high coeff = record { «min_epsilon» = low; «max_epsilon» = high; «hardening_coeff» = coeff }
+
+unfoldable pub snowClamp : SnowPlasticity → List ℕ → VectorAnswer
+snowClamp p s = sizedVector (has 3 s) (vectorOf (clampedOf p (rowAt s 0)))
+
+-- ---- Rankine's projection: 1 for an argument, a strain or the strength s, then 3 for the moduli, then 3 for a NaN or a result
+abbrev pub branchStrains : Branch → List Float → VectorAnswer
+branchStrains (branch.Untouched x y) e = vectorOf e
+branchStrains (branch.One x y) e = vectorOf e
+branchStrains (branch.Two x y) e = vectorOf e
+branchStrains (branch.All x y) e = vectorOf e
+branchStrains (branch.Refused n) e = refusedVector n
+
+abbrev pub strainsOf : Projected → VectorAnswer
+strainsOf q = branchStrains (q .branch) (q .strains)
+
+unfoldable pub madeProject : Made → List Float → Float → VectorAnswer
+madeProject (made.Law p) e s = strainsOf (projectOf p e s)
+madeProject (made.Refused n) e s = refusedVector n
+
+unfoldable pub argumentsProject : RankineArguments → List Float → Float → VectorAnswer
+argumentsProject a e s = givenVector (argumentsFinite a && rowFinite e && finite s) (madeProject (madeOf a) e s)
+
+unfoldable pub rankineProject : List ℕ → Float → List ℕ → VectorAnswer
+rankineProject p s e = sizedVector (has 4 p && has 3 e) (argumentsProject (rankineOf p) (rowAt e 0) s)
+
+-- ---- Drucker-Prager's slope
+unfoldable pub druckerPragerAlpha : List ℕ → Float → Elementary
+druckerPragerAlpha p q = sizedNumber (has 8 p) (flaggedNumber (getD p 6 0) (alphaOf (druckerPragerOf p) q))
+
+-- ---- DecomposedTensor times a vector
+abbrev pub timesAnswer : Float → List ℕ → List Float → VectorAnswer
+timesAnswer s d v = givenVector (tensorFinite (decomposedOf s d) && rowFinite v) (answeredVector (timesOf (decomposedOf s d) v))
+
+unfoldable pub decomposedTimes : Float → List ℕ → List ℕ → VectorAnswer
+decomposedTimes s d v = sizedVector (has 9 d && has 3 v) (timesAnswer s d (rowAt v 0))

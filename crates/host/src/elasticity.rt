@@ -1,0 +1,166 @@
+// The elastic laws for hosts: neo-Hookean with a list of cfl_coeff, lambda, mu; corotated with the flag before them.
+use crate::laws_in;
+use elasticity_neo_hookean::NeoHookeanElasticity;
+ghost use mathlib.Core.Path.{_≡_};
+ghost use Rattle.elasticity_neo_hookean.specs.Law.{phaseCoeff};
+ghost use Rattle.lists.specs.Out.{numberCode, numberOut, matrixCode, matrixOut};
+ghost use Rattle.host.specs.Calls.{neoHookeanFpkStress, neoHookeanKirchhoffStress, neoHookeanElasticEnergyDensity, neoHookeanPosEnergy, corotatedKirchhoffStress, corotatedElasticEnergyDensity, corotatedPosEnergy};
+
+#[no_mangle]
+pub extern "C" fn pasoletu_neo_hookean_fpk_stress(
+    law: &[u64],
+    hardening: f64,
+    f: &[u64],
+    out: &mut [u64],
+) -> u8
+    ensures { λ r. ⌜ r ≡ matrixCode (neoHookeanFpkStress (now (law .entry)) hardening (now (f .entry))) (now (out .entry)) ⌝ }
+    ensures { λ r. ⌜ now (out .exit) ≡ matrixOut (neoHookeanFpkStress (now (law .entry)) hardening (now (f .entry))) (now (out .entry)) ⌝ }
+{
+    let ok = (law.len() == 3) & (f.len() == 9);
+    let p = laws_in::neo_hookean(law);
+    lists::put_matrix(
+        lists::sized_matrix(ok, p.fpk_stress(lists::matrix(f), hardening)),
+        out,
+    )
+}
+
+#[no_mangle]
+pub extern "C" fn pasoletu_neo_hookean_kirchhoff_stress(
+    law: &[u64],
+    phase: f64,
+    hardening: f64,
+    f: &[u64],
+    out: &mut [u64],
+) -> u8
+    ensures { λ r. ⌜ r ≡ matrixCode (neoHookeanKirchhoffStress (now (law .entry)) phase hardening (now (f .entry))) (now (out .entry)) ⌝ }
+    ensures { λ r. ⌜ now (out .exit) ≡ matrixOut (neoHookeanKirchhoffStress (now (law .entry)) phase hardening (now (f .entry))) (now (out .entry)) ⌝ }
+{
+    let ok = (law.len() == 3) & (f.len() == 9);
+    let p = laws_in::neo_hookean(law);
+    lists::put_matrix(
+        lists::sized_matrix(ok, p.kirchhoff_stress(phase, hardening, lists::matrix(f))),
+        out,
+    )
+}
+
+#[no_mangle]
+pub extern "C" fn pasoletu_neo_hookean_elastic_energy_density(
+    law: &[u64],
+    phase: f64,
+    hardening: f64,
+    f: &[u64],
+    out: &mut [u64],
+) -> u8
+    ensures { λ r. ⌜ r ≡ numberCode (neoHookeanElasticEnergyDensity (now (law .entry)) phase hardening (now (f .entry))) (now (out .entry)) ⌝ }
+    ensures { λ r. ⌜ now (out .exit) ≡ numberOut (neoHookeanElasticEnergyDensity (now (law .entry)) phase hardening (now (f .entry))) (now (out .entry)) ⌝ }
+{
+    let ok = (law.len() == 3) & (f.len() == 9);
+    let p = laws_in::neo_hookean(law);
+    lists::put(
+        lists::sized(
+            ok,
+            p.elastic_energy_density(phase, hardening, lists::matrix(f)),
+        ),
+        out,
+    )
+}
+
+#[no_mangle]
+pub extern "C" fn pasoletu_neo_hookean_pos_energy(
+    law: &[u64],
+    phase: f64,
+    hardening: f64,
+    f: &[u64],
+    out: &mut [u64],
+) -> u8
+    ensures { λ r. ⌜ r ≡ numberCode (neoHookeanPosEnergy (now (law .entry)) phase hardening (now (f .entry))) (now (out .entry)) ⌝ }
+    ensures { λ r. ⌜ now (out .exit) ≡ numberOut (neoHookeanPosEnergy (now (law .entry)) phase hardening (now (f .entry))) (now (out .entry)) ⌝ }
+{
+    let ok = (law.len() == 3) & (f.len() == 9);
+    let p = laws_in::neo_hookean(law);
+    lists::put(
+        lists::sized(ok, p.pos_energy(phase, hardening, lists::matrix(f))),
+        out,
+    )
+}
+
+#[no_mangle]
+pub extern "C" fn pasoletu_phase_coeff(phase: f64, out: &mut [u64]) -> u8
+    ensures { λ r. ⌜ r ≡ numberCode (phaseCoeff phase) (now (out .entry)) ⌝ }
+    ensures { λ r. ⌜ now (out .exit) ≡ numberOut (phaseCoeff phase) (now (out .entry)) ⌝ }
+{
+    lists::put(NeoHookeanElasticity::phase_coeff(phase), out)
+}
+
+#[no_mangle]
+pub extern "C" fn pasoletu_corotated_kirchhoff_stress(
+    law: &[u64],
+    phase: f64,
+    hardening: f64,
+    f: &[u64],
+    u: &[u64],
+    sigma: &[u64],
+    vt: &[u64],
+    out: &mut [u64],
+) -> u8
+    ensures { λ r. ⌜ r ≡ matrixCode (corotatedKirchhoffStress (now (law .entry)) phase hardening (now (f .entry)) (now (u .entry)) (now (sigma .entry)) (now (vt .entry))) (now (out .entry)) ⌝ }
+    ensures { λ r. ⌜ now (out .exit) ≡ matrixOut (corotatedKirchhoffStress (now (law .entry)) phase hardening (now (f .entry)) (now (u .entry)) (now (sigma .entry)) (now (vt .entry))) (now (out .entry)) ⌝ }
+{
+    let ok = (law.len() == 4)
+        & (f.len() == 9)
+        & (u.len() == 9)
+        & (sigma.len() == 3)
+        & (vt.len() == 9);
+    let p = laws_in::corotated(law);
+    let a = p.kirchhoff_stress(
+        phase,
+        hardening,
+        lists::matrix(f),
+        lists::matrix(u),
+        lists::row(sigma),
+        lists::matrix(vt),
+    );
+    lists::put_matrix(
+        lists::sized_matrix(ok, lists::flagged_matrix(lists::word(law, 0), a)),
+        out,
+    )
+}
+
+#[no_mangle]
+pub extern "C" fn pasoletu_corotated_elastic_energy_density(
+    law: &[u64],
+    hardening: f64,
+    sigma: &[u64],
+    out: &mut [u64],
+) -> u8
+    ensures { λ r. ⌜ r ≡ numberCode (corotatedElasticEnergyDensity (now (law .entry)) hardening (now (sigma .entry))) (now (out .entry)) ⌝ }
+    ensures { λ r. ⌜ now (out .exit) ≡ numberOut (corotatedElasticEnergyDensity (now (law .entry)) hardening (now (sigma .entry))) (now (out .entry)) ⌝ }
+{
+    let ok = (law.len() == 4) & (sigma.len() == 3);
+    let p = laws_in::corotated(law);
+    let a = p.elastic_energy_density(lists::row(sigma), hardening);
+    lists::put(
+        lists::sized(ok, lists::flagged(lists::word(law, 0), a)),
+        out,
+    )
+}
+
+#[no_mangle]
+pub extern "C" fn pasoletu_corotated_pos_energy(
+    law: &[u64],
+    hardening: f64,
+    f: &[u64],
+    sigma: &[u64],
+    out: &mut [u64],
+) -> u8
+    ensures { λ r. ⌜ r ≡ numberCode (corotatedPosEnergy (now (law .entry)) hardening (now (f .entry)) (now (sigma .entry))) (now (out .entry)) ⌝ }
+    ensures { λ r. ⌜ now (out .exit) ≡ numberOut (corotatedPosEnergy (now (law .entry)) hardening (now (f .entry)) (now (sigma .entry))) (now (out .entry)) ⌝ }
+{
+    let ok = (law.len() == 4) & (f.len() == 9) & (sigma.len() == 3);
+    let p = laws_in::corotated(law);
+    let a = p.pos_energy(lists::matrix(f), lists::row(sigma), hardening);
+    lists::put(
+        lists::sized(ok, lists::flagged(lists::word(law, 0), a)),
+        out,
+    )
+}

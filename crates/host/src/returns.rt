@@ -1,0 +1,153 @@
+// The verdict, the bare clamp, Rankine's projection, Drucker-Prager's slope and DecomposedTensor's product for hosts.
+use crate::laws_in;
+use failure_maximum_stress::MaximumStressFailure;
+use plasticity_rankine::Branch;
+use plasticity_rankine::Made;
+use plasticity_rankine::Projected;
+use plasticity_rankine::RankineArguments;
+use plasticity_rankine::RankinePlasticity;
+use plasticity_snow::SnowPlasticity;
+use tensor::VectorAnswer;
+ghost use mathlib.Core.Path.{_≡_};
+ghost use Rattle.lists.specs.Out.{numberCode, numberOut, vectorCode, vectorOut, verdictCode, verdictOut};
+ghost use Rattle.host.specs.Calls.{failed, snowOf, snowClamp, vectorOf, strainsOf, madeProject, argumentsProject, rankineProject, druckerPragerAlpha, decomposedTimes};
+
+#[no_mangle]
+pub extern "C" fn pasoletu_failed(
+    max_principal: f64,
+    max_shear: f64,
+    stresses: &[u64],
+    out: &mut [u64],
+) -> u8
+    ensures { λ r. ⌜ r ≡ verdictCode (failed «max_principal» «max_shear» (now (stresses .entry))) (now (out .entry)) ⌝ }
+    ensures { λ r. ⌜ now (out .exit) ≡ verdictOut (failed «max_principal» «max_shear» (now (stresses .entry))) (now (out .entry)) ⌝ }
+{
+    let ok = stresses.len() == 3;
+    let limits = MaximumStressFailure {
+        max_principal_stress: max_principal,
+        max_shear_stress: max_shear,
+    };
+    lists::put_verdict(
+        lists::sized_verdict(ok, limits.particle_failed(lists::row(stresses))),
+        out,
+    )
+}
+
+#[no_mangle]
+pub extern "C" fn pasoletu_snow_clamp(
+    min_epsilon: f64,
+    max_epsilon: f64,
+    hardening_coeff: f64,
+    sigma: &[u64],
+    out: &mut [u64],
+) -> u8
+    ensures { λ r. ⌜ r ≡ vectorCode (snowClamp (snowOf «min_epsilon» «max_epsilon» «hardening_coeff») (now (sigma .entry))) (now (out .entry)) ⌝ }
+    ensures { λ r. ⌜ now (out .exit) ≡ vectorOut (snowClamp (snowOf «min_epsilon» «max_epsilon» «hardening_coeff») (now (sigma .entry))) (now (out .entry)) ⌝ }
+{
+    let ok = sigma.len() == 3;
+    let law = SnowPlasticity {
+        min_epsilon,
+        max_epsilon,
+        hardening_coeff,
+    };
+    let v = law.project_deformation_gradient(lists::row(sigma));
+    lists::put_vector(lists::sized_vector(ok, vector(v)), out)
+}
+
+// A vector that is answered whatever it holds.
+fn vector(v: [f64; 3]) -> VectorAnswer
+    ensures { λ r. ⌜ r ≡ vectorOf v ⌝ }
+{
+    VectorAnswer {
+        refusal: 0,
+        vector: v,
+    }
+}
+
+// The strains, or the refusal that the branch carries.
+fn strains(q: Projected) -> VectorAnswer
+    ensures { λ r. ⌜ r ≡ strainsOf q ⌝ }
+{
+    let e = q.strains;
+    let b = q.branch;
+    match b {
+        Branch::Untouched(_, _) => vector(e),
+        Branch::One(_, _) => vector(e),
+        Branch::Two(_, _) => vector(e),
+        Branch::All(_, _) => vector(e),
+        Branch::Refused(n) => tensor::refused_vector(n),
+    }
+}
+
+// Of what `new` answers.
+fn made_project(m: Made, e: [f64; 3], s: f64) -> VectorAnswer
+    ensures { λ r. ⌜ r ≡ madeProject m e s ⌝ }
+{
+    match m {
+        Made::Law(p) => strains(p.project(e, s)),
+        Made::Refused(n) => tensor::refused_vector(n),
+    }
+}
+
+// 1 is tested first, then the moduli by 3.
+fn project(a: RankineArguments, e: [f64; 3], s: f64) -> VectorAnswer
+    ensures { λ r. ⌜ r ≡ argumentsProject a e s ⌝ }
+{
+    if a.parameters_finite() & tensor::row_finite(e) & numbers::is_finite(s) {
+        let m = RankinePlasticity::new(
+            a.young_modulus,
+            a.poisson_ratio,
+            a.tensile_strength,
+            a.softening_rate,
+        );
+        made_project(m, e, s)
+    } else {
+        tensor::refused_vector(1)
+    }
+}
+
+#[no_mangle]
+pub extern "C" fn pasoletu_rankine_project(
+    arguments: &[u64],
+    s: f64,
+    strains: &[u64],
+    out: &mut [u64],
+) -> u8
+    ensures { λ r. ⌜ r ≡ vectorCode (rankineProject (now (arguments .entry)) s (now (strains .entry))) (now (out .entry)) ⌝ }
+    ensures { λ r. ⌜ now (out .exit) ≡ vectorOut (rankineProject (now (arguments .entry)) s (now (strains .entry))) (now (out .entry)) ⌝ }
+{
+    let ok = (arguments.len() == 4) & (strains.len() == 3);
+    let a = laws_in::rankine(arguments);
+    lists::put_vector(
+        lists::sized_vector(ok, project(a, lists::row(strains), s)),
+        out,
+    )
+}
+
+#[no_mangle]
+pub extern "C" fn pasoletu_drucker_prager_alpha(fields: &[u64], q: f64, out: &mut [u64]) -> u8
+    ensures { λ r. ⌜ r ≡ numberCode (druckerPragerAlpha (now (fields .entry)) q) (now (out .entry)) ⌝ }
+    ensures { λ r. ⌜ now (out .exit) ≡ numberOut (druckerPragerAlpha (now (fields .entry)) q) (now (out .entry)) ⌝ }
+{
+    let ok = fields.len() == 8;
+    let p = laws_in::drucker_prager(fields);
+    lists::put(
+        lists::sized(ok, lists::flagged(lists::word(fields, 6), p.alpha(q))),
+        out,
+    )
+}
+
+#[no_mangle]
+pub extern "C" fn pasoletu_decomposed_times(
+    spherical: f64,
+    deviatoric: &[u64],
+    v: &[u64],
+    out: &mut [u64],
+) -> u8
+    ensures { λ r. ⌜ r ≡ vectorCode (decomposedTimes spherical (now (deviatoric .entry)) (now (v .entry))) (now (out .entry)) ⌝ }
+    ensures { λ r. ⌜ now (out .exit) ≡ vectorOut (decomposedTimes spherical (now (deviatoric .entry)) (now (v .entry))) (now (out .entry)) ⌝ }
+{
+    let ok = (deviatoric.len() == 9) & (v.len() == 3);
+    let t = laws_in::decomposed(spherical, deviatoric);
+    lists::put_vector(lists::sized_vector(ok, t.times(lists::row(v))), out)
+}

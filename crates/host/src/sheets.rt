@@ -1,0 +1,87 @@
+// A sheet of bytes: read, or run to its answers.
+use crate::lists_out::copy;
+use run::Ran;
+use sheet::Header;
+ghost use mathlib.Core.Path.{_≡_};
+ghost use lib.ListN.{length};
+ghost use Rattle.host.specs.Sheets.{headerRoom, ranCounts, readCode, headerRead, recordsRead, runCode, recordsRun, answersRun, countsRun};
+
+// Model, the eight parameters, count, and the place of the first record.
+fn put_header(h: Header, header: &mut [u64]) -> u8
+    requires { ⌜ length (now header) ≡ 11 ⌝ }
+    ensures { λ r. ⌜ r ≡ h .refusal ⌝ }
+    ensures { λ r. ⌜ now (header .exit) ≡ headerRoom h (now (header .entry)) ⌝ }
+{
+    if h.refusal == 0 {
+        let p = h.parameters;
+        copy(
+            &[
+                h.model,
+                p[0],
+                p[1],
+                p[2],
+                p[3],
+                p[4],
+                p[5],
+                p[6],
+                p[7],
+                h.count as u64,
+                h.at as u64,
+            ],
+            header,
+        );
+    }
+    h.refusal
+}
+
+fn put_ran(ran: Ran, counts: &mut [u64]) -> u8
+    requires { ⌜ length (now counts) ≡ 4 ⌝ }
+    ensures { λ r. ⌜ r ≡ ran .refusal ⌝ }
+    ensures { λ r. ⌜ now (counts .exit) ≡ ranCounts ran (now (counts .entry)) ⌝ }
+{
+    if ran.refusal == 0 {
+        let c = ran.counts;
+        copy(
+            &[
+                ran.particles as u64,
+                c.untouched as u64,
+                c.stored as u64,
+                c.refused as u64,
+            ],
+            counts,
+        );
+    }
+    ran.refusal
+}
+
+#[no_mangle]
+pub extern "C" fn pasoletu_read_sheet(bytes: &[u8], header: &mut [u64], records: &mut [u64]) -> u8
+    ensures { λ r. ⌜ r ≡ readCode (now (bytes .entry)) (now (header .entry)) (now (records .entry)) ⌝ }
+    ensures { λ r. ⌜ now (header .exit) ≡ headerRead (now (bytes .entry)) (now (header .entry)) (now (records .entry)) ⌝ }
+    ensures { λ r. ⌜ now (records .exit) ≡ recordsRead (now (bytes .entry)) (now (header .entry)) (now (records .entry)) ⌝ }
+{
+    if header.len() != 11 {
+        return 8;
+    }
+    let h = sheet::read(bytes, records);
+    put_header(h, header)
+}
+
+#[no_mangle]
+pub extern "C" fn pasoletu_run_sheet(
+    bytes: &[u8],
+    records: &mut [u64],
+    answers: &mut [u64],
+    counts: &mut [u64],
+) -> u8
+    ensures { λ r. ⌜ r ≡ runCode (now (bytes .entry)) (now (records .entry)) (now (answers .entry)) (now (counts .entry)) ⌝ }
+    ensures { λ r. ⌜ now (records .exit) ≡ recordsRun (now (bytes .entry)) (now (records .entry)) (now (answers .entry)) (now (counts .entry)) ⌝ }
+    ensures { λ r. ⌜ now (answers .exit) ≡ answersRun (now (bytes .entry)) (now (records .entry)) (now (answers .entry)) (now (counts .entry)) ⌝ }
+    ensures { λ r. ⌜ now (counts .exit) ≡ countsRun (now (bytes .entry)) (now (records .entry)) (now (answers .entry)) (now (counts .entry)) ⌝ }
+{
+    if counts.len() != 4 {
+        return 8;
+    }
+    let ran = run::run_sheet(bytes, records, answers);
+    put_ran(ran, counts)
+}

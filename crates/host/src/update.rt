@@ -1,0 +1,49 @@
+// The update of one record by a plastic law.
+use crate::lists_out::copy;
+use crate::parameters::fit;
+use crate::parameters::known;
+use crate::parameters::model_given;
+use law::Outcome;
+ghost use mathlib.Core.Path.{_≡_};
+ghost use lib.ListN.{length};
+ghost use Rattle.host.specs.Update.{outcomeCode, outcomeAnswer, updateCode, recordUpdated, answerUpdated};
+
+// A refusal of the law is the call's; else the two answers are written.
+fn put_outcome(o: Outcome, answer: &mut [u64]) -> u8
+    requires { ⌜ length (now answer) ≡ 2 ⌝ }
+    ensures { λ r. ⌜ r ≡ outcomeCode o ⌝ }
+    ensures { λ r. ⌜ now (answer .exit) ≡ outcomeAnswer o (now (answer .entry)) ⌝ }
+{
+    match o {
+        Outcome::Untouched => {
+            copy(&[0u64, 0u64], answer);
+            0
+        }
+        Outcome::Stored(a) => {
+            copy(&[1u64, numbers::bits_of(a)], answer);
+            0
+        }
+        Outcome::Refused(n) => n,
+    }
+}
+
+#[no_mangle]
+pub extern "C" fn pasoletu_update(
+    model: u64,
+    parameters: &[u64],
+    r: &mut [u64],
+    answer: &mut [u64],
+) -> u8
+    ensures { λ n. ⌜ n ≡ updateCode model (now (parameters .entry)) (now (r .entry)) (now (answer .entry)) ⌝ }
+    ensures { λ n. ⌜ now (r .exit) ≡ recordUpdated model (now (parameters .entry)) (now (r .entry)) (now (answer .entry)) ⌝ }
+    ensures { λ n. ⌜ now (answer .exit) ≡ answerUpdated model (now (parameters .entry)) (now (r .entry)) (now (answer .entry)) ⌝ }
+{
+    if fit(model, parameters) & (r.len() == record::FLOATS) & (answer.len() == 2) {
+        if known(model, parameters) {
+            let o = particles::update_record(model_given(model, parameters), r);
+            return put_outcome(o, answer);
+        }
+        return 6;
+    }
+    8
+}

@@ -1,0 +1,19 @@
+use borrow.Author.Needs.{needs}
+use Rattle.lists.proofs.refused.flagged.Statement.{statement}
+use Rattle.lists.proofs.refused.flagged.Tie as tie
+
+is-flag-requires : tie.Need-is-flag-requires
+is-flag-requires c κs = search needs
+
+returns : tie.Need-returns
+returns c =
+    let t = simp (c .before .is-flag .ensures) at (c .if1 .taken) in
+    simp (t)
+
+returns-2 : tie.Need-returns-2
+returns-2 c =
+    let t = simp (c .before .is-flag .ensures) at (c .if1 .left) in
+    simp (t)
+
+pub flagged-spec : {M : Type 1} → statement M
+flagged-spec = tie.close (tie.spec is-flag-requires returns returns-2)

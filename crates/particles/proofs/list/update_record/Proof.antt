@@ -1,0 +1,24 @@
+use borrow.Author.Tests.{eq-eqb, ne-eqb}
+use borrow.Author.Needs.{needs}
+use Rattle.particles.proofs.list.update_record.Statement.{statement}
+use Rattle.particles.proofs.list.update_record.Tie as tie
+
+step-requires : tie.Need-step-requires
+step-requires c κs = search needs
+
+same-length : tie.Need-same-length
+same-length c = search needs
+
+returns : tie.Need-returns
+returns c =
+    let s = c .before .before .step .ensures in
+    let e = eq-eqb _ _ (c .before .before .before .before .if1 .taken) in
+    (simp (s .0, e), simp (s .1, e))
+
+returns-2 : tie.Need-returns-2
+returns-2 c =
+    let e = ne-eqb _ _ (c .if1 .left) in
+    (simp e, simp e)
+
+pub update-record-spec : {M : Type 1} → statement M
+update-record-spec = tie.close (tie.spec step-requires same-length returns returns-2)

@@ -1,0 +1,15 @@
+pub mod First
+pub mod Walk
+pub mod Snow
+pub mod Rankine
+pub mod DruckerPrager
+pub mod Nacc
+pub mod Inputs
+pub mod Gate
+pub mod Updates
+pub mod Failure
+pub mod Passes
+pub mod Table
+pub mod Calls
+pub mod Laws
+pub mod Ran

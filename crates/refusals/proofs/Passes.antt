@@ -1,0 +1,139 @@
+-- A pass is refused by 8 alone, and an answer list holds each record's refusal. Assumes nothing.
+use mathlib.Core.Path.{_≡_, refl, sym, ap, _∙_}
+use mathlib.Core.Logic.{⊎-elim, _↔_}
+use mathlib.Core.Bool.{Bool, true, false, cond}
+use mathlib.Core.List.{List, [], _∷_, _++_}
+use Prim.Native.Nat.{ℕ, zero, suc, _+_, _*_, _/_, _<_}
+use native.Mathlib.Nat.{eq-or-lt-of-le}
+use native.Mathlib.Omega.{arith}
+use borrow.Author.Tests.{eq-eqb, eqb-true}
+use lib.Dec.{eqb}
+use lib.ListN.{length, getD, List·getD-append}
+use lib.Seq.{getD-append-add}
+use Rattle.law.specs.declared.Outcome.{Outcome}
+use Rattle.law.specs.declared.Outcome.the-variants.{Untouched, Stored, Refused}
+use Rattle.numbers.proofs.Laws.{and-both}
+use Rattle.record.specs.Layout.{floats}
+use Rattle.particles.specs.declared.list.Counts.{Counts}
+use Rattle.particles.specs.declared.list.Passed.the-variants as pass
+use Rattle.particles.specs.declared.failure.FailureCounts.{FailureCounts}
+use Rattle.particles.specs.declared.failure.PassedWithFailure.the-variants as failure-pass
+use Rattle.particles.specs.Pass.{Worked, codeOf, valueOf, recordAt, answers, wellSized, passAnswers}
+use Rattle.particles.proofs.PassLaws.{answers-length}
+use Rattle.refusals.specs.Path.{Met}
+use Rattle.refusals.specs.Refusals.{Refuses, Answers, Sized, Eight, Pass}
+use Rattle.refusals.proofs.Gate.{transfer}
+use Rattle.refusals.proofs.Inputs.{no-both, decide}
+
+-- ---- the lengths
+module _ (xs out : List ℕ) where
+  pub sized : wellSized xs out ≡ true → Sized xs out (length xs / floats)
+  sized q =
+      let e = and-both (eqb (length xs / floats * floats) (length xs)) (eqb (length xs / floats * 2) (length out)) q in
+      (sym (eqb-true (length xs / floats * floats) (length xs) (e .0)), sym (eqb-true (length xs / floats * 2) (length out) (e .1)))
+
+  pub quotient : (k : ℕ) → length xs ≡ k * floats → length xs / floats ≡ k
+  quotient k e = omega arith
+
+  pub well : (k : ℕ) → Sized xs out k → wellSized xs out ≡ true
+  well k s =
+      let q = quotient k (s .0) in
+      let a = eq-eqb (length xs / floats * floats) (length xs) (omega arith) in
+      let b = eq-eqb (length xs / floats * 2) (length out) (omega arith) in
+      rw (a, b)
+
+-- ---- 8
+pub taken : {P : Type 0} (b : Bool) (X Y : P) → b ≡ true → cond b X Y ≡ X
+taken true X Y q = refl
+taken false X Y q = absurd (no-both false q refl)
+
+pub left-out : {P : Type 0} (b : Bool) (X Y : P) → b ≡ false → cond b X Y ≡ Y
+left-out true X Y q = absurd (no-both true refl q)
+left-out false X Y q = refl
+
+done-not : (c : Counts) (n : ℕ) → pass.Done c ≡ pass.Refused n → ⊥
+done-not c n e = let z : _≡_ {A = ℕ} 0 1 = cc in omega arith
+
+failure-not : (c : FailureCounts) (n : ℕ) → failure-pass.Done c ≡ failure-pass.Refused n → ⊥
+failure-not c n e = let z : _≡_ {A = ℕ} 0 1 = cc in omega arith
+
+eight : {P : Type 0} (done : P) (by : ℕ → P) → ((n : ℕ) → done ≡ by n → ⊥) → ((n : ℕ) → by 8 ≡ by n → n ≡ 8) → (xs out : List ℕ)
+    → Eight (λ n. cond (wellSized xs out) done (by 8) ≡ by n) xs out
+eight done by never same xs out = record { when = when; only-then = only }
+  where
+    w : Bool
+    w = wellSized xs out
+
+    when : ((k : ℕ) → Sized xs out k → ⊥) → cond w done (by 8) ≡ by 8
+    when f = left-out w done (by 8) (⊎-elim (λ t. absurd (f (length xs / floats) (sized xs out t))) (λ q. q) (decide w))
+
+    off : (n : ℕ) → cond w done (by 8) ≡ by n → w ≡ false
+    off n e = ⊎-elim (λ t. absurd (never n (sym (taken w done (by 8) t) ∙ e))) (λ q. q) (decide w)
+
+    only : (n : ℕ) → cond w done (by 8) ≡ by n → (n ≡ 8) × ((k : ℕ) → Sized xs out k → ⊥)
+    only n e = (same n (sym (left-out w done (by 8) (off n e)) ∙ e), λ k s. no-both w (well xs out k s) (off n e))
+
+pub pass-eight : (c : Counts) (xs out : List ℕ) → Eight (λ n. cond (wellSized xs out) (pass.Done c) (pass.Refused 8) ≡ pass.Refused n) xs out
+pass-eight c = eight (pass.Done c) pass.Refused (done-not c) (λ n e. cc)
+
+pub failure-eight : (c : FailureCounts) (xs out : List ℕ)
+    → Eight (λ n. cond (wellSized xs out) (failure-pass.Done c) (failure-pass.Refused 8) ≡ failure-pass.Refused n) xs out
+failure-eight c = eight (failure-pass.Done c) failure-pass.Refused (failure-not c) (λ n e. cc)
+
+-- ---- the answers
+module _ (law : List ℕ → Worked) (l : List ℕ) where
+  abbrev at : ℕ → Outcome
+  at i = law (recordAt l i) .outcome
+
+  answer : (k i : ℕ) → i < k → (getD (answers law l k) (i * 2) 0 ≡ codeOf (at i)) × (getD (answers law l k) (i * 2 + 1) 0 ≡ valueOf (at i))
+  unfolding answers
+  answer zero i h = absurd (omega arith)
+  answer (suc k) i h =
+      let q = answers law l k in
+      let n = answers-length law l k in
+      let p = codeOf (at k) ∷ valueOf (at k) ∷ [] in
+      ⊎-elim
+      (λ e.
+      let a : length q + 0 ≡ i * 2 = omega arith in
+      let b : length q + 1 ≡ i * 2 + 1 = omega arith in
+      let c : k ≡ i = omega arith in (
+        ap (λ (j : ℕ). getD (q ++ p) j 0) (sym a) ∙ getD-append-add q p 0 0 ∙ ap (λ (j : ℕ). codeOf (at j)) c,
+        ap (λ (j : ℕ). getD (q ++ p) j 0) (sym b) ∙ getD-append-add q p 1 0 ∙ ap (λ (j : ℕ). valueOf (at j)) c,
+      ))
+      (λ g.
+      let f : i < k = omega arith in
+      let u = answer k i f in
+      (List·getD-append q p 0 (i * 2) (omega arith) ∙ u .0, List·getD-append q p 0 (i * 2 + 1) (omega arith) ∙ u .1))
+      (eq-or-lt-of-le h)
+
+-- code 2 is a refusal by the value beside it
+refused-by : (o : Outcome) → codeOf o ≡ 2 → o ≡ Refused (valueOf o)
+refused-by Untouched e = absurd (omega arith)
+refused-by (Stored a) e = absurd (omega arith)
+refused-by (Refused n) e = refl
+
+-- the answer (2, n) is a refusal by n
+answered : (o : Outcome) (n : ℕ) → ((codeOf o ≡ 2) × (valueOf o ≡ n)) ↔ (o ≡ Refused n)
+answered o n = (λ p. refused-by o (p .0) ∙ ap Refused (p .1), λ e. (ap codeOf e, ap valueOf e))
+
+answers-of : {bad : Type 0} {path : List Met} (o : Outcome) → Refuses o bad path → (a : List ℕ) (i : ℕ)
+    → getD a (i * 2) 0 ≡ codeOf o → getD a (i * 2 + 1) 0 ≡ valueOf o → Answers a i bad path
+answers-of o r a i c v = transfer (λ n. (to n, from n)) r
+  where
+    to : (n : ℕ) → (getD a (i * 2) 0 ≡ 2) × (getD a (i * 2 + 1) 0 ≡ n) → o ≡ Refused n
+    to n p = answered o n .0 (sym c ∙ p .0, sym v ∙ p .1)
+
+    from : (n : ℕ) → o ≡ Refused n → (getD a (i * 2) 0 ≡ 2) × (getD a (i * 2 + 1) 0 ≡ n)
+    from n e = let q = answered o n .1 e in (c ∙ q .0, v ∙ q .1)
+
+pub pass-refuses : (law : List ℕ → Worked) (bad : List ℕ → Type 0) (path : List ℕ → List Met) (R : ℕ → Type 0) (xs out : List ℕ)
+    → ((r : List ℕ) → Refuses (law r .outcome) (bad r) (path r)) → Eight R xs out → Pass law bad path R xs out
+pass-refuses law bad path R xs out f e = record { eight = e; records = records }
+  where
+    records : (k : ℕ) → Sized xs out k → (i : ℕ) → i < k → Answers (passAnswers law xs out) i (bad (recordAt xs i)) (path (recordAt xs i))
+    records k s i h =
+        let q : passAnswers law xs out ≡ answers law xs k =
+        taken (wellSized xs out) (answers law xs (length xs / floats)) out (well xs out k s) ∙ ap (answers law xs) (quotient xs out k (s .0)) in
+        let u = answer law xs k i h in
+        answers-of (law (recordAt xs i) .outcome) (f (recordAt xs i)) (passAnswers law xs out) i (ap (λ (a : List ℕ). getD a (i * 2) 0) q ∙ u .0)
+        (ap (λ (a : List ℕ). getD a (i * 2 + 1) 0) q ∙ u .1)

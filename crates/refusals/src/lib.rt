@@ -1,0 +1,1 @@
+// No code: the statements stand in specs/, their proofs in proofs/.

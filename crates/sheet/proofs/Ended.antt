@@ -1,0 +1,114 @@
+-- Refusal 4 once more, by what could follow: a sheet ends early exactly where it is not good and some bytes after it would
+-- change its answer.
+use mathlib.Core.Path.{_≡_, refl, ap, _∙_}
+use mathlib.Core.Logic.{_↔_, inl, inr}
+use mathlib.Core.Bool.{Bool, true, false, cond}
+use mathlib.Core.List.{List, [], _∷_, _++_, append-nil}
+use Prim.Native.Nat.{ℕ, zero, suc, _+_, _*_, _/_, _%_, _≤_, _<_}
+use native.Mathlib.Omega.{arith}
+use lib.ListN.{length, replicate, length-append, length-replicate}
+use lib.Dec.{ltb}
+use Rattle.record.specs.Layout.{floats}
+use Rattle.sheet.specs.Sheet.{kindsOf, headerOf}
+use Rattle.sheet.specs.Spelling.{spellNumber, spellWords, Below}
+use Rattle.sheet.specs.Refused.{Good, AtCount, AtParameter, AtNumber, at-model, at-count, Reason, no-number, half-number, short-parameter, short-records, not-shortest, third-group, unknown-model, other-flag, count-over, bytes-after}
+use Rattle.sheet.proofs.Steps.{kinds-most}
+use Rattle.sheet.proofs.Pieces.{fits-length, spelled-length}
+use Rattle.sheet.proofs.Refusals.{Later, later}
+use Rattle.sheet.proofs.Reasons.{good-exactly, refused-exactly}
+
+number-length : (v : ℕ) → length (spellNumber v) ≤ 2
+unfolding spellNumber
+number-length v = by-size (ltb v 128)
+  where
+    by-size : (b : Bool) → length (cond b (v ∷ []) ((v % 128 + 128) ∷ v / 128 ∷ [])) ≤ 2
+    by-size true = omega arith
+    by-size false = omega arith
+
+front-length : (s : List ℕ) (model : ℕ) (ws l : List ℕ) → length ws ≤ 8 → s ≡ spellNumber model ++ (spellWords ws ++ l) → length s ≤ 66 + length l
+front-length s model ws l h e =
+    let a = ap length e in
+    let b = length-append (spellNumber model) (spellWords ws ++ l) in
+    let c = length-append (spellWords ws) l in
+    let d = number-length model in
+    let f = spelled-length ws in
+    omega arith
+
+count-length : (s l : List ℕ) → AtCount s l → length s ≤ 66 + length l
+count-length s l p =
+    let n = fits-length (kindsOf (p .model)) (p .parameters) (p .fits) in
+    let m = kinds-most (p .model) in
+    front-length s (p .model) (p .parameters) l (omega arith) (p .spelled)
+
+parameter-length : (s : List ℕ) (flag : Bool) (l : List ℕ) → AtParameter s flag l → length s ≤ 66 + length l
+parameter-length s flag l p =
+    let n = fits-length (p .earlier) (p .parameters) (p .fits) in
+    let m = kinds-most (p .model) in
+    let k = ap length (p .kinds) in
+    let a = length-append (p .earlier) (flag ∷ p .others) in
+    front-length s (p .model) (p .parameters) l (omega arith) (p .spelled)
+
+at-length : (s l : List ℕ) → AtNumber s l → length s ≤ 66 + length l
+at-length s l (at-model e) = let a = ap length e in omega arith
+at-length s l (at-count p) = count-length s l p
+
+-- a sheet that ends early is not long
+abbrev most : ℕ
+most = 66 + 2 + 200 * floats * 8
+
+ended-length : (s : List ℕ) (n : ℕ) → n ≡ 4 → Reason s n → length s ≤ most
+ended-length s n e (no-number p) = let a = at-length s [] p in omega arith
+ended-length s n e (half-number low h p) = let a = at-length s (low ∷ []) p in omega arith
+ended-length s n e (short-parameter flag l h p) = let a = parameter-length s flag l p in omega arith
+ended-length s n e (short-records count l h k p) =
+    let a = count-length s (spellNumber count ++ l) p in
+    let b = length-append (spellNumber count) l in
+    let c = number-length count in
+    omega arith
+ended-length s n e (not-shortest low l h p) = absurd (omega arith)
+ended-length s n e (third-group low high l h k p) = absurd (omega arith)
+ended-length s n e (unknown-model model l k h f) = absurd (omega arith)
+ended-length s n e (other-flag w l h z o p) = absurd (omega arith)
+ended-length s n e (count-over count l k h p) = absurd (omega arith)
+ended-length s n e (bytes-after t l g h f) = absurd (omega arith)
+
+below-append : (b : ℕ) (p l : List ℕ) → Below b p → Below b l → Below b (p ++ l)
+below-append b [] l h k = k
+below-append b (x ∷ p) l h k = (h .0, below-append b p l (h .1) k)
+
+zeros-below : (n : ℕ) → Below 256 (replicate n 0)
+zeros-below zero = tt
+zeros-below (suc n) = (omega arith, zeros-below n)
+
+-- bytes after a sheet that change its answer
+pub record Changes (s r : List ℕ) : Type 0 where
+  pub bytes : Below 256 r
+  pub other : headerOf (s ++ r) .refusal ≡ headerOf s .refusal → ⊥
+
+module _ (s : List ℕ) (b : Below 256 s) where
+  filled-up : (n : ℕ) → most < n → headerOf s .refusal ≡ 4 → Changes s (replicate n 0)
+  filled-up n h e =
+      record {
+        bytes = zeros-below n;
+        other = λ q.
+            let r = refused-exactly (s ++ replicate n 0) (below-append 256 s (replicate n 0) b (zeros-below n)) 4 (λ z. omega arith) .0 (q ∙ e) in
+            let l = ended-length (s ++ replicate n 0) 4 refl r in
+            let m = length-append s (replicate n 0) in
+            let k = length-replicate {A = ℕ} n 0 in
+            omega arith;
+      }
+
+  ended-by : (r : List ℕ) → Changes s r → (Good s → ⊥) → headerOf s .refusal ≡ 4
+  ended-by [] c g = absurd (c .other (ap (λ (l : List ℕ). headerOf l .refusal) (append-nil s)))
+  ended-by (x ∷ r) c g = by-case (later s (x ∷ r) (omega arith))
+    where
+      by-case : Later (headerOf s) (headerOf (s ++ (x ∷ r))) → headerOf s .refusal ≡ 4
+      by-case (inl e) = e
+      by-case (inr (inl e)) = absurd (g (good-exactly s b .0 (e .0)))
+      by-case (inr (inr e)) = absurd (c .other (e .1))
+
+  pub ended-exactly : (headerOf s .refusal ≡ 4) ↔ ((Good s → ⊥) × ((r : List ℕ) × Changes s r))
+  ended-exactly = (
+    λ e. (λ g. let z = good-exactly s b .1 g in omega arith, (replicate (suc most) 0, filled-up (suc most) (omega arith) e)),
+    λ c. ended-by (c .1 .0) (c .1 .1) (c .0),
+  )

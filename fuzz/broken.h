@@ -1,0 +1,94 @@
+// For the self-test: the calls with one fault each, chosen by the environment's BREAK. A harness that does not stop at these sees nothing.
+enum {
+    BIT = 1,      // one bit of a result
+    PAST_END,     // a word written after a list
+    BEFORE_START, // a word written before it
+    COUNT,        // a count that is one too high
+    REFUSAL,      // another refusal number
+    LEAVES,       // a refused call that writes
+    LENT_BYTES,   // a list that is only lent to be read is written
+    READS_ON,     // a byte read past the end
+    ONE_MISSED,   // a record with a NaN that is not refused by 1
+};
+
+static int fault_is(int kind) {
+    static int chosen = -1;
+    if (chosen < 0)
+        chosen = getenv("BREAK") ? atoi(getenv("BREAK")) : 0;
+    return chosen == kind;
+}
+
+static volatile uint8_t seen;
+
+// What all calls can do wrong after the true call: `out` is a written list, `counts` another.
+static uint8_t spoiled(uint8_t n, uint64_t *out, size_t len, uint64_t *counts, size_t count) {
+    if (fault_is(BIT) && n == 0 && len > 18)
+        out[18] ^= 1;
+    if (fault_is(PAST_END))
+        out[len] = 1;
+    if (fault_is(BEFORE_START))
+        out[-1] = 1;
+    if (fault_is(COUNT) && n == 0 && count)
+        counts[count - 1] += 1;
+    if (fault_is(REFUSAL) && n == 4)
+        return 5;
+    if (fault_is(REFUSAL) && n == 8)
+        return 6;
+    if (fault_is(LEAVES) && n && len)
+        out[0] = 0;
+    return n;
+}
+
+static void peeked(const void *p, size_t bytes) {
+    if (fault_is(LENT_BYTES) && bytes)
+        *(uint8_t *)p ^= 1;
+    if (fault_is(READS_ON))
+        seen = ((const uint8_t *)p)[bytes];
+}
+
+static uint8_t broken_update(uint64_t model, const uint64_t *p, size_t np, uint64_t *r, size_t nr, uint64_t *a, size_t na) {
+    uint8_t n = pasoletu_update(model, p, np, r, nr, a, na);
+    peeked(p, 8 * np);
+    if (fault_is(ONE_MISSED) && n == 1)
+        n = 3;
+    return spoiled(n, r, nr, a, na);
+}
+
+static uint8_t broken_pass(uint64_t model, const uint64_t *p, size_t np, uint64_t *r, size_t nr, uint64_t *a, size_t na, uint64_t *c, size_t nc) {
+    uint8_t n = pasoletu_pass(model, p, np, r, nr, a, na, c, nc);
+    peeked(p, 8 * np);
+    if (fault_is(ONE_MISSED) && n == 0 && na && a[0] == 2 && a[1] == 1)
+        a[1] = 3;
+    return spoiled(n, r, nr, c, nc);
+}
+
+static uint8_t broken_pass_with_failure(uint64_t model, const uint64_t *p, size_t np, const uint64_t *l, size_t nl, const uint64_t *law, size_t nw,
+                                        uint64_t *r, size_t nr, uint64_t *a, size_t na, uint64_t *c, size_t nc) {
+    uint8_t n = pasoletu_pass_with_failure(model, p, np, l, nl, law, nw, r, nr, a, na, c, nc);
+    peeked(l, 8 * nl);
+    if (fault_is(ONE_MISSED) && n == 0 && na && a[0] == 2 && a[1] == 1)
+        a[1] = 3;
+    return spoiled(n, r, nr, c, nc);
+}
+
+static uint8_t broken_read_sheet(const uint8_t *s, size_t ns, uint64_t *h, size_t nh, uint64_t *r, size_t nr) {
+    uint8_t n = pasoletu_read_sheet(s, ns, h, nh, r, nr);
+    peeked(s, ns);
+    return spoiled(n, r, nr, h, nh);
+}
+
+static uint8_t broken_run_sheet(const uint8_t *s, size_t ns, uint64_t *r, size_t nr, uint64_t *a, size_t na, uint64_t *c, size_t nc) {
+    uint8_t n = pasoletu_run_sheet(s, ns, r, nr, a, na, c, nc);
+    peeked(s, ns);
+    if (fault_is(ONE_MISSED) && n == 0 && na && a[0] == 2 && a[1] == 1)
+        a[1] = 3;
+    return spoiled(n, r, nr, c, nc);
+}
+
+#if TARGET == 2 // elsewhere it is what a pass is compared with
+#define pasoletu_update broken_update
+#endif
+#define pasoletu_pass broken_pass
+#define pasoletu_pass_with_failure broken_pass_with_failure
+#define pasoletu_read_sheet broken_read_sheet
+#define pasoletu_run_sheet broken_run_sheet

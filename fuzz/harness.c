@@ -1,0 +1,356 @@
+// One fuzz target a build, chosen by TARGET: 0 read_sheet, 1 run_sheet, 2 update, 3 pass, 4 pass_with_failure.
+// README.md says what is checked. The first thing that does not hold is printed, and the run stops there.
+#include "rooms.h"
+#include "calls.h"
+#include "second.h"
+#ifdef BREAK
+#include "broken.h"
+#endif
+#include <math.h>
+#include <stdarg.h>
+#include "mutate.h"
+
+#define ROOM (MOST * FLOATS)
+#define PASSED 8 // records in an input for the passes
+
+static struct room sheet_room, parameters_room, limits_room, law_room, records_room, answers_room, out_room, one_room, two_room;
+
+// What was met is told to the fuzzer as coverage, since the library itself is not instrumented.
+__attribute__((section("__libfuzzer_extra_counters"))) static uint8_t met[1024];
+
+static void fault(const char *what, ...) {
+    va_list v;
+    va_start(v, what);
+    fprintf(stderr, "\nFAULT: ");
+    vfprintf(stderr, what, v);
+    fprintf(stderr, "\n");
+    va_end(v);
+    abort();
+}
+
+static void check(int holds, const char *what, uint64_t a, uint64_t b) {
+    if (!holds)
+        fault("%s (%llx, %llx)", what, (unsigned long long)a, (unsigned long long)b);
+}
+
+static void check_room(const struct room *r, const char *what) {
+    if (kept(r))
+        return;
+    const uint64_t *w = (const uint64_t *)r->write, *want = (const uint64_t *)r->want;
+    size_t all = r->bytes / 8;
+    for (size_t k = 0; k < all; k++)
+        if (w[k] != want[k])
+            fault("%s: word %ld from the end is %016llx and should be %016llx", what, (long)(all - k), (unsigned long long)w[k], (unsigned long long)want[k]);
+}
+
+// ---- one record: pasoletu_update alone, and what document 01 says of any answer
+
+struct done {
+    uint8_t status;
+    uint64_t record[FLOATS], answer[2];
+};
+
+static double larger(double a, double b) {
+    return b < a ? a : b;
+}
+
+static double smaller(double a, double b) {
+    return a < b ? a : b;
+}
+
+// Section 7: F is recomposed, U and V^T stay, and of the six scalars only those that the law names may change.
+static void check_stored(uint64_t model, const uint64_t *p, const uint64_t *was, const struct done *d) {
+    static const uint8_t named[4][6] = {{0, 1, 0, 1, 0, 0}, {0, 0, 1, 0, 0, 0}, {0, 1, 1, 0, 1, 0}, {0, 0, 0, 0, 0, 1}};
+    const uint64_t *r = d->record;
+    check(finite_words(r, FLOATS) && finite_words(d->answer + 1, 1), "a stored float is not finite", model, 0);
+    for (int k = 9; k < FLOATS; k++) {
+        int free = (k >= 18 && k < 21) || (k >= 30 && named[model][k - 30]);
+        check(free || r[k] == was[k], "an update changed a float that its law does not name: place, bits", k, r[k]);
+    }
+    for (int i = 0; i < 3; i++)
+        for (int j = 0; j < 3; j++) {
+            double a[3];
+            for (int k = 0; k < 3; k++)
+                a[k] = value(r[9 + 3 * i + k]) * value(r[18 + k]) * value(r[21 + 3 * k + j]);
+            check(bits(a[0] + a[1] + a[2]) == r[3 * i + j], "F is not U sigma V^T: place, bits", 3 * i + j, r[3 * i + j]);
+        }
+    static const int amount[4] = {33, 32, -1, 35};
+    if (model == 2)
+        check(bits(value(was[32]) + value(d->answer[1])) == r[32], "dq is not what the hardening grew by", d->answer[1], r[32]);
+    else
+        check(d->answer[1] == r[amount[model]], "the amount is not the float that was stored", d->answer[1], r[amount[model]]);
+    if (model == 0) {
+        double old = 1.0, new = 1.0;
+        for (int k = 0; k < 3; k++) {
+            double s = smaller(larger(value(was[18 + k]), 1.0 - value(p[0])), 1.0 + value(p[1]));
+            check(bits(s) == r[18 + k], "a sigma is not clamped: bits, should be", r[18 + k], bits(s));
+            old = k ? old * value(was[18 + k]) : value(was[18]);
+            new = k ? new * s : s;
+        }
+        double det = value(was[31]) * (old / new), x = value(p[2]) * (1.0 - det), h = value(r[33]);
+        check(bits(det) == r[31], "Snow's plastic determinant", r[31], bits(det));
+        check(fabs(h - exp(x)) <= ldexp(exp(x), -44), "Snow's elastic hardening is not the exponential", r[33], bits(exp(x)));
+    }
+}
+
+// What a run has met in all, printed at its end: a target that never reaches a law's outcome has not tried it.
+static unsigned long outcomes[4][5], verdicts[2], refusals[9];
+
+static void print_met(void) {
+    static const char *names[4] = {"snow", "rankine", "drucker_prager", "nacc"};
+    if (TARGET < 2)
+        fprintf(stderr, "met: sheets read %lu, refused 4: %lu, 5: %lu, 6: %lu, 7: %lu\n", refusals[0], refusals[4], refusals[5], refusals[6], refusals[7]);
+    for (int k = 0; k < (TARGET ? 4 : 0); k++)
+        fprintf(stderr, "met: %s untouched %lu, stored %lu, refused 1: %lu, 2: %lu, 3: %lu\n", names[k], outcomes[k][0], outcomes[k][1], outcomes[k][2], outcomes[k][3], outcomes[k][4]);
+    if (TARGET == 4)
+        fprintf(stderr, "met: failed %lu, not failed %lu\n", verdicts[1], verdicts[0]);
+}
+
+static void tell(uint64_t model, const uint64_t *was, const struct done *d) {
+    uint8_t kind = d->status ? d->status : 16 + d->answer[0];
+    met[model * 32 + kind] = 1;
+    outcomes[model][d->status ? 1 + d->status : d->answer[0]]++;
+    if (d->status || d->answer[0] == 0)
+        return;
+    unsigned same = 0;
+    for (int k = 0; k < 3; k++) {
+        same |= (d->record[18 + k] == was[18 + k]) << k;
+        same |= (d->record[18 + k] == d->record[18 + (k + 1) % 3]) << (3 + k);
+    }
+    same |= (d->record[18] == ONE) << 6;
+    met[128 + model * 128 + same] = 1;
+}
+
+static int lengths_fit(uint64_t model, size_t np) {
+    return model > 3 || np == FIELDS[model];
+}
+
+// pasoletu_update on a record, with the lengths given; what it leaves is checked against everything that document 01 says of it.
+static struct done updated(uint64_t model, const uint64_t *p, size_t np, const uint64_t *was, size_t nr, size_t na) {
+    struct done d = {0};
+    uint64_t *r = lend(&one_room, was, nr), *a = lend(&two_room, NULL, na);
+    d.status = pasoletu_update(model, show(&parameters_room, p, np), np, r, nr, a, na);
+    if (!lengths_fit(model, np) || nr != FLOATS || na != 2) {
+        check(d.status == 8, "update with lists of the wrong length: answer", d.status, 8);
+    } else if (model > 3 || !flag_fits(model, p)) {
+        check(d.status == 6, "update with an unknown model or flag: answer", d.status, 6);
+    } else {
+        int one = !finite_words(p, np) || !finite_words(was, FLOATS);
+        check((d.status == 1) == one, "refusal 1 comes exactly where a float is not finite: answer, should be 1", d.status, one);
+        check(d.status <= 3, "update: answer", d.status, 0);
+        if (d.status == 0) {
+            check(a[0] <= 1 && (a[0] == 1 || a[1] == 0), "update's answer places", a[0], a[1]);
+            memcpy(d.record, r, sizeof d.record);
+            memcpy(d.answer, a, sizeof d.answer);
+            if (a[0] == 1) {
+                memcpy(wanted(&one_room, FLOATS), r, sizeof d.record);
+                check_stored(model, p, was, &d);
+            }
+            memcpy(wanted(&two_room, 2), a, sizeof d.answer);
+        }
+        tell(model, was, &d);
+    }
+    check_room(&one_room, d.status ? "update was refused and wrote its record" : "update's record");
+    check_room(&two_room, "update's answer");
+    return d;
+}
+
+// ---- lists: what a pass is to leave, from pasoletu_update alone on each record
+
+struct judge {
+    uint64_t limits[3], law[5];
+    size_t nl, nw; // the lengths that are lent: 2 and 4, or others
+};
+
+static uint64_t want_records[ROOM], want_answers[2 * MOST], want_counts[4];
+
+static void want_pass(uint64_t model, const uint64_t *p, const struct judge *j, const uint64_t *records, size_t count) {
+    memset(want_counts, 0, sizeof want_counts);
+    for (size_t k = 0; k < count; k++) {
+        uint64_t r[FLOATS];
+        memcpy(r, records + k * FLOATS, sizeof r);
+        int fails = 0;
+        struct done d = {0};
+        if (j && !(finite_words(j->limits, 2) && finite_words(j->law, 4)))
+            d.status = 1;
+        else if (j && finite_words(r, FLOATS) && finite_words(p, FIELDS[model]) && !judged(j->limits, j->law, r, &fails))
+            d.status = 3;
+        else {
+            if (fails)
+                r[30] = 0;
+            d = updated(model, p, FIELDS[model], r, FLOATS, 2);
+        }
+        if (j)
+            met[640 + model * 16 + (d.status ? d.status : 4 + fails * 2 + d.answer[0])] = 1;
+        memcpy(want_records + k * FLOATS, d.status ? records + k * FLOATS : d.record, sizeof r);
+        want_answers[2 * k] = d.status ? 2 : d.answer[0];
+        want_answers[2 * k + 1] = d.status ? d.status : d.answer[1];
+        want_counts[d.status ? 2 : d.answer[0]]++;
+        want_counts[3] += fails && !d.status;
+        verdicts[fails && !d.status] += !d.status;
+    }
+}
+
+static void one_pass(uint64_t model, const uint64_t *p, size_t np, const struct judge *j, const uint64_t *records, size_t nr, size_t na, size_t nc) {
+    size_t count = nr / FLOATS, places = j ? 4 : 3;
+    uint8_t want = 0;
+    if (!lengths_fit(model, np) || nr % FLOATS || na != 2 * count || nc != places || (j && (j->nl != 2 || j->nw != 4)))
+        want = 8;
+    else if (model > 3 || !flag_fits(model, p) || (j && !is_flag(j->law[0])))
+        want = 6;
+    else
+        want_pass(model, p, j, records, count);
+    uint64_t *r = lend(&records_room, records, nr), *a = lend(&answers_room, NULL, na), *c = lend(&out_room, NULL, nc);
+    const uint64_t *shown = show(&parameters_room, p, np);
+    uint8_t got = j ? pasoletu_pass_with_failure(model, shown, np, show(&limits_room, j->limits, j->nl), j->nl, show(&law_room, j->law, j->nw), j->nw, r, nr, a, na, c, nc)
+                    : pasoletu_pass(model, shown, np, r, nr, a, na, c, nc);
+    check(got == want, "a pass: answer, should be", got, want);
+    if (!want) {
+        memcpy(wanted(&records_room, nr), want_records, 8 * nr);
+        memcpy(wanted(&answers_room, na), want_answers, 8 * na);
+        memcpy(wanted(&out_room, nc), want_counts, 8 * nc);
+    }
+    check_room(&records_room, want ? "a refused pass wrote its records" : "a pass's records");
+    check_room(&answers_room, want ? "a refused pass wrote its answers" : "a pass's answers");
+    check_room(&out_room, want ? "a refused pass wrote its counts" : "a pass's counts");
+}
+
+// ---- sheets
+
+static uint64_t sheet_records[ROOM];
+
+static void one_read(const uint8_t *b, size_t n, int at_start, const struct sheet *x, size_t nh, size_t nr) {
+    uint8_t want = nh != 11 || nr % FLOATS ? 8 : x->refusal ? x->refusal : x->count * FLOATS > nr ? 8 : 0;
+    uint64_t *h = lend(&out_room, NULL, nh), *r = lend(&records_room, NULL, nr);
+    uint8_t got = pasoletu_read_sheet(show_bytes(&sheet_room, b, n, at_start), n, h, nh, r, nr);
+    check(got == want, "read_sheet: answer, should be", got, want);
+    if (!want) {
+        uint64_t *w = wanted(&out_room, nh);
+        w[0] = x->model;
+        memcpy(w + 1, x->p, sizeof x->p);
+        w[9] = x->count;
+        w[10] = x->at;
+        memcpy(wanted(&records_room, nr), sheet_records, 8 * FLOATS * x->count);
+    }
+    check_room(&out_room, want ? "a refused read_sheet wrote its header" : "read_sheet's header");
+    check_room(&records_room, want ? "a refused read_sheet wrote its records" : "read_sheet's records");
+}
+
+static void one_run(const uint8_t *b, size_t n, int at_start, const struct sheet *x, size_t nr, size_t na, size_t nc) {
+    uint8_t want = nc != 4 || nr % FLOATS || na != nr / FLOATS * 2 ? 8 : x->refusal ? x->refusal : x->count * FLOATS > nr ? 8 : 0;
+    uint64_t *r = lend(&records_room, NULL, nr), *a = lend(&answers_room, NULL, na), *c = lend(&out_room, NULL, nc);
+    uint8_t got = pasoletu_run_sheet(show_bytes(&sheet_room, b, n, at_start), n, r, nr, a, na, c, nc);
+    check(got == want, "run_sheet: answer, should be", got, want);
+    if (!want) {
+        memcpy(wanted(&records_room, nr), want_records, 8 * FLOATS * x->count);
+        memcpy(wanted(&answers_room, na), want_answers, 16 * x->count);
+        uint64_t *w = wanted(&out_room, nc);
+        w[0] = x->count;
+        memcpy(w + 1, want_counts, 24);
+    }
+    check_room(&records_room, want ? "a refused run_sheet wrote its records" : "run_sheet's records");
+    check_room(&answers_room, want ? "a refused run_sheet wrote its answers" : "run_sheet's answers");
+    check_room(&out_room, want ? "a refused run_sheet wrote its counts" : "run_sheet's counts");
+}
+
+static struct sheet sheet_told(const uint8_t *b, size_t n) {
+    struct sheet x = read_second(b, n);
+    if (!x.refusal)
+        records_second(b, &x, sheet_records);
+    met[720 + x.refusal] = 1;
+    refusals[x.refusal]++;
+    return x;
+}
+
+static void read_sheet_target(const uint8_t *b, size_t n) {
+    struct sheet x = sheet_told(b, n);
+    size_t exact = x.refusal ? 0 : x.count * FLOATS;
+    one_read(b, n, 0, &x, 11, ROOM);
+    one_read(b, n, 1, &x, 11, exact);
+    one_read(b, n, 0, &x, 11, exact + 1 + n % 35);
+    one_read(b, n, 0, &x, n % 2 ? 10 : 12, ROOM);
+    if (exact)
+        one_read(b, n, 0, &x, 11, exact - FLOATS);
+}
+
+static void run_sheet_target(const uint8_t *b, size_t n) {
+    struct sheet x = sheet_told(b, n);
+    size_t exact = x.refusal ? 0 : x.count * FLOATS;
+    if (!x.refusal)
+        want_pass(x.model, x.p, NULL, sheet_records, x.count);
+    one_run(b, n, 0, &x, ROOM, 2 * MOST, 4);
+    one_run(b, n, 1, &x, exact, exact / FLOATS * 2, 4);
+    one_run(b, n, 0, &x, exact + 1 + n % 35, exact / FLOATS * 2, 4);
+    one_run(b, n, 0, &x, ROOM, 2 * MOST + (n % 2 ? 1 : -1), 4);
+    one_run(b, n, 0, &x, ROOM, 2 * MOST, n % 3 ? 3 : 5);
+    if (exact)
+        one_run(b, n, 0, &x, exact - FLOATS, exact / FLOATS * 2 - 2, 4);
+}
+
+// ---- the passes and one update: an input is a byte for the model, a byte for lengths, then the words; past the input's end all are 0
+
+static struct place from;
+
+static void words_taken(uint64_t *w, size_t n) {
+    for (size_t k = 0; k < n; k++)
+        w[k] = take_word(&from);
+}
+
+static void law_target(const uint8_t *b, size_t n) {
+    from = (struct place){b, n, 0, 0};
+    uint8_t first = take_byte(&from), lengths = take_byte(&from);
+    uint64_t model = first < 0xf0 ? first % 4 : first, p[9] = {0}, records[(PASSED + 1) * FLOATS] = {0};
+    size_t np = FIELDS[model % 4];
+    struct judge j = {.nl = 2, .nw = 4};
+    words_taken(p, np);
+    if (lengths >> 6 == 3)
+        np += lengths & 1 ? 1 : -1;
+    if (TARGET == 4) {
+        words_taken(j.limits, 2);
+        words_taken(j.law, 4);
+    }
+    size_t left = (n - from.at) / 8;
+    size_t nr = left < PASSED * FLOATS ? left / FLOATS * FLOATS : PASSED * FLOATS;
+    if (TARGET == 2)
+        nr = FLOATS;
+    words_taken(records, nr);
+    size_t na = nr / FLOATS * 2, nc = TARGET == 4 ? 4 : 3;
+    switch (lengths & 0x3f) {
+    case 1: nr += 1; break;
+    case 2: nr += nr ? -1 : 35; break;
+    case 3: na += 1; break;
+    case 4: na += na ? -1 : 2; break;
+    case 5: nc += 1; break;
+    case 6: nc -= 1; break;
+    case 7: j.nl += lengths >> 6 & 1 ? 1 : -1; break;
+    case 8: j.nw += lengths >> 6 & 1 ? 1 : -1; break;
+    }
+    if (TARGET == 2)
+        updated(model, p, np, records, nr, na);
+    else
+        one_pass(model, p, np, TARGET == 4 ? &j : NULL, records, nr, na, nc);
+}
+
+int LLVMFuzzerInitialize(int *argc, char ***argv) {
+    (void)argc, (void)argv;
+    sheet_room = room_of(1 << 17);
+    records_room = room_of(8 * (ROOM + 36));
+    answers_room = room_of(8 * (2 * MOST + 2));
+    struct room *small[] = {&parameters_room, &limits_room, &law_room, &out_room, &one_room, &two_room};
+    for (int k = 0; k < 6; k++)
+        *small[k] = room_of(PAGE);
+    atexit(print_met);
+    return 0;
+}
+
+int LLVMFuzzerTestOneInput(const uint8_t *b, size_t n) {
+    if (n > sheet_room.bytes)
+        return 0;
+    if (TARGET == 0)
+        read_sheet_target(b, n);
+    else if (TARGET == 1)
+        run_sheet_target(b, n);
+    else
+        law_target(b, n);
+    return 0;
+}

@@ -1,0 +1,204 @@
+// New inputs: by libFuzzer's own changes of bytes, and by changes that know where a float, the count and a record stand. Bytes alone would
+// hardly ever make a record that a law takes.
+size_t LLVMFuzzerMutate(uint8_t *b, size_t n, size_t most);
+
+static uint64_t drawing;
+
+static uint64_t draw(void) {
+    drawing += 0x9e3779b97f4a7c15ULL;
+    uint64_t z = (drawing ^ drawing >> 30) * 0xbf58476d1ce4e5b9ULL;
+    z = (z ^ z >> 27) * 0x94d049bb133111ebULL;
+    return z ^ z >> 31;
+}
+
+static size_t below(size_t n) {
+    return draw() % n;
+}
+
+static double between(double a, double b) {
+    return a + (b - a) * (draw() >> 11) * 0x1p-53;
+}
+
+static double odd_float(void) {
+    static const double odd[] = {0.0, -0.0, 1.0, -1.0, 0.5, 2.0, NAN, -NAN, INFINITY, -INFINITY, 0x1p-1074, 0x1p-1022, 0x1.fffffffffffffp1023,
+                                 -0x1.fffffffffffffp1023, 0x1p60, 0x1.0000000000001p60, 0x1p-60, 0x1.fffffffffffffp-61, 700.0, -700.0, 8.0, 1e-4, 1e150, 1e-150};
+    return odd[below(sizeof odd / sizeof *odd)];
+}
+
+// Where an input's parts stand: the words before the records, and the records.
+struct layout {
+    size_t model, words, first, records;
+};
+
+static struct layout layout(const uint8_t *b, size_t n) {
+    struct layout l;
+    size_t head = TARGET < 2 ? (n && b[0] & 0x80 ? 2 : 1) : 2;
+    l.model = n ? b[0] % 4 : 0;
+    l.words = head;
+    size_t words = FIELDS[l.model] + (TARGET == 4 ? 6 : 0);
+    size_t count = TARGET < 2 ? (n > head + 8 * words && b[head + 8 * words] & 0x80 ? 2 : 1) : 0;
+    l.first = head + 8 * words + count;
+    l.records = n > l.first ? (n - l.first) / 288 : 0;
+    return l;
+}
+
+static void put_word(uint8_t *b, double x) {
+    uint64_t w = bits(x);
+    for (int k = 0; k < 8; k++)
+        b[k] = w >> 8 * k;
+}
+
+static double word_there(const uint8_t *b) {
+    uint64_t w = 0;
+    for (int k = 0; k < 8; k++)
+        w |= (uint64_t)b[k] << 8 * k;
+    return value(w);
+}
+
+// Now and then one of some floats is of a size that no user gives.
+static void stretch(double *x, size_t n) {
+    if (!below(12))
+        x[below(n)] *= pow(10.0, between(-308.0, 308.0));
+}
+
+// Parameters that a user might give.
+static void put_parameters(uint8_t *b, size_t model) {
+    double young = pow(10.0, between(2.0, 7.0)), poisson = below(8) ? between(0.0, 0.49) : between(-1.0, 1.0), flag = below(2);
+    double p[4][8] = {{between(0.0, 0.1), between(0.0, 0.02), between(1.0, 20.0)},
+                      {young, poisson, young * pow(10.0, between(-5.0, 0.0)), pow(10.0, between(-2.0, 6.0))},
+                      {between(0.0, 1.2), between(0.0, 0.4), between(0.0, 0.5), between(0.0, 0.4), young * between(0.1, 2.0), young * between(0.1, 1.0), flag, between(0.0, 1.5)},
+                      {young, poisson, between(0.0, 1.0), flag, between(0.0, 5.0), between(0.1, 3.0)}};
+    stretch(p[model], FIELDS[model]);
+    for (size_t k = 0; k < FIELDS[model]; k++)
+        put_word(b + 8 * k, p[model][k]);
+}
+
+// A record that a law may take: factors near the identity or turned, sigma spread by one of some widths.
+static void put_record(uint8_t *b) {
+    double r[36], c = cos(between(0.0, 6.3)), s = sqrt(1.0 - c * c);
+    double width[] = {1e-9, 1e-3, 0.03, 0.3, 2.0, 41.0}, w = width[below(6)], shift = below(2) ? 0.0 : between(-w, w);
+    double turn[9] = {c, -s, 0, s, c, 0, 0, 0, 1};
+    for (int k = 0; k < 9; k++) {
+        r[9 + k] = below(8) ? turn[k] : between(-1.0, 1.0);
+        r[21 + k] = k % 4 == 0;
+        r[k] = between(-1.0, 1.0);
+    }
+    for (int k = 0; k < 3; k++)
+        r[18 + k] = exp(shift + between(-w, w));
+    if (!below(4))
+        r[18 + below(3)] = r[18];
+    r[30] = (double[]){1.0, 0.0, 0.5, -0.0}[below(4)];
+    r[31] = below(4) ? between(0.5, 1.5) : between(-100.0, 100.0);
+    r[32] = below(2) ? 1.0 : pow(10.0, between(-3.0, 6.0));
+    r[33] = between(0.0, 3.0);
+    r[34] = below(2) ? 0.0 : between(-0.2, 0.2);
+    r[35] = between(-0.5, 0.1);
+    stretch(r + 9, 27);
+    for (int k = 0; k < 36; k++)
+        put_word(b + 8 * k, r[k]);
+}
+
+static size_t put_number(uint8_t *b, size_t n) {
+    if (n < 128) {
+        b[0] = n;
+        return 1;
+    }
+    b[0] = n % 128 + 128;
+    b[1] = n / 128;
+    return 2;
+}
+
+// A whole input from nothing.
+static size_t fresh(uint8_t *b, size_t most) {
+    size_t model = below(4), at = 0, count = below(16) ? below(4) : TARGET < 2 ? below(202) : below(9);
+    if (most < 2 + 64 + 48 + 2)
+        return LLVMFuzzerMutate(b, 0, most);
+    at = put_number(b, model);
+    if (TARGET >= 2)
+        b[at++] = 0;
+    put_parameters(b + at, model);
+    at += 8 * FIELDS[model];
+    if (TARGET == 4) {
+        double size = pow(10.0, between(1.0, 7.0)), w[6] = {size * between(0.0, 1.0), size * between(0.0, 1.0), below(2), 0.9, size * between(0.0, 2.0), size};
+        for (int k = 0; k < 6; k++, at += 8)
+            put_word(b + at, w[k]);
+    }
+    if (TARGET == 2)
+        count = 1;
+    if (TARGET < 2)
+        at += put_number(b + at, count);
+    for (size_t k = 0; k < count && at + 288 <= most; k++, at += 288)
+        put_record(b + at);
+    return at;
+}
+
+// One float becomes an odd one, a neighbour, a power of 2 times itself, another float of the input, or any bits.
+static void change_word(uint8_t *b, size_t n, size_t at, size_t other) {
+    double x = word_there(b + at);
+    switch (below(6)) {
+    case 0: x = odd_float(); break;
+    case 1: x = value(bits(x) + (below(2) ? 1 : -1)); break;
+    case 2: x = ldexp(x, (int)below(9) - 4); break;
+    case 3: x = word_there(b + other); break;
+    case 4: x = x * between(0.9, 1.1); break;
+    default: x = value(draw());
+    }
+    (void)n;
+    put_word(b + at, x);
+}
+
+// The count of a sheet: one that fits, or another.
+static void change_count(uint8_t *b, struct layout l) {
+    size_t at = l.words + 8 * FIELDS[l.model];
+    if (l.first - at == 1)
+        b[at] = below(4) ? l.records % 128 : below(256);
+    else
+        b[at] = 128 + below(128), b[at + 1] = below(8) ? below(3) : below(256);
+}
+
+size_t LLVMFuzzerCustomMutator(uint8_t *b, size_t n, size_t most, unsigned seed) {
+    drawing = seed;
+    struct layout l = layout(b, n);
+    size_t what = below(16), words = (l.first - l.words) / 8 + 36 * l.records;
+    if (what < 2 || n < l.first)
+        return below(4) ? fresh(b, most) : LLVMFuzzerMutate(b, n, most);
+    if (what < 4)
+        return LLVMFuzzerMutate(b, n, most);
+    if (what < 10) {
+        size_t k = below(words), other = below(words), head = (l.first - l.words) / 8;
+        size_t at = k < head ? l.words + 8 * k : l.first + 8 * (k - head), from = other < head ? l.words + 8 * other : l.first + 8 * (other - head);
+        change_word(b, n, at, from);
+        return n;
+    }
+    if (what == 10 && l.records) {
+        put_record(b + l.first + 288 * below(l.records));
+        return n;
+    }
+    if (what == 11) {
+        put_parameters(b + l.words, l.model);
+        return n;
+    }
+    if (what == 12 && n + 288 <= most) { // one record more
+        size_t k = below(l.records + 1), at = l.first + 288 * k;
+        memmove(b + at + 288, b + at, n - at);
+        put_record(b + at);
+        l.records++;
+        n += 288;
+    } else if (what == 13 && l.records) { // one record fewer
+        size_t at = l.first + 288 * below(l.records);
+        memmove(b + at, b + at + 288, n - at - 288);
+        l.records--;
+        n -= 288;
+    } else if (what == 14) { // cut, or longer
+        return below(2) ? below(n + 1) : LLVMFuzzerMutate(b, n, most);
+    } else if (TARGET >= 2) {
+        if (below(2))
+            b[0] = below(4) ? below(4) : draw();
+        else
+            b[1] = below(2) ? 0 : below(4) ? below(9) : draw();
+        return n;
+    }
+    if (TARGET < 2)
+        change_count(b, l);
+    return n;
+}

@@ -1,0 +1,142 @@
+// Document 01's sections 6 and 7 a second time: the sheet, the finite test, the principal stresses of a pass with failure.
+#define FLOATS 36
+#define MOST 200
+#define ONE 0x3ff0000000000000ULL
+
+static const size_t FIELDS[4] = {3, 4, 8, 6};
+
+static double value(uint64_t w) {
+    double x;
+    memcpy(&x, &w, 8);
+    return x;
+}
+
+static uint64_t bits(double x) {
+    uint64_t w;
+    memcpy(&w, &x, 8);
+    return w;
+}
+
+static int finite_words(const uint64_t *w, size_t n) {
+    for (size_t k = 0; k < n; k++)
+        if ((w[k] >> 52 & 0x7ff) == 0x7ff)
+            return 0;
+    return 1;
+}
+
+static int is_flag(uint64_t w) {
+    return w == 0 || w == ONE;
+}
+
+// Whether a model's flag, if it has one, is told by the bits of 0.0 or 1.0.
+static int flag_fits(uint64_t model, const uint64_t *p) {
+    return model == 2 ? is_flag(p[6]) : model == 3 ? is_flag(p[3]) : 1;
+}
+
+struct sheet {
+    uint8_t refusal;
+    uint64_t model, p[8];
+    size_t count, at; // at: where the first record begins
+};
+
+// A reading place that stops at the first refusal.
+struct place {
+    const uint8_t *b;
+    size_t n, at;
+    uint8_t refusal;
+};
+
+static uint64_t take_byte(struct place *s) {
+    if (s->refusal)
+        return 0;
+    if (s->at == s->n) {
+        s->refusal = 4;
+        return 0;
+    }
+    return s->b[s->at++];
+}
+
+static uint64_t take_number(struct place *s) {
+    uint64_t n = take_byte(s);
+    if (n & 0x80) {
+        uint64_t high = take_byte(s);
+        if (!s->refusal && (high == 0 || high & 0x80))
+            s->refusal = 5;
+        n = (n & 0x7f) | high << 7;
+    }
+    return n;
+}
+
+static uint64_t take_word(struct place *s) {
+    uint64_t w = 0;
+    for (int k = 0; k < 8; k++)
+        w |= take_byte(s) << 8 * k;
+    return w;
+}
+
+static struct sheet read_second(const uint8_t *b, size_t n) {
+    struct place s = {b, n, 0, 0};
+    struct sheet x = {0};
+    x.model = take_number(&s);
+    if (!s.refusal && x.model > 3)
+        s.refusal = 6;
+    for (size_t k = 0; !s.refusal && k < FIELDS[x.model]; k++) {
+        x.p[k] = take_word(&s);
+        int flag = (x.model == 2 && k == 6) || (x.model == 3 && k == 3);
+        if (!s.refusal && flag && !is_flag(x.p[k]))
+            s.refusal = 6;
+    }
+    x.count = take_number(&s);
+    if (!s.refusal && x.count > MOST)
+        s.refusal = 7;
+    x.at = s.at;
+    for (size_t k = 0; !s.refusal && k < x.count * FLOATS; k++)
+        take_word(&s);
+    if (!s.refusal && s.at < n)
+        s.refusal = 7;
+    x.refusal = s.refusal;
+    return x;
+}
+
+// Record words of a sheet that was read.
+static void records_second(const uint8_t *b, const struct sheet *x, uint64_t *out) {
+    struct place s = {b, x->at + x->count * FLOATS * 8, x->at, 0};
+    for (size_t k = 0; k < x->count * FLOATS; k++)
+        out[k] = take_word(&s);
+}
+
+// Whether the principal stresses of a record can be told, and then whether they fail. `law` is flag, cfl, lambda, mu.
+static int judged(const uint64_t *limits, const uint64_t *law, const uint64_t *r, int *fails) {
+    double lambda = value(law[2]), mu = value(law[3]), phase = value(r[30]), h = value(r[33]);
+    double sigma[3] = {value(r[18]), value(r[19]), value(r[20])}, stress[3];
+    double j = sigma[0] * sigma[1] * sigma[2];
+    double volume = lambda * h * (j - 1.0) * j;
+    int whole = phase == 1.0, dropped = law[0] == ONE && phase == 0.0;
+    if (volume != volume)
+        return 0;
+    for (int k = 0; k < 3; k++) {
+        double e = sigma[k] - 1.0;
+        if (whole) {
+            stress[k] = 2.0 * mu * h * e * sigma[k] + volume;
+        } else {
+            double tensile = 2.0 * mu * h * (e > 0.0 ? e : 0.0) * sigma[k];
+            double rest = 2.0 * mu * h * (e < 0.0 ? e : 0.0) * sigma[k];
+            if (tensile != tensile || rest != rest)
+                return 0;
+            if (j < 1.0)
+                rest += volume;
+            else
+                tensile += volume;
+            stress[k] = tensile * (dropped ? 0.0 : 1.0) + rest;
+        }
+        if (!(stress[k] - stress[k] == 0.0))
+            return 0;
+    }
+    double most = stress[0], least = stress[0];
+    for (int k = 1; k < 3; k++) {
+        most = stress[k] > most ? stress[k] : most;
+        least = stress[k] < least ? stress[k] : least;
+    }
+    *fails = most > value(limits[0]) || (most - least) / 2.0 > value(limits[1]);
+    return 1;
+}

@@ -1,0 +1,581 @@
+#!/usr/bin/env python3
+"""Draws a run: where each particle of a sheet lay, and where its law put it, against the yield surface.
+
+  tools/draw.py X.sheet OUT.svg [--png] [--program bin/slope | --answers FILE]
+                [--limits PRINCIPAL SHEAR --corotated FLAG CFL LAMBDA MU]
+
+The plane is chosen by the model, so that a particle is inside exactly where the law tests that it is:
+  Snow            smallest and largest sigma, with the clamp's box
+  Rankine         sum and largest of the log strains, with the tensile cut-off
+  Drucker-Prager  sum of the strains and norm of their deviatoric part, with the cone
+  NACC            pressure p and shear q, with the ellipse
+Where the surface moves with a particle's hardening, some of the surfaces are drawn and the legend says for which.
+
+The records after the run come from the shared library that PASOLETU_LIB names (see tools/library.py), else from the second
+implementation in tools/cases.py; the caption says which. --program runs the program on the sheet and takes the outcomes from what it
+prints; --answers takes them from a file with such lines. Where they differ from the records' own, the caption and the exit status say so.
+--limits and --corotated run the pass with failure (document 01, section 7), which the program has not.
+--png also writes OUT.png, with rsvg-convert, inkscape or magick.
+"""
+import argparse
+import math
+import pathlib
+import shutil
+import struct
+import subprocess
+import sys
+import xml.sax.saxutils
+
+sys.path.insert(0, str(pathlib.Path(__file__).resolve().parent))
+import cases  # noqa: E402
+import library  # noqa: E402
+import sheet  # noqa: E402
+
+INK, GREY, SURFACE, STORED, REFUSED, FAILED = "#222222", "#777777", "#009e73", "#0072b2", "#d00000", "#9933aa"
+LEFT, TOP, WIDE, HIGH = 92, 74, 600, 500
+PICTURE = 1000
+MOST_SURFACES = 4
+
+
+# ---- planes: each law's two coordinates, its surfaces, and what bounds the plane
+
+
+class Plane:
+    """`key` is what the surface of a record depends on, `surface` its points for a key, `key_name` how the legend calls it."""
+
+    def __init__(self, p):
+        self.p = p
+
+    def key(self, r):
+        return 0.0
+
+    def region(self, surface):
+        """The points round the inside: the surface, and back along the line that no particle can cross."""
+        edge = self.limit()[0]
+        return surface + [(x, edge(x)) for x, _ in (surface[-1], surface[0])]
+
+
+class Snow(Plane):
+    title, x_name, y_name, key_name = "Snow", "smallest sigma (no unit)", "largest sigma (no unit)", None
+
+    def point(self, r, after):
+        return min(r[18:21]), max(r[18:21])
+
+    def surface(self, key, box):
+        low, high = 1.0 - self.p[0], 1.0 + self.p[1]
+        return [(low, low), (low, high), (high, high)]
+
+    def limit(self):
+        """A line that no particle can cross, and its name."""
+        return (lambda x: x), "all sigma equal"
+
+
+class Rankine(Plane):
+    title, x_name, y_name = "Rankine", "sum of the log strains (no unit)", "largest log strain (no unit)"
+    key_name = "s"
+
+    def point(self, r, after):
+        e = [math.log(x) for x in r[18:21]]
+        return e[0] + e[1] + e[2], max(e)
+
+    def key(self, r):
+        return self.p[2] - (r[32] - 1.0)
+
+    def surface(self, s, box):
+        lame, mu, _ = cases.moduli(self.p[0], self.p[1])
+        corner = s / (lame + 2.0 * mu / 3.0)
+        return [(x, (s - lame * x) / (2.0 * mu)) for x in (min(box[0], corner), corner)]
+
+    def limit(self):
+        return (lambda x: x / 3.0), "all strains equal"
+
+
+class DruckerPrager(Plane):
+    title, x_name, y_name = "Drucker-Prager", "sum of the strains (no unit)", "norm of the deviatoric strain (no unit)"
+    key_name = "plastic hardening"
+
+    def point(self, r, after):
+        gain = 0.0 if after else r[34]
+        e = [math.log(x) + gain / 3.0 for x in r[18:21]]
+        t = e[0] + e[1] + e[2]
+        return t, math.hypot(*[x - t / 3.0 for x in e])
+
+    def key(self, r):
+        return r[32]
+
+    def surface(self, q, box):
+        h0, h1, h2, h3, lame, mu = self.p[:6]
+        s = math.sin(h0 + (h1 * q - h3) * math.exp(-h2 * q))
+        k = (3.0 * lame + 2.0 * mu) / (2.0 * mu) * math.sqrt(2.0 / 3.0) * 2.0 * s / (3.0 - s)
+        return [(x, -k * x) for x in (min(box[0], -1e-9), 0.0)]
+
+    def limit(self):
+        return (lambda x: 0.0), None
+
+
+class Nacc(Plane):
+    title, x_name, y_name = "NACC", "pressure p (in the unit of Young's modulus)", "shear q (in the unit of Young's modulus)"
+    key_name = "p0"
+
+    def moduli(self):
+        _, mu, kappa = cases.moduli(self.p[0], self.p[1])
+        return mu, kappa
+
+    def point(self, r, after):
+        mu, kappa = self.moduli()
+        v = [x * x for x in r[18:21]]
+        j = r[18] * r[19] * r[20]
+        s = [mu * j ** (-2.0 / 3.0) * (x - sum(v) / 3.0) for x in v]
+        return -(kappa / 2.0) * (j - 1.0 / j) * j, math.sqrt(1.5) * math.hypot(*s)
+
+    def key(self, r):
+        return self.moduli()[1] * (1.0e-5 + math.sinh(self.p[4] * max(-r[35], 0.0)))
+
+    def surface(self, p0, box):
+        beta, m = self.p[2], self.p[5]
+        centre, half = (1.0 - beta) * p0 / 2.0, (1.0 + beta) * p0 / 2.0
+        tall = m * half / math.sqrt(1.0 + 2.0 * beta)
+        turns = [math.pi * k / 60.0 for k in range(61)]
+        return [(centre - half * math.cos(t), tall * math.sin(t)) for t in turns]
+
+    def limit(self):
+        return (lambda x: 0.0), None
+
+
+PLANES = {"snow": Snow, "rankine": Rankine, "drucker_prager": DruckerPrager, "nacc": Nacc}
+
+
+# ---- the run
+
+
+class Particle:
+    def __init__(self, before, after, code, value, failed):
+        self.before, self.after, self.code, self.value, self.failed = before, after, code, value, failed
+
+
+def float_of(w):
+    return struct.unpack("<d", struct.pack("<Q", w))[0]
+
+
+def by_library(lib, model, p, failure, r):
+    if failure:
+        (code, value), after, failed = lib.update_with_failure(model, p, *failure, r)
+    else:
+        (code, value), after = lib.update(model, p, r)
+        failed = False
+    return Particle(r, after, code, value, failed)
+
+
+def by_second(model, p, failure, r):
+    try:
+        failed, amount, after = cases.worked_with_failure(model, p, *failure, r) if failure else (False, *cases.worked(model, p, r))
+    except cases.Refused as e:
+        return Particle(r, r, 2, e.args[0], False)
+    return Particle(r, after, 0 if amount is None else 1, 0 if amount is None else library.bits([amount])[0], failed)
+
+
+def worked(model, p, records, failure):
+    """The particles after the run, and who worked them."""
+    try:
+        lib = library.named()
+    except OSError as e:
+        raise sheet.Wrong("PASOLETU_LIB: the library cannot be opened (%s): name a shared library, or unset it" % e)
+    n = sheet.MODELS.index(model)
+    try:
+        if lib:
+            return [by_library(lib, n, p, failure, r) for r in records], "the library %s" % pathlib.Path(lib.path).name
+    except AttributeError as e:
+        raise sheet.Wrong("%s: the library lacks a call (%s): build it anew" % (lib.path, e))
+    except library.Refused as e:
+        raise sheet.Wrong("the library refused the whole call by %d (%s)" % (e.args[0], sheet.REFUSALS.get(e.args[0], "unknown")))
+    return [by_second(n, p, failure, r) for r in records], "the second implementation in tools/cases.py"
+
+
+def line_of(k, q, second):
+    if q.code == 0:
+        return "%d untouched" % k
+    if q.code == 2:
+        return "%d refused %d" % (k, q.value)
+    return "%d stored %r" % (k, float_of(q.value)) if second else "%d stored %016x" % (k, q.value)
+
+
+def printed(line, k, where):
+    """The outcome and its number that particle k's line tells."""
+    words = line.split(" ")
+    try:
+        if words == [str(k), "untouched"]:
+            return 0, 0
+        if words[:2] == [str(k), "stored"] and len(words) == 3 and len(words[2]) == 16:
+            return 1, int(words[2], 16)
+        if words[:2] == [str(k), "refused"] and len(words) == 3:
+            return 2, int(words[2])
+    except ValueError:
+        pass
+    raise sheet.Wrong("%s: line %d is %r, and should be that of particle %d" % (where, k + 2, line, k))
+
+
+def taken_from(lines, particles, second, where):
+    """Gives the particles the outcomes that are printed; the places at which these differ from the particles' own."""
+    if lines and lines[0].startswith("sheet refused"):
+        raise sheet.Wrong("%s: %s: there is no run to draw" % (where, lines[0]))
+    if len(lines) < 2 or lines[0] != "particles %d" % len(particles) or lines[-1] != "end" or len(lines) != len(particles) + 2:
+        raise sheet.Wrong("%s: these are not the whole answers for %d particles: the first line is 'particles %d', the last 'end'" % (where, len(particles), len(particles)))
+    differ = []
+    for k, (q, line) in enumerate(zip(particles, lines[1:-1])):
+        told, own = printed(line, k, where), line_of(k, q, second)
+        if not (cases.same(own, line) if second else own == line):
+            differ.append(k)
+        q.code, q.value = told
+    return differ
+
+
+def answers(args):
+    """The printed lines, and where they are from; or nothing."""
+    if args.answers:
+        try:
+            return pathlib.Path(args.answers).read_text().splitlines(), args.answers
+        except OSError as e:
+            raise sheet.Wrong("%s: cannot be read (%s)" % (args.answers, e.strerror))
+    if args.program:
+        try:
+            with open(args.sheet, "rb") as f:
+                ran = subprocess.run([args.program, args.sheet], stdin=f, capture_output=True, text=True)
+        except OSError as e:
+            raise sheet.Wrong("%s: cannot be run (%s)" % (args.program, e.strerror))
+        if ran.returncode:
+            raise sheet.Wrong("%s: ended with status %d: %s" % (args.program, ran.returncode, ran.stderr.strip()))
+        return ran.stdout.splitlines(), args.program
+    return None, None
+
+
+# ---- the picture
+
+
+def place(plane, r, after):
+    """A record's point in the plane, or nothing where it has none."""
+    try:
+        x, y = plane.point(r, after)
+    except (ValueError, ZeroDivisionError, OverflowError):
+        return None
+    return (x, y) if all(isinstance(v, float) and math.isfinite(v) for v in (x, y)) else None
+
+
+def span(values):
+    """The range shown: all of the values, or nine tenths of them where a few lie far out."""
+    values = sorted(values)
+    low, high = values[0], values[-1]
+    cut = len(values) // 20
+    inner = values[len(values) - 1 - cut] - values[cut]
+    if inner > 0.0 and high - low > 8.0 * inner:
+        low, high = values[cut], values[len(values) - 1 - cut]
+    if low == high:
+        low, high = low - (abs(low) or 1.0) * 0.1, high + (abs(high) or 1.0) * 0.1
+    edge = 0.06 * (high - low)
+    return low - edge, high + edge
+
+
+def ticks(low, high):
+    step = 10.0 ** math.floor(math.log10((high - low) / 5.0))
+    for m in (5.0, 2.0):
+        if (high - low) / (step * m) >= 4.0:
+            step *= m
+            break
+    first = math.ceil(low / step - 1e-9)
+    return [k * step for k in range(first, math.floor(high / step + 1e-9) + 1)], step
+
+
+def tick_text(x, step):
+    if x != 0.0 and max(abs(x), step) >= 1e6 or step < 1e-5:
+        return "%.3g" % x
+    return "%.*f" % (max(0, -math.floor(math.log10(step) + 1e-9)), x + 0.0)
+
+
+class Canvas:
+    def __init__(self, box):
+        self.box, self.out, self.labels = box, [], []
+
+    def at(self, x, y):
+        x0, x1, y0, y1 = self.box
+        return LEFT + WIDE * (x - x0) / (x1 - x0), TOP + HIGH * (y1 - y) / (y1 - y0)
+
+    def inside(self, x, y):
+        x0, x1, y0, y1 = self.box
+        return x0 <= x <= x1 and y0 <= y <= y1
+
+    def add(self, text, *values):
+        self.out.append(text % values)
+
+    def text(self, x, y, words, size=12, colour=INK, anchor="start", extra=""):
+        self.add('<text x="%.1f" y="%.1f" font-size="%d" fill="%s" text-anchor="%s"%s>%s</text>', x, y, size, colour, anchor, extra, xml.sax.saxutils.escape(words))
+
+    def line(self, x0, y0, x1, y1, colour, width=1.0, extra=""):
+        self.add('<line x1="%.1f" y1="%.1f" x2="%.1f" y2="%.1f" stroke="%s" stroke-width="%.1f"%s/>', x0, y0, x1, y1, colour, width, extra)
+
+    def path(self, points, colour, width, extra=""):
+        d = "M" + " L".join("%.1f %.1f" % self.at(*p) for p in points)
+        self.add('<path d="%s" fill="none" stroke="%s" stroke-width="%.1f" clip-path="url(#plot)"%s/>', d, colour, width, extra)
+
+    def ring(self, x, y, size, colour, fill="none", width=1.4):
+        self.add('<circle cx="%.1f" cy="%.1f" r="%.1f" stroke="%s" fill="%s" stroke-width="%.1f"/>', x, y, size, colour, fill, width)
+
+    def cross(self, x, y, colour, size=5.0):
+        self.line(x - size, y - size, x + size, y + size, colour, 2.2)
+        self.line(x - size, y + size, x + size, y - size, colour, 2.2)
+
+    def square(self, x, y, colour, size=8.0):
+        self.add('<rect x="%.1f" y="%.1f" width="%.1f" height="%.1f" fill="none" stroke="%s" stroke-width="1.6"/>', x - size, y - size, 2 * size, 2 * size, colour)
+
+    def label(self, x, y, words, colour):
+        """A label beside a point, where it meets no other and stays in the plot; else none, for the list at the right has it."""
+        w = 6.5 * len(words)
+        for dx, dy in ((9, 4), (-9 - w, 4), (-w / 2, -10), (-w / 2, 19), (9, -8), (9, 16), (-9 - w, -8), (-9 - w, 16)):
+            b = (x + dx, y + dy - 10, x + dx + w, y + dy + 2)
+            if b[0] < LEFT or b[2] > LEFT + WIDE or b[1] < TOP or b[3] > TOP + HIGH:
+                continue
+            if all(b[2] < o[0] or o[2] < b[0] or b[3] < o[1] or o[3] < b[1] for o in self.labels):
+                self.labels.append(b)
+                self.text(x + dx, y + dy, words, 11, colour)
+                return
+
+
+def axes(c, plane):
+    x0, x1, y0, y1 = c.box
+    c.add('<rect x="%d" y="%d" width="%d" height="%d" fill="white" stroke="%s"/>', LEFT, TOP, WIDE, HIGH, INK)
+    for values, step, along in ((*ticks(x0, x1), True), (*ticks(y0, y1), False)):
+        for v in values:
+            x, y = c.at(v, y0) if along else c.at(x0, v)
+            words = tick_text(v, step)
+            if along:
+                c.line(x, TOP, x, TOP + HIGH, "#e4e4e4")
+                c.line(x, y, x, y + 5, INK)
+                c.text(x, y + 19, words, 12, INK, "middle")
+            else:
+                c.line(LEFT, y, LEFT + WIDE, y, "#e4e4e4")
+                c.line(x - 5, y, x, y, INK)
+                c.text(x - 9, y + 4, words, 12, INK, "end")
+    c.text(LEFT + WIDE / 2, TOP + HIGH + 42, plane.x_name, 14, INK, "middle")
+    c.text(22, TOP + HIGH / 2, plane.y_name, 14, INK, "middle", ' transform="rotate(-90 22 %d)"' % (TOP + HIGH / 2))
+
+
+def keys_of(plane, particles):
+    """What the surfaces depend on, of all particles that have a surface: every different one, and those that are drawn."""
+    found = set()
+    for q in particles:
+        if not place(plane, q.before, False):
+            continue
+        try:
+            k = plane.key(q.before)
+            if math.isfinite(k) and all(math.isfinite(v) for point in plane.surface(k, (0.0, 1.0, 0.0, 1.0)) for v in point):
+                found.add(float("%.9g" % k))
+        except (ValueError, ZeroDivisionError, OverflowError):
+            pass
+    found = sorted(found)
+    n = len(found)
+    shown = found if n <= MOST_SURFACES else [found[round(k * (n - 1) / (MOST_SURFACES - 1))] for k in range(MOST_SURFACES)]
+    return found, shown
+
+
+def held(c, x, y):
+    """A point at the picture's edge for one that lies outside of it."""
+    x0, x1, y0, y1 = c.box
+    return min(max(x, x0), x1), min(max(y, y0), y1)
+
+
+def particles_drawn(c, plane, particles):
+    """Draws them; how many lie outside the picture, and which have no place in the plane."""
+    outside, nowhere = 0, []
+    spots = []
+    for k, q in enumerate(particles):
+        a, b = place(plane, q.before, False), place(plane, q.after, True)
+        if a is None:
+            nowhere.append(k)
+            continue
+        outside += not c.inside(*a)
+        spots.append((k, q, c.at(*held(c, *a)), c.at(*held(c, *b)) if b else None))
+    c.labels += [(x - 5, y - 5, x + 5, y + 5) for _, _, a, b in spots for x, y in (a, b or a)]
+    for k, q, a, b in spots:
+        if q.code == 1 and b and math.hypot(a[0] - b[0], a[1] - b[1]) > 1.0:
+            c.line(*a, *b, STORED, 0.9, ' stroke-opacity="0.55"')
+    for k, q, a, b in spots:
+        if q.code == 0:
+            c.ring(*a, 4.2, GREY, GREY)
+        elif q.code == 1:
+            c.ring(*a, 4.2, STORED, "white")
+    for k, q, a, b in spots:
+        if q.code == 1 and b:
+            c.ring(*b, 2.6, STORED, STORED, 0.5)
+        if q.code == 2:
+            c.cross(*a, REFUSED)
+        if q.failed:
+            c.square(*a, FAILED)
+    for k, q, a, b in spots:
+        if q.code == 2:
+            c.label(*a, "%d" % k, REFUSED)
+    return outside, nowhere
+
+
+DASHES = ["", "8 4", "3 3", "10 3 2 3"]
+
+
+def legend(c, plane, particles, found, shown, nowhere, failure):
+    x, y = LEFT + WIDE + 26, TOP + 8
+
+    def entry(draw, words, colour=INK):
+        nonlocal y
+        draw(x + 9, y)
+        c.text(x + 30, y + 4, words, 12, colour)
+        y += 21
+
+    for k, dash in zip(shown, DASHES):
+        words = "yield surface" + (", %s = %.4g" % (plane.key_name, k) if plane.key_name else "")
+        entry(lambda x, y: c.line(x - 9, y, x + 11, y, SURFACE, 2.0, ' stroke-dasharray="%s"' % dash if dash else ""), words)
+    if len(found) > len(shown):
+        c.text(x + 30, y, "(%d of %d different ones)" % (len(shown), len(found)), 11, GREY)
+        y += 19
+    if plane.limit()[1]:
+        entry(lambda x, y: c.line(x - 9, y, x + 11, y, GREY, 1.0, ' stroke-dasharray="1 3"'), plane.limit()[1])
+    y += 6
+    entry(lambda x, y: c.ring(x, y, 4.2, GREY, GREY), "untouched")
+
+    def moved(x, y):
+        c.line(x - 9, y, x + 9, y, STORED, 0.9)
+        c.ring(x - 9, y, 4.2, STORED, "white")
+        c.ring(x + 9, y, 2.6, STORED, STORED, 0.5)
+    entry(moved, "stored: before, after")
+    entry(lambda x, y: c.cross(x, y, REFUSED), "refused (index beside it)")
+    if failure:
+        entry(lambda x, y: c.square(x, y, FAILED), "failed")
+    refused = [k for k, q in enumerate(particles) if q.code == 2]
+    if refused:
+        y += 10
+        c.text(x, y, "Refused particles", 12, REFUSED, extra=' font-weight="bold"')
+        y += 18
+        most = 14
+        for k in refused[:most]:
+            c.text(x, y, "%d by %d%s" % (k, particles[k].value, " (no place in the plane)" if k in nowhere else ""), 12, REFUSED)
+            y += 17
+        if len(refused) > most:
+            c.text(x, y, "and %d more" % (len(refused) - most), 12, REFUSED)
+            y += 17
+    others = [k for k in nowhere if particles[k].code != 2]
+    if others:
+        c.text(x, y + 8, "%d more without a place in the plane" % len(others), 12, GREY)
+
+
+def wrapped(words, width=132):
+    lines = [""]
+    for w in words.split(" "):
+        if lines[-1] and len(lines[-1]) + 1 + len(w) > width:
+            lines.append("")
+        lines[-1] += (" " if lines[-1] else "") + w
+    return lines
+
+
+def picture(name, model, p, particles, failure, caption, warning):
+    plane = PLANES[model](p)
+    taken = [q for q in particles if q.code != 2] or particles
+    points = [x for q in taken for x in (place(plane, q.before, False), place(plane, q.after, True)) if x]
+    found, shown = keys_of(plane, taken)
+    corners = [(0.0, 0.0)] if model in ("rankine", "drucker_prager", "nacc") else plane.surface(0.0, None)
+    if model == "nacc":
+        corners += [x for k in shown for x in plane.surface(k, None)]
+    points += [x for x in corners if all(map(math.isfinite, x))] or [(0.0, 0.0)]
+    box = (*span([x for x, _ in points]), *span([y for _, y in points]))
+    if model in ("drucker_prager", "nacc"):
+        box = box[:2] + (-0.03 * box[3],) + box[3:]
+    c = Canvas(box)
+    axes(c, plane)
+    edge = plane.limit()[0]
+    for k in shown:
+        c.path(plane.region(plane.surface(k, box)), "none", 0.0, ' style="fill: %s; fill-opacity: 0.06"' % SURFACE)
+    c.path([(box[0], edge(box[0])), (box[1], edge(box[1]))], GREY, 1.0, ' stroke-dasharray="1 3"')
+    for k, dash in zip(shown, DASHES):
+        c.path(plane.surface(k, box), SURFACE, 2.0, ' stroke-dasharray="%s"' % dash if dash else "")
+    outside, nowhere = particles_drawn(c, plane, particles)
+    legend(c, plane, particles, found, shown, nowhere, failure)
+    counts = [sum(q.code == k for q in particles) for k in range(3)]
+    head = "%s: %d particles, %d untouched, %d stored, %d refused" % (name, len(particles), *counts)
+    if failure:
+        head += ", %d failed" % sum(q.failed for q in particles)
+    c.text(LEFT, 30, plane.title, 20, INK, extra=' font-weight="bold"')
+    c.text(LEFT, 54, head, 14)
+    y = TOP + HIGH + 70
+    if outside:
+        caption = caption + ["%d particles lie outside the picture and are drawn at its edge." % outside]
+    for words, colour in [(w, "#444444") for w in caption] + [(w, REFUSED) for w in warning]:
+        for l in wrapped(words):
+            c.text(LEFT - 60, y, l, 12, colour)
+            y += 17
+    high = y + 6
+    start = '<svg xmlns="http://www.w3.org/2000/svg" width="%d" height="%d" viewBox="0 0 %d %d" font-family="DejaVu Sans, Arial, sans-serif">' % (PICTURE, high, PICTURE, high)
+    clip = '<clipPath id="plot"><rect x="%d" y="%d" width="%d" height="%d"/></clipPath>' % (LEFT, TOP, WIDE, HIGH)
+    return "\n".join([start, clip, '<rect width="%d" height="%d" fill="white"/>' % (PICTURE, high), *c.out, "</svg>", ""])
+
+
+def to_png(svg):
+    png = svg[:-4] + ".png"
+    for program, arguments in (("rsvg-convert", ["-o", png, svg]), ("inkscape", ["-o", png, svg]), ("magick", [svg, png])):
+        if shutil.which(program):
+            subprocess.run([program, *arguments], check=True)
+            return png
+    raise sheet.Wrong("--png: none of rsvg-convert, inkscape and magick is here: install one (Debian: librsvg2-bin); the SVG is written")
+
+
+def draw(args):
+    if bool(args.limits) != bool(args.corotated):
+        raise sheet.Wrong("--limits and --corotated belong together: give both, or neither")
+    if args.limits and (args.program or args.answers):
+        raise sheet.Wrong("the program has no pass with failure: leave --program and --answers away, or --limits and --corotated")
+    if not args.svg.endswith(".svg"):
+        raise sheet.Wrong("%s: the picture's name must end in .svg" % args.svg)
+    failure = (args.limits, args.corotated) if args.limits else None
+    if failure and library.bits(args.corotated)[:1] not in (library.bits([0.0]), library.bits([1.0])):
+        raise sheet.Wrong("--corotated: the flag is 0 or 1")
+    model, p, records = sheet.load(args.sheet)
+    particles, who = worked(model, p, records, failure)
+    lines, where = answers(args)
+    caption = ["Parameters: " + ", ".join("%s\u00a0%.6g" % x for x in zip(sheet.PARAMETERS[model], p)) + "."]
+    if failure:
+        caption.append("Failure: limits %g (principal) and %g (shear); corotated law: split %g, lambda %.6g, mu %.6g." % (*args.limits, args.corotated[0], *args.corotated[2:]))
+    if model == "drucker_prager":
+        caption.append("Before: log sigma + gain/3, which the law tests; after: log of the stored sigma, where the law put it.")
+    if model == "nacc":
+        caption.append("NACC's return keeps the sum of the squares of sigma, not their product: the pressure may change, and a particle end off its ellipse.")
+    warning = []
+    if lines is None:
+        caption.append("Outcomes and the records after the run: %s." % who)
+    else:
+        caption.append("Outcomes: %s. Records after the run: %s." % (pathlib.Path(where).name, who))
+        bad = taken_from(lines, particles, "second" in who, where)
+        if bad:
+            warning = ["The outcomes differ from the records' own at particle %s%s." % (", ".join(map(str, bad[:8])), " and others" if len(bad) > 8 else "")]
+    try:
+        pathlib.Path(args.svg).write_text(picture(pathlib.Path(args.sheet).name, model, p, particles, failure, caption, warning))
+    except OSError as e:
+        raise sheet.Wrong("%s: cannot be written (%s)" % (args.svg, e.strerror))
+    if args.png:
+        to_png(args.svg)
+    if warning:
+        raise sheet.Wrong(warning[0] + " The picture says so too.")
+
+
+def main(argv=None):
+    about = argparse.ArgumentParser(description=__doc__, formatter_class=argparse.RawDescriptionHelpFormatter, usage=argparse.SUPPRESS)
+    about.add_argument("sheet", metavar="X.sheet")
+    about.add_argument("svg", metavar="OUT.svg")
+    about.add_argument("--png", action="store_true")
+    which = about.add_mutually_exclusive_group()
+    which.add_argument("--program")
+    which.add_argument("--answers", metavar="FILE")
+    about.add_argument("--limits", nargs=2, type=float, metavar=("PRINCIPAL", "SHEAR"))
+    about.add_argument("--corotated", nargs=4, type=float, metavar=("FLAG", "CFL", "LAMBDA", "MU"))
+    try:
+        draw(about.parse_args(argv))
+    except sheet.Wrong as e:
+        print("draw.py: %s" % e, file=sys.stderr)
+        return 1
+    return 0
+
+
+if __name__ == "__main__":
+    sys.exit(main())

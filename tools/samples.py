@@ -1,0 +1,94 @@
+#!/usr/bin/env python3
+"""Writes the sheets of samples/ with 40 particles each, the same bytes at every run; samples/snow.sheet is document 01's example and stays.
+
+  tools/samples.py [FOLDER]   (default samples/)
+"""
+import math
+import pathlib
+import sys
+
+sys.path.insert(0, str(pathlib.Path(__file__).resolve().parent))
+import cases  # noqa: E402
+import sheet  # noqa: E402
+
+COUNT = 40
+
+
+def spread(k, ratio):
+    """Evenly spread numbers from -1 to 1: multiples of an irrational number, less their whole part."""
+    return 2.0 * math.modf((k + 1) * ratio)[0] - 1.0
+
+
+def rotation(angle, axis):
+    c, s = math.cos(angle), math.sin(angle)
+    i, j = (axis + 1) % 3, (axis + 2) % 3
+    m = list(sheet.IDENTITY)
+    m[4 * i], m[4 * j], m[3 * i + j], m[3 * j + i] = c, c, -s, s
+    return m
+
+
+def particle(k, sigma, **scalars):
+    """A particle whose factors are turned, each by its own angle."""
+    given = {"U": rotation(0.1 * k, k % 3), "sigma": sigma, "V^T": rotation(0.07 * k, (k + 1) % 3)}
+    return sheet.record(given, scalars, "particle %d" % k)
+
+
+def strained(k, mean, shear):
+    """Stretches with a log strain of the given mean, and a shear part of the given size in a direction that turns with k."""
+    turn = 2.0 * math.pi * spread(k, 0.4142135623730951)
+    part = [shear * math.sqrt(2.0 / 3.0) * math.cos(turn + 2.0 * math.pi * i / 3.0) for i in range(3)]
+    return [math.exp(mean + x) for x in part]
+
+
+def snow(k):
+    s = strained(k, 0.014 * spread(k, 0.6180339887498949) - 0.008, 0.014 * (1.0 + spread(k, 0.7548776662466927)))
+    return particle(k, s, plastic_determinant=1.0 - 0.02 * (k % 5))
+
+
+def rankine(k):
+    s = strained(k, 0.003 * spread(k, 0.6180339887498949), 0.004 * (1.0 + spread(k, 0.7548776662466927)))
+    return particle(k, s, plastic_hardening=(1.0, 1.0, 2001.0)[k % 3])
+
+
+def drucker_prager(k):
+    s = strained(k, 0.05 * spread(k, 0.6180339887498949) - 0.035, 0.075 * (1.0 + spread(k, 0.7548776662466927)))
+    return particle(k, s, plastic_hardening=(0.0, 0.0, 2.0)[k % 3])
+
+
+def nacc(k):
+    s = strained(k, 0.05 * spread(k, 0.6180339887498949) - 0.025, 0.07 * (1.0 + spread(k, 0.7548776662466927)))
+    return particle(k, s, alpha=(-0.05, -0.05, -0.025)[k % 3])
+
+
+SAMPLES = {
+    "snow_slope": ("snow", {}, snow),
+    "rankine": ("rankine", {"young_modulus": 1e6, "poisson_ratio": 0.3, "tensile_strength": 5000.0, "softening_rate": 1e5}, rankine),
+    "drucker_prager": ("drucker_prager", {"young_modulus": 1e6, "poisson_ratio": 0.3}, drucker_prager),
+    "nacc": ("nacc", {"young_modulus": 1e6, "poisson_ratio": 0.3, "cohesion": 0.3, "hardening_enabled": 1, "hardening_factor": 3.0, "m": 1.8}, nacc),
+}
+
+
+def sample(name):
+    """A sample's bytes. Particle 12 has a phase that is no number and is refused by 1, particle 27 a sigma of 0 or a plastic determinant
+    far out and is refused by 2."""
+    model, given, at = SAMPLES[name]
+    records = [at(k) for k in range(COUNT)]
+    records[12][30] = cases.NAN
+    if model == "snow":
+        records[27][31] = -100.0
+    else:
+        records[27] = particle(27, [0.0, 1.0, 1.0])
+    return sheet.written(model, sheet.parameters(model, given, name), records, name)
+
+
+def main():
+    if len(sys.argv) > 2 or sys.argv[1:2] in (["-h"], ["--help"]):
+        sys.exit(__doc__)
+    folder = pathlib.Path(sys.argv[1]) if sys.argv[1:] else pathlib.Path(__file__).resolve().parent.parent / "samples"
+    for name in SAMPLES:
+        (folder / (name + ".sheet")).write_bytes(sample(name))
+        print("%s.sheet: %d bytes" % (name, len(sample(name))))
+
+
+if __name__ == "__main__":
+    main()
