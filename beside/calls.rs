@@ -132,25 +132,58 @@ pub fn parameters(model: usize) -> usize {
     [3, 4, 8, 6][model]
 }
 
-/// The update of a record r: F and the six scalars come back, U, sigma and V^T as they came.
-fn update(model: usize, p: &[u64], o: &mut [u64]) {
-    let mut m = matrix(o, 0);
-    let s: Vec<f64> = (30..36).map(|k| f(o, k)).collect();
-    let (phase, mut det, mut plastic, mut elastic, mut gain, mut alpha) = (s[0], s[1], s[2], s[3], s[4], s[5]);
+/// A record as the Rust would hold it, in the record's order; F in its matrix's own.
+#[repr(C)]
+#[derive(Copy, Clone)]
+pub struct Particle {
+    f: Matrix<f64>,
+    pub factors: [f64; 21],
+    phase: f64,
+    det: f64,
+    plastic: f64,
+    elastic: f64,
+    gain: f64,
+    alpha: f64,
+}
+
+/// A law's update of each particle, with what `before` does ahead of it. The law is made once.
+pub fn pass(model: usize, p: &[u64], list: &mut [Particle], before: impl Fn(&Particle)) {
     match model {
-        0 => SnowPlasticity { min_epsilon: f(p, 0), max_epsilon: f(p, 1), hardening_coeff: f(p, 2) }.update_particle(
-            &mut m,
-            &mut elastic,
-            &mut det,
-        ),
-        1 => RankinePlasticity::new(f(p, 0), f(p, 1), f(p, 2), f(p, 3)).update_particle(&mut m, &mut plastic),
-        2 => drucker_prager(p).update_particle(phase, &mut m, &mut det, &mut plastic, &mut gain),
-        _ => NaccPlasticity::with_m(f(p, 0), f(p, 1), f(p, 2), f(p, 3) == 1.0, f(p, 4), f(p, 5))
-            .update_particle(&mut m, &mut alpha),
+        0 => {
+            let law = SnowPlasticity { min_epsilon: f(p, 0), max_epsilon: f(p, 1), hardening_coeff: f(p, 2) };
+            each(list, before, |x| law.update_particle(&mut x.f, &mut x.elastic, &mut x.det))
+        }
+        1 => {
+            let law = RankinePlasticity::new(f(p, 0), f(p, 1), f(p, 2), f(p, 3));
+            each(list, before, |x| law.update_particle(&mut x.f, &mut x.plastic))
+        }
+        2 => {
+            let law = drucker_prager(p);
+            each(list, before, |x| law.update_particle(x.phase, &mut x.f, &mut x.det, &mut x.plastic, &mut x.gain))
+        }
+        _ => {
+            let law = NaccPlasticity::with_m(f(p, 0), f(p, 1), f(p, 2), f(p, 3) == 1.0, f(p, 4), f(p, 5));
+            each(list, before, |x| law.update_particle(&mut x.f, &mut x.alpha))
+        }
     }
-    put_matrix(o, m);
-    for (k, x) in [phase, det, plastic, elastic, gain, alpha].iter().enumerate() {
-        o[30 + k] = x.to_bits();
+}
+
+fn each(list: &mut [Particle], before: impl Fn(&Particle), update: impl Fn(&mut Particle)) {
+    for x in list {
+        before(x);
+        update(x);
+    }
+}
+
+/// The update of a record: F and the six scalars come back, U, sigma and V^T as they came.
+fn update(model: usize, p: &[u64], o: &mut [u64]) {
+    let s = |k| f(o, k);
+    let (f, factors) = (matrix(o, 0), [0.0; 21]);
+    let mut x = Particle { f, factors, phase: s(30), det: s(31), plastic: s(32), elastic: s(33), gain: s(34), alpha: s(35) };
+    pass(model, p, std::slice::from_mut(&mut x), |_| ());
+    put_matrix(o, x.f);
+    for (k, s) in [x.phase, x.det, x.plastic, x.elastic, x.gain, x.alpha].iter().enumerate() {
+        o[30 + k] = s.to_bits();
     }
 }
 

@@ -1,10 +1,9 @@
 #!/usr/bin/env python3
-"""The elementary functions beside mpmath, and their speed beside the C library.
+"""The elementary functions beside mpmath. Their speed beside std's: beside/speed.
 
   tools/measure/accuracy.py [COUNT] [SEED]   builds target/staticlib/libhost.a and a driver below target/, draws COUNT points a
                                              function (default 1,000,000; over the bits of the range, and its ends), and prints
                                              the worst error seen beside document 01's promise. Needs rt, cc and mpmath
-  tools/measure/accuracy.py times            ns a call, ours beside the C library's, in one run
 """
 import pathlib
 import struct
@@ -18,13 +17,11 @@ D = 2.0 ** -45
 
 def build():
     subprocess.run(["rt", "staticlib", "host"], cwd=top, check=True, stdout=subprocess.DEVNULL)
-    subprocess.run(["cc", "-O2", "-o", driver, top / "tools/measure/driver.c", top / "target/staticlib/libhost.a", "-lm"], check=True)
+    subprocess.run(["cc", "-O2", "-o", driver, top / "tools/measure/driver.c", top / "target/staticlib/libhost.a"], check=True)
 
 
 def main():
     build()
-    if sys.argv[1:] == ["times"]:
-        return subprocess.run([driver, "times"]).returncode
     from mpmath import mp, mpf
     mp.prec = 110
     third = mpf(1) / 3

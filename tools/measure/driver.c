@@ -1,31 +1,24 @@
 // driver points NAME COUNT SEED: COUNT pairs (argument's bits, answer's bits) of a function, as binary, drawn over the bits of its
-//   range and at its ends. driver times: ns a call of each function beside the C library's (which Rust's std calls), one run.
-#include <math.h>
+//   range and at its ends. Their times: beside/speed.
 #include <stdint.h>
 #include <stdio.h>
 #include <stdlib.h>
 #include <string.h>
-#include <time.h>
 
 #define CALLS(F) F(exp) F(sinh) F(ln) F(sin) F(sqrt) F(cbrt) F(inv_cbrt) F(cbrt_squared) F(inv_cbrt_squared)
 #define DECLARE(f) uint8_t pasoletu_##f(double x, uint64_t *out, size_t n);
 CALLS(DECLARE)
 
-static double libm_inv_cbrt(double x) { return pow(x, -1.0 / 3.0); }
-static double libm_cbrt_squared(double x) { return pow(x, 2.0 / 3.0); }
-static double libm_inv_cbrt_squared(double x) { return pow(x, -2.0 / 3.0); }
-typedef uint8_t (*Ours)(double, uint64_t *, size_t);
-typedef double (*Theirs)(double);
-static const struct { const char *name; Ours ours; Theirs theirs; double low, high; } calls[] = {
-    {"exp", pasoletu_exp, exp, -700, 700},
-    {"sinh", pasoletu_sinh, sinh, -700, 700},
-    {"ln", pasoletu_ln, log, 0x1p-60, 0x1p60},
-    {"sin", pasoletu_sin, sin, -8, 8},
-    {"sqrt", pasoletu_sqrt, sqrt, 0, 0x1.fffffffffffffp1023},
-    {"cbrt", pasoletu_cbrt, cbrt, 0x1p-60, 0x1p60},
-    {"inv_cbrt", pasoletu_inv_cbrt, libm_inv_cbrt, 0x1p-60, 0x1p60},
-    {"cbrt_squared", pasoletu_cbrt_squared, libm_cbrt_squared, 0x1p-60, 0x1p60},
-    {"inv_cbrt_squared", pasoletu_inv_cbrt_squared, libm_inv_cbrt_squared, 0x1p-60, 0x1p60},
+static const struct { const char *name; uint8_t (*ours)(double, uint64_t *, size_t); double low, high; } calls[] = {
+    {"exp", pasoletu_exp, -700, 700},
+    {"sinh", pasoletu_sinh, -700, 700},
+    {"ln", pasoletu_ln, 0x1p-60, 0x1p60},
+    {"sin", pasoletu_sin, -8, 8},
+    {"sqrt", pasoletu_sqrt, 0, 0x1.fffffffffffffp1023},
+    {"cbrt", pasoletu_cbrt, 0x1p-60, 0x1p60},
+    {"inv_cbrt", pasoletu_inv_cbrt, 0x1p-60, 0x1p60},
+    {"cbrt_squared", pasoletu_cbrt_squared, 0x1p-60, 0x1p60},
+    {"inv_cbrt_squared", pasoletu_inv_cbrt_squared, 0x1p-60, 0x1p60},
 };
 
 static uint64_t state;
@@ -62,37 +55,8 @@ static int points(const char *name, long count, uint64_t seed) {
   return 1;
 }
 
-static double seconds(void) { struct timespec t; clock_gettime(CLOCK_PROCESS_CPUTIME_ID, &t); return t.tv_sec + 1e-9 * t.tv_nsec; }
-static double xs[4096];
-static int by_size(const void *a, const void *b) { double x = *(const double *)a, y = *(const double *)b; return (x > y) - (x < y); }
-
-static int times(void) {
-  printf("%-18s %8s %8s %6s\n", "ns a call", "ours", "libm", "ratio");
-  for (size_t k = 0; k < sizeof calls / sizeof *calls; k++) {
-    state = 88172645463325252u;
-    double reach = calls[k].low < 0 ? calls[k].high : 16, low = calls[k].low < 0 ? -reach : 0x1p-10;
-    for (int i = 0; i < 4096; i++) xs[i] = low + (reach - low) * ((double)(next() >> 11) * 0x1p-53);
-    double a[15], b[15];
-    volatile uint64_t sink = 0;
-    for (int round = 0; round < 15; round++) {
-      uint64_t out, sum = 0;
-      double t = seconds();
-      for (int j = 0; j < 64; j++) for (int i = 0; i < 4096; i++) calls[k].ours(xs[i], &out, 1), sum += out;
-      a[round] = (seconds() - t) / (64 * 4096) * 1e9;
-      t = seconds();
-      for (int j = 0; j < 64; j++) for (int i = 0; i < 4096; i++) sum += bits_of(calls[k].theirs(xs[i]));
-      b[round] = (seconds() - t) / (64 * 4096) * 1e9;
-      sink += sum;
-    }
-    qsort(a, 15, sizeof *a, by_size), qsort(b, 15, sizeof *b, by_size);
-    printf("%-18s %8.1f %8.1f %6.2f\n", calls[k].name, a[7], b[7], a[7] / b[7]);
-  }
-  return 0;
-}
-
 int main(int n, char **v) {
   if (n == 5 && !strcmp(v[1], "points")) return points(v[2], atol(v[3]), strtoull(v[4], 0, 0));
-  if (n == 2 && !strcmp(v[1], "times")) return times();
-  fprintf(stderr, "usage: driver points NAME COUNT SEED | driver times\n");
+  fprintf(stderr, "usage: driver points NAME COUNT SEED\n");
   return 2;
 }

@@ -7,6 +7,8 @@ mod elementary;
 mod examples;
 mod far;
 mod inside;
+#[path = "../../library.rs"]
+mod library;
 mod listed;
 mod lists;
 mod ours;

@@ -1,30 +1,9 @@
 //! Our laws: the C calls of the static library, found by name. A call that the library lacks is told as missing.
 use crate::calls::{self, CALLS, GAMMA, NUMBER};
 use crate::inside::Answer;
+use crate::library::Library;
 use std::collections::BTreeMap;
-use std::ffi::{c_char, c_int, c_void, CString};
 use std::sync::OnceLock;
-
-extern "C" {
-    fn dlopen(file: *const c_char, flags: c_int) -> *mut c_void;
-    fn dlsym(handle: *mut c_void, name: *const c_char) -> *mut c_void;
-}
-
-pub struct Library(usize);
-
-impl Library {
-    pub fn open(path: &str) -> Option<Library> {
-        let p = CString::new(path).unwrap();
-        let h = unsafe { dlopen(p.as_ptr(), 2) };
-        (!h.is_null()).then_some(Library(h as usize))
-    }
-
-    pub fn find(&self, name: &str) -> Option<usize> {
-        let n = CString::new(name).unwrap();
-        let p = unsafe { dlsym(self.0 as *mut c_void, n.as_ptr()) };
-        (!p.is_null()).then_some(p as usize)
-    }
-}
 
 pub const LISTS: [&str; 4] = ["pass", "pass_with_failure", "read_sheet", "run_sheet"];
 

@@ -1,7 +1,7 @@
 //! Build 1: the untouched Rust with the real nalgebra, through its three C calls.
 use crate::calls::CALLS;
 use crate::inside::Met;
-use crate::ours::Library;
+use crate::library::Library;
 
 pub struct Untouched {
     call: extern "C" fn(usize, *const u64, *mut u64),

@@ -2,7 +2,8 @@
 //! the determinant along the first row, `recompose` scaling U's columns first, the inverse as cofactors over the determinant.
 //! Factors and principal stresses are those that the caller brings. Elementary functions are asked of the harness.
 //! No std here: with it, the inherent `f64::ln` and its like would win over `ComplexField`, silently.
-#![no_std]
+//! With the feature `machine` there is std, its functions win, and nothing is told to the harness: build 3, for times.
+#![cfg_attr(not(feature = "machine"), no_std)]
 
 use core::ops::{Add, AddAssign, Div, Index, IndexMut, Mul, Neg, Sub};
 use core::panic::Location;
@@ -52,7 +53,9 @@ pub mod hooks {
 use hooks::{Function, Op};
 
 fn site(op: Op, at: &'static Location<'static>, input: &[f64], output: &[f64]) {
-    unsafe { hooks::beside_site(op, at, input, output) }
+    if cfg!(not(feature = "machine")) {
+        unsafe { hooks::beside_site(op, at, input, output) }
+    }
 }
 
 #[derive(Copy, Clone, Debug, PartialEq)]

@@ -1,4 +1,5 @@
-//! Build 1 as a library of three C calls: a call of the text, nalgebra's factors of a matrix, and one of nalgebra's own operations.
+//! Build 1 as a library of four C calls: a call of the text, a law's updates of a list, nalgebra's factors of a matrix, and one of
+//! nalgebra's own operations.
 #[path = "../../calls.rs"]
 #[allow(dead_code)]
 mod calls;
@@ -15,6 +16,13 @@ unsafe fn lent<'a>(p: *const u64, n: usize) -> &'a [u64] {
 pub unsafe extern "C" fn untouched_call(n: usize, i: *const u64, o: *mut u64) {
     let c = &calls::CALLS[n];
     calls::call(n, lent(i, c.inputs), std::slice::from_raw_parts_mut(o, c.outputs));
+}
+
+/// # Safety
+/// The pointers are to the law's parameters and n particles.
+#[no_mangle]
+pub unsafe extern "C" fn untouched_pass(model: usize, p: *const u64, list: *mut calls::Particle, n: usize) {
+    calls::pass(model, lent(p, calls::parameters(model)), std::slice::from_raw_parts_mut(list, n), |_| ());
 }
 
 fn matrix(i: &[f64]) -> Matrix3<f64> {

@@ -1,0 +1,218 @@
+//! Times of ours beside the Rust, in one run: medians of interleaved rounds, CPU time; and instructions, by callgrind.
+//! timing WORK [--count]: WORK is the folder with libuntouched.so; --count is how the program runs itself under callgrind.
+mod callgrind;
+#[path = "../../calls.rs"]
+#[allow(dead_code)]
+mod calls;
+#[path = "../../library.rs"]
+mod library;
+mod records;
+mod sides;
+
+use records::{bits, drawn, Draw, LAWS};
+use sides::*;
+use std::collections::BTreeMap;
+use std::ffi::c_int;
+
+/// A line of a table: how many records or calls a run has, and its sides, ours first.
+struct Row {
+    name: String,
+    units: usize,
+    sides: Vec<Option<Box<dyn Side>>>,
+}
+
+fn some(side: impl Side + 'static) -> Option<Box<dyn Side>> {
+    Some(Box::new(side))
+}
+
+fn laws(work: &str) -> Vec<Row> {
+    let file = format!("{work}/libuntouched.so");
+    let mut rows = Vec::new();
+    for (model, law) in LAWS.iter().enumerate() {
+        for units in [4096, 200] {
+            let (p, records) = (bits(law.parameters), drawn(model, units));
+            let rust = |columns, updates| some(RustPass::new(model, &p, &records, columns, updates));
+            let untouched = untouched(&file).and_then(|updates| rust(true, Box::new(updates)));
+            let sides = vec![some(OurPass::new(model, &p, &records)), untouched, rust(false, Box::new(less_svd))];
+            rows.push(Row { name: format!("{}, {units}", law.name), units, sides });
+        }
+    }
+    rows
+}
+
+type Ours = unsafe extern "C" fn(f64, *mut u64, usize) -> u8;
+type Std = fn(f64) -> f64;
+const FUNCTIONS: [(&str, Ours, Std, f64, f64); 9] = [
+    ("exp", pasoletu_exp, f64::exp, -700.0, 700.0),
+    ("ln", pasoletu_ln, f64::ln, 0.001, 16.0),
+    ("sinh", pasoletu_sinh, f64::sinh, -700.0, 700.0),
+    ("sin", pasoletu_sin, f64::sin, -8.0, 8.0),
+    ("sqrt", pasoletu_sqrt, f64::sqrt, 0.001, 16.0),
+    ("cbrt", pasoletu_cbrt, |x| x.powf(1.0 / 3.0), 0.001, 16.0),
+    ("inv_cbrt", pasoletu_inv_cbrt, |x| x.powf(-1.0 / 3.0), 0.001, 16.0),
+    ("cbrt_squared", pasoletu_cbrt_squared, |x| x.powf(2.0 / 3.0), 0.001, 16.0),
+    ("inv_cbrt_squared", pasoletu_inv_cbrt_squared, |x| x.powf(-2.0 / 3.0), 0.001, 16.0),
+];
+
+fn functions() -> Vec<Row> {
+    let row = |&(name, ours, std, low, high): &(&str, Ours, Std, f64, f64)| {
+        let mut d = Draw(1);
+        let xs: Vec<f64> = (0..4096).map(|_| d.between(low, high)).collect();
+        let sides = vec![some(OurCalls(ours, xs.clone())), some(StdCalls(std, xs))];
+        Row { name: name.to_string(), units: 4096, sides }
+    };
+    FUNCTIONS.iter().map(row).collect()
+}
+
+/// A full sheet of 200 records: model, parameters, the count in two groups, records. It must give what the list does.
+fn sheet(model: usize, run: bool) -> Row {
+    let law = &LAWS[model];
+    let mut bytes = vec![model as u8];
+    bytes.extend(law.parameters.iter().flat_map(|x| x.to_le_bytes()));
+    bytes.extend([200 % 128 + 128, 200u8 / 128]);
+    let records = drawn(model, 200);
+    bytes.extend(records.iter().flat_map(|x| x.to_le_bytes()));
+    let (mut sheet, mut list) = (Sheet::new(bytes, run), OurPass::new(model, &bits(law.parameters), &records));
+    sheet.run();
+    if run {
+        list.run();
+    }
+    assert!(sheet.records() == list.records());
+    let name = format!("{}, {}", if run { "run_sheet" } else { "read_sheet" }, law.name);
+    Row { name, units: 200, sides: vec![some(sheet)] }
+}
+
+fn sheets() -> Vec<Row> {
+    let mut rows = vec![sheet(2, false)];
+    rows.extend((0..4).map(|model| sheet(model, true)));
+    rows
+}
+
+/// CPU time of this process in ns.
+fn now() -> f64 {
+    extern "C" {
+        fn clock_gettime(clock: c_int, t: *mut [i64; 2]) -> c_int;
+    }
+    const PROCESS_CPU: c_int = 2;
+    let mut t = [0; 2];
+    unsafe { clock_gettime(PROCESS_CPU, &mut t) };
+    t[0] as f64 * 1e9 + t[1] as f64
+}
+
+fn median(mut v: Vec<f64>) -> f64 {
+    v.sort_by(f64::total_cmp);
+    v[v.len() / 2]
+}
+
+fn timed(run: impl FnOnce()) -> f64 {
+    let t = now();
+    run();
+    now() - t
+}
+
+/// ns a unit for each side: the median of rounds in which the sides take turns, less what the clock itself takes.
+fn times(row: &mut Row) -> Vec<Option<f64>> {
+    let rounds = if row.units > 1000 { 301 } else { 3001 };
+    let clock = median((0..rounds).map(|_| timed(|| ())).collect());
+    let mut seen: Vec<Vec<f64>> = row.sides.iter().map(|_| Vec::new()).collect();
+    for _ in 0..rounds {
+        for (side, seen) in row.sides.iter_mut().zip(&mut seen) {
+            if let Some(side) = side {
+                side.ready();
+                seen.push(timed(|| side.run()));
+            }
+        }
+    }
+    let units = row.units as f64;
+    seen.into_iter().map(|v| (!v.is_empty()).then(|| (median(v) - clock) / units)).collect()
+}
+
+/// Whether the sides made the same of the records, but for the logarithm's and its like's last bits and the SVD's.
+fn agree(row: &mut Row) {
+    let mut made = Vec::new();
+    for side in row.sides.iter_mut().flatten() {
+        side.ready();
+        side.run();
+        made.push(side.records());
+    }
+    // F and the six scalars: the Rust does not hold sigma.
+    for other in &made[1..] {
+        for (k, (x, y)) in made[0].iter().zip(other).enumerate().filter(|(k, _)| !(9..30).contains(&(k % 36))) {
+            let (x, y) = (f64::from_bits(*x), f64::from_bits(*y));
+            assert!((x - y).abs() <= 1e-6 * (1.0 + x.abs()), "{}: record {}, word {}: {x} for {y}", row.name, k / 36, k % 36);
+        }
+    }
+}
+
+fn count(row: &mut Row) {
+    for (k, side) in row.sides.iter_mut().enumerate() {
+        if let Some(side) = side {
+            // Once before, so that no symbol is still to be found.
+            side.ready();
+            side.run();
+            side.ready();
+            callgrind::count(&format!("{} {k}", row.name), || side.run());
+        }
+    }
+}
+
+fn cell(x: Option<f64>, places: usize) -> String {
+    format!("{:>10}", x.map_or("-".to_string(), |x| format!("{x:.places$}")))
+}
+
+/// The figures of the sides, and ours over each of the others.
+fn figures(v: &[Option<f64>]) -> String {
+    let ratio = |k: usize| Some(v[0]? / v[k]?);
+    let plain = v.iter().map(|x| cell(*x, 1));
+    plain.chain((1..v.len()).map(|k| cell(ratio(k), 2))).collect()
+}
+
+/// A line a row: ns, then instructions. Answers our ns of each row.
+fn table(title: &str, sides: &[&str], rows: &mut [Row], counts: &Option<BTreeMap<String, f64>>) -> Vec<f64> {
+    let ratios = sides[1..].iter().map(|s| format!("{:>10}", format!("/{s}")));
+    let heads: String = sides.iter().map(|s| format!("{s:>10}")).chain(ratios).collect();
+    let wide = heads.len();
+    println!("\n{title}\n{:<26}{:<wide$}  |      instructions\n{:<26}{heads}  |{heads}", "", "      ns", "");
+    let mut ours = Vec::new();
+    for row in rows {
+        let ns = times(row);
+        let count = |k: usize| counts.as_ref()?.get(&format!("{} {k}", row.name)).map(|n| n / row.units as f64);
+        let instructions: Vec<Option<f64>> = (0..sides.len()).map(count).collect();
+        println!("{:<26}{}  |{}", row.name, figures(&ns), figures(&instructions));
+        ours.extend(ns[0]);
+    }
+    ours
+}
+
+fn load() -> String {
+    std::fs::read_to_string("/proc/loadavg").unwrap_or_default().split(' ').take(3).collect::<Vec<_>>().join(" ")
+}
+
+fn main() {
+    let args: Vec<String> = std::env::args().collect();
+    let work = &args[1];
+    let (mut laws, mut functions, mut sheets) = (laws(work), functions(), sheets());
+    if args.len() > 2 {
+        laws.iter_mut().chain(&mut functions).chain(&mut sheets).for_each(count);
+        return;
+    }
+    let counts = callgrind::counted(work);
+    laws.iter_mut().for_each(agree);
+    println!("Ours beside the Rust: CPU time, medians of interleaved rounds; the machine's load {}", load());
+    if laws[0].sides[1].is_none() {
+        println!("The untouched Rust is LEFT OUT: nalgebra could not be fetched, or --no-untouched.");
+    }
+    if counts.is_none() {
+        println!("The instructions are LEFT OUT: valgrind is not there, or failed.");
+    }
+    for law in &LAWS {
+        println!("{:<15} equal shares of: {}", law.name, law.branches.join("; "));
+    }
+    let title =
+        "A record of a law's pass, factors given, beside the untouched Rust's update and the same less its SVD (factors given)";
+    table(title, &["ours", "Rust", "less SVD"], &mut laws, &counts);
+    table("A call of an elementary function, beside std's", &["ours", "std"], &mut functions, &counts);
+    let ns = table("A record of a full sheet", &["ours"], &mut sheets, &counts);
+    println!("read_sheet: {:.0} MB/s", 36.0 * 8.0 / ns[0] * 1e3);
+    println!("\nThe machine's load at the end {}", load());
+}

@@ -1,0 +1,189 @@
+//! What is timed: ours, the untouched Rust, and the Rust less its SVD.
+use crate::calls::{self, Particle};
+use crate::library::Library;
+use std::hint::black_box;
+
+macro_rules! elementary {
+    ($($name:ident)*) => { #[link(name = "ours", kind = "static")] extern "C" { $(pub fn $name(x: f64, out: *mut u64, n: usize) -> u8;)* } };
+}
+elementary!(pasoletu_exp pasoletu_ln pasoletu_sinh pasoletu_sin pasoletu_sqrt pasoletu_cbrt pasoletu_inv_cbrt pasoletu_cbrt_squared
+    pasoletu_inv_cbrt_squared);
+
+#[rustfmt::skip]
+extern "C" {
+    fn pasoletu_pass(model: u64, p: *const u64, ps: usize, r: *mut u64, rs: usize, a: *mut u64, answers: usize, c: *mut u64, cs: usize) -> u8;
+    fn pasoletu_read_sheet(b: *const u8, bytes: usize, h: *mut u64, hs: usize, r: *mut u64, rs: usize) -> u8;
+    fn pasoletu_run_sheet(b: *const u8, bytes: usize, r: *mut u64, rs: usize, a: *mut u64, answers: usize, c: *mut u64, cs: usize) -> u8;
+}
+
+/// One side of a row: `ready` puts the lists as they came, `run` is the timed part.
+pub trait Side {
+    fn ready(&mut self) {}
+    fn run(&mut self);
+    /// The records after the run.
+    fn records(&self) -> Vec<u64> {
+        Vec::new()
+    }
+}
+
+pub fn our_pass(model: usize, p: &[u64], r: &mut [u64], a: &mut [u64], c: &mut [u64; 3]) {
+    let (ps, rs, answers) = (p.len(), r.len(), a.len());
+    let (r, a, c) = (r.as_mut_ptr(), a.as_mut_ptr(), c.as_mut_ptr());
+    let refusal = unsafe { pasoletu_pass(model as u64, p.as_ptr(), ps, r, rs, a, answers, c, 3) };
+    assert_eq!(refusal, 0);
+}
+
+pub struct OurPass {
+    model: usize,
+    p: Vec<u64>,
+    came: Vec<u64>,
+    records: Vec<u64>,
+    answers: Vec<u64>,
+}
+
+impl OurPass {
+    pub fn new(model: usize, p: &[u64], records: &[u64]) -> Self {
+        let answers = vec![0; records.len() / 36 * 2];
+        OurPass { model, p: p.to_vec(), came: records.to_vec(), records: records.to_vec(), answers }
+    }
+}
+
+impl Side for OurPass {
+    fn ready(&mut self) {
+        self.records.copy_from_slice(&self.came);
+    }
+    fn run(&mut self) {
+        let mut counts = [0; 3];
+        our_pass(self.model, &self.p, &mut self.records, &mut self.answers, &mut counts);
+        black_box(&counts);
+    }
+    fn records(&self) -> Vec<u64> {
+        self.records.clone()
+    }
+}
+
+type Updates = Box<dyn Fn(usize, &[u64], &mut [Particle])>;
+
+/// The Rust's updates over particles; `columns` where its matrix stands by columns.
+pub struct RustPass {
+    model: usize,
+    p: Vec<u64>,
+    came: Vec<Particle>,
+    list: Vec<Particle>,
+    columns: bool,
+    updates: Updates,
+}
+
+/// A particle is 36 words, as a record is; F turned where its matrix stands by columns.
+fn turned(record: &[u64], columns: bool) -> [u64; 36] {
+    std::array::from_fn(|k| record[if columns && k < 9 { k % 3 * 3 + k / 3 } else { k }])
+}
+
+impl RustPass {
+    pub fn new(model: usize, p: &[u64], records: &[u64], columns: bool, updates: Updates) -> Self {
+        let particle = |r: &[u64]| unsafe { std::mem::transmute::<[u64; 36], Particle>(turned(r, columns)) };
+        let came: Vec<Particle> = records.chunks(36).map(particle).collect();
+        RustPass { model, p: p.to_vec(), list: came.clone(), came, columns, updates }
+    }
+}
+
+impl Side for RustPass {
+    fn ready(&mut self) {
+        self.list.copy_from_slice(&self.came);
+    }
+    fn run(&mut self) {
+        (self.updates)(self.model, &self.p, &mut self.list);
+    }
+    fn records(&self) -> Vec<u64> {
+        let words = self.list.iter().map(|x| unsafe { std::mem::transmute::<Particle, [u64; 36]>(*x) });
+        words.flat_map(|w| turned(&w, self.columns)).collect()
+    }
+}
+
+/// The untouched Rust's updates, where build 1 is there.
+pub fn untouched(file: &str) -> Option<impl Fn(usize, &[u64], &mut [Particle]) + Copy> {
+    type Pass = extern "C" fn(usize, *const u64, *mut Particle, usize);
+    let pass: Pass = unsafe { std::mem::transmute::<usize, Pass>(Library::open(file)?.find("untouched_pass")?) };
+    Some(move |model, p: &[u64], list: &mut [Particle]| pass(model, p.as_ptr(), list.as_mut_ptr(), list.len()))
+}
+
+/// The factors that `svd_unordered` hands back: those that the particle in hand brings.
+static mut FACTORS: *const [f64; 21] = std::ptr::null();
+
+#[no_mangle]
+fn beside_factors() -> &'static [f64; 21] {
+    unsafe { &*FACTORS }
+}
+
+/// The same files, each particle's factors given.
+pub fn less_svd(model: usize, p: &[u64], list: &mut [Particle]) {
+    calls::pass(model, p, list, |x| unsafe { FACTORS = &x.factors });
+}
+
+// Not asked for in this build: std's functions win over the trait's, and no pass asks for principal stresses.
+#[no_mangle]
+fn beside_elementary(_: nalgebra::hooks::Function, _: f64, _: &'static std::panic::Location<'static>) -> f64 {
+    unreachable!()
+}
+#[no_mangle]
+fn beside_principal() -> [f64; 3] {
+    unreachable!()
+}
+
+/// Our function over arguments, each a C call.
+pub struct OurCalls(pub unsafe extern "C" fn(f64, *mut u64, usize) -> u8, pub Vec<f64>);
+
+impl Side for OurCalls {
+    fn run(&mut self) {
+        let f = black_box(self.0);
+        let mut out = 0;
+        for x in &self.1 {
+            assert_eq!(unsafe { f(*x, &mut out, 1) }, 0);
+            black_box(out);
+        }
+    }
+}
+
+/// Std's function over the same, through a pointer too.
+pub struct StdCalls(pub fn(f64) -> f64, pub Vec<f64>);
+
+impl Side for StdCalls {
+    fn run(&mut self) {
+        let f = black_box(self.0);
+        for x in &self.1 {
+            black_box(f(*x));
+        }
+    }
+}
+
+/// A sheet of 200 records read, or read and run.
+pub struct Sheet {
+    bytes: Vec<u8>,
+    run: bool,
+    records: Vec<u64>,
+    answers: Vec<u64>,
+}
+
+impl Sheet {
+    pub fn new(bytes: Vec<u8>, run: bool) -> Self {
+        Sheet { bytes, run, records: vec![0; 200 * 36], answers: vec![0; 200 * 2] }
+    }
+}
+
+impl Side for Sheet {
+    fn run(&mut self) {
+        let (b, n, r, rs) = (self.bytes.as_ptr(), self.bytes.len(), self.records.as_mut_ptr(), self.records.len());
+        let mut told = [0; 11];
+        let refusal = unsafe {
+            if self.run {
+                pasoletu_run_sheet(b, n, r, rs, self.answers.as_mut_ptr(), self.answers.len(), told.as_mut_ptr(), 4)
+            } else {
+                pasoletu_read_sheet(b, n, told.as_mut_ptr(), 11, r, rs)
+            }
+        };
+        assert_eq!((refusal, black_box(told)[if self.run { 0 } else { 9 }]), (0, 200));
+    }
+    fn records(&self) -> Vec<u64> {
+        self.records.clone()
+    }
+}
