@@ -1,14 +1,14 @@
 // The calls for C, Rust and Python hosts: each answers 0 or document 01's refusal number, and writes nothing where it refuses.
-mod elasticity;
+pub mod elasticity;
 mod laws_in;
 mod lists_out;
-mod monaghan;
+pub mod monaghan;
 mod parameters;
-mod passes;
-mod physics_calls;
-mod returns;
-mod sheets;
-mod update;
+pub mod passes;
+pub mod physics_calls;
+pub mod returns;
+pub mod sheets;
+pub mod update;
 
 use lists::put;
 ghost use mathlib.Core.Path.{_≡_};
