@@ -2,12 +2,13 @@
 use crate::elementary;
 use crate::laws;
 use crate::reading;
-use crate::reading::Entry;
 use crate::stresses;
+ghost use mathlib.Core.Path.{_≡_};
+ghost use lib.ListN.{length};
 
-pub fn call(e: Entry, out: &mut [u64; 38]) -> u8 {
-    let k = e.call;
-    let i = e.inputs;
+pub fn call(k: u8, i: &[u64], out: &mut [u64]) -> u8
+    requires { ⌜ (length (now i) ≡ 44) × (length (now out) ≡ 38) ⌝ }
+{
     let n = reading::outputs_of(k);
     if 38 < n {
         return 255;
@@ -19,7 +20,13 @@ pub fn call(e: Entry, out: &mut [u64; 38]) -> u8 {
     if k < 9 {
         elementary::call(k, numbers::float_of(i[0]), o)
     } else if k < 16 {
-        elementary::helper(k, numbers::float_of(i[0]), numbers::float_of(i[1]), numbers::float_of(i[2]), o)
+        elementary::helper(
+            k,
+            numbers::float_of(i[0]),
+            numbers::float_of(i[1]),
+            numbers::float_of(i[2]),
+            o,
+        )
     } else if k < 20 {
         elementary::part(k, &i[..9], o)
     } else if k < 29 {

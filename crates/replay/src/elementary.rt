@@ -29,30 +29,30 @@ fn thirds(k: u8, x: f64, o: &mut [u64]) -> u8 {
 
 pub fn helper(k: u8, a: f64, b: f64, c: f64, o: &mut [u64]) -> u8 {
     if k == 9 {
-        host::pasoletu_inv_exact(a, o)
+        host::physics_calls::pasoletu_inv_exact(a, o)
     } else if k == 10 {
-        host::pasoletu_shear_modulus(a, b, o)
+        host::physics_calls::pasoletu_shear_modulus(a, b, o)
     } else if k == 11 {
-        host::pasoletu_bulk_modulus(a, b, o)
+        host::physics_calls::pasoletu_bulk_modulus(a, b, o)
     } else if k == 12 {
-        host::pasoletu_shear_modulus_from_lame(a, b, o)
+        host::physics_calls::pasoletu_shear_modulus_from_lame(a, b, o)
     } else if k == 13 {
-        host::pasoletu_bulk_modulus_from_lame(a, b, o)
+        host::physics_calls::pasoletu_bulk_modulus_from_lame(a, b, o)
     } else if k == 14 {
-        host::pasoletu_lame_lambda_mu(a, b, o)
+        host::physics_calls::pasoletu_lame_lambda_mu(a, b, o)
     } else {
-        host::pasoletu_solve_quadratic(a, b, c, o)
+        host::physics_calls::pasoletu_solve_quadratic(a, b, c, o)
     }
 }
 
 pub fn part(k: u8, m: &[u64], o: &mut [u64]) -> u8 {
     if k == 16 {
-        host::pasoletu_spin_tensor(m, o)
+        host::physics_calls::pasoletu_spin_tensor(m, o)
     } else if k == 17 {
-        host::pasoletu_strain_rate(m, o)
+        host::physics_calls::pasoletu_strain_rate(m, o)
     } else if k == 18 {
-        host::pasoletu_deviatoric_part(m, o)
+        host::physics_calls::pasoletu_deviatoric_part(m, o)
     } else {
-        host::pasoletu_spherical_part(m, o)
+        host::physics_calls::pasoletu_spherical_part(m, o)
     }
 }

@@ -1,34 +1,39 @@
 // The plastic laws' updates, and what can be called of them alone.
 use numbers::float_of;
+ghost use mathlib.Core.Path.{_≡_};
+ghost use lib.ListN.{length};
 
 // The record after the update in the first 36 places, the answer in the next two.
-fn updated(model: u64, parameters: &[u64], record: &[u64], out: &mut [u64; 38]) -> u8 {
-    if record.len() != 36 {
-        return 255;
-    }
+fn updated(model: u64, parameters: &[u64], record: &[u64], out: &mut [u64]) -> u8 {
     let mut r = [0u64; 36];
     let mut answer = [0u64; 2];
-    copy(record, &mut r);
-    let refusal = host::pasoletu_update(model, parameters, &mut r, &mut answer);
+    copy(record, 0, &mut r);
+    let refusal = host::update::pasoletu_update(model, parameters, &mut r, &mut answer);
     if refusal == 0 {
-        copy(&r, &mut out[..36]);
-        copy(&answer, &mut out[36..]);
+        copy(&r, 0, out);
+        copy(&answer, 36, out);
     }
     refusal
 }
 
-fn copy(from: &[u64], to: &mut [u64]) {
+// A list into another from a place on, as far as it has room.
+fn copy(from: &[u64], at: usize, to: &mut [u64]) {
     let mut i = 0;
     while i < from.len() {
         if to.len() <= i {
             return;
         }
-        to[i] = from[i];
+        if to.len() - i <= at {
+            return;
+        }
+        to[at + i] = from[i];
         i += 1;
     }
 }
 
-pub fn update(k: u8, i: [u64; 44], out: &mut [u64; 38]) -> u8 {
+pub fn update(k: u8, i: &[u64], out: &mut [u64]) -> u8
+    requires { ⌜ length (now i) ≡ 44 ⌝ }
+{
     if k == 20 {
         updated(0, &i[..3], &i[3..39], out)
     } else if k == 21 {
@@ -40,14 +45,22 @@ pub fn update(k: u8, i: [u64; 44], out: &mut [u64; 38]) -> u8 {
     }
 }
 
-pub fn alone(k: u8, i: [u64; 44], o: &mut [u64]) -> u8 {
+pub fn alone(k: u8, i: &[u64], o: &mut [u64]) -> u8
+    requires { ⌜ length (now i) ≡ 44 ⌝ }
+{
     if k == 35 {
-        host::pasoletu_failed(float_of(i[0]), float_of(i[1]), &i[2..5], o)
+        host::returns::pasoletu_failed(float_of(i[0]), float_of(i[1]), &i[2..5], o)
     } else if k == 36 {
-        host::pasoletu_snow_clamp(float_of(i[0]), float_of(i[1]), float_of(i[2]), &i[3..6], o)
+        host::returns::pasoletu_snow_clamp(
+            float_of(i[0]),
+            float_of(i[1]),
+            float_of(i[2]),
+            &i[3..6],
+            o,
+        )
     } else if k == 37 {
-        host::pasoletu_rankine_project(&i[..4], float_of(i[4]), &i[5..8], o)
+        host::returns::pasoletu_rankine_project(&i[..4], float_of(i[4]), &i[5..8], o)
     } else {
-        host::pasoletu_drucker_prager_alpha(&i[..8], float_of(i[8]), o)
+        host::returns::pasoletu_drucker_prager_alpha(&i[..8], float_of(i[8]), o)
     }
 }

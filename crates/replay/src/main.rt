@@ -37,8 +37,10 @@ fn say_word(word: &[u8], n: u64) {
 // Whether an entry's call answers as the Rust did; where it is the first that does not, it is named.
 fn same(e: Entry, n: u64, named: bool) -> bool {
     let mut out = [0u64; 38];
-    let refusal = calls::call(e, &mut out);
-    let at = first_difference(&out, &e.outputs);
+    let inputs = e.inputs;
+    let outputs = e.outputs;
+    let refusal = calls::call(e.call, &inputs, &mut out);
+    let at = first_difference(&out, &outputs);
     let agrees = (refusal == e.refusal) & (at == 38);
     if agrees | named {
         return agrees;
@@ -50,7 +52,7 @@ fn same(e: Entry, n: u64, named: bool) -> bool {
     if at < 38 {
         say(b"; word ", at as u64);
         say_word(b" is ", out[at]);
-        say_word(b" for ", e.outputs[at]);
+        say_word(b" for ", outputs[at]);
     }
     io::write_all(STDOUT_FILENO, b"\n");
     agrees
@@ -65,7 +67,7 @@ fn main() {
     let mut n: u64 = 0;
     let mut differ: u64 = 0;
     while n < 1000000 {
-        let e = reading::entry(file);
+        let e = reading::next(file);
         if !e.there {
             break;
         }
