@@ -1,0 +1,192 @@
+// An entry of the list: the call's number, the refusal's number or 0, the inputs as words and, after a 0, the outputs.
+use sheet::Word;
+
+const KINDS: usize = 39;
+// How many words go into each call and come out, by its number (beside/calls.rs).
+const INPUTS: [usize; 39] = [
+    1,
+    1,
+    1,
+    1,
+    1,
+    1,
+    1,
+    1,
+    1,
+    1,
+    2,
+    2,
+    2,
+    2,
+    2,
+    3,
+    9,
+    9,
+    9,
+    9,
+    39,
+    40,
+    44,
+    42,
+    13,
+    14,
+    14,
+    14,
+    1,
+    36,
+    8,
+    17,
+    7,
+    17,
+    12,
+    5,
+    6,
+    8,
+    9,
+];
+
+const OUTPUTS: [usize; 39] = [
+    1,
+    1,
+    1,
+    1,
+    1,
+    1,
+    1,
+    1,
+    1,
+    1,
+    1,
+    1,
+    1,
+    1,
+    2,
+    2,
+    9,
+    9,
+    9,
+    1,
+    38,
+    38,
+    38,
+    38,
+    9,
+    9,
+    1,
+    1,
+    1,
+    9,
+    1,
+    1,
+    1,
+    9,
+    1,
+    1,
+    3,
+    3,
+    1,
+];
+
+pub struct Entry {
+    pub there: bool,
+    pub call: u8,
+    pub refusal: u8,
+    pub inputs: [u64; 44],
+    pub outputs: [u64; 38],
+}
+
+fn none() -> Entry {
+    Entry {
+        there: false,
+        call: 0,
+        refusal: 0,
+        inputs: [0; 44],
+        outputs: [0; 38],
+    }
+}
+
+// The next n words of the file, in the first places of the room; whether they were there.
+fn words(file: i32, n: usize, room: &mut [u64]) -> bool {
+    if 44 < n {
+        return false;
+    }
+    if room.len() < n {
+        return false;
+    }
+    let size = n * 8;
+    let mut bytes = [0u8; 352];
+    if !filled(file, size, &mut bytes) {
+        return false;
+    }
+    decoded(&bytes, n, room)
+}
+
+// The next bytes of the file, in the first places of the room; whether they were there.
+fn filled(file: i32, size: usize, room: &mut [u8]) -> bool {
+    if room.len() < size {
+        return false;
+    }
+    let got = io::read_full(file, &mut room[..size]);
+    got == size
+}
+
+// The first n words of the bytes, in the first places of the room; whether they were there.
+fn decoded(bytes: &[u8], n: usize, room: &mut [u64]) -> bool {
+    if 44 < n {
+        return false;
+    }
+    let mut i = 0;
+    while i < n {
+        if room.len() <= i {
+            return false;
+        }
+        match sheet::word_at(bytes, i * 8) {
+            Word::Read(w, _) => {
+                room[i] = w;
+            }
+            Word::Refused(_) => {
+                return false;
+            }
+        }
+        i += 1;
+    }
+    true
+}
+
+fn place(call: u8) -> usize {
+    call as usize
+}
+
+pub fn outputs_of(call: u8) -> usize {
+    let k = place(call);
+    if k < KINDS { OUTPUTS[k] } else { 0 }
+}
+
+// The next entry; none at the list's end, a byte 255, or where the file breaks off.
+pub fn next(file: i32) -> Entry {
+    let mut head = [0u8; 2];
+    io::read_full(file, &mut head);
+    let call = head[0];
+    let refusal = head[1];
+    let k = place(call);
+    if KINDS <= k {
+        return none();
+    }
+    let mut inputs = [0u64; 44];
+    if !words(file, INPUTS[k], &mut inputs) {
+        return none();
+    }
+    let mut outputs = [0u64; 38];
+    if refusal == 0 {
+        if !words(file, OUTPUTS[k], &mut outputs) {
+            return none();
+        }
+    }
+    Entry {
+        there: true,
+        call,
+        refusal,
+        inputs,
+        outputs,
+    }
+}
