@@ -1,93 +1,163 @@
 #!/bin/sh
-# Builds the library for C, Rust and Python hosts and installs it.
+# Installs the command `slope` and the library for C, Rust and Python hosts; proves and builds them first where that has not been done.
 #
-#   ./install.sh [PREFIX] [--lib FILE]
+#   ./install.sh [PREFIX] [--lib FILE] [--program FILE]
+#   ./install.sh [PREFIX] --uninstall
 #
-# PREFIX      where to install; default /usr/local
-# --lib FILE  takes the ready archive FILE; without it the library is proved and built, which takes some minutes
+# PREFIX          where to install; default /usr/local. With DESTDIR in the environment everything goes below $DESTDIR$PREFIX
+# --lib FILE      takes the ready archive FILE (libhost.a)
+# --program FILE  takes the ready program FILE (slope)
+#                 With either, nothing is proved: a part that is neither named nor built yet is left out
+# --uninstall     removes what was installed below PREFIX, and nothing else
+#
+# Below PREFIX stand then bin/slope with its man page and completion, include/pasoletu.h, lib/libpasoletu.{a,so} with the files for
+# pkg-config and CMake, the Python package in lib/python3/dist-packages, and share/doc/pasoletu with the licence.
 set -eu
 
-usage() { echo usage: >&2; sed -n '4,7s/^# \{0,1\}//p' "$0" >&2; exit 2; }
+usage() { sed -n '2,15s/^# \{0,1\}//p' "$0"; }
 stop() { echo "install.sh: $1" >&2; exit 1; }
+misspelled() { echo "install.sh: $1; './install.sh --help' tells how to use it" >&2; exit 2; }
 
 prefix=
 archive=
+program=
+uninstall=no
 while [ $# -gt 0 ]; do
     case $1 in
-    --lib)
-        [ $# -ge 2 ] || usage
-        archive=$2
-        shift 2
-        ;;
-    -*) usage ;;
-    *)
-        [ -z "$prefix" ] || usage
-        prefix=$1
+    -h | --help) usage; exit 0 ;;
+    --uninstall) uninstall=yes ;;
+    --lib | --program)
+        [ $# -ge 2 ] || misspelled "$1 needs a FILE"
+        if [ ! -f "$2" ] || [ ! -r "$2" ]; then stop "$1: $2 is not a file that can be read"; fi
+        if [ "$1" = --lib ]; then archive=$2; else program=$2; fi
         shift
         ;;
+    -*) misspelled "there is no option $1" ;;
+    *)
+        [ -z "$prefix" ] || misspelled "there is more than one PREFIX"
+        prefix=$1
+        ;;
     esac
+    shift
 done
-prefix=${prefix:-/usr/local}
 top=$(cd "$(dirname "$0")" && pwd)
-header=$top/include/pasoletu.h
+prefix=${prefix:-/usr/local}
+case $prefix in /*) ;; *) prefix=$PWD/$prefix ;; esac
+prefix=${prefix%/}
+root=${DESTDIR:-}$prefix
+version=$(cat "$top/VERSION")
+soname=libpasoletu.so.${version%%.*}
+# What was installed, a line each, by its name below PREFIX; folders that were made end in /.
+list=share/pasoletu/installed
+cannot="cannot be written: name a folder of your own, as ./install.sh \$HOME/pasoletu"
 
-[ "$(uname -s)-$(uname -m)" = Linux-x86_64 ] || stop "the library is for Linux on x86-64; this is $(uname -s) on $(uname -m)"
-command -v cc >/dev/null || stop "there is no C compiler (cc): install one; on Debian: apt-get install -y gcc libc6-dev"
-if [ -z "$archive" ]; then
-    command -v rt >/dev/null || stop "there is no Rattle toolchain (rt): install it, or name a ready archive by --lib FILE"
-    mkdir -p "$top/target"
-    log=$top/target/install.log
-    echo "install.sh: proving and building the library; this may take some minutes (log: $log)"
-    (cd "$top" && rt staticlib host) >"$log" 2>&1 || { tail -5 "$log" >&2; stop "the library was not built; the whole log is $log"; }
-    archive=$top/target/staticlib/libhost.a
+if [ $uninstall = yes ]; then
+    [ -f "$root/$list" ] || stop "there is no installation below $root ($root/$list is not there)"
+    grep -v '/$' "$root/$list" | while IFS= read -r name; do rm -f "$root/$name"; done
+    folders=$(grep '/$' "$root/$list" | LC_ALL=C sort -r)
+    rm -f "$root/$list"
+    for name in $folders; do rmdir "$root/$name" 2>/dev/null || true; done
+    echo "install.sh: removed what was installed below $root"
+    exit 0
 fi
-[ -r "$archive" ] || stop "the archive $archive cannot be read"
+[ "$(cd "$root" 2>/dev/null && pwd -P)" != "$(cd "$top" && pwd -P)" ] || stop "PREFIX is this repository: name another folder"
 
-# The archive must have every call of the header, and no other.
+# ---- the parts: named, built, or proved and built now
+
 work=$(mktemp -d)
 trap 'rm -rf "$work"' EXIT
-sed -n 's/^uint8_t \(pasoletu_[a-z_]*\)(.*/\1/p' "$header" | sort >"$work/promised"
-nm -g --defined-only "$archive" 2>/dev/null | sed -n 's/.* T \(pasoletu_[a-z_]*\)$/\1/p' | sort -u >"$work/there"
-missing=$(comm -23 "$work/promised" "$work/there" | tr '\n' ' ')
-unknown=$(comm -13 "$work/promised" "$work/there" | tr '\n' ' ')
-[ -z "$missing" ] || stop "$archive lacks calls of $header: $missing"
-[ -z "$unknown" ] || stop "$archive has calls that $header lacks: $unknown"
+if [ -z "$archive$program" ]; then
+    program=$("$top/tools/built" --prove program)
+    archive=$("$top/tools/built" --prove archive)
+else
+    [ -n "$program" ] || program=$("$top/tools/built" program 2>/dev/null) || true
+    [ -n "$archive" ] || archive=$("$top/tools/built" archive 2>/dev/null) || true
+fi
+if [ -n "$archive" ]; then
+    "$top/tools/shared" "$archive" "$work/$soname" || stop "$archive is not installed, nor anything else"
+fi
+if [ -n "$program" ]; then
+    cp "$program" "$work/slope" && chmod 755 "$work/slope"
+    answer=$(PASOLETU_SLOPE="$work/slope" "$top/bin/slope" "$top/samples/snow.sheet" | tr '\n' ' ')
+    [ "$answer" = "particles 1 0 stored 3ff0000000000000 end " ] ||
+        stop "$program does not answer samples/snow.sheet as the program does: name the file that 'tools/built program' prints"
+fi
 
-# The shared library shows the header's calls alone.
-echo '{ global: pasoletu_*; local: *; };' >"$work/exports"
-cc -shared -o "$work/libpasoletu.so.0" -Wl,-soname,libpasoletu.so.0 -Wl,--version-script="$work/exports" \
-    -Wl,--no-undefined -Wl,--whole-archive "$archive" -Wl,--no-whole-archive || stop "the shared library could not be linked"
+# ---- the files
 
-mkdir -p "$prefix/include" "$prefix/lib/pkgconfig" 2>/dev/null ||
-    stop "$prefix cannot be written: name a folder of your own, as ./install.sh \$HOME/pasoletu"
-[ -w "$prefix/include" ] && [ -w "$prefix/lib/pkgconfig" ] ||
-    stop "$prefix cannot be written: name a folder of your own, as ./install.sh \$HOME/pasoletu"
-prefix=$(cd "$prefix" && pwd)
-cp "$header" "$prefix/include/pasoletu.h"
-cp "$archive" "$prefix/lib/libpasoletu.a"
-cp "$work/libpasoletu.so.0" "$prefix/lib/libpasoletu.so.0"
-ln -sf libpasoletu.so.0 "$prefix/lib/libpasoletu.so"
-chmod 644 "$prefix/include/pasoletu.h" "$prefix/lib/libpasoletu.a"
-chmod 755 "$prefix/lib/libpasoletu.so.0"
-cat >"$prefix/lib/pkgconfig/pasoletu.pc" <<END
-prefix=$prefix
-includedir=\${prefix}/include
-libdir=\${prefix}/lib
+# folder NAME: makes the folder and those above it, and lists those that it made
+folder() {
+    if [ ! -d "$root/$1" ]; then
+        case $1 in */*) folder "${1%/*}" ;; *) mkdir -p "$root" 2>/dev/null || stop "$root $cannot" ;; esac
+        mkdir "$root/$1" 2>/dev/null || stop "$root $cannot"
+        echo "$1/" >>"$work/list"
+    fi
+}
+# put MODE FILE NAME: installs FILE as NAME
+put() {
+    folder "${3%/*}"
+    install -m "$1" "$2" "$root/$3" 2>/dev/null || stop "$root/$3 $cannot"
+    echo "$3" >>"$work/list"
+}
+# link TO NAME
+link() {
+    ln -sf "$1" "$root/$2"
+    echo "$2" >>"$work/list"
+}
+# fill FILE: the template with its places filled
+fill() { sed -e "s|@PREFIX@|$prefix|g" -e "s|@VERSION@|$version|g" -e "s|@SONAME@|$soname|g" "$top/packaging/$1"; }
+# put_filled FILE NAME
+put_filled() {
+    fill "$1" >"$work/filled"
+    put 644 "$work/filled" "$2"
+}
 
-Name: pasoletu
-Description: How snow and debris yield, break and push, particle by particle, by proved laws
-Version: 0.1.0
-Cflags: -I\${includedir}
-Libs: -L\${libdir} -lpasoletu
+library() {
+    put 644 "$top/include/pasoletu.h" include/pasoletu.h
+    put 644 "$archive" lib/libpasoletu.a
+    put 755 "$work/$soname" "lib/libpasoletu.so.$version"
+    link "libpasoletu.so.$version" "lib/$soname"
+    link "$soname" lib/libpasoletu.so
+    put_filled pasoletu.pc.in lib/pkgconfig/pasoletu.pc
+    put_filled pasoletu-config.cmake.in lib/cmake/pasoletu/pasoletu-config.cmake
+    put_filled pasoletu-config-version.cmake.in lib/cmake/pasoletu/pasoletu-config-version.cmake
+    for file in "$top"/bindings/python/pasoletu/*.py "$top"/bindings/python/pasoletu/py.typed; do
+        put 644 "$file" "lib/python3/dist-packages/pasoletu/${file##*/}"
+    done
+}
+command_slope() {
+    put 755 "$work/slope" libexec/pasoletu/slope
+    put 755 "$top/bin/slope" bin/slope
+    put 644 "$top/man/slope.1" share/man/man1/slope.1
+    put 644 "$top/packaging/slope.bash-completion" share/bash-completion/completions/slope
+    "$top/bin/slope" --version | sed -n 's/.*(commit \(.*\))/\1/p' >"$work/COMMIT"
+    put 644 "$work/COMMIT" share/pasoletu/COMMIT
+    put 644 "$top/VERSION" share/pasoletu/VERSION
+    put 644 "$top/calls.toml" share/pasoletu/calls.toml
+}
+
+# What an earlier installation listed stays listed: its folders are ours still, and its files are gone with the next --uninstall.
+[ ! -f "$root/$list" ] || cp "$root/$list" "$work/list"
+[ -z "$archive" ] || library
+[ -z "$program" ] || command_slope
+for licence in LICENSE NOTICE; do put 644 "$top/$licence" "share/doc/pasoletu/$licence"; done
+folder "${list%/*}"
+LC_ALL=C sort -u "$work/list" >"$work/sorted"
+install -m 644 "$work/sorted" "$root/$list"
+
+echo "install.sh: version $version is installed below $root"
+if [ -n "$program" ]; then
+    echo "  the command:  $prefix/bin/slope SHEET      (man slope; $prefix/bin must be in PATH)"
+else
+    echo "  the command was LEFT OUT: name the program by --program FILE, or run ./install.sh without --lib"
+fi
+if [ -n "$archive" ]; then
+    cat <<END
+  for C:        cc program.c -I$prefix/include $prefix/lib/libpasoletu.a
+                or pkg-config pasoletu (PKG_CONFIG_PATH=$prefix/lib/pkgconfig), or CMake's find_package(pasoletu)
+  for Rust:     export PASOLETU_LIB_DIR=$prefix/lib
+  for Python:   export PYTHONPATH=$prefix/lib/python3/dist-packages
 END
-
-cat <<END
-install.sh: installed $(wc -l <"$work/promised") calls:
-  $prefix/include/pasoletu.h
-  $prefix/lib/libpasoletu.a
-  $prefix/lib/libpasoletu.so.0 (and libpasoletu.so)
-  $prefix/lib/pkgconfig/pasoletu.pc
-For C:      cc program.c -I$prefix/include $prefix/lib/libpasoletu.a
-For Rust:   export PASOLETU_LIB_DIR=$prefix/lib
-For Python: export PASOLETU_LIB=$prefix/lib/libpasoletu.so.0 PYTHONPATH=$top/bindings/python
-END
+else
+    echo "  the library was LEFT OUT: name the archive by --lib FILE, or run ./install.sh without --program"
+fi

@@ -3,12 +3,22 @@ use sparkl::dynamics::models::*;
 use sparkl::math::{DecomposedTensor, Matrix, Vector};
 use sparkl::utils;
 
-/// A call of the C library: its name there, its arguments in order, how many words go in and come out.
+#[path = "table.rs"]
+#[allow(dead_code)]
+#[rustfmt::skip]
+mod table;
+
+pub use table::*;
+
+/// A call of the C library: its name there, its arguments in order, how many words go in and come out, the place of a flag among
+/// those that go in. Of an update the inputs are the law's parameters and the 36 floats; the outputs the 36 floats and the two places
+/// of the answer.
 pub struct Call {
     pub name: &'static str,
     pub arguments: &'static [usize],
     pub inputs: usize,
     pub outputs: usize,
+    pub flag: Option<usize>,
 }
 
 /// An argument is the length of a list, or one of these. A call's inputs are their words in order.
@@ -24,73 +34,30 @@ pub const fn words(argument: usize) -> usize {
     }
 }
 
-const fn c(name: &'static str, arguments: &'static [usize], outputs: usize) -> Call {
+const fn c(name: &'static str, arguments: &'static [usize], outputs: usize, flag: Option<usize>) -> Call {
     let (mut inputs, mut k) = (0, 0);
     while k < arguments.len() {
         inputs += words(arguments[k]);
         k += 1;
     }
-    Call { name, arguments, inputs, outputs }
+    Call { name, arguments, inputs, outputs, flag }
 }
 
-// The numbers of the calls, as the replayed list has them too.
-pub const UPDATE: usize = 20;
-pub const MONAGHAN: usize = 32;
-pub const FAILED: usize = 35;
-pub const CLAMP: usize = 36;
-pub const PROJECT: usize = 37;
-pub const ALPHA: usize = 38;
-
-const ONE: &[usize] = &[NUMBER];
-const TWO: &[usize] = &[NUMBER, NUMBER];
-const NEO_HOOKEAN: &[usize] = &[3, NUMBER, NUMBER, 9];
-
-/// Of an update the inputs are the law's parameters and the 36 floats; the outputs the 36 floats and the two places of the answer.
-pub const CALLS: [Call; 40] = [
-    c("exp", ONE, 1),
-    c("ln", ONE, 1),
-    c("sinh", ONE, 1),
-    c("sin", ONE, 1),
-    c("sqrt", ONE, 1),
-    c("cbrt", ONE, 1),
-    c("inv_cbrt", ONE, 1),
-    c("cbrt_squared", ONE, 1),
-    c("inv_cbrt_squared", ONE, 1),
-    c("inv_exact", ONE, 1),
-    c("shear_modulus", TWO, 1),
-    c("bulk_modulus", TWO, 1),
-    c("shear_modulus_from_lame", TWO, 1),
-    c("bulk_modulus_from_lame", TWO, 1),
-    c("lame_lambda_mu", TWO, 2),
-    c("solve_quadratic", &[NUMBER; 3], 2),
-    c("spin_tensor", &[9], 9),
-    c("strain_rate", &[9], 9),
-    c("deviatoric_part", &[9], 9),
-    c("spherical_part", &[9], 1),
-    c("update snow", &[3, 36], 38),
-    c("update rankine", &[4, 36], 38),
-    c("update drucker_prager", &[8, 36], 38),
-    c("update nacc", &[6, 36], 38),
-    c("neo_hookean_fpk_stress", &[3, NUMBER, 9], 9),
-    c("neo_hookean_kirchhoff_stress", NEO_HOOKEAN, 9),
-    c("neo_hookean_elastic_energy_density", NEO_HOOKEAN, 1),
-    c("neo_hookean_pos_energy", NEO_HOOKEAN, 1),
-    c("phase_coeff", ONE, 1),
-    c("corotated_kirchhoff_stress", &[4, NUMBER, NUMBER, 9, 9, 3, 9], 9),
-    c("corotated_elastic_energy_density", &[4, NUMBER, 3], 1),
-    c("corotated_pos_energy", &[4, NUMBER, 9, 3], 1),
-    c("monaghan_pressure", &[NUMBER, GAMMA, NUMBER, NUMBER, NUMBER, NUMBER, NUMBER], 1),
-    c("monaghan_kirchhoff_stress", &[NUMBER, GAMMA, NUMBER, NUMBER, NUMBER, NUMBER, NUMBER, NUMBER, 9], 9),
-    c("monaghan_timestep_bound", &[NUMBER, GAMMA, NUMBER, NUMBER, NUMBER, NUMBER, NUMBER, NUMBER, 3, NUMBER], 1),
-    c("failed", &[NUMBER, NUMBER, 3], 1),
-    c("snow_clamp", &[NUMBER, NUMBER, NUMBER, 3], 3),
-    c("rankine_project", &[4, NUMBER, 3], 3),
-    c("drucker_prager_alpha", &[8, NUMBER], 1),
-    c("decomposed_times", &[NUMBER, 9, 3], 3),
-];
+/// The first of the updates: the others follow in the order of the models.
+pub const UPDATE: usize = UPDATE_SNOW;
 
 pub fn is_update(n: usize) -> bool {
-    (UPDATE..UPDATE + 4).contains(&n)
+    (UPDATE..UPDATE + PARAMETERS.len()).contains(&n)
+}
+
+/// Whether a call is one of the elementary functions, which no text of the Rust has.
+pub fn is_elementary(n: usize) -> bool {
+    n <= INV_CBRT_SQUARED
+}
+
+/// Whether a call is one of Monaghan's, whose second input is no float.
+pub fn is_monaghan(n: usize) -> bool {
+    (MONAGHAN_PRESSURE..=MONAGHAN_TIMESTEP_BOUND).contains(&n)
 }
 
 fn f(i: &[u64], k: usize) -> f64 {
@@ -129,7 +96,7 @@ fn put_matrix(o: &mut [u64], m: Matrix<f64>) {
 }
 
 pub fn parameters(model: usize) -> usize {
-    [3, 4, 8, 6][model]
+    PARAMETERS[model]
 }
 
 /// A record as the Rust would hold it, in the record's order; F in its matrix's own.
@@ -221,46 +188,52 @@ pub fn call(n: usize, i: &[u64], o: &mut [u64]) {
         mu: f(i, 3),
     };
     match n {
-        9 => put(o, utils::inv_exact(f(i, 0))),
-        10 => put(o, utils::shear_modulus(f(i, 0), f(i, 1))),
-        11 => put(o, utils::bulk_modulus(f(i, 0), f(i, 1))),
-        12 => put(o, utils::shear_modulus_from_lame(f(i, 0), f(i, 1))),
-        13 => put(o, utils::bulk_modulus_from_lame(f(i, 0), f(i, 1))),
-        14 => {
+        INV_EXACT => put(o, utils::inv_exact(f(i, 0))),
+        SHEAR_MODULUS => put(o, utils::shear_modulus(f(i, 0), f(i, 1))),
+        BULK_MODULUS => put(o, utils::bulk_modulus(f(i, 0), f(i, 1))),
+        SHEAR_MODULUS_FROM_LAME => put(o, utils::shear_modulus_from_lame(f(i, 0), f(i, 1))),
+        BULK_MODULUS_FROM_LAME => put(o, utils::bulk_modulus_from_lame(f(i, 0), f(i, 1))),
+        LAME_LAMBDA_MU => {
             let (l, m) = utils::lame_lambda_mu(f(i, 0), f(i, 1));
             o.copy_from_slice(&[l.to_bits(), m.to_bits()]);
         }
-        15 => {
+        SOLVE_QUADRATIC => {
             let (a, b) = utils::solve_quadratic(f(i, 0), f(i, 1), f(i, 2));
             o.copy_from_slice(&[a.to_bits(), b.to_bits()]);
         }
-        16 => put_matrix(o, utils::spin_tensor(&matrix(i, 0))),
-        17 => put_matrix(o, utils::strain_rate(&matrix(i, 0))),
-        18 => put_matrix(o, utils::deviatoric_part(&matrix(i, 0))),
-        19 => put(o, utils::spherical_part(&matrix(i, 0))),
-        20..=23 => {
+        SPIN_TENSOR => put_matrix(o, utils::spin_tensor(&matrix(i, 0))),
+        STRAIN_RATE => put_matrix(o, utils::strain_rate(&matrix(i, 0))),
+        DEVIATORIC_PART => put_matrix(o, utils::deviatoric_part(&matrix(i, 0))),
+        SPHERICAL_PART => put(o, utils::spherical_part(&matrix(i, 0))),
+        n if is_update(n) => {
             let k = parameters(n - UPDATE);
             o[..36].copy_from_slice(&i[k..]);
             update(n - UPDATE, i, o);
         }
-        24 => put_matrix(o, neo().fpk_stress(&matrix(i, 4), f(i, 3))),
-        25 => put_matrix(o, neo().kirchhoff_stress(f(i, 3), f(i, 4), &matrix(i, 5))),
-        26 => put(o, neo().elastic_energy_density(f(i, 3), f(i, 4), &matrix(i, 5))),
-        27 => put(o, neo().pos_energy(f(i, 3), f(i, 4), &matrix(i, 5))),
-        28 => put(o, NeoHookeanElasticity::phase_coeff(f(i, 0))),
-        29 => put_matrix(o, corotated().kirchhoff_stress(f(i, 4), f(i, 5), &matrix(i, 6))),
+        NEO_HOOKEAN_FPK_STRESS => put_matrix(o, neo().fpk_stress(&matrix(i, 4), f(i, 3))),
+        NEO_HOOKEAN_KIRCHHOFF_STRESS => put_matrix(o, neo().kirchhoff_stress(f(i, 3), f(i, 4), &matrix(i, 5))),
+        NEO_HOOKEAN_ELASTIC_ENERGY_DENSITY => put(o, neo().elastic_energy_density(f(i, 3), f(i, 4), &matrix(i, 5))),
+        NEO_HOOKEAN_POS_ENERGY => put(o, neo().pos_energy(f(i, 3), f(i, 4), &matrix(i, 5))),
+        PHASE_COEFF => put(o, NeoHookeanElasticity::phase_coeff(f(i, 0))),
+        COROTATED_KIRCHHOFF_STRESS => put_matrix(o, corotated().kirchhoff_stress(f(i, 4), f(i, 5), &matrix(i, 6))),
         // The energy takes F only for its factors, the verdict a stress only for its principal values.
-        30 => put(o, corotated().elastic_energy_density(diagonal(i, 5), f(i, 4))),
-        31 => put(o, corotated().pos_energy(matrix(i, 5), f(i, 4))),
-        32 => put(o, monaghan(i).pressure(f(i, 4), f(i, 5), f(i, 6))),
-        33 => put_matrix(o, monaghan(i).kirchhoff_stress(f(i, 4), f(i, 5), f(i, 6), f(i, 7), &matrix(i, 8))),
-        34 => put(o, monaghan(i).timestep_bound(f(i, 4), f(i, 5), f(i, 6), f(i, 7), &vector(i, 8), f(i, 11))),
-        35 => o[0] = MaximumStressFailure::new(f(i, 0), f(i, 1)).particle_failed(&diagonal(i, 2)) as u64,
-        36 => {
+        COROTATED_ELASTIC_ENERGY_DENSITY => put(o, corotated().elastic_energy_density(diagonal(i, 5), f(i, 4))),
+        COROTATED_POS_ENERGY => put(o, corotated().pos_energy(matrix(i, 5), f(i, 4))),
+        MONAGHAN_PRESSURE => put(o, monaghan(i).pressure(f(i, 4), f(i, 5), f(i, 6))),
+        MONAGHAN_KIRCHHOFF_STRESS => {
+            put_matrix(o, monaghan(i).kirchhoff_stress(f(i, 4), f(i, 5), f(i, 6), f(i, 7), &matrix(i, 8)))
+        }
+        MONAGHAN_TIMESTEP_BOUND => {
+            put(o, monaghan(i).timestep_bound(f(i, 4), f(i, 5), f(i, 6), f(i, 7), &vector(i, 8), f(i, 11)))
+        }
+        FAILED => o[0] = MaximumStressFailure::new(f(i, 0), f(i, 1)).particle_failed(&diagonal(i, 2)) as u64,
+        SNOW_CLAMP => {
             let law = SnowPlasticity { min_epsilon: f(i, 0), max_epsilon: f(i, 1), hardening_coeff: f(i, 2) };
             put_vector(o, law.project_deformation_gradient(vector(i, 3)));
         }
-        39 => put_vector(o, DecomposedTensor { spherical_part: f(i, 0), deviatoric_part: matrix(i, 1) } * vector(i, 10)),
+        DECOMPOSED_TIMES => {
+            put_vector(o, DecomposedTensor { spherical_part: f(i, 0), deviatoric_part: matrix(i, 1) } * vector(i, 10))
+        }
         _ => panic!("not a call of the text"),
     }
 }

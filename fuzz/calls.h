@@ -1,10 +1,25 @@
-// The C calls of the crate `host` that are fuzzed. A list is a pointer and its length; an answer is 0 or document 01's refusal number.
+// Made by tools/table from calls.toml: edit that, not this file.
+// The C calls that are fuzzed, with every float as its bits.
 #include <stddef.h>
 #include <stdint.h>
 
-uint8_t pasoletu_update(uint64_t model, const uint64_t *parameters, size_t, uint64_t *record, size_t, uint64_t *answer, size_t);
-uint8_t pasoletu_pass(uint64_t model, const uint64_t *parameters, size_t, uint64_t *records, size_t, uint64_t *answers, size_t, uint64_t *counts, size_t);
-uint8_t pasoletu_pass_with_failure(uint64_t model, const uint64_t *parameters, size_t, const uint64_t *limits, size_t, const uint64_t *law, size_t,
-                                   uint64_t *records, size_t, uint64_t *answers, size_t, uint64_t *counts, size_t);
-uint8_t pasoletu_read_sheet(const uint8_t *sheet, size_t, uint64_t *header, size_t, uint64_t *records, size_t);
-uint8_t pasoletu_run_sheet(const uint8_t *sheet, size_t, uint64_t *records, size_t, uint64_t *answers, size_t, uint64_t *counts, size_t);
+#define FLOATS 36
+#define MOST 200
+#define MODELS 4
+// How many parameters each model has, and the place of its flag or -1.
+static const size_t FIELDS[MODELS] = {3, 4, 8, 6};
+static const int FLAG[MODELS] = {-1, -1, 6, 3};
+
+uint8_t pasoletu_update(uint64_t model, const uint64_t *parameters, size_t parameters_length, uint64_t *record,
+                        size_t record_length, uint64_t *answer, size_t answer_length);
+uint8_t pasoletu_pass(uint64_t model, const uint64_t *parameters, size_t parameters_length, uint64_t *records,
+                      size_t records_length, uint64_t *answers, size_t answers_length, uint64_t *counts,
+                      size_t counts_length);
+uint8_t pasoletu_pass_with_failure(uint64_t model, const uint64_t *parameters, size_t parameters_length,
+                                   const uint64_t *limits, size_t limits_length, const uint64_t *corotated,
+                                   size_t corotated_length, uint64_t *records, size_t records_length, uint64_t *answers,
+                                   size_t answers_length, uint64_t *counts, size_t counts_length);
+uint8_t pasoletu_read_sheet(const uint8_t *bytes, size_t bytes_length, uint64_t *header, size_t header_length,
+                            uint64_t *records, size_t records_length);
+uint8_t pasoletu_run_sheet(const uint8_t *bytes, size_t bytes_length, uint64_t *records, size_t records_length,
+                           uint64_t *answers, size_t answers_length, uint64_t *counts, size_t counts_length);

@@ -122,7 +122,7 @@ static void tell(uint64_t model, const uint64_t *was, const struct done *d) {
 }
 
 static int lengths_fit(uint64_t model, size_t np) {
-    return model > 3 || np == FIELDS[model];
+    return model >= MODELS || np == FIELDS[model];
 }
 
 // pasoletu_update on a record, with the lengths given; what it leaves is checked against everything that document 01 says of it.
@@ -132,7 +132,7 @@ static struct done updated(uint64_t model, const uint64_t *p, size_t np, const u
     d.status = pasoletu_update(model, show(&parameters_room, p, np), np, r, nr, a, na);
     if (!lengths_fit(model, np) || nr != FLOATS || na != 2) {
         check(d.status == 8, "update with lists of the wrong length: answer", d.status, 8);
-    } else if (model > 3 || !flag_fits(model, p)) {
+    } else if (model >= MODELS || !flag_fits(model, p)) {
         check(d.status == 6, "update with an unknown model or flag: answer", d.status, 6);
     } else {
         int one = !finite_words(p, np) || !finite_words(was, FLOATS);
@@ -196,7 +196,7 @@ static void one_pass(uint64_t model, const uint64_t *p, size_t np, const struct 
     uint8_t want = 0;
     if (!lengths_fit(model, np) || nr % FLOATS || na != 2 * count || nc != places || (j && (j->nl != 2 || j->nw != 4)))
         want = 8;
-    else if (model > 3 || !flag_fits(model, p) || (j && !is_flag(j->law[0])))
+    else if (model >= MODELS || !flag_fits(model, p) || (j && !is_flag(j->law[0])))
         want = 6;
     else
         want_pass(model, p, j, records, count);
@@ -299,8 +299,8 @@ static void words_taken(uint64_t *w, size_t n) {
 static void law_target(const uint8_t *b, size_t n) {
     from = (struct place){b, n, 0, 0};
     uint8_t first = take_byte(&from), lengths = take_byte(&from);
-    uint64_t model = first < 0xf0 ? first % 4 : first, p[9] = {0}, records[(PASSED + 1) * FLOATS] = {0};
-    size_t np = FIELDS[model % 4];
+    uint64_t model = first < 0xf0 ? first % MODELS : first, p[9] = {0}, records[(PASSED + 1) * FLOATS] = {0};
+    size_t np = FIELDS[model % MODELS];
     struct judge j = {.nl = 2, .nw = 4};
     words_taken(p, np);
     if (lengths >> 6 == 3)

@@ -1,9 +1,5 @@
 // Document 01's sections 6 and 7 a second time: the sheet, the finite test, the principal stresses of a pass with failure.
-#define FLOATS 36
-#define MOST 200
 #define ONE 0x3ff0000000000000ULL
-
-static const size_t FIELDS[4] = {3, 4, 8, 6};
 
 static double value(uint64_t w) {
     double x;
@@ -30,7 +26,7 @@ static int is_flag(uint64_t w) {
 
 // Whether a model's flag, if it has one, is told by the bits of 0.0 or 1.0.
 static int flag_fits(uint64_t model, const uint64_t *p) {
-    return model == 2 ? is_flag(p[6]) : model == 3 ? is_flag(p[3]) : 1;
+    return FLAG[model] < 0 || is_flag(p[FLAG[model]]);
 }
 
 struct sheet {
@@ -78,12 +74,11 @@ static struct sheet read_second(const uint8_t *b, size_t n) {
     struct place s = {b, n, 0, 0};
     struct sheet x = {0};
     x.model = take_number(&s);
-    if (!s.refusal && x.model > 3)
+    if (!s.refusal && x.model >= MODELS)
         s.refusal = 6;
     for (size_t k = 0; !s.refusal && k < FIELDS[x.model]; k++) {
         x.p[k] = take_word(&s);
-        int flag = (x.model == 2 && k == 6) || (x.model == 3 && k == 3);
-        if (!s.refusal && flag && !is_flag(x.p[k]))
+        if (!s.refusal && (int)k == FLAG[x.model] && !is_flag(x.p[k]))
             s.refusal = 6;
     }
     x.count = take_number(&s);

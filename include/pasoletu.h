@@ -2,24 +2,30 @@
  *
  * THE RULES OF EVERY CALL
  *
- * What comes back. Every call returns 0, or the number of its refusal (1 to 8, below; pasoletu_refusal_text says it
- * in words). A refused call writes nothing: every list that was lent holds the bits it held.
+ * What comes back. Every call returns 0, or the number of its refusal (below; pasoletu_refusal_text says it in words).
+ * A refused call writes nothing: every list that was lent holds the bits it held.
  *
  * Lists. A list is two arguments, a pointer and the number of its entries (not of its bytes). Lists are lent for the
- * time of the call: the library keeps no pointer, allocates nothing, holds no state, and frees nothing. The caller owns
- * all of them, before and after. No two lists of a call may overlap where one of them is written. A pointer must not be
- * null, also where its list has no entry. Calls on different lists may run at the same time in different threads.
+ * time of the call: the library keeps no pointer, allocates nothing, holds no state, and frees nothing. The caller
+ * owns all of them, before and after. No two lists of a call may overlap where one of them is written. Calls on
+ * different lists may run at the same time in different threads.
  *
- * Lengths. A list of any length but the one told is refused by 8, before all else.
+ * Pointers. A pointer is to entries of its type and aligned for it: to 8 bytes for double and uint64_t, as malloc and
+ * arrays of these types are; a double inside a packed structure or at an odd place of a file's bytes is not, and must
+ * be copied first. Bytes (uint8_t) may stand anywhere. A pointer must not be null, also where its list has no entry:
+ * lend the address of any entry of the type, and 0.
  *
- * Floats. Lists of double hold IEEE 754 binary64; the library reads and writes their bits. Matrices are 9 doubles, row by
- * row: m[3 * row + column]. (nalgebra, Eigen and Fortran keep columns together by default: transpose on the way.)
+ * Lengths. A list of any length but the one told is refused by 8, before all else. A list of particles may have none:
+ * the pass then returns 0 and counts of 0.
+ *
+ * Floats. Lists of double hold IEEE 754 binary64; the library reads and writes their bits. Matrices are 9 doubles, row
+ * by row: m[3 * row + column]. (nalgebra, Eigen and Fortran keep columns together by default: transpose on the way.)
  * Flags are the doubles 0.0 and 1.0, told by their bits: -0.0 is refused by 6.
  *
  * The order of refusals. 8 first, then 6, then 1; then 3 for moduli that are not finite; then the law's steps in order
  * to the first 2 or 3; last 3 for a result that is not finite.
  *
- * "Section n" below is section n of document 01, the exact rules. What each call answers is proved for every input;
+ * "Section n" below is section n of docs/RULES.md, the exact rules. What each call answers is proved for every input;
  * docs/PROMISES.md leads to each statement.
  *
  * The library is for x86-64. Link with -lpasoletu; it needs no other library.
@@ -35,17 +41,30 @@
 extern "C" {
 #endif
 
-/* ---- Refusals (section 6) ------------------------------------------------------------------------------------------ */
+/* ==== Made by tools/table from calls.toml and VERSION: edit those ==== */
+
+#define PASOLETU_VERSION "0.1.0"
+#define PASOLETU_VERSION_MAJOR 0
+#define PASOLETU_VERSION_MINOR 1
+#define PASOLETU_VERSION_PATCH 0
+
+/* The version of this header, which install.sh installs with its library. The text is constant. */
+static inline const char *pasoletu_version(void)
+{
+    return PASOLETU_VERSION;
+}
+
+/* ---- Refusals (section 6) ---------------------------------------------------------------------------------------- */
 
 enum {
     PASOLETU_DONE = 0,
-    PASOLETU_NOT_FINITE = 1,   /* an input float is NaN or infinite */
-    PASOLETU_OUT_OF_RANGE = 2, /* an elementary function on the path would get an argument outside its range */
-    PASOLETU_NO_NUMBER = 3,    /* a NaN arose, or a modulus, stress or result is not finite */
+    PASOLETU_NOT_FINITE = 1,   /* an input is NaN or infinite */
+    PASOLETU_OUT_OF_RANGE = 2, /* a function would get an argument outside its range */
+    PASOLETU_NO_NUMBER = 3,    /* a NaN arose, or a modulus or a result is not finite */
     PASOLETU_ENDS_EARLY = 4,   /* the sheet ends early */
-    PASOLETU_NOT_SHORTEST = 5, /* a number in seven-bit groups is not shortest or has over two groups */
+    PASOLETU_NOT_SHORTEST = 5, /* a number of the sheet is not spelled shortest or has over two groups */
     PASOLETU_UNKNOWN = 6,      /* unknown model, or a flag that is neither 0.0 nor 1.0 */
-    PASOLETU_TOO_MANY = 7,     /* a sheet with over 200 particles, or with bytes after the last */
+    PASOLETU_TOO_MANY = 7,     /* the sheet has over 200 particles, or bytes after the last */
     PASOLETU_LENGTH = 8        /* a list has the wrong length */
 };
 
@@ -63,29 +82,32 @@ static inline const char *pasoletu_refusal_text(uint64_t refusal)
     case PASOLETU_NO_NUMBER:
         return "a NaN arose, or a modulus or a result is not finite: look at the sizes of the parameters and inputs";
     case PASOLETU_ENDS_EARLY:
-        return "the sheet ends early: send it again, whole";
+        return "the sheet ends early: send the sheet again, whole";
     case PASOLETU_NOT_SHORTEST:
         return "a number of the sheet is not spelled shortest or has over two groups: correct the sheet's writer";
     case PASOLETU_UNKNOWN:
         return "unknown model, or a flag that is neither 0.0 nor 1.0: check the model's number and its flags";
     case PASOLETU_TOO_MANY:
-        return "the sheet has over 200 particles, or bytes after the last: split it, or send it alone";
+        return "the sheet has over 200 particles, or bytes after the last: split the sheet, or send it alone";
     case PASOLETU_LENGTH:
-        return "a list has the wrong length: 36 floats and 2 answers a particle, and the lengths that pasoletu.h names";
+        return "a list has the wrong length: give 36 floats and 2 answers a particle, 9 floats a matrix, 3 a vector";
     default:
         return "no refusal of this library: header and library do not belong together";
     }
 }
 
-/* ---- Models and their parameters (sections 5 and 7) ---------------------------------------------------------------- */
+/* ---- Models and their parameters (sections 5 and 7) -------------------------------------------------------------- */
 
-enum {
-    PASOLETU_SNOW = 0,           /* min_epsilon, max_epsilon, hardening_coeff */
-    PASOLETU_RANKINE = 1,        /* young_modulus, poisson_ratio, tensile_strength, softening_rate: arguments of new */
-    PASOLETU_DRUCKER_PRAGER = 2, /* h0, h1, h2, h3, lambda, mu, only_active_when_failed (flag), volume_correction */
-    PASOLETU_NACC = 3            /* young_modulus, poisson_ratio, cohesion, hardening_enabled (flag), hardening_factor, m:
-                                    arguments of with_m */
-};
+/* Snow: min_epsilon, max_epsilon, hardening_coeff. Its amount: elastic hardening. */
+#define PASOLETU_SNOW 0
+/* Rankine: young_modulus, poisson_ratio, tensile_strength, softening_rate, the arguments of new. Its amount: plastic
+ * hardening. */
+#define PASOLETU_RANKINE 1
+/* Drucker-Prager: h0, h1, h2, h3, lambda, mu, only_active_when_failed (flag), volume_correction. Its amount: dq. */
+#define PASOLETU_DRUCKER_PRAGER 2
+/* NACC: young_modulus, poisson_ratio, cohesion, hardening_enabled (flag), hardening_factor, m, the arguments of
+ * with_m. Its amount: alpha. */
+#define PASOLETU_NACC 3
 
 /* How many parameters each model has. */
 #define PASOLETU_SNOW_PARAMETERS 3
@@ -93,241 +115,280 @@ enum {
 #define PASOLETU_DRUCKER_PRAGER_PARAMETERS 8
 #define PASOLETU_NACC_PARAMETERS 6
 
-/* The Rust's defaults. */
+/* The Rust's defaults of the models' parameters. */
 #define PASOLETU_SNOW_MIN_EPSILON 0.025
 #define PASOLETU_SNOW_MAX_EPSILON 0.0045
 #define PASOLETU_SNOW_HARDENING_COEFF 10.0
-#define PASOLETU_DRUCKER_PRAGER_H0 0.6108652381980153  /* 35 degrees */
-#define PASOLETU_DRUCKER_PRAGER_H1 0.15707963267948966 /* 9 degrees */
+#define PASOLETU_DRUCKER_PRAGER_H0 0.6108652381980153   /* 35 degrees */
+#define PASOLETU_DRUCKER_PRAGER_H1 0.15707963267948966  /* 9 degrees */
 #define PASOLETU_DRUCKER_PRAGER_H2 0.2
-#define PASOLETU_DRUCKER_PRAGER_H3 0.17453292519943295 /* 10 degrees */
+#define PASOLETU_DRUCKER_PRAGER_H3 0.17453292519943295  /* 10 degrees */
 #define PASOLETU_DRUCKER_PRAGER_VOLUME_CORRECTION 1.0
-#define PASOLETU_NEO_HOOKEAN_CFL_COEFF 0.5
-#define PASOLETU_COROTATED_CFL_COEFF 0.9
-#define PASOLETU_MONAGHAN_MAX_NEG_PRESSURE 1.0
 
-/* ---- A record: the 36 doubles of a particle (section 7) ------------------------------------------------------------ */
+/* ---- A record: the doubles of a particle (section 7) ------------------------------------------------------------- */
 
 #define PASOLETU_FLOATS 36
 /* The place of each part in a record. */
-#define PASOLETU_F 0                    /* 9: deformation gradient, row by row */
-#define PASOLETU_U 9                    /* 9: U of F = U diag(sigma) V^T, row by row; the host's own decomposition */
-#define PASOLETU_SIGMA 18               /* 3: singular values */
-#define PASOLETU_VT 21                  /* 9: V^T, row by row */
-#define PASOLETU_PHASE 30               /* 1.0 whole, 0.0 failed */
+#define PASOLETU_F 0                     /* 9: deformation gradient, row by row */
+#define PASOLETU_U 9                     /* 9: U of F = U diag(sigma) V^T, row by row; the host's own decomposition */
+#define PASOLETU_SIGMA 18                /* 3: singular values */
+#define PASOLETU_VT 21                   /* 9: V^T, row by row */
+#define PASOLETU_PHASE 30                /* 1.0 whole, 0.0 failed */
 #define PASOLETU_PLASTIC_DETERMINANT 31
 #define PASOLETU_PLASTIC_HARDENING 32
 #define PASOLETU_ELASTIC_HARDENING 33
 #define PASOLETU_LOG_GAIN 34
 #define PASOLETU_ALPHA 35
 
-/* Answers: two numbers a particle. The first is the outcome, the second what stands beside it. */
-#define PASOLETU_ANSWERS 2
-enum {
-    PASOLETU_UNTOUCHED = 0, /* inside the yield surface; beside it 0 */
-    PASOLETU_STORED = 1,    /* updated; beside it the amount's bits (pasoletu_amount) */
-    PASOLETU_REFUSED = 2    /* the record keeps its bits; beside it the refusal's number */
-};
+/* The Rust's defaults of the laws that are no models. */
+#define PASOLETU_NEO_HOOKEAN_CFL_COEFF 0.5
+#define PASOLETU_COROTATED_CFL_COEFF 0.9
+#define PASOLETU_MONAGHAN_MAX_NEG_PRESSURE 1.0
 
-/* The amount whose bits stand beside PASOLETU_STORED: Snow elastic hardening, Rankine plastic hardening, Drucker-Prager
- * dq, NACC alpha. */
+/* Answers: two numbers a particle. The first is the outcome, the second what stands beside it. */
+#define PASOLETU_ANSWERS 2    /* numbers a particle */
+#define PASOLETU_UNTOUCHED 0  /* inside the yield surface; beside it 0 */
+#define PASOLETU_STORED 1     /* updated; beside it the amount's bits (pasoletu_amount) */
+#define PASOLETU_REFUSED 2    /* the record keeps its bits; beside it the refusal's number */
+
+/* Sheets (section 7). */
+#define PASOLETU_SHEET_MOST 200       /* particles of a sheet */
+#define PASOLETU_SHEET_BYTES 57667    /* of the longest sheet that is not refused */
+#define PASOLETU_HEADER 11            /* entries of read_sheet's header */
+#define PASOLETU_HEADER_MODEL 0
+#define PASOLETU_HEADER_PARAMETERS 1  /* 8: bits of the parameters, 0 past the model's last */
+#define PASOLETU_HEADER_COUNT 9       /* particles */
+#define PASOLETU_HEADER_PLACE 10      /* of the first record's first byte in the sheet */
+
+/* ---- Elementary functions (section 3) ---------------------------------------------------------------------------- */
+/* Each writes one double. The answer lies within the distance told of the exact value.
+ * Refusals: 8 unless out_length is 1; 1 where x is NaN or infinite; 2 where x lies outside the range. */
+
+/* out: 1. e^x. Range -700 to 700; within 2^-45 times the exact value; exactly 1 at 0. */
+uint8_t pasoletu_exp(double x, double *out, size_t out_length);
+
+/* out: 1. Natural logarithm. Range 2^-60 to 2^60; within 2^-45; exactly 0 at 1. */
+uint8_t pasoletu_ln(double x, double *out, size_t out_length);
+
+/* out: 1. Range -700 to 700; within 2^-45 times (1 + size of the exact value); exactly 0 at 0. */
+uint8_t pasoletu_sinh(double x, double *out, size_t out_length);
+
+/* out: 1. x in radians. Range -8 to 8; within 2^-45. */
+uint8_t pasoletu_sin(double x, double *out, size_t out_length);
+
+/* out: 1. Range: at least 0 (-0.0 too); correctly rounded. */
+uint8_t pasoletu_sqrt(double x, double *out, size_t out_length);
+
+/* out: 1. x^(1/3). Range 2^-60 to 2^60; within 2^-45 times the exact value; exactly 1 at 1. */
+uint8_t pasoletu_cbrt(double x, double *out, size_t out_length);
+
+/* out: 1. x^(-1/3). Range 2^-60 to 2^60; within 2^-45 times the exact value; exactly 1 at 1. */
+uint8_t pasoletu_inv_cbrt(double x, double *out, size_t out_length);
+
+/* out: 1. x^(2/3). Range 2^-60 to 2^60; within 2^-45 times the exact value; exactly 1 at 1. */
+uint8_t pasoletu_cbrt_squared(double x, double *out, size_t out_length);
+
+/* out: 1. x^(-2/3). Range 2^-60 to 2^60; within 2^-45 times the exact value; exactly 1 at 1. */
+uint8_t pasoletu_inv_cbrt_squared(double x, double *out, size_t out_length);
+
+/* ---- Physics (utils/physics.rs; section 1) ----------------------------------------------------------------------- */
+/* Refusals of each: 8 for a wrong length; 1 for an input that is not finite; 3 for a result that is not finite. */
+
+/* out: 1. 0 at 0 (of either sign), else 1/e. */
+uint8_t pasoletu_inv_exact(double e, double *out, size_t out_length);
+
+/* out: 1. young_modulus / (2 (1 + poisson_ratio)). */
+uint8_t pasoletu_shear_modulus(double young_modulus, double poisson_ratio, double *out, size_t out_length);
+
+/* out: 1. young_modulus / (3 (1 - 2 poisson_ratio)). */
+uint8_t pasoletu_bulk_modulus(double young_modulus, double poisson_ratio, double *out, size_t out_length);
+
+/* out: 1. mu. */
+uint8_t pasoletu_shear_modulus_from_lame(double lambda, double mu, double *out, size_t out_length);
+
+/* out: 1. lambda + 2 mu / 3. */
+uint8_t pasoletu_bulk_modulus_from_lame(double lambda, double mu, double *out, size_t out_length);
+
+/* out: 2. lambda and mu of a Young modulus and a Poisson ratio. */
+uint8_t pasoletu_lame_lambda_mu(double young_modulus, double poisson_ratio, double *out, size_t out_length);
+
+/* out: 2. The roots of a x^2 + b x + c, that with +root first. Also 2: the discriminant is negative (or infinite). */
+uint8_t pasoletu_solve_quadratic(double a, double b, double c, double *out, size_t out_length);
+
+/* m: 9; out: 9. (m - m^T) / 2. */
+uint8_t pasoletu_spin_tensor(const double *m, size_t m_length, double *out, size_t out_length);
+
+/* m: 9; out: 9. (m + m^T) / 2. */
+uint8_t pasoletu_strain_rate(const double *m, size_t m_length, double *out, size_t out_length);
+
+/* m: 9; out: 9. m with its spherical part taken off the diagonal. */
+uint8_t pasoletu_deviatoric_part(const double *m, size_t m_length, double *out, size_t out_length);
+
+/* m: 9; out: 1. Trace over 3. */
+uint8_t pasoletu_spherical_part(const double *m, size_t m_length, double *out, size_t out_length);
+
+/* deviatoric: 9; v: 3; out: 3. A decomposed tensor times a vector (lib.rs): deviatoric v + spherical v. */
+uint8_t pasoletu_decomposed_times(double spherical, const double *deviatoric, size_t deviatoric_length, const double *v,
+                                  size_t v_length, double *out, size_t out_length);
+
+/* ---- Neo-Hookean stress and energy (elasticity_neo_hookean.rs; section 5) ---------------------------------------- */
+/* law is (cfl_coeff, lambda, mu); f the deformation gradient; hardening the elastic hardening.
+ * Refusals of each: 8 for a wrong length; 1 for an input, of the law too, that is not finite; 2 where F's
+ * determinant lies outside the range of the powers of thirds or of the logarithm; 3 for a NaN on the way or a result
+ * not finite. */
+
+/* law: 3; f: 9; out: 9. The first Piola-Kirchhoff stress; no split and no phase. */
+uint8_t pasoletu_neo_hookean_fpk_stress(const double *law, size_t law_length, double hardening, const double *f,
+                                        size_t f_length, double *out, size_t out_length);
+
+/* law: 3; f: 9; out: 9. The Kirchhoff stress, its tensile part times phase_coeff: from determinant 1 up all of it,
+ * below 1 the deviatoric part. */
+uint8_t pasoletu_neo_hookean_kirchhoff_stress(const double *law, size_t law_length, double phase, double hardening,
+                                              const double *f, size_t f_length, double *out, size_t out_length);
+
+/* law: 3; f: 9; out: 1. The energy. Below determinant 1 the volumetric part is the tensile one, as the Rust has it. */
+uint8_t pasoletu_neo_hookean_elastic_energy_density(const double *law, size_t law_length, double phase,
+                                                    double hardening, const double *f, size_t f_length, double *out,
+                                                    size_t out_length);
+
+/* law: 3; f: 9; out: 1. The positive part of the energy; from determinant 1 up times phase, not phase_coeff, as the
+ * Rust has it. */
+uint8_t pasoletu_neo_hookean_pos_energy(const double *law, size_t law_length, double phase, double hardening,
+                                        const double *f, size_t f_length, double *out, size_t out_length);
+
+/* out: 1. (1 - 0.001) phase phase + 0.001. Refusals: 8; 1; 3 for a result that is not finite. */
+uint8_t pasoletu_phase_coeff(double phase, double *out, size_t out_length);
+
+/* ---- Corotated stress and energy (elasticity_corotated_linear.rs; section 5) ------------------------------------- */
+/* law is (split_stress_on_failure (flag), cfl_coeff, lambda, mu); f the deformation gradient; u, sigma and vt its
+ * factors.
+ * Refusals of each: 8 for a wrong length; 6 for a flag that is neither 0.0 nor 1.0; 1 for an input that is not
+ * finite; 3 for a NaN on the way or a result that is not finite. */
+
+/* law: 4; f: 9; u: 9; sigma: 3; vt: 9; out: 9. The Kirchhoff stress. At phase exactly 1.0 whole; the tensile part is
+ * dropped only at phase 0.0 with the flag. */
+uint8_t pasoletu_corotated_kirchhoff_stress(const double *law, size_t law_length, double phase, double hardening,
+                                            const double *f, size_t f_length, const double *u, size_t u_length,
+                                            const double *sigma, size_t sigma_length, const double *vt,
+                                            size_t vt_length, double *out, size_t out_length);
+
+/* law: 4; sigma: 3; out: 1. The energy. Takes the product of sigma for the determinant. */
+uint8_t pasoletu_corotated_elastic_energy_density(const double *law, size_t law_length, double hardening,
+                                                  const double *sigma, size_t sigma_length, double *out,
+                                                  size_t out_length);
+
+/* law: 4; f: 9; sigma: 3; out: 1. The positive part of the energy. Takes the determinant of F. */
+uint8_t pasoletu_corotated_pos_energy(const double *law, size_t law_length, double hardening, const double *f,
+                                      size_t f_length, const double *sigma, size_t sigma_length, double *out,
+                                      size_t out_length);
+
+/* ---- Monaghan's equation of state (eos_monaghan_sph.rs; section 5) ----------------------------------------------- */
+/* gamma is read as a signed 32-bit number, so that 4294967295 means -1.
+ * Refusals of each: 8 for a wrong length; 1 for an input that is not finite; 3 for a NaN on the way or a result that
+ * is not finite. */
+
+/* out: 1. The pressure. */
+uint8_t pasoletu_monaghan_pressure(double pressure0, uint32_t gamma, double viscosity, double max_neg_pressure,
+                                   double mass, double volume0, double density, double *out, size_t out_length);
+
+/* velocity_gradient: 9; out: 9. The Kirchhoff stress. */
+uint8_t pasoletu_monaghan_kirchhoff_stress(double pressure0, uint32_t gamma, double viscosity, double max_neg_pressure,
+                                           double mass, double volume0, double density, double determinant,
+                                           const double *velocity_gradient, size_t velocity_gradient_length,
+                                           double *out, size_t out_length);
+
+/* velocity: 3; out: 1. The longest step. Also 2: a root's argument is infinite. Where the single-particle root's
+ * argument is negative, or NaN from its own products and quotient, the other step is the answer. */
+uint8_t pasoletu_monaghan_timestep_bound(double pressure0, uint32_t gamma, double viscosity, double max_neg_pressure,
+                                         double determinant, double mass, double volume0, double density,
+                                         const double *velocity, size_t velocity_length, double cell_width, double *out,
+                                         size_t out_length);
+
+/* ---- Verdict, and parts of the plastic laws (section 5) ---------------------------------------------------------- */
+
+/* stresses: 3; out: 1. The failure rule (failure_maximum_stress.rs) on the principal stresses: 1 (failed) exactly
+ * when the greatest is over max_principal_stress or (greatest - least) / 2 over max_shear_stress, else 0.
+ * Refusals: 8; 1 for an input that is not finite. */
+uint8_t pasoletu_failed(double max_principal_stress, double max_shear_stress, const double *stresses,
+                        size_t stresses_length, uint64_t *out, size_t out_length);
+
+/* sigma: 3; out: 3. Snow's bare clamp (plasticity_snow.rs): the maximum with 1 - min_epsilon, then the minimum with
+ * 1 + max_epsilon. A NaN answers the lower bound. Refusals: 8 only. */
+uint8_t pasoletu_snow_clamp(double min_epsilon, double max_epsilon, double hardening_coeff, const double *sigma,
+                            size_t sigma_length, double *out, size_t out_length);
+
+/* arguments: 4; strains: 3; out: 3. Rankine's projection of log strains (plasticity_rankine.rs), in the same order.
+ * arguments are those of new, s is the softened strength. Refusals: 8; 1 for an argument, s or a strain that is not
+ * finite; 3 for moduli that are not finite, a NaN before a comparison, or a strain that is not finite. */
+uint8_t pasoletu_rankine_project(const double *arguments, size_t arguments_length, double s, const double *strains,
+                                 size_t strains_length, double *out, size_t out_length);
+
+/* fields: 8; out: 1. The slope of Drucker-Prager's cone at the plastic hardening q (plasticity_drucker_prager.rs).
+ * Refusals: 8; 6 for the flag; 1 for a field or q that is not finite; 2 outside the exponential's or the sine's
+ * range; 3 for a NaN on the way or a result that is not finite. */
+uint8_t pasoletu_drucker_prager_alpha(const double *fields, size_t fields_length, double q, double *out,
+                                      size_t out_length);
+
+/* ---- One particle ------------------------------------------------------------------------------------------------ */
+
+/* record: 36; answer: 2. The plastic law on one record (sections 5 and 7). parameters: as many as the model has.
+ * Returns 0: answer is (PASOLETU_UNTOUCHED, 0) and the record keeps its bits, or (PASOLETU_STORED, the amount's
+ * bits) and F, sigma and those scalars that the law names are new; U and V^T stay.
+ * Refusals, nothing written: 8; 6 for a model over 3 or a flag; 1, 2 and 3 by the law. */
+uint8_t pasoletu_update(uint64_t model, const double *parameters, size_t parameters_length, double *record,
+                        size_t record_length, uint64_t *answer, size_t answer_length);
+
+/* ---- Lists of particles (section 7) ------------------------------------------------------------------------------ */
+
+/* counts: 3. The plastic law on every record, each by its index; the pass goes on after a refused one.
+ * parameters: as many as the model has; records: 36 doubles a particle, any number of particles; answers: exactly 2
+ * numbers a particle; counts: how many are untouched, stored, refused.
+ * Returns 0: all answers and counts are written. A refused record keeps its bits, and its answer is
+ * (PASOLETU_REFUSED, 1, 2 or 3); a parameter that is not finite refuses every record by 1.
+ * Refusals, before any record and with nothing written: 8; 6 for a model over 3 or a flag. */
+uint8_t pasoletu_pass(uint64_t model, const double *parameters, size_t parameters_length, double *records,
+                      size_t records_length, uint64_t *answers, size_t answers_length, uint64_t *counts,
+                      size_t counts_length);
+
+/* limits: 2; corotated: 4; counts: 4. The pass with failure: judges each record's stress as it came, sets its phase
+ * to 0.0 on a yes, then applies the law.
+ * limits: (max_principal_stress, max_shear_stress); corotated: the corotated law as above; the others as in
+ * pasoletu_pass, but the fourth count is how many of the records not refused have failed in this pass. A record
+ * whose outcome is untouched may have a new phase. A refused record keeps all its bits, its phase too.
+ * Refusals, before any record and with nothing written: 8; 6 for a model over 3 or a flag, also the corotated law's.
+ */
+uint8_t pasoletu_pass_with_failure(uint64_t model, const double *parameters, size_t parameters_length,
+                                   const double *limits, size_t limits_length, const double *corotated,
+                                   size_t corotated_length, double *records, size_t records_length, uint64_t *answers,
+                                   size_t answers_length, uint64_t *counts, size_t counts_length);
+
+/* ---- Sheets (section 7) ------------------------------------------------------------------------------------------ */
+
+/* header: 11. Reads a sheet: bytes become a header and records. header: see PASOLETU_HEADER_MODEL and the others;
+ * records: room for whole records, at least as many as the sheet has (PASOLETU_SHEET_MOST * PASOLETU_FLOATS is
+ * always enough): the first places take the sheet's records, the rest keeps its bits. Floats pass as bits: a NaN is
+ * read here and refused by the law.
+ * Refusals, nothing written: 8 for a header not of 11 or a room not of whole records, before the sheet is looked at;
+ * 4, 5, 6 and 7 in reading order; then 8 for a room too small for this sheet. */
+uint8_t pasoletu_read_sheet(const uint8_t *bytes, size_t bytes_length, uint64_t *header, size_t header_length,
+                            double *records, size_t records_length);
+
+/* counts: 4. Reads a sheet and passes its records. records: room as above; answers: room for exactly 2 numbers for
+ * each record that has room; counts: how many particles, then how many of them are untouched, stored, refused. Of a
+ * sheet with fewer particles the rest of both rooms keeps its bits.
+ * Refusals, nothing written: as pasoletu_read_sheet, 8 also for answers or counts of the wrong length. */
+uint8_t pasoletu_run_sheet(const uint8_t *bytes, size_t bytes_length, double *records, size_t records_length,
+                           uint64_t *answers, size_t answers_length, uint64_t *counts, size_t counts_length);
+
+/* ==== End of what tools/table makes ==== */
+
+/* The amount whose bits stand beside PASOLETU_STORED. Above each model's number stands which amount is its. */
 static inline double pasoletu_amount(uint64_t bits)
 {
     double amount;
     memcpy(&amount, &bits, sizeof amount);
     return amount;
 }
-
-/* Sheets (section 7). */
-#define PASOLETU_SHEET_MOST 200         /* particles of a sheet */
-#define PASOLETU_SHEET_BYTES 57667      /* of the longest sheet that is not refused */
-#define PASOLETU_HEADER 11              /* entries of read_sheet's header */
-#define PASOLETU_HEADER_MODEL 0
-#define PASOLETU_HEADER_PARAMETERS 1    /* 8: bits of the parameters, 0 past the model's last */
-#define PASOLETU_HEADER_COUNT 9         /* particles */
-#define PASOLETU_HEADER_PLACE 10        /* of the first record's first byte in the sheet */
-
-/* ---- Elementary functions (section 3) ------------------------------------------------------------------------------
- * Each writes one double. The answer lies within the distance told of the exact value.
- * Refusals: 8 unless out_length is 1; 1 where x is NaN or infinite; 2 where x lies outside the range. */
-
-/* e^x. Range -700 to 700; within 2^-45 times the exact value; exactly 1 at 0. */
-uint8_t pasoletu_exp(double x, double *out, size_t out_length);
-/* Natural logarithm. Range 2^-60 to 2^60; within 2^-45; exactly 0 at 1. */
-uint8_t pasoletu_ln(double x, double *out, size_t out_length);
-/* Range -700 to 700; within 2^-45 times (1 + size of the exact value); exactly 0 at 0. */
-uint8_t pasoletu_sinh(double x, double *out, size_t out_length);
-/* x in radians. Range -8 to 8; within 2^-45. */
-uint8_t pasoletu_sin(double x, double *out, size_t out_length);
-/* Range: at least 0 (-0.0 too); correctly rounded. */
-uint8_t pasoletu_sqrt(double x, double *out, size_t out_length);
-/* x^(1/3). Range 2^-60 to 2^60; within 2^-45 times the exact value; exactly 1 at 1. So the three that follow. */
-uint8_t pasoletu_cbrt(double x, double *out, size_t out_length);
-/* x^(-1/3). */
-uint8_t pasoletu_inv_cbrt(double x, double *out, size_t out_length);
-/* x^(2/3). */
-uint8_t pasoletu_cbrt_squared(double x, double *out, size_t out_length);
-/* x^(-2/3). */
-uint8_t pasoletu_inv_cbrt_squared(double x, double *out, size_t out_length);
-
-/* ---- Physics (utils/physics.rs; section 1) -------------------------------------------------------------------------
- * Refusals of each: 8 for a wrong length; 1 for an input that is not finite; 3 for a result that is not finite. */
-
-/* out: 1. 0 at 0 (of either sign), else 1/e. */
-uint8_t pasoletu_inv_exact(double e, double *out, size_t out_length);
-/* out: 1. young_modulus / (2 (1 + poisson_ratio)). */
-uint8_t pasoletu_shear_modulus(double young_modulus, double poisson_ratio, double *out, size_t out_length);
-/* out: 1. young_modulus / (3 (1 - 2 poisson_ratio)). */
-uint8_t pasoletu_bulk_modulus(double young_modulus, double poisson_ratio, double *out, size_t out_length);
-/* out: 1. mu. */
-uint8_t pasoletu_shear_modulus_from_lame(double lambda, double mu, double *out, size_t out_length);
-/* out: 1. lambda + 2 mu / 3. */
-uint8_t pasoletu_bulk_modulus_from_lame(double lambda, double mu, double *out, size_t out_length);
-/* out: 2, lambda and mu of a Young modulus and a Poisson ratio. */
-uint8_t pasoletu_lame_lambda_mu(double young_modulus, double poisson_ratio, double *out, size_t out_length);
-/* out: 2, the roots of a x^2 + b x + c, that with +root first. Also 2: the discriminant is negative (or infinite). */
-uint8_t pasoletu_solve_quadratic(double a, double b, double c, double *out, size_t out_length);
-/* m: 9; out: 9. (m - m^T) / 2. */
-uint8_t pasoletu_spin_tensor(const double *m, size_t m_length, double *out, size_t out_length);
-/* m: 9; out: 9. (m + m^T) / 2. */
-uint8_t pasoletu_strain_rate(const double *m, size_t m_length, double *out, size_t out_length);
-/* m: 9; out: 9. m with its spherical part taken off the diagonal. */
-uint8_t pasoletu_deviatoric_part(const double *m, size_t m_length, double *out, size_t out_length);
-/* m: 9; out: 1. Trace over 3. */
-uint8_t pasoletu_spherical_part(const double *m, size_t m_length, double *out, size_t out_length);
-/* A decomposed tensor times a vector (lib.rs). deviatoric: 9; v: 3; out: 3, deviatoric v + spherical v. */
-uint8_t pasoletu_decomposed_times(double spherical, const double *deviatoric, size_t deviatoric_length, const double *v,
-                                  size_t v_length, double *out, size_t out_length);
-
-/* ---- Neo-Hookean stress and energy (elasticity_neo_hookean.rs; section 5) ------------------------------------------
- * law: 3, (cfl_coeff, lambda, mu); f: 9, the deformation gradient; hardening: the elastic hardening.
- * Refusals of each: 8 for a wrong length; 1 for an input, of the law too, that is not finite; 2 where F's determinant
- * lies outside the range of the powers of thirds or of the logarithm; 3 for a NaN on the way or a result not finite. */
-
-/* out: 9, the first Piola-Kirchhoff stress; no split and no phase. */
-uint8_t pasoletu_neo_hookean_fpk_stress(const double *law, size_t law_length, double hardening, const double *f,
-                                        size_t f_length, double *out, size_t out_length);
-/* out: 9, the Kirchhoff stress, its tensile part times phase_coeff: from determinant 1 up all of it, below 1 the
- * deviatoric part. */
-uint8_t pasoletu_neo_hookean_kirchhoff_stress(const double *law, size_t law_length, double phase, double hardening,
-                                              const double *f, size_t f_length, double *out, size_t out_length);
-/* out: 1. Below determinant 1 the volumetric part is the tensile one, as the Rust has it. */
-uint8_t pasoletu_neo_hookean_elastic_energy_density(const double *law, size_t law_length, double phase, double hardening,
-                                                    const double *f, size_t f_length, double *out, size_t out_length);
-/* out: 1, the positive part of the energy; from determinant 1 up times phase, not phase_coeff, as the Rust has it. */
-uint8_t pasoletu_neo_hookean_pos_energy(const double *law, size_t law_length, double phase, double hardening,
-                                        const double *f, size_t f_length, double *out, size_t out_length);
-/* out: 1. (1 - 0.001) phase phase + 0.001. Refusals: 8; 1; 3 for a result that is not finite. */
-uint8_t pasoletu_phase_coeff(double phase, double *out, size_t out_length);
-
-/* ---- Corotated stress and energy (elasticity_corotated_linear.rs; section 5) ---------------------------------------
- * law: 4, (split_stress_on_failure (flag), cfl_coeff, lambda, mu); f: 9; u: 9; sigma: 3; vt: 9, the factors of F.
- * Refusals of each: 8 for a wrong length; 6 for a flag that is neither 0.0 nor 1.0; 1 for an input that is not finite;
- * 3 for a NaN on the way or a result that is not finite. */
-
-/* out: 9, the Kirchhoff stress. At phase exactly 1.0 whole; the tensile part is dropped only at phase 0.0 with the flag. */
-uint8_t pasoletu_corotated_kirchhoff_stress(const double *law, size_t law_length, double phase, double hardening,
-                                            const double *f, size_t f_length, const double *u, size_t u_length,
-                                            const double *sigma, size_t sigma_length, const double *vt, size_t vt_length,
-                                            double *out, size_t out_length);
-/* out: 1. Takes the product of sigma for the determinant. */
-uint8_t pasoletu_corotated_elastic_energy_density(const double *law, size_t law_length, double hardening,
-                                                  const double *sigma, size_t sigma_length, double *out,
-                                                  size_t out_length);
-/* out: 1, the positive part of the energy. Takes the determinant of F. */
-uint8_t pasoletu_corotated_pos_energy(const double *law, size_t law_length, double hardening, const double *f,
-                                      size_t f_length, const double *sigma, size_t sigma_length, double *out,
-                                      size_t out_length);
-
-/* ---- Monaghan's equation of state (eos_monaghan_sph.rs; section 5) -------------------------------------------------
- * gamma is read as a signed 32-bit number, so that 4294967295 means -1.
- * Refusals of each: 8 for a wrong length; 1 for an input that is not finite; 3 for a NaN on the way or a result that is
- * not finite. */
-
-/* out: 1. */
-uint8_t pasoletu_monaghan_pressure(double pressure0, uint32_t gamma, double viscosity, double max_neg_pressure,
-                                   double mass, double volume0, double density, double *out, size_t out_length);
-/* velocity_gradient: 9; out: 9, the Kirchhoff stress. */
-uint8_t pasoletu_monaghan_kirchhoff_stress(double pressure0, uint32_t gamma, double viscosity, double max_neg_pressure,
-                                           double mass, double volume0, double density, double determinant,
-                                           const double *velocity_gradient, size_t velocity_gradient_length, double *out,
-                                           size_t out_length);
-/* velocity: 3; out: 1, the longest step. Also 2: a root's argument is infinite. Where the single-particle root's argument is
- * negative, or NaN from its own products and quotient, the other step is the answer. */
-uint8_t pasoletu_monaghan_timestep_bound(double pressure0, uint32_t gamma, double viscosity, double max_neg_pressure,
-                                         double determinant, double mass, double volume0, double density,
-                                         const double *velocity, size_t velocity_length, double cell_width, double *out,
-                                         size_t out_length);
-
-/* ---- Verdict, and parts of the plastic laws (section 5) ------------------------------------------------------------ */
-
-/* The failure rule (failure_maximum_stress.rs). stresses: 3, the principal stresses; out: 1, a whole number: 1 (failed)
- * exactly when the greatest is over max_principal_stress or (greatest - least) / 2 over max_shear_stress, else 0.
- * Refusals: 8; 1 for an input that is not finite. */
-uint8_t pasoletu_failed(double max_principal_stress, double max_shear_stress, const double *stresses,
-                        size_t stresses_length, uint64_t *out, size_t out_length);
-/* Snow's bare clamp (plasticity_snow.rs). sigma: 3; out: 3, the maximum with 1 - min_epsilon, then the minimum with
- * 1 + max_epsilon. A NaN answers the lower bound. Refusals: 8 only. */
-uint8_t pasoletu_snow_clamp(double min_epsilon, double max_epsilon, double hardening_coeff, const double *sigma,
-                            size_t sigma_length, double *out, size_t out_length);
-/* Rankine's projection of log strains (plasticity_rankine.rs). arguments: 4, those of new; s: the softened strength;
- * strains: 3; out: 3, in the same order. Refusals: 8; 1 for an argument, s or a strain that is not finite; 3 for moduli
- * that are not finite, a NaN before a comparison, or a strain that is not finite. */
-uint8_t pasoletu_rankine_project(const double *arguments, size_t arguments_length, double s, const double *strains,
-                                 size_t strains_length, double *out, size_t out_length);
-/* The slope of Drucker-Prager's cone at the plastic hardening q (plasticity_drucker_prager.rs). fields: 8; out: 1.
- * Refusals: 8; 6 for the flag; 1 for a field or q that is not finite; 2 outside the exponential's or the sine's range;
- * 3 for a NaN on the way or a result that is not finite. */
-uint8_t pasoletu_drucker_prager_alpha(const double *fields, size_t fields_length, double q, double *out,
-                                      size_t out_length);
-
-/* ---- One particle --------------------------------------------------------------------------------------------------
- * The plastic law on one record (sections 5 and 7). parameters: as many as the model has; record: 36; answer: 2.
- * Returns 0: answer is (PASOLETU_UNTOUCHED, 0) and the record keeps its bits, or (PASOLETU_STORED, the amount's bits) and
- * F, sigma and those scalars that the law names are new; U and V^T stay.
- * Refusals, nothing written: 8; 6 for a model over 3 or a flag; 1, 2 and 3 by the law. */
-uint8_t pasoletu_update(uint64_t model, const double *parameters, size_t parameters_length, double *record,
-                        size_t record_length, uint64_t *answer, size_t answer_length);
-
-/* ---- Lists of particles (section 7) -------------------------------------------------------------------------------- */
-
-/* The plastic law on every record, each by its index; the pass goes on after a refused one.
- * parameters: as many as the model has; records: 36 doubles a particle, any number of particles; answers: exactly 2
- * numbers a particle; counts: 3, how many are untouched, stored, refused.
- * Returns 0: all answers and counts are written. A refused record keeps its bits, and its answer is (PASOLETU_REFUSED, 1,
- * 2 or 3); a parameter that is not finite refuses every record by 1.
- * Refusals, before any record and with nothing written: 8; 6 for a model over 3 or a flag. */
-uint8_t pasoletu_pass(uint64_t model, const double *parameters, size_t parameters_length, double *records,
-                      size_t records_length, uint64_t *answers, size_t answers_length, uint64_t *counts,
-                      size_t counts_length);
-
-/* The pass with failure: judges each record's stress as it came, sets its phase to 0.0 on a yes, then applies the law.
- * limits: 2, (max_principal_stress, max_shear_stress); corotated: 4, the corotated law as above; the others as in
- * pasoletu_pass, but counts: 4, the fourth how many of the records not refused have failed in this pass. A record whose
- * outcome is untouched may have a new phase. A refused record keeps all its bits, its phase too.
- * Refusals, before any record and with nothing written: 8; 6 for a model over 3 or a flag, also the corotated law's. */
-uint8_t pasoletu_pass_with_failure(uint64_t model, const double *parameters, size_t parameters_length,
-                                   const double *limits, size_t limits_length, const double *corotated,
-                                   size_t corotated_length, double *records, size_t records_length, uint64_t *answers,
-                                   size_t answers_length, uint64_t *counts, size_t counts_length);
-
-/* ---- Sheets (section 7) -------------------------------------------------------------------------------------------- */
-
-/* Reads a sheet: bytes become a header and records. header: 11, see PASOLETU_HEADER_MODEL and the others; records: room
- * for whole records, at least as many as the sheet has (PASOLETU_SHEET_MOST * PASOLETU_FLOATS is always enough): the
- * first places take the sheet's records, the rest keeps its bits. Floats pass as bits: a NaN is read here and refused by
- * the law.
- * Refusals, nothing written: 8 for a header not of 11 or a room not of whole records, before the sheet is looked at; 4,
- * 5, 6 and 7 in reading order; then 8 for a room too small for this sheet. */
-uint8_t pasoletu_read_sheet(const uint8_t *bytes, size_t bytes_length, uint64_t *header, size_t header_length,
-                            double *records, size_t records_length);
-
-/* Reads a sheet and passes its records. records: room as above; answers: room for exactly 2 numbers for each record that
- * has room; counts: 4, how many particles, then how many of them are untouched, stored, refused. Of a sheet with fewer
- * particles the rest of both rooms keeps its bits.
- * Refusals, nothing written: as pasoletu_read_sheet, 8 also for answers or counts of the wrong length. */
-uint8_t pasoletu_run_sheet(const uint8_t *bytes, size_t bytes_length, double *records, size_t records_length,
-                           uint64_t *answers, size_t answers_length, uint64_t *counts, size_t counts_length);
 
 #ifdef __cplusplus
 }

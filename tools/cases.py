@@ -1,16 +1,24 @@
 #!/usr/bin/env python3
 """Writes the sheets that the crate slope_cases runs, and checks its expected output by a second reading.
 
-  tools/cases.py write   the sheets, as crates/slope_cases/data/00, 01, ..
-  tools/cases.py check   reads the sheets again, works each record with Python's own floats, and compares with
-                         crates/slope_cases/stdout: outcomes and refusals exactly, an amount within 2^-30 of itself and of 1
+  tools/cases.py write                       the sheets, as crates/slope_cases/data/00, 01, ..
+  tools/cases.py check [--program PROGRAM]   reads the sheets again, works each record with Python's own floats, and compares with
+                                             crates/slope_cases/stdout: outcomes and refusals exactly, an amount within 2^-30 of itself
+                                             and of 1; and with what the proved program prints, where --program or PASOLETU_SLOPE names it
 """
+import argparse
 import math
+import os
 import pathlib
 import struct
+import subprocess
 import sys
 
-HERE = pathlib.Path(__file__).resolve().parent.parent / "crates" / "slope_cases"
+sys.path.insert(0, str(pathlib.Path(__file__).resolve().parent))
+import shell  # noqa: E402
+
+HERE = shell.TOP / "crates" / "slope_cases"
+SHEETS = sorted((HERE / "data").iterdir())
 I = [1.0, 0, 0, 0, 1.0, 0, 0, 0, 1.0]
 NAN, INF = float("nan"), float("inf")
 SNOW = [0.025, 0.0045, 10.0]
@@ -94,7 +102,7 @@ def words(b):
 
 
 class Refused(Exception):
-    """Document 01's number; of a sheet also the byte at which it was met."""
+    """The number of docs/RULES.md, section 6; of a sheet also the byte at which it was met."""
 
 
 def read_number(b, at):
@@ -371,22 +379,50 @@ def same(want, got):
     return abs(a - b) <= 2.0 ** -30 * min(abs(a), 1.0) + 2.0 ** -44
 
 
-def main():
-    if sys.argv[1:] == ["write"]:
-        for k, b in enumerate(cases()):
-            (HERE / "data" / ("%02d" % k)).write_bytes(b)
-        return 0
-    if sys.argv[1:] != ["check"]:
-        sys.exit(__doc__)
-    want = []
-    for path in sorted((HERE / "data").iterdir()):
-        want += ["-- " + path.name] + expected(path.read_bytes())
-    got = (HERE / "stdout").read_text().splitlines()
+def write():
+    for k, b in enumerate(cases()):
+        (HERE / "data" / ("%02d" % k)).write_bytes(b)
+
+
+def printed():
+    """The lines that are expected in the gate."""
+    return (HERE / "stdout").read_text().splitlines()
+
+
+def printed_by(program):
+    """The lines of a program that is run on each sheet."""
+    lines = []
+    for path in SHEETS:
+        try:
+            with open(path, "rb") as f:
+                out = subprocess.run([program], stdin=f, stdout=subprocess.PIPE).stdout
+        except OSError as e:
+            raise shell.Wrong("%s: cannot be run (%s): ./install.sh PREFIX or bin/slope makes the program" % (program, e.strerror))
+        lines += ["-- " + path.name] + out.decode(errors="replace").splitlines()
+    return lines
+
+
+def check(got, whose):
+    want = [line for path in SHEETS for line in ["-- " + path.name] + expected(path.read_bytes())]
     bad = [k for k, (w, g) in enumerate(zip(want, got)) if not same(w, g)]
-    print("%d lines, %d expected, %d differ" % (len(got), len(want), len(bad)))
+    print("%s: %d lines, %d expected, %d differ" % (whose, len(got), len(want), len(bad)))
     for k in bad[:5]:
         print("line %d: %r, expected %r" % (k + 1, got[k], want[k]))
     return 1 if bad or len(want) != len(got) else 0
+
+
+def work(args):
+    if args.command == "write":
+        return write()
+    program = args.program or os.environ.get("PASOLETU_SLOPE")
+    return check(printed(), "the gate's") or (check(printed_by(program), program) if program else 0)
+
+
+def main(argv=None):
+    about = argparse.ArgumentParser(description=__doc__, formatter_class=argparse.RawDescriptionHelpFormatter, usage=argparse.SUPPRESS)
+    about.add_argument("command", choices=("write", "check"))
+    about.add_argument("--program")
+    return shell.run("cases.py", work, about.parse_args(argv))
 
 
 if __name__ == "__main__":

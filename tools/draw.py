@@ -1,24 +1,29 @@
 #!/usr/bin/env python3
 """Draws a run: where each particle of a sheet lay, and where its law put it, against the yield surface.
 
-  tools/draw.py X.sheet OUT.svg [--png] [--program bin/slope | --answers FILE]
+  tools/draw.py X.sheet OUT.svg [--png] [--program bin/slope | --answers FILE] [--second]
                 [--limits PRINCIPAL SHEAR --corotated FLAG CFL LAMBDA MU]
 
-The plane is chosen by the model, so that a particle is inside exactly where the law tests that it is:
+A name may be `-`: standard input, or standard output. The plane is chosen by the model, so that a particle is inside exactly where the law
+tests that it is:
   Snow            smallest and largest sigma, with the clamp's box
   Rankine         sum and largest of the log strains, with the tensile cut-off
   Drucker-Prager  sum of the strains and norm of their deviatoric part, with the cone
   NACC            pressure p and shear q, with the ellipse
-Where the surface moves with a particle's hardening, some of the surfaces are drawn and the legend says for which.
+Where the surface moves with a particle's hardening, some of the surfaces are drawn and the legend says for which. A particle that is refused
+by 1, since a float of it or of the law is no number or infinite, has no place in a plane: it is listed, as every refused one, with its
+number and why.
 
-The records after the run come from the shared library that PASOLETU_LIB names (see tools/library.py), else from the second
-implementation in tools/cases.py; the caption says which. --program runs the program on the sheet and takes the outcomes from what it
-prints; --answers takes them from a file with such lines. Where they differ from the records' own, the caption and the exit status say so.
---limits and --corotated run the pass with failure (document 01, section 7), which the program has not.
+The records after the run are those of the proved library: the file that PASOLETU_LIB names, else the one that the Python package finds
+(./install.sh PREFIX makes it). Where there is none, or with --second, they are worked by the second implementation in tools/cases.py, and the
+picture says so. --program runs the program on the sheet and takes the outcomes from what it prints; --answers takes them from a file
+with such lines. Where they differ from the records' own, the picture and the exit status say so.
+--limits and --corotated run the pass with failure (docs/RULES.md, section 7), which the program has not.
 --png also writes OUT.png, with rsvg-convert, inkscape or magick.
 """
 import argparse
 import math
+import os
 import pathlib
 import shutil
 import struct
@@ -28,13 +33,18 @@ import xml.sax.saxutils
 
 sys.path.insert(0, str(pathlib.Path(__file__).resolve().parent))
 import cases  # noqa: E402
-import library  # noqa: E402
 import sheet  # noqa: E402
+import shell  # noqa: E402
+from shell import Wrong  # noqa: E402
 
 INK, GREY, SURFACE, STORED, REFUSED, FAILED = "#222222", "#777777", "#009e73", "#0072b2", "#d00000", "#9933aa"
 LEFT, TOP, WIDE, HIGH = 92, 74, 600, 500
+BESIDE = LEFT + WIDE + 26  # where the legend begins
 PICTURE = 1000
 MOST_SURFACES = 4
+NOT_FINITE = 1
+SOME_REFUSED = 3  # the command's status where a particle was refused
+PROVED, SECOND = "the proved library", "the second implementation in tools/cases.py"
 
 
 # ---- planes: each law's two coordinates, its surfaces, and what bounds the plane
@@ -149,54 +159,74 @@ PLANES = {"snow": Snow, "rankine": Rankine, "drucker_prager": DruckerPrager, "na
 
 
 class Particle:
+    """A record before and after its law. `code` is 0 where it is untouched, 1 where it is stored, 2 where it is refused; `value` the amount
+    that was stored, or the refusal's number."""
+
     def __init__(self, before, after, code, value, failed):
         self.before, self.after, self.code, self.value, self.failed = before, after, code, value, failed
 
+    def not_finite(self):
+        return (self.code, self.value) == (2, NOT_FINITE)
 
-def float_of(w):
-    return struct.unpack("<d", struct.pack("<Q", w))[0]
+    def places(self, plane):
+        """The points before and after, each nothing where there is none."""
+        if self.not_finite():
+            return None, None
+        return place(plane, self.before, False), place(plane, self.after, True)
 
 
-def by_library(lib, model, p, failure, r):
+def by_library(pasoletu, data, failure):
+    """The particles of a sheet's bytes as the proved library leaves them, called through its Python package."""
+    _, _, records = cases.read(data)
     if failure:
-        (code, value), after, failed = lib.update_with_failure(model, p, *failure, r)
+        limits, (split, *law) = failure
+        judge = pasoletu.MaximumStressFailure(*limits), pasoletu.CorotatedLinearElasticity(split == 1.0, *law)
+        read = pasoletu.read_sheet(data)
+        passes = [pasoletu.pass_with_failure(read.model, *judge, [particle]) for particle in read.particles]
+        worked = [(particle, passed.outcomes[0], passed.failed == 1) for particle, passed in zip(read.particles, passes)]
     else:
-        (code, value), after = lib.update(model, p, r)
-        failed = False
-    return Particle(r, after, code, value, failed)
+        ran = pasoletu.run(data)
+        worked = [(particle, outcome, False) for particle, outcome in zip(ran.particles, ran.passed.outcomes)]
+
+    def numbers(outcome):
+        if isinstance(outcome, pasoletu.Stored):
+            return 1, outcome.amount
+        return (2, outcome.number) if isinstance(outcome, pasoletu.Refused) else (0, 0)
+    return [Particle(before, after.floats(), *numbers(outcome), failed) for before, (after, outcome, failed) in zip(records, worked)]
 
 
-def by_second(model, p, failure, r):
+def by_second(data, failure):
+    """The same by the second implementation."""
+    def one(model, p, r):
+        try:
+            failed, amount, after = cases.worked_with_failure(model, p, *failure, r) if failure else (False, *cases.worked(model, p, r))
+        except cases.Refused as e:
+            return Particle(r, r, 2, e.args[0], False)
+        return Particle(r, after, 0, 0, failed) if amount is None else Particle(r, after, 1, amount, failed)
+    model, p, records = cases.read(data)
+    return [one(model, p, r) for r in records]
+
+
+def worked(data, failure, second):
+    """The particles after the run, who worked them, and what is to be said where that was not the proved library."""
+    if second:
+        return by_second(data, failure), SECOND, ["These records are not the proved library's: they are worked by %s, as --second asks." % SECOND]
     try:
-        failed, amount, after = cases.worked_with_failure(model, p, *failure, r) if failure else (False, *cases.worked(model, p, r))
-    except cases.Refused as e:
-        return Particle(r, r, 2, e.args[0], False)
-    return Particle(r, after, 0 if amount is None else 1, 0 if amount is None else library.bits([amount])[0], failed)
-
-
-def worked(model, p, records, failure):
-    """The particles after the run, and who worked them."""
-    try:
-        lib = library.named()
-    except OSError as e:
-        raise sheet.Wrong("PASOLETU_LIB: the library cannot be opened (%s): name a shared library, or unset it" % e)
-    n = sheet.MODELS.index(model)
-    try:
-        if lib:
-            return [by_library(lib, n, p, failure, r) for r in records], "the library %s" % pathlib.Path(lib.path).name
-    except AttributeError as e:
-        raise sheet.Wrong("%s: the library lacks a call (%s): build it anew" % (lib.path, e))
-    except library.Refused as e:
-        raise sheet.Wrong("the library refused the whole call by %d (%s)" % (e.args[0], sheet.REFUSALS.get(e.args[0], "unknown")))
-    return [by_second(n, p, failure, r) for r in records], "the second implementation in tools/cases.py"
+        return by_library(shell.package(), data, failure), PROVED, []
+    except shell.NoLibrary:
+        if os.environ.get("PASOLETU_LIB"):
+            raise
+    missing = "The proved library is not here (./install.sh PREFIX makes it; PASOLETU_LIB names it): these records are worked by %s." % SECOND
+    return by_second(data, failure), SECOND, [missing]
 
 
 def line_of(k, q, second):
+    """The line that the program prints for a particle; the amount as a decimal where it is the second implementation's."""
     if q.code == 0:
         return "%d untouched" % k
     if q.code == 2:
         return "%d refused %d" % (k, q.value)
-    return "%d stored %r" % (k, float_of(q.value)) if second else "%d stored %016x" % (k, q.value)
+    return "%d stored %s" % (k, repr(q.value) if second else struct.pack(">d", q.value).hex())
 
 
 def printed(line, k, where):
@@ -206,20 +236,20 @@ def printed(line, k, where):
         if words == [str(k), "untouched"]:
             return 0, 0
         if words[:2] == [str(k), "stored"] and len(words) == 3 and len(words[2]) == 16:
-            return 1, int(words[2], 16)
+            return 1, struct.unpack(">d", bytes.fromhex(words[2]))[0]
         if words[:2] == [str(k), "refused"] and len(words) == 3:
             return 2, int(words[2])
     except ValueError:
         pass
-    raise sheet.Wrong("%s: line %d is %r, and should be that of particle %d" % (where, k + 2, line, k))
+    raise Wrong("%s: line %d is %r, and should be that of particle %d" % (where, k + 2, line, k))
 
 
 def taken_from(lines, particles, second, where):
     """Gives the particles the outcomes that are printed; the places at which these differ from the particles' own."""
     if lines and lines[0].startswith("sheet refused"):
-        raise sheet.Wrong("%s: %s: there is no run to draw" % (where, lines[0]))
+        raise Wrong("%s: %s: there is no run to draw" % (where, lines[0]))
     if len(lines) < 2 or lines[0] != "particles %d" % len(particles) or lines[-1] != "end" or len(lines) != len(particles) + 2:
-        raise sheet.Wrong("%s: these are not the whole answers for %d particles: the first line is 'particles %d', the last 'end'" % (where, len(particles), len(particles)))
+        raise Wrong("%s: these are not the whole answers for %d particles: the first line is 'particles %d', the last 'end'" % (where, len(particles), len(particles)))
     differ = []
     for k, (q, line) in enumerate(zip(particles, lines[1:-1])):
         told, own = printed(line, k, where), line_of(k, q, second)
@@ -229,22 +259,19 @@ def taken_from(lines, particles, second, where):
     return differ
 
 
-def answers(args):
+def answers(args, data):
     """The printed lines, and where they are from; or nothing."""
     if args.answers:
-        try:
-            return pathlib.Path(args.answers).read_text().splitlines(), args.answers
-        except OSError as e:
-            raise sheet.Wrong("%s: cannot be read (%s)" % (args.answers, e.strerror))
+        with shell.reading(args.answers) as stream:
+            return stream.read().decode(errors="replace").splitlines(), args.answers
     if args.program:
         try:
-            with open(args.sheet, "rb") as f:
-                ran = subprocess.run([args.program, args.sheet], stdin=f, capture_output=True, text=True)
+            ran = subprocess.run([args.program, args.sheet], input=data, capture_output=True)
         except OSError as e:
-            raise sheet.Wrong("%s: cannot be run (%s)" % (args.program, e.strerror))
-        if ran.returncode:
-            raise sheet.Wrong("%s: ended with status %d: %s" % (args.program, ran.returncode, ran.stderr.strip()))
-        return ran.stdout.splitlines(), args.program
+            raise Wrong("%s: cannot be run (%s): bin/slope is the program as a command" % (args.program, e.strerror))
+        if ran.returncode not in (0, SOME_REFUSED):
+            raise Wrong("%s: ended with status %d: %s" % (args.program, ran.returncode, ran.stderr.decode(errors="replace").strip()))
+        return ran.stdout.decode(errors="replace").splitlines(), args.program
     return None, None
 
 
@@ -252,7 +279,9 @@ def answers(args):
 
 
 def place(plane, r, after):
-    """A record's point in the plane, or nothing where it has none."""
+    """A record's point in the plane, or nothing where it has none. A float that is not finite comes first: Python's min and max pass it over."""
+    if not all(map(math.isfinite, r)):
+        return None
     try:
         x, y = plane.point(r, after)
     except (ValueError, ZeroDivisionError, OverflowError):
@@ -361,7 +390,7 @@ def keys_of(plane, particles):
     """What the surfaces depend on, of all particles that have a surface: every different one, and those that are drawn."""
     found = set()
     for q in particles:
-        if not place(plane, q.before, False):
+        if plane.key_name and not q.places(plane)[0]:
             continue
         try:
             k = plane.key(q.before)
@@ -382,13 +411,12 @@ def held(c, x, y):
 
 
 def particles_drawn(c, plane, particles):
-    """Draws them; how many lie outside the picture, and which have no place in the plane."""
-    outside, nowhere = 0, []
+    """Draws those that have a place; how many of them lie outside the picture."""
+    outside = 0
     spots = []
     for k, q in enumerate(particles):
-        a, b = place(plane, q.before, False), place(plane, q.after, True)
+        a, b = q.places(plane)
         if a is None:
-            nowhere.append(k)
             continue
         outside += not c.inside(*a)
         spots.append((k, q, c.at(*held(c, *a)), c.at(*held(c, *b)) if b else None))
@@ -411,14 +439,17 @@ def particles_drawn(c, plane, particles):
     for k, q, a, b in spots:
         if q.code == 2:
             c.label(*a, "%d" % k, REFUSED)
-    return outside, nowhere
+    if particles and not spots:
+        c.text(LEFT + WIDE / 2, TOP + HIGH / 2, "No particle of this sheet has a place in the plane.", 14, REFUSED, "middle")
+    return outside
 
 
 DASHES = ["", "8 4", "3 3", "10 3 2 3"]
 
 
-def legend(c, plane, particles, found, shown, nowhere, failure):
-    x, y = LEFT + WIDE + 26, TOP + 8
+def legend(c, plane, found, shown, failure):
+    """What the marks mean; the height at which it ends."""
+    x, y = BESIDE, TOP + 8
 
     def entry(draw, words, colour=INK):
         nonlocal y
@@ -445,24 +476,60 @@ def legend(c, plane, particles, found, shown, nowhere, failure):
     entry(lambda x, y: c.cross(x, y, REFUSED), "refused (index beside it)")
     if failure:
         entry(lambda x, y: c.square(x, y, FAILED), "failed")
-    refused = [k for k, q in enumerate(particles) if q.code == 2]
-    if refused:
-        y += 10
-        c.text(x, y, "Refused particles", 12, REFUSED, extra=' font-weight="bold"')
-        y += 18
-        most = 14
-        for k in refused[:most]:
-            c.text(x, y, "%d by %d%s" % (k, particles[k].value, " (no place in the plane)" if k in nowhere else ""), 12, REFUSED)
-            y += 17
-        if len(refused) > most:
-            c.text(x, y, "and %d more" % (len(refused) - most), 12, REFUSED)
-            y += 17
-    others = [k for k in nowhere if particles[k].code != 2]
-    if others:
-        c.text(x, y + 8, "%d more without a place in the plane" % len(others), 12, GREY)
+    return y
 
 
-def wrapped(words, width=132):
+def ranges(numbers):
+    """Rising numbers in short: 1, 4-7."""
+    runs = []
+    for k in numbers:
+        if runs and runs[-1][1] == k - 1:
+            runs[-1][1] = k
+        else:
+            runs.append([k, k])
+    return ", ".join("%d" % a if a == b else "%d-%d" % (a, b) for a, b in runs)
+
+
+def not_finite(names, floats):
+    """The floats that are no number or infinite, by name; nothing where all are finite."""
+    found = ["%s is %r" % (name, x) for name, x in zip(names, floats) if not math.isfinite(x)]
+    return ", ".join(found[:3]) + (" and %d more" % (len(found) - 3) if len(found) > 3 else "")
+
+
+def why(model, p, q):
+    """What of its inputs a refused particle is refused for, where that can be named."""
+    if q.value != NOT_FINITE:
+        return ""
+    return not_finite(["parameter " + name for name in sheet.PARAMETERS[model]], p) or not_finite(sheet.PLACES, q.before)
+
+
+def refusals(model, p, particles):
+    """Each refusal that there is with its words, each followed by the particles that have it."""
+    groups = {}
+    for k, q in enumerate(particles):
+        if q.code == 2:
+            groups.setdefault(q.value, {}).setdefault(why(model, p, q), []).append(k)
+    for number, reasons in sorted(groups.items()):
+        yield "refused by %d: %s%s" % (number, sheet.REFUSALS.get(number, "unknown"), "; no place in the plane" if number == NOT_FINITE else "")
+        for reason, who in reasons.items():
+            yield "particle%s %s%s" % ("" if len(who) == 1 else "s", ranges(who), ": " + reason if reason else "")
+
+
+def listed(c, plane, model, particles, y):
+    """Writes which particles are refused, and which others have no place, from the height y on; the height at which it ends."""
+    lines = [(line, REFUSED) for line in refusals(model, plane.p, particles)]
+    nowhere = [k for k, q in enumerate(particles) if not q.places(plane)[0] and not q.not_finite()]
+    if nowhere:
+        lines.append(("also without a place: " + ranges(nowhere), GREY))
+    y += 10
+    for words, colour in lines:
+        for k, line in enumerate(wrapped(words, 40)):
+            c.text(BESIDE + (12 if k or words.startswith("particle") else 0), y, line, 12, colour)
+            y += 16
+    return y
+
+
+def wrapped(words, width):
     lines = [""]
     for w in words.split(" "):
         if lines[-1] and len(lines[-1]) + 1 + len(w) > width:
@@ -471,42 +538,54 @@ def wrapped(words, width=132):
     return lines
 
 
-def picture(name, model, p, particles, failure, caption, warning):
-    plane = PLANES[model](p)
-    taken = [q for q in particles if q.code != 2] or particles
-    points = [x for q in taken for x in (place(plane, q.before, False), place(plane, q.after, True)) if x]
-    found, shown = keys_of(plane, taken)
+def box_of(plane, model, taken, shown):
+    """What the picture shows of the plane."""
+    points = [x for q in taken for x in q.places(plane) if x]
     corners = [(0.0, 0.0)] if model in ("rankine", "drucker_prager", "nacc") else plane.surface(0.0, None)
     if model == "nacc":
         corners += [x for k in shown for x in plane.surface(k, None)]
     points += [x for x in corners if all(map(math.isfinite, x))] or [(0.0, 0.0)]
     box = (*span([x for x, _ in points]), *span([y for _, y in points]))
-    if model in ("drucker_prager", "nacc"):
-        box = box[:2] + (-0.03 * box[3],) + box[3:]
-    c = Canvas(box)
-    axes(c, plane)
+    return box[:2] + (-0.03 * box[3],) + box[3:] if model in ("drucker_prager", "nacc") else box
+
+
+def surfaces_drawn(c, plane, shown):
     edge = plane.limit()[0]
     for k in shown:
-        c.path(plane.region(plane.surface(k, box)), "none", 0.0, ' style="fill: %s; fill-opacity: 0.06"' % SURFACE)
-    c.path([(box[0], edge(box[0])), (box[1], edge(box[1]))], GREY, 1.0, ' stroke-dasharray="1 3"')
+        c.path(plane.region(plane.surface(k, c.box)), "none", 0.0, ' style="fill: %s; fill-opacity: 0.06"' % SURFACE)
+    c.path([(x, edge(x)) for x in c.box[:2]], GREY, 1.0, ' stroke-dasharray="1 3"')
     for k, dash in zip(shown, DASHES):
-        c.path(plane.surface(k, box), SURFACE, 2.0, ' stroke-dasharray="%s"' % dash if dash else "")
-    outside, nowhere = particles_drawn(c, plane, particles)
-    legend(c, plane, particles, found, shown, nowhere, failure)
+        c.path(plane.surface(k, c.box), SURFACE, 2.0, ' stroke-dasharray="%s"' % dash if dash else "")
+
+
+def head_of(name, particles, failure):
     counts = [sum(q.code == k for q in particles) for k in range(3)]
     head = "%s: %d particles, %d untouched, %d stored, %d refused" % (name, len(particles), *counts)
-    if failure:
-        head += ", %d failed" % sum(q.failed for q in particles)
-    c.text(LEFT, 30, plane.title, 20, INK, extra=' font-weight="bold"')
-    c.text(LEFT, 54, head, 14)
-    y = TOP + HIGH + 70
+    return head + (", %d failed" % sum(q.failed for q in particles) if failure else "")
+
+
+def picture(name, model, p, particles, failure, caption, warnings):
+    plane = PLANES[model](p)
+    taken = [q for q in particles if q.code != 2] or particles
+    found, shown = keys_of(plane, taken)
+    c = Canvas(box_of(plane, model, taken, shown))
+    axes(c, plane)
+    surfaces_drawn(c, plane, shown)
+    outside = particles_drawn(c, plane, particles)
     if outside:
         caption = caption + ["%d particles lie outside the picture and are drawn at its edge." % outside]
-    for words, colour in [(w, "#444444") for w in caption] + [(w, REFUSED) for w in warning]:
-        for l in wrapped(words):
-            c.text(LEFT - 60, y, l, 12, colour)
-            y += 17
-    high = y + 6
+    y = listed(c, plane, model, particles, legend(c, plane, found, shown, failure))
+    c.text(LEFT, 30, plane.title, 20, INK, extra=' font-weight="bold"')
+    c.text(LEFT, 54, head_of(name, particles, failure), 14)
+    low, width = TOP + HIGH + 70, 132 if y < TOP + HIGH + 60 else 90
+    for words, colour in [(w, REFUSED) for w in warnings] + [(w, "#444444") for w in caption]:
+        for line in wrapped(words, width):
+            c.text(LEFT - 60, low, line, 12, colour)
+            low += 17
+    return svg(c, max(low, y) + 6)
+
+
+def svg(c, high):
     start = '<svg xmlns="http://www.w3.org/2000/svg" width="%d" height="%d" viewBox="0 0 %d %d" font-family="DejaVu Sans, Arial, sans-serif">' % (PICTURE, high, PICTURE, high)
     clip = '<clipPath id="plot"><rect x="%d" y="%d" width="%d" height="%d"/></clipPath>' % (LEFT, TOP, WIDE, HIGH)
     return "\n".join([start, clip, '<rect width="%d" height="%d" fill="white"/>' % (PICTURE, high), *c.out, "</svg>", ""])
@@ -516,65 +595,86 @@ def to_png(svg):
     png = svg[:-4] + ".png"
     for program, arguments in (("rsvg-convert", ["-o", png, svg]), ("inkscape", ["-o", png, svg]), ("magick", [svg, png])):
         if shutil.which(program):
-            subprocess.run([program, *arguments], check=True)
-            return png
-    raise sheet.Wrong("--png: none of rsvg-convert, inkscape and magick is here: install one (Debian: librsvg2-bin); the SVG is written")
+            if subprocess.run([program, *arguments]).returncode:
+                raise Wrong("--png: %s did not write %s; the SVG is written" % (program, png))
+            return
+    raise Wrong("--png: none of rsvg-convert, inkscape and magick is here: install one (Debian: librsvg2-bin); the SVG is written")
+
+
+# ---- the command
+
+
+def failure_of(args):
+    """The limits and the corotated law of a pass with failure, or nothing."""
+    if bool(args.limits) != bool(args.corotated):
+        raise Wrong("--limits and --corotated belong together: give both, or neither")
+    if not args.limits:
+        return None
+    if args.program or args.answers:
+        raise Wrong("the program has no pass with failure: leave --program and --answers away, or --limits and --corotated")
+    if repr(args.corotated[0]) not in ("0.0", "1.0"):
+        raise Wrong("--corotated: the flag is 0 or 1")
+    return args.limits, args.corotated
+
+
+def caption_of(model, p, failure):
+    lines = ["Parameters: " + ", ".join("%s\u00a0%.6g" % x for x in zip(sheet.PARAMETERS[model], p)) + "."]
+    if failure:
+        limits, (split, _, lame, mu) = failure
+        lines.append("Failure: limits %g (principal) and %g (shear); corotated law: split %g, lambda %.6g, mu %.6g." % (*limits, split, lame, mu))
+    if model == "drucker_prager":
+        lines.append("Before: log sigma + gain/3, which the law tests; after: log of the stored sigma, where the law put it.")
+    if model == "nacc":
+        lines.append("NACC's return keeps the sum of the squares of sigma, not their product: the pressure may change, and a particle end off its ellipse.")
+    return lines
 
 
 def draw(args):
-    if bool(args.limits) != bool(args.corotated):
-        raise sheet.Wrong("--limits and --corotated belong together: give both, or neither")
-    if args.limits and (args.program or args.answers):
-        raise sheet.Wrong("the program has no pass with failure: leave --program and --answers away, or --limits and --corotated")
-    if not args.svg.endswith(".svg"):
-        raise sheet.Wrong("%s: the picture's name must end in .svg" % args.svg)
-    failure = (args.limits, args.corotated) if args.limits else None
-    if failure and library.bits(args.corotated)[:1] not in (library.bits([0.0]), library.bits([1.0])):
-        raise sheet.Wrong("--corotated: the flag is 0 or 1")
-    model, p, records = sheet.load(args.sheet)
-    particles, who = worked(model, p, records, failure)
-    lines, where = answers(args)
-    caption = ["Parameters: " + ", ".join("%s\u00a0%.6g" % x for x in zip(sheet.PARAMETERS[model], p)) + "."]
-    if failure:
-        caption.append("Failure: limits %g (principal) and %g (shear); corotated law: split %g, lambda %.6g, mu %.6g." % (*args.limits, args.corotated[0], *args.corotated[2:]))
-    if model == "drucker_prager":
-        caption.append("Before: log sigma + gain/3, which the law tests; after: log of the stored sigma, where the law put it.")
-    if model == "nacc":
-        caption.append("NACC's return keeps the sum of the squares of sigma, not their product: the pressure may change, and a particle end off its ellipse.")
-    warning = []
+    if not args.svg.endswith(".svg") and (args.svg != "-" or args.png):
+        raise Wrong("%s: the picture's name must end in .svg%s" % (args.svg, "" if args.png else ", or be - for standard output"))
+    failure = failure_of(args)
+    data = sheet.read(args.sheet)
+    model, p, _ = sheet.load(data, args.sheet)
+    particles, who, warnings = worked(data, failure, args.second)
+    if warnings and not args.second:
+        print("draw.py: %s" % warnings[0], file=sys.stderr)
+    caption = caption_of(model, p, failure)
+    lines, where = answers(args, data)
+    differ = []
     if lines is None:
         caption.append("Outcomes and the records after the run: %s." % who)
     else:
         caption.append("Outcomes: %s. Records after the run: %s." % (pathlib.Path(where).name, who))
-        bad = taken_from(lines, particles, "second" in who, where)
-        if bad:
-            warning = ["The outcomes differ from the records' own at particle %s%s." % (", ".join(map(str, bad[:8])), " and others" if len(bad) > 8 else "")]
-    try:
-        pathlib.Path(args.svg).write_text(picture(pathlib.Path(args.sheet).name, model, p, particles, failure, caption, warning))
-    except OSError as e:
-        raise sheet.Wrong("%s: cannot be written (%s)" % (args.svg, e.strerror))
+        differ = taken_from(lines, particles, who == SECOND, where)
+    if differ:
+        warnings = warnings + ["The outcomes differ from the records' own at particle %s%s." % (", ".join(map(str, differ[:8])), " and others" if len(differ) > 8 else "")]
+    name = pathlib.Path(shell.called(args.sheet, "standard input")).name
+    shell.write(args.svg, picture(name, model, p, particles, failure, caption, warnings).encode())
     if args.png:
         to_png(args.svg)
-    if warning:
-        raise sheet.Wrong(warning[0] + " The picture says so too.")
+    if differ:
+        raise Wrong(warnings[-1] + " The picture says so too.")
+
+
+def strict(text):
+    try:
+        return sheet.number(text, "an option's number")
+    except Wrong as e:
+        raise argparse.ArgumentTypeError(str(e))
 
 
 def main(argv=None):
     about = argparse.ArgumentParser(description=__doc__, formatter_class=argparse.RawDescriptionHelpFormatter, usage=argparse.SUPPRESS)
-    about.add_argument("sheet", metavar="X.sheet")
-    about.add_argument("svg", metavar="OUT.svg")
+    about.add_argument("sheet", metavar="X.sheet|-")
+    about.add_argument("svg", metavar="OUT.svg|-")
     about.add_argument("--png", action="store_true")
+    about.add_argument("--second", action="store_true")
     which = about.add_mutually_exclusive_group()
     which.add_argument("--program")
     which.add_argument("--answers", metavar="FILE")
-    about.add_argument("--limits", nargs=2, type=float, metavar=("PRINCIPAL", "SHEAR"))
-    about.add_argument("--corotated", nargs=4, type=float, metavar=("FLAG", "CFL", "LAMBDA", "MU"))
-    try:
-        draw(about.parse_args(argv))
-    except sheet.Wrong as e:
-        print("draw.py: %s" % e, file=sys.stderr)
-        return 1
-    return 0
+    about.add_argument("--limits", nargs=2, type=strict, metavar=("PRINCIPAL", "SHEAR"))
+    about.add_argument("--corotated", nargs=4, type=strict, metavar=("FLAG", "CFL", "LAMBDA", "MU"))
+    return shell.run("draw.py", draw, about.parse_args(argv))
 
 
 if __name__ == "__main__":

@@ -1,11 +1,13 @@
 #!/usr/bin/env python3
 """Runs the program with closed, failing, slow and endless input and output, and says what it does in each case.
 
-  tools/faults.py [--program target/bin/slope] [--command bin/slope]
+  tools/faults.py [--program PROGRAM] [--command bin/slope]
 
-A case is right where the program ends in time and either prints its whole answer, or prints no more than the start of it (never `end`) and
-says on standard error which of its two streams failed. The language has no exit status, so the program itself always ends with 0;
-bin/slope, which people run, must also end with a status that isn't 0. The last line is 'N cases, M wrong'; the exit status is 0 where M is 0.
+PROGRAM is the proved program, as a file that can be run; without the option the one that PASOLETU_SLOPE names, else the one that was built
+of the sources here. The command is given the same one. A case is right where the program ends in time and either prints its whole answer, or prints no more than the start of it
+(never `end`) and says on standard error which of its two streams failed. The language has no exit status, so the program itself always ends
+with 0; bin/slope, which people run, must end with its own: 0 all well, 1 no whole answer, 2 no such sheet, 3 something was refused.
+The last line is 'N cases, M wrong'; the exit status is 0 where M is 0.
 """
 import argparse
 import fcntl
@@ -19,8 +21,12 @@ import tempfile
 import threading
 import time
 
-TOP = pathlib.Path(__file__).resolve().parent.parent
+sys.path.insert(0, str(pathlib.Path(__file__).resolve().parent))
+import shell  # noqa: E402
+
+TOP = shell.TOP
 LONGEST = 20  # seconds
+NO_ANSWER, NO_SHEET, SOME_REFUSED = 1, 2, 3
 
 
 class Ran:
@@ -29,12 +35,12 @@ class Ran:
 
 
 def finish(p, out=b""):
-    """Waits for the program and takes what it has printed; a program that does not end is stopped and told."""
+    """Waits for the program and takes what it has printed; one that does not end is stopped with all that it started, and told."""
     try:
         o, e = p.communicate(timeout=LONGEST)
         return Ran(p.returncode, o if o is not None else out, e or b"")
     except subprocess.TimeoutExpired:
-        p.kill()
+        os.killpg(p.pid, signal.SIGKILL)
         p.communicate()
         return Ran("did not end", out, b"")
 
@@ -47,7 +53,7 @@ def run(command, close=(), before=None, **streams):
             os.close(n)
         if before:
             before()
-    return subprocess.Popen(command, preexec_fn=prepare, **streams)
+    return subprocess.Popen(command, preexec_fn=prepare, start_new_session=True, **streams)
 
 
 def piped(command, chunks, pause=0.0, act=None):
@@ -85,10 +91,10 @@ class Cases:
             return finish(run(self.program, stdin=f, stdout=subprocess.PIPE, stderr=subprocess.PIPE)).out
 
     def tell(self, name, r, whole=None, start_of=None, says=b"", status=0):
-        """`whole`: what must be printed. Else no more than the start of `start_of`, and `says` on standard error. A status of None is any but 0."""
+        """`whole`: what must be printed. Else no more than the start of `start_of`, and `says` on standard error."""
         faults = []
-        if r.status != status and (status is not None or r.status not in range(1, 128)):
-            faults.append("status %s, and should be %s" % (r.status, "one that isn't 0" if status is None else status))
+        if r.status != status:
+            faults.append("status %s, and should be %s" % (r.status, status))
         if whole is not None and r.out != whole:
             faults.append("printed %r.., not %r.." % (r.out[:40], whole[:40]))
         if whole is None and not (start_of.startswith(r.out) and len(r.out) < len(start_of)):
@@ -234,31 +240,39 @@ class Cases:
         c, good = self.command, self.good(self.big)
         err = dict(stdin=subprocess.DEVNULL, stderr=subprocess.PIPE)
         pipe = dict(stdout=subprocess.PIPE, **err)
+        some = self.good(self.sample)
         self.tell("bin/slope on a sheet", finish(run([c, str(self.big)], **pipe)), whole=good)
-        self.tell("bin/slope on a refused sheet", finish(run([c, "/dev/null"], **pipe)), whole=b"sheet refused 4\n")
-        self.tell("bin/slope without a sheet", finish(run([c], **pipe)), start_of=good, says=b"usage", status=None)
-        self.tell("bin/slope on a file that is not there", finish(run([c, "no/such.sheet"], **pipe)), start_of=good, says=b"no/such.sheet", status=None)
-        self.tell("bin/slope on a directory", finish(run([c, str(TOP)], **pipe)), start_of=good, says=b"irectory", status=None)
+        self.tell("bin/slope on a sheet with refused particles", finish(run([c, str(self.sample)], **pipe)), whole=some, status=SOME_REFUSED)
+        self.tell("bin/slope on a refused sheet", finish(run([c, "/dev/null"], **pipe)), whole=b"sheet refused 4\n", status=SOME_REFUSED)
+        self.tell("bin/slope without a name, input empty", finish(run([c], **pipe)), whole=b"sheet refused 4\n", status=SOME_REFUSED)
+        with open(self.big, "rb") as f:
+            self.tell("bin/slope without a name", finish(run([c], stdin=f, stdout=subprocess.PIPE, stderr=subprocess.PIPE)), whole=good)
+        self.tell("bin/slope on a file that is not there", finish(run([c, "no/such.sheet"], **pipe)), start_of=good, says=b"no/such.sheet", status=NO_SHEET)
+        self.tell("bin/slope on a directory", finish(run([c, str(TOP)], **pipe)), start_of=good, says=b"irectory", status=NO_SHEET)
         with open("/dev/full", "wb") as full:
-            self.tell("bin/slope, output full", finish(run([c, str(self.big)], stdout=full, **err)), start_of=good, says=b"No space", status=None)
-        self.tell("bin/slope, output closed", finish(run([c, str(self.big)], close=[1], **err)), start_of=good, says=b"Bad file", status=None)
+            self.tell("bin/slope, output full", finish(run([c, str(self.big)], stdout=full, **err)), start_of=good, says=b"No space", status=NO_ANSWER)
+        self.tell("bin/slope, output closed", finish(run([c, str(self.big)], close=[1], **err)), start_of=good, says=b"Bad file", status=NO_ANSWER)
 
 
-def main():
-    about = argparse.ArgumentParser(description=__doc__, formatter_class=argparse.RawDescriptionHelpFormatter)
-    about.add_argument("--program", default=TOP / "target" / "bin" / "slope", type=pathlib.Path)
-    about.add_argument("--command", default=TOP / "bin" / "slope", type=pathlib.Path)
-    args = about.parse_args()
-    for path in (args.program, args.command):
+def work(args):
+    program = args.program or shell.program()
+    for path in (program, args.command):
         if not os.access(path, os.X_OK):
-            print("faults.py: %s is not there: prove and build the program first (bin/slope samples/snow.sheet does)" % path, file=sys.stderr)
-            return 2
-    cases = Cases(args.program, args.command)
+            raise shell.Wrong("%s is no program that can be run: name another by --program or --command" % path)
+    os.environ["PASOLETU_SLOPE"] = str(program)  # the command runs the same one
+    cases = Cases(program, args.command)
     cases.input_cases()
     cases.output_cases()
     cases.command_cases()
     print("%d cases, %d wrong" % (cases.count, cases.wrong))
     return 1 if cases.wrong else 0
+
+
+def main(argv=None):
+    about = argparse.ArgumentParser(description=__doc__, formatter_class=argparse.RawDescriptionHelpFormatter, usage=argparse.SUPPRESS)
+    about.add_argument("--program", type=pathlib.Path)
+    about.add_argument("--command", default=TOP / "bin" / "slope", type=pathlib.Path)
+    return shell.run("faults.py", work, about.parse_args(argv))
 
 
 if __name__ == "__main__":

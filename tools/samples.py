@@ -1,8 +1,9 @@
 #!/usr/bin/env python3
-"""Writes the sheets of samples/ with 40 particles each, the same bytes at every run; samples/snow.sheet is document 01's example and stays.
+"""Writes the sheets of samples/ with 40 particles each, the same bytes at every run; samples/snow.sheet is the example of docs/RULES.md and stays.
 
   tools/samples.py [FOLDER]   (default samples/)
 """
+import argparse
 import math
 import pathlib
 import sys
@@ -10,6 +11,7 @@ import sys
 sys.path.insert(0, str(pathlib.Path(__file__).resolve().parent))
 import cases  # noqa: E402
 import sheet  # noqa: E402
+import shell  # noqa: E402
 
 COUNT = 40
 
@@ -64,7 +66,7 @@ SAMPLES = {
     "snow_slope": ("snow", {}, snow),
     "rankine": ("rankine", {"young_modulus": 1e6, "poisson_ratio": 0.3, "tensile_strength": 5000.0, "softening_rate": 1e5}, rankine),
     "drucker_prager": ("drucker_prager", {"young_modulus": 1e6, "poisson_ratio": 0.3}, drucker_prager),
-    "nacc": ("nacc", {"young_modulus": 1e6, "poisson_ratio": 0.3, "cohesion": 0.3, "hardening_enabled": 1, "hardening_factor": 3.0, "m": 1.8}, nacc),
+    "nacc": ("nacc", {"young_modulus": 1e6, "poisson_ratio": 0.3, "cohesion": 0.3, "hardening_enabled": 1.0, "hardening_factor": 3.0, "m": 1.8}, nacc),
 }
 
 
@@ -81,14 +83,18 @@ def sample(name):
     return sheet.written(model, sheet.parameters(model, given, name), records, name)
 
 
-def main():
-    if len(sys.argv) > 2 or sys.argv[1:2] in (["-h"], ["--help"]):
-        sys.exit(__doc__)
-    folder = pathlib.Path(sys.argv[1]) if sys.argv[1:] else pathlib.Path(__file__).resolve().parent.parent / "samples"
-    for name in SAMPLES:
-        (folder / (name + ".sheet")).write_bytes(sample(name))
-        print("%s.sheet: %d bytes" % (name, len(sample(name))))
+def write(folder):
+    with shell.Together() as files:
+        for name in SAMPLES:
+            files.add(pathlib.Path(folder) / (name + ".sheet"), sample(name))
+    shell.say("%s: %s\n" % (folder, ", ".join(name + ".sheet" for name in SAMPLES)))
+
+
+def main(argv=None):
+    about = argparse.ArgumentParser(description=__doc__, formatter_class=argparse.RawDescriptionHelpFormatter, usage=argparse.SUPPRESS)
+    about.add_argument("folder", nargs="?", default=shell.TOP / "samples", metavar="FOLDER")
+    return shell.run("samples.py", write, about.parse_args(argv).folder)
 
 
 if __name__ == "__main__":
-    main()
+    sys.exit(main())

@@ -1,9 +1,13 @@
 #!/usr/bin/env python3
-"""Makes a sheet of particles from a table, and prints a sheet.
+"""Makes sheets of particles from a table, and prints a sheet.
 
-  tools/sheet.py make IN.csv OUT.sheet --model MODEL [--parameters NAME=VALUE ..]
-  tools/sheet.py make IN.json OUT.sheet
+  tools/sheet.py make IN.csv OUT.sheet --model MODEL [--parameters NAME=VALUE ..] [--split]
+  tools/sheet.py make IN.json OUT.sheet [--split]
   tools/sheet.py print X.sheet [--json]
+
+A name may be `-`: standard input, which is read as a CSV where --model is given and else as a JSON, or standard output.
+A sheet takes 200 particles. --split makes as many sheets as the table needs, OUT-00001.sheet, OUT-00002.sheet and so on: particle K of
+sheet N is particle 200 (N - 1) + K of the table, counted from 0.
 
 MODEL is snow, rankine, drucker_prager or nacc. Its parameters, in the sheet's order:
   snow            min_epsilon (0.025) max_epsilon (0.0045) hardening_coeff (10)
@@ -13,80 +17,85 @@ MODEL is snow, rankine, drucker_prager or nacc. Its parameters, in the sheet's o
   nacc            young_modulus poisson_ratio cohesion hardening_enabled hardening_factor m
 In brackets: what is taken where none is given. The others must be given. Angles are in radians; a flag is 0 or 1.
 
-A CSV has a line of column names, then a line a particle. A JSON has {"model": .., "parameters": {..}, "particles": [{..}, ..]}.
+A CSV has a row of column names, then a row a particle. A JSON has {"model": .., "parameters": {..}, "particles": [{..}, ..]}.
 A particle has
   F, U, V^T       in a CSV nine columns each, F11 F12 F13 F21 .. F33; in a JSON nine numbers or three rows of three
   sigma           in a CSV sigma1 sigma2 sigma3; in a JSON three numbers
   phase (1)  plastic_determinant (1)  plastic_hardening (1)  elastic_hardening (1)  log_gain (0)  alpha (0)
-An empty cell or a missing name takes the number in brackets. Of the matrices there may be given
-  F alone                  the tool works U, sigma and V^T by a Jacobi decomposition of its own
+Names are taken exactly as they stand here. An empty cell or a missing name takes the number in brackets. Of the matrices there may be given
+  F alone                  U, sigma and V^T are numpy's decomposition of it (Debian: python3-numpy)
   sigma alone              U and V^T are the identity, F is diagonal
   U, sigma and V^T         F is their product
   all four                 taken as they are, bit for bit
   none                     the identity
-A float may also be spelled by its bits, as 0x7ff8000000000000; nan, inf and -inf are taken too (the law refuses such a particle by 1).
-`print --json` writes what `make` turns into the same bytes again.
+A number is spelled as 1.25 or 1e-3, or by its bits, as 0x7ff8000000000000; nan, inf and -inf are taken too (the law refuses such a particle
+by 1). `print --json` writes what `make` turns into the same bytes again.
 """
 import argparse
 import csv
+import glob
+import io
+import itertools
 import json
 import math
 import pathlib
+import re
 import struct
 import sys
 
 sys.path.insert(0, str(pathlib.Path(__file__).resolve().parent))
 import cases  # noqa: E402
+import shell  # noqa: E402
+from making.rows import Table  # noqa: E402
+from shell import Wrong  # noqa: E402
 
-MODELS = ["snow", "rankine", "drucker_prager", "nacc"]
-PARAMETERS = {
-    "snow": ["min_epsilon", "max_epsilon", "hardening_coeff"],
-    "rankine": ["young_modulus", "poisson_ratio", "tensile_strength", "softening_rate"],
-    "drucker_prager": ["h0", "h1", "h2", "h3", "lambda", "mu", "only_active_when_failed", "volume_correction"],
-    "nacc": ["young_modulus", "poisson_ratio", "cohesion", "hardening_enabled", "hardening_factor", "m"],
-}
-DEFAULTS = {
-    "snow": dict(zip(PARAMETERS["snow"], cases.SNOW)),
-    "rankine": {},
-    "drucker_prager": {"h0": math.radians(35.0), "h1": math.radians(9.0), "h2": 0.2, "h3": math.radians(10.0),
-                       "only_active_when_failed": 0.0, "volume_correction": 1.0},
-    "nacc": {},
-}
+TABLE = Table(shell.TOP)
+MODELS = [m.name for m in TABLE.models]
+PARAMETERS = {m.name: [p.name for p in m.parameters] for m in TABLE.models}
+FLAGS = [p.name for m in TABLE.models for p in m.parameters if p.flag]
+DEFAULTS = {m.name: {p.name: p.default for p in m.parameters if p.default is not None} for m in TABLE.models}
+DEFAULTS["drucker_prager"]["only_active_when_failed"] = 0.0
+REFUSALS = {r.number: r.what for r in TABLE.refusals}
+ELASTIC = ["young_modulus", "poisson_ratio"]
 SCALARS = {"phase": 1.0, "plastic_determinant": 1.0, "plastic_hardening": 1.0, "elastic_hardening": 1.0, "log_gain": 0.0, "alpha": 0.0}
 ENTRIES = {"F": 9, "U": 9, "sigma": 3, "V^T": 9}
-REFUSALS = {
-    1: "an input is a NaN or an infinity",
-    2: "an argument of an elementary function is outside its range",
-    3: "a NaN arose, or a result or modulus is not finite",
-    4: "the sheet ends early",
-    5: "a number in seven-bit groups isn't shortest or has over two groups",
-    6: "unknown model, or a flag other than 0.0 and 1.0",
-    7: "over 200 particles, or bytes after the last",
-    8: "a list has the wrong length",
-}
+COLUMNS = {name: [name + ("%d%d" % (k // 3 + 1, k % 3 + 1) if n == 9 else "%d" % (k + 1)) for k in range(n)] for name, n in ENTRIES.items()}
+PLACES = [place for places in COLUMNS.values() for place in places] + list(SCALARS)
 IDENTITY = [1.0, 0.0, 0.0, 0.0, 1.0, 0.0, 0.0, 0.0, 1.0]
 MOST = 200
+MOST_BYTES = 2 + 8 * 8 + 2 + MOST * 288
+LONGEST_CELL = 1100  # a double's longest exact decimal has 1,077 characters
+LONGEST_FIELD = 1 << 24  # of the CSV reader, so that an over-long cell is still read and its column told
+
+DECIMAL = re.compile(r"[+-]?([0-9]+\.?[0-9]*|\.[0-9]+)([eE][+-]?[0-9]+)?")
+NOT_FINITE = re.compile(r"[+-]?(nan|inf|infinity)", re.IGNORECASE)
+BITS = re.compile(r"0[xX][0-9a-fA-F]{16}")
 
 
-class Wrong(Exception):
-    """What is wrong, where, and what to do."""
+# ---- numbers
 
 
-def plain(name):
-    """A name without the marks in which spellings differ: V^T, Vt and v_t are one, and so are "log gain" and log_gain."""
-    return "".join(c for c in name.lower() if c.isalnum())
-
-
-def number(x, where):
-    text = str(x).strip()
-    try:
-        if isinstance(x, (bool, int, float)):
-            return float(x)
-        if text.lower().startswith("0x"):
-            return struct.unpack(">d", struct.pack(">Q", int(text, 16)))[0]
+def number(given, where):
+    """The float that a text spells, or that is given."""
+    if isinstance(given, float):
+        return given
+    text = given.strip(" \t") if isinstance(given, str) else ""
+    if len(text) > LONGEST_CELL:
+        raise Wrong("%s: %d characters are no number" % (where, len(text)))
+    if BITS.fullmatch(text):
+        return struct.unpack(">d", bytes.fromhex(text[2:]))[0]
+    if NOT_FINITE.fullmatch(text):
         return float(text)
-    except (ValueError, OverflowError, struct.error):
-        raise Wrong("%s: %r is no number: write it as 1.25, 1e-3, nan, inf or by its bits as 0x3ff0000000000000" % (where, x))
+    if not DECIMAL.fullmatch(text):
+        raise Wrong("%s: %s is no number: write it as 1.25, 1e-3, nan, inf or by its bits as 0x3ff0000000000000" % (where, shown(given)))
+    if not math.isfinite(float(text)):
+        raise Wrong("%s: %s is beyond the largest double: write inf where you mean that" % (where, shown(given)))
+    return float(text)
+
+
+def shown(given):
+    text = repr(given)
+    return text if len(text) <= 60 else text[:60] + ".."
 
 
 def spelled(x):
@@ -94,52 +103,22 @@ def spelled(x):
     return x if math.isfinite(x) else "0x%016x" % struct.unpack("<Q", struct.pack("<d", x))
 
 
+# ---- records
+
+
 def decompose(f, where="F"):
-    """U, sigma, V^T with U sigma V^T = F: the columns of F are turned in pairs (one-sided Jacobi) until they are orthogonal."""
+    """U, sigma, V^T with U sigma V^T = F."""
     if not all(map(math.isfinite, f)):
         raise Wrong("%s: F has a NaN or an infinity, so it has no factors: give U, sigma and V^T too" % where)
-    scale = max(map(abs, f)) or 1.0
-    a = [[f[3 * i + j] / scale for i in range(3)] for j in range(3)]
-    v = [[float(i == j) for i in range(3)] for j in range(3)]
-    for _ in range(60):
-        turned = False
-        for p, q in ((0, 1), (0, 2), (1, 2)):
-            pp, qq, pq = (sum(x * y for x, y in zip(a[i], a[j])) for i, j in ((p, p), (q, q), (p, q)))
-            if abs(pq) <= 2.0 ** -54 * math.sqrt(pp * qq) or pq == 0.0:
-                continue
-            turned = True
-            z = (qq - pp) / (2.0 * pq)
-            t = math.copysign(1.0, z) / (abs(z) + math.hypot(1.0, z))
-            c = 1.0 / math.hypot(1.0, t)
-            for m in (a, v):
-                m[p], m[q] = [c * x - c * t * y for x, y in zip(m[p], m[q])], [c * t * x + c * y for x, y in zip(m[p], m[q])]
-        if not turned:
-            break
-    sigma = [math.hypot(*x) for x in a]
-    u = [[x / s for x in column] if s > 2.0 ** -50 * max(sigma) else None for column, s in zip(a, sigma)]
-    complete(u)
-    if any(abs(sum(x * y for x, y in zip(m[i], m[j])) - (i == j)) > 2.0 ** -40 for m in (u, v) for i in range(3) for j in range(3)):
-        raise Wrong("%s: F's entries are of too different sizes to be factored here: give U, sigma and V^T too" % where)
-    return [u[j][i] for i in range(3) for j in range(3)], [s * scale for s in sigma], [x for column in v for x in column]
-
-
-def complete(columns):
-    """Columns that are missing, since their sigma is 0 or lost in rounding, become unit vectors that are orthogonal to the others."""
-    for k in range(3):
-        if columns[k] is not None:
-            continue
-        best = None
-        for axis in range(3):
-            x = [float(i == axis) for i in range(3)]
-            for _ in range(2):
-                for other in columns:
-                    if other is not None:
-                        d = sum(p * q for p, q in zip(x, other))
-                        x = [p - d * q for p, q in zip(x, other)]
-            size = math.hypot(*x)
-            if best is None or size > best[0]:
-                best = size, [p / size for p in x] if size else x
-        columns[k] = best[1]
+    try:
+        import numpy
+    except ImportError:
+        raise Wrong("%s: F alone has to be decomposed, and numpy is not here: install it (Debian: python3-numpy), or give U, sigma and V^T too" % where)
+    try:
+        u, sigma, vt = numpy.linalg.svd(numpy.array(f).reshape(3, 3))
+    except numpy.linalg.LinAlgError as e:
+        raise Wrong("%s: numpy does not decompose F (%s): give U, sigma and V^T too" % (where, e))
+    return u.ravel().tolist(), sigma.tolist(), vt.ravel().tolist()
 
 
 def matrices(given, where):
@@ -167,139 +146,196 @@ def record(given, scalars, where):
     return matrices(given, where) + [scalars.get(name, SCALARS[name]) for name in SCALARS]
 
 
+# ---- the law
+
+
+def model_of(name, where):
+    if name not in MODELS:
+        raise Wrong("%s: unknown model %s: it is one of %s" % (where, shown(name), ", ".join(MODELS)))
+    return name
+
+
 def parameters(model, given, where):
     """The model's parameters in order, from names to numbers; what is not given is the law's default."""
-    names, known = PARAMETERS[model], {plain(n): n for n in PARAMETERS[model]}
-    have = dict(DEFAULTS[model])
-    elastic = {}
-    for name, value in given.items():
-        x = number(value, "%s, parameter %s" % (where, name))
-        if plain(name) in known:
-            have[known[plain(name)]] = x
-        elif model == "drucker_prager" and plain(name) in ("youngmodulus", "poissonratio"):
-            elastic[plain(name)] = x
-        else:
-            raise Wrong("%s: %s has no parameter %r: its parameters are %s" % (where, model, name, ", ".join(names)))
-    if elastic:
-        if len(elastic) < 2 or "lambda" in have or "mu" in have:
-            raise Wrong("%s: give lambda and mu, or young_modulus and poisson_ratio" % where)
-        have["lambda"], have["mu"], _ = cases.moduli(elastic["youngmodulus"], elastic["poissonratio"])
+    names = PARAMETERS[model]
+    known = names + ELASTIC if model == "drucker_prager" else names
+    unknown = [name for name in given if name not in known]
+    if unknown:
+        raise Wrong("%s: %s has no parameter %s: its parameters are %s" % (where, model, shown(unknown[0]), ", ".join(names)))
+    have = {name: number(value, "%s, parameter %s" % (where, name)) for name, value in given.items()}
+    if model == "drucker_prager":
+        have = with_moduli(have, where)
+    have = DEFAULTS[model] | have
     missing = [n for n in names if n not in have]
     if missing:
         raise Wrong("%s: %s needs %s: add %s" % (where, model, ", ".join(missing), " ".join(n + "=VALUE" for n in missing)))
     return [have[n] for n in names]
 
 
-def model_of(name, where):
-    known = {plain(m): m for m in MODELS} | {str(k): m for k, m in enumerate(MODELS)}
-    if plain(str(name)) not in known:
-        raise Wrong("%s: unknown model %r: it is one of %s" % (where, name, ", ".join(MODELS)))
-    return known[plain(str(name))]
+def with_moduli(have, where):
+    """Parameters with lambda and mu in place of Young's modulus and Poisson's ratio."""
+    elastic = [have[n] for n in ELASTIC if n in have]
+    if not elastic:
+        return have
+    if len(elastic) < 2 or "lambda" in have or "mu" in have:
+        raise Wrong("%s: give lambda and mu, or young_modulus and poisson_ratio" % where)
+    lame, mu, _ = cases.moduli(*elastic)
+    return {n: x for n, x in have.items() if n not in ELASTIC} | {"lambda": lame, "mu": mu}
+
+
+# ---- tables: each gives the model, its parameters, and the records one by one as they are asked for
 
 
 def from_json(text, where):
-    try:
-        whole = json.loads(text)
-    except json.JSONDecodeError as e:
-        raise Wrong("%s, line %d: this is no JSON (%s)" % (where, e.lineno, e.msg))
+    whole = parsed(text, where)
     if not isinstance(whole, dict) or "model" not in whole or not isinstance(whole.get("particles"), list) or not isinstance(whole.get("parameters", {}), dict):
         raise Wrong('%s: a JSON sheet is {"model": .., "parameters": {..}, "particles": [..]}' % where)
+    unknown = sorted(whole.keys() - {"model", "parameters", "particles"})
+    if unknown:
+        raise Wrong("%s: unknown name %s beside model, parameters and particles" % (where, shown(unknown[0])))
     model = model_of(whole["model"], where)
-    records = []
-    names = {plain(n): n for n in [*ENTRIES, *SCALARS]}
-    for k, particle in enumerate(whole["particles"]):
-        at = "%s, particle %d" % (where, k)
-        if not isinstance(particle, dict):
-            raise Wrong("%s: a particle is an object with names such as sigma and phase" % at)
-        given, scalars = {}, {}
-        for name, value in particle.items():
-            if plain(name) not in names:
-                raise Wrong("%s: unknown name %r: the names are %s" % (at, name, ", ".join(names.values())))
-            name = names[plain(name)]
-            if name in SCALARS:
-                scalars[name] = number(value, "%s, %s" % (at, name))
-                continue
-            flat = [x for row in value for x in (row if isinstance(row, list) else [row])] if isinstance(value, list) else [value]
-            if len(flat) != ENTRIES[name]:
-                raise Wrong("%s: %s has %d numbers, not %d" % (at, name, len(flat), ENTRIES[name]))
-            given[name] = [number(x, "%s, %s" % (at, name)) for x in flat]
-        records.append(record(given, scalars, at))
+    records = (json_record(p, "%s, particle %d" % (where, k)) for k, p in enumerate(whole["particles"]))
     return model, parameters(model, whole.get("parameters", {}), where), records
 
 
-def columns():
-    """Every column's plain name: which matrix and entry, or which scalar."""
-    out = {plain(n): (n, None) for n in SCALARS}
-    for name, n in ENTRIES.items():
-        for k in range(n):
-            out[plain(name) + ("%d%d" % (k // 3 + 1, k % 3 + 1) if n == 9 else "%d" % (k + 1))] = name, k
-    return out
+def parsed(text, where):
+    """A JSON with its numbers as they are spelled."""
+    def once(pairs):
+        out = {}
+        for name, value in pairs:
+            if name in out:
+                raise Wrong("%s: the name %s stands twice in one object" % (where, shown(name)))
+            out[name] = value
+        return out
+    try:
+        return json.loads(text, parse_float=str, parse_int=str, parse_constant=str, object_pairs_hook=once)
+    except json.JSONDecodeError as e:
+        raise Wrong("%s, line %d, column %d: this is no JSON (%s)" % (where, e.lineno, e.colno, e.msg))
+    except RecursionError:
+        raise Wrong("%s: this is no JSON of a sheet: it has lists in lists without end" % where)
 
 
-def from_csv(text, model, given_parameters, where):
+def json_record(particle, where):
+    if not isinstance(particle, dict):
+        raise Wrong("%s: a particle is an object with names such as sigma and phase" % where)
+    given, scalars = {}, {}
+    for name, value in particle.items():
+        if name in SCALARS:
+            scalars[name] = number(value, "%s, %s" % (where, name))
+        elif name in ENTRIES:
+            given[name] = entries(name, value, "%s, %s" % (where, name))
+        else:
+            raise Wrong("%s: unknown name %s: the names are %s" % (where, shown(name), ", ".join([*ENTRIES, *SCALARS])))
+    return record(given, scalars, where)
+
+
+def entries(name, value, where):
+    """The numbers of a list, or of rows of three."""
+    rows = value if isinstance(value, list) else [value]
+    flat = [x for row in rows for x in row] if all(isinstance(row, list) and len(row) == 3 for row in rows) else rows
+    if len(flat) != ENTRIES[name]:
+        raise Wrong("%s: %d numbers, not %d" % (where, len(flat), ENTRIES[name]))
+    return [number(x, "%s entry %d" % (where, k + 1)) for k, x in enumerate(flat)]
+
+
+def from_csv(stream, model, given, where):
     if model is None:
         raise Wrong("%s: a CSV has no place for the model: add --model snow, or one of %s" % (where, ", ".join(MODELS[1:])))
     model = model_of(model, "--model")
-    rows = csv.reader(text.splitlines())
-    head = next(rows, None)
-    if head is None:
-        raise Wrong("%s: the file is empty: its first line names the columns" % where)
-    if len(head) == 1 and ";" in head[0]:
-        raise Wrong("%s, line 1: the columns are parted by semicolons: part them by commas, and write decimals with a point" % where)
-    known, places = columns(), []
-    for name in head:
-        if plain(name) not in known:
-            raise Wrong("%s, line 1: unknown column %r: columns are F11 .. F33, U11 .. U33, sigma1 .. sigma3, V^T11 .. V^T33, %s" % (where, name, ", ".join(SCALARS)))
-        if known[plain(name)] in places:
-            raise Wrong("%s, line 1: column %r stands there twice" % (where, name))
-        places.append(known[plain(name)])
-    records = []
-    for row in rows:
-        at = "%s, line %d" % (where, rows.line_num)
-        if not row:
-            continue
-        if len(row) != len(head):
-            raise Wrong("%s: %d cells under %d columns" % (at, len(row), len(head)))
-        entries, scalars = {}, {}
-        for (name, k), cell in zip(places, row):
-            if cell.strip() == "":
-                continue
-            x = number(cell, "%s, %s" % (at, name if k is None else "%s entry %d" % (name, k + 1)))
-            if k is None:
-                scalars[name] = x
-            else:
-                entries.setdefault(name, {})[k] = x
-        for name, have in entries.items():
-            if len(have) != ENTRIES[name]:
-                raise Wrong("%s: %s has %d of its %d entries" % (at, name, len(have), ENTRIES[name]))
-        records.append(record({n: [e[k] for k in range(ENTRIES[n])] for n, e in entries.items()}, scalars, at))
-    return model, parameters(model, given_parameters, "--parameters"), records
+    return model, parameters(model, given, "--parameters"), csv_records(stream, where)
+
+
+def csv_records(stream, where):
+    csv.field_size_limit(LONGEST_FIELD)
+    with io.TextIOWrapper(stream, encoding="utf-8-sig", newline="") as text:
+        rows = csv.reader(text, strict=True)
+        try:
+            names = header(next(rows, []), "%s, row 1" % where)
+            particles = filter(None, rows)
+            first = next(particles, None)
+            if first is None:
+                raise Wrong("%s: the table is a row of column names alone: write a row below it for each particle" % where)
+            for row in itertools.chain([first], particles):
+                yield csv_record(names, row, "%s, row %d" % (where, rows.line_num))
+        except csv.Error as e:
+            raise Wrong("%s, row %d: this is no CSV (%s)" % (where, rows.line_num, e))
+        except UnicodeDecodeError:
+            raise Wrong("%s, after row %d: this is no text in UTF-8" % (where, rows.line_num))
+
+
+def header(names, where):
+    if not names:
+        raise Wrong("%s: it is empty, and should name the columns" % where)
+    if len(names) == 1 and ";" in names[0]:
+        raise Wrong("%s: the columns are parted by semicolons: part them by commas, and write decimals with a point" % where)
+    for k, name in enumerate(names):
+        if name not in PLACES:
+            raise Wrong("%s, column %d: unknown column %s: columns are, letter by letter, F11 .. F33, U11 .. U33, sigma1 .. sigma3, V^T11 .. V^T33, %s"
+                        % (where, k + 1, shown(name), ", ".join(SCALARS)))
+        if name in names[:k]:
+            raise Wrong("%s, column %d: column %s stands there twice" % (where, k + 1, shown(name)))
+    return names
+
+
+def csv_record(names, row, where):
+    if len(row) != len(names):
+        raise Wrong("%s: %d cells under %d columns" % (where, len(row), len(names)))
+    cells = {name: number(cell, "%s, column %d (%s)" % (where, k + 1, name)) for k, (name, cell) in enumerate(zip(names, row)) if cell.strip(" \t")}
+    if not cells:
+        raise Wrong("%s: every cell is empty: give a number, or take the row away" % where)
+    given = {}
+    for name, places in COLUMNS.items():
+        missing = [place for place in places if place not in cells]
+        if 0 < len(missing) < len(places):
+            raise Wrong("%s: %s has %d of its %d entries: %s is missing" % (where, name, len(places) - len(missing), len(places), ", ".join(missing)))
+        if not missing:
+            given[name] = [cells[place] for place in places]
+    return record(given, cells, where)
+
+
+# ---- sheets
+
+
+def chunks(records, split, where):
+    """The records of one sheet; with `split`, of as many as are needed."""
+    records = iter(records)
+    chunk = list(itertools.islice(records, MOST))
+    while True:
+        yield chunk
+        chunk = list(itertools.islice(records, MOST if split else 1))
+        if not chunk:
+            return
+        if not split:
+            raise Wrong("%s: over %d particles, and a sheet takes %d: add --split to make several sheets" % (where, MOST, MOST))
 
 
 def written(model, values, records, where):
     """The sheet's bytes. Refuses what a reader would refuse."""
-    if len(records) > MOST:
-        raise Wrong("%s: %d particles, and a sheet takes %d: split the table" % (where, len(records), MOST))
     b = cases.sheet(records, values, MODELS.index(model))
     try:
         cases.read(b)
     except cases.Refused as e:
-        flags = [n for n in PARAMETERS[model] if n in ("only_active_when_failed", "hardening_enabled")]
+        flags = [n for n in PARAMETERS[model] if n in FLAGS]
         raise Wrong("%s: the sheet would be refused by %d (%s)%s" % (where, e.args[0], REFUSALS[e.args[0]], ": look at " + flags[0] if flags else ""))
     return b
 
 
-def load(path):
-    """Model, parameters and records of a sheet file."""
-    try:
-        b = pathlib.Path(path).read_bytes()
-    except OSError as e:
-        raise Wrong("%s: cannot be read (%s)" % (path, e.strerror))
+def read(name):
+    """A sheet file's bytes; of a longer file no more than what makes it too long."""
+    with shell.reading(name) as stream:
+        return stream.read(MOST_BYTES + 1)
+
+
+def load(b, name):
+    """Model, parameters and records of a sheet's bytes."""
     try:
         model, values, records = cases.read(b)
     except cases.Refused as e:
-        raise Wrong("%s: sheet refused %d at byte %d of %d: %s" % (path, e.args[0], e.args[1], len(b), REFUSALS[e.args[0]]))
+        raise Wrong("%s: sheet refused %d at byte %d: %s" % (shell.called(name, "standard input"), e.args[0], e.args[1], REFUSALS[e.args[0]]))
     return MODELS[model], values, records
+
+
+# ---- printing
 
 
 def parts(r):
@@ -339,67 +375,90 @@ def as_text(model, values, records):
     return "\n".join(lines) + "\n"
 
 
+# ---- the commands
+
+
 def pairs(given):
     out = {}
     for p in given:
         name, equals, value = p.partition("=")
         if not equals:
             raise Wrong("--parameters: %r is not NAME=VALUE" % p)
+        if name in out:
+            raise Wrong("--parameters: %s stands there twice" % name)
         out[name] = value
     return out
 
 
 def make(args):
+    where = shell.called(args.table, "standard input")
+    with shell.reading(args.table) as stream:
+        if args.table.endswith(".csv") or args.table == "-" and args.model:
+            told = from_csv(stream, args.model, pairs(args.parameters), where)
+        elif args.table.endswith(".json") or args.table == "-":
+            if args.model or args.parameters:
+                raise Wrong("%s: a JSON says its model and parameters itself: leave --model and --parameters away" % where)
+            told = from_json(text_of(stream, where), where)
+        else:
+            raise Wrong("%s: the name must end in .csv or .json, or be - for standard input" % where)
+        (make_several if args.split else make_one)(*told, args.sheet, where)
+
+
+def text_of(stream, where):
     try:
-        text = pathlib.Path(args.table).read_text(encoding="utf-8-sig")
-    except OSError as e:
-        raise Wrong("%s: cannot be read (%s)" % (args.table, e.strerror))
-    except UnicodeDecodeError:
-        raise Wrong("%s: this is no text in UTF-8" % args.table)
-    if args.table.endswith(".json"):
-        if args.model or args.parameters:
-            raise Wrong("%s: a JSON says its model and parameters itself: leave --model and --parameters away" % args.table)
-        told = from_json(text, args.table)
-    elif args.table.endswith(".csv"):
-        told = from_csv(text, args.model, pairs(args.parameters), args.table)
+        return stream.read().decode("utf-8-sig")
+    except UnicodeDecodeError as e:
+        raise Wrong("%s: this is no text in UTF-8 (byte %d)" % (where, e.start))
+
+
+def make_one(model, values, records, name, where):
+    [chunk] = chunks(records, False, where)
+    b = written(model, values, chunk, where)
+    shell.write(name, b)
+    told = "%s: %s, %d particles, %d bytes\n" % (shell.called(name, "standard output"), model, len(chunk), len(b))
+    if name == "-":
+        sys.stderr.write(told)
     else:
-        raise Wrong("%s: the name must end in .csv or .json" % args.table)
-    b = written(*told, args.table)
-    try:
-        pathlib.Path(args.sheet).write_bytes(b)
-    except OSError as e:
-        raise Wrong("%s: cannot be written (%s)" % (args.sheet, e.strerror))
-    print("%s: %s, %d particles, %d bytes" % (args.sheet, told[0], len(told[2]), len(b)))
+        shell.say(told)
+
+
+def make_several(model, values, records, name, where):
+    if name == "-":
+        raise Wrong("--split makes several sheets, and - is one output: give a name such as OUT.sheet")
+    path = pathlib.Path(name)
+    earlier = sorted(path.parent.glob("%s-[0-9][0-9][0-9][0-9][0-9]%s" % (glob.escape(path.stem), path.suffix)))
+    if earlier:
+        raise Wrong("%s is there from an earlier split, and the two might be taken for one: remove those sheets, or give another name" % earlier[0])
+    count = 0
+    with shell.Together() as files:
+        for n, chunk in enumerate(chunks(records, True, where), 1):
+            last = path.with_name("%s-%05d%s" % (path.stem, n, path.suffix))
+            files.add(last, written(model, values, chunk, where))
+            count += len(chunk)
+    shell.say("%s is the last of %d sheets: %s, %d particles\n" % (last, n, model, count))
 
 
 def show(args):
-    told = load(args.sheet)
-    sys.stdout.write((as_json if args.json else as_text)(*told))
+    told = load(read(args.sheet), args.sheet)
+    shell.say((as_json if args.json else as_text)(*told))
 
 
 def main(argv=None):
     about = argparse.ArgumentParser(description=__doc__, formatter_class=argparse.RawDescriptionHelpFormatter, usage=argparse.SUPPRESS)
     commands = about.add_subparsers(dest="command", required=True, metavar="make | print", prog="tools/sheet.py")
     m = commands.add_parser("make", help="a sheet from a CSV or a JSON")
-    m.add_argument("table", metavar="IN.csv|IN.json")
-    m.add_argument("sheet", metavar="OUT.sheet")
+    m.add_argument("table", metavar="IN.csv|IN.json|-")
+    m.add_argument("sheet", metavar="OUT.sheet|-")
     m.add_argument("--model")
     m.add_argument("--parameters", nargs="*", default=[], metavar="NAME=VALUE")
-    m.set_defaults(run=make)
+    m.add_argument("--split", action="store_true", help="make several sheets of at most %d particles" % MOST)
+    m.set_defaults(work=make)
     p = commands.add_parser("print", help="a sheet, readable")
-    p.add_argument("sheet", metavar="X.sheet")
+    p.add_argument("sheet", metavar="X.sheet|-")
     p.add_argument("--json", action="store_true", help="as a JSON that make turns into the same bytes")
-    p.set_defaults(run=show)
+    p.set_defaults(work=show)
     args = about.parse_args(argv)
-    try:
-        args.run(args)
-    except Wrong as e:
-        print("sheet.py: %s" % e, file=sys.stderr)
-        return 1
-    except BrokenPipeError:
-        sys.stderr.close()
-        return 1
-    return 0
+    return shell.run("sheet.py", args.work, args)
 
 
 if __name__ == "__main__":

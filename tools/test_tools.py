@@ -1,13 +1,17 @@
 #!/usr/bin/env python3
-"""Tests of the tools for people: tools/test_tools.py (standard library only; the library's own tests run where PASOLETU_LIB names one)."""
+"""Tests of the tools for people: tools/test_tools.py. They need the standard library alone; those of the proved library and the program run where
+these are found (PASOLETU_LIB, PASOLETU_SLOPE), those of numpy's decomposition where numpy is."""
 import contextlib
+import importlib.util
 import io
 import json
 import math
 import os
 import pathlib
 import random
+import resource
 import struct
+import subprocess
 import sys
 import tempfile
 import unittest
@@ -18,14 +22,30 @@ HERE = pathlib.Path(__file__).resolve().parent
 sys.path.insert(0, str(HERE))
 import cases  # noqa: E402
 import draw  # noqa: E402
-import library  # noqa: E402
 import samples  # noqa: E402
 import sheet  # noqa: E402
+import shell  # noqa: E402
 
-SHEETS = sorted((HERE.parent / "crates" / "slope_cases" / "data").iterdir())
+SHEETS = cases.SHEETS
 SAMPLES = sorted((HERE.parent / "samples").glob("*.sheet"))
-PROGRAM = HERE.parent / "target" / "bin" / "slope"
 LINES = (HERE.parent / "crates" / "slope_cases" / "stdout").read_text()
+TOOLS = [HERE / name for name in ("sheet.py", "draw.py", "samples.py", "cases.py", "faults.py", "measure/accuracy.py", "measure/surface.py")]
+NUMPY = importlib.util.find_spec("numpy")
+NOT_FINITE = (math.nan, math.inf, -math.inf)
+
+
+def found(look, named):
+    """A ready part, or nothing where none is named and none is found."""
+    try:
+        return look()
+    except shell.Wrong:
+        if os.environ.get(named):
+            raise
+        return None
+
+
+LIBRARY = found(shell.package, "PASOLETU_LIB")
+PROGRAM = found(shell.program, "PASOLETU_SLOPE")
 
 
 def readable(path):
@@ -42,6 +62,12 @@ def quiet(main, *arguments):
     with contextlib.redirect_stdout(out), contextlib.redirect_stderr(err):
         status = main([str(a) for a in arguments])
     return status, out.getvalue(), err.getvalue()
+
+
+def ran(tool, *arguments, **how):
+    """A tool as its own process; its output is bytes."""
+    how = {"stdout": subprocess.PIPE, "stderr": subprocess.PIPE, "timeout": 20} | how
+    return subprocess.run([sys.executable, HERE / tool, *map(str, arguments)], **how)
 
 
 class InFolder(unittest.TestCase):
@@ -67,7 +93,14 @@ class InFolder(unittest.TestCase):
         status, _, err = quiet(sheet.main, "make", self.file(name, text), out, *options)
         self.assertEqual(status, 1)
         self.assertIn(words, err)
+        self.assertEqual(err.count("\n"), 1, "an error is one sentence")
         self.assertFalse(out.exists(), "a refused table must leave no sheet")
+
+    def one_sentence(self, process, words):
+        """A process that ended with status 1 and said why."""
+        self.assertEqual(process.returncode, 1, process)
+        self.assertIn(words, process.stderr.decode())
+        self.assertEqual(process.stderr.decode().count("\n"), 1, process)
 
 
 class Tables(InFolder):
@@ -84,7 +117,7 @@ class Tables(InFolder):
     def test_bits_of_odd_floats(self):
         odd = [0x7ff0000000000001, 0xfff8000000000123, 0x8000000000000000, 1, 0x7fefffffffffffff, 0x7ff0000000000000]
         record = cases.record()
-        record[:6] = library.floats(odd)
+        record[:6] = struct.unpack("<6d", struct.pack("<6Q", *odd))
         b = cases.sheet([record])
         (self.folder / "odd.sheet").write_bytes(b)
         text = quiet(sheet.main, "print", self.folder / "odd.sheet", "--json")[1]
@@ -96,7 +129,7 @@ class Tables(InFolder):
         self.assertEqual(self.made("a.csv", "phase\n1\n", "--model", "snow"), want)
 
     def test_csv(self):
-        text = "sigma1,sigma2,sigma3,log gain,Plastic_Hardening\n1.1,0.9,1,0.25,\n,,,,3\n"
+        text = "sigma1,sigma2,sigma3,log_gain,plastic_hardening\n1.1,0.9,1,0.25,\n,,,,3\n"
         b = self.made("a.csv", text, "--model", "rankine", "--parameters", "young_modulus=1e5", "poisson_ratio=0.3", "tensile_strength=500", "softening_rate=2")
         model, p, records = cases.read(b)
         self.assertEqual((model, p), (1, [1e5, 0.3, 500.0, 2.0]))
@@ -117,22 +150,31 @@ class Tables(InFolder):
         b = self.made("a.json", '{"model": "drucker_prager", "parameters": {"young_modulus": 1e5, "poisson_ratio": 0.3}, "particles": []}')
         self.assertEqual(cases.read(b)[1][4:], [1e5 * 0.3 / (1.3 * 0.4), 1e5 / 2.6, 0.0, 1.0])
 
+    @unittest.skipUnless(NUMPY, "numpy is not here")
     def test_only_f(self):
         f = [1.0, 0.2, -0.1, 0.05, 0.9, 0.3, 0.0, -0.2, 1.1]
         r = cases.read(self.made("a.json", json.dumps({"model": "snow", "particles": [{"F": [f[:3], f[3:6], f[6:]]}]})))[2][0]
         self.assertEqual(r[:9], f)
         self.check_factors(f, r[9:18], r[18:21], r[21:30])
 
+    def test_without_numpy(self):
+        """Only a table with F alone asks for numpy."""
+        with unittest.mock.patch.dict(sys.modules, {"numpy": None}):
+            self.made("a.csv", "sigma1,sigma2,sigma3\n1,1,1\n", "--model", "snow")
+            f = ",".join(sheet.COLUMNS["F"]) + "\n1,0,0,0,1,0,0,0,1\n"
+            self.refused("row 2: F alone has to be decomposed, and numpy is not here: install it (Debian: python3-numpy)", "a.csv", f, "--model", "snow")
+
     def check_factors(self, f, u, s, vt):
         m = max(map(abs, f))
         for x, y in zip(cases.recompose(u, s, vt), f):
-            self.assertLessEqual(abs(x - y), m * 2.0 ** -48)
+            self.assertLessEqual(abs(x - y), m * 2.0 ** -45)
         for a in (u, vt):
             for i in range(3):
                 for j in range(3):
                     self.assertLessEqual(abs(sum(a[3 * i + k] * a[3 * j + k] for k in range(3)) - (i == j)), 2.0 ** -48)
         self.assertGreaterEqual(min(s), 0.0)
 
+    @unittest.skipUnless(NUMPY, "numpy is not here")
     def test_decompose(self):
         draw_from = random.Random(1)
         for k in range(300):
@@ -143,28 +185,76 @@ class Tables(InFolder):
                 f[3:] = [0.0] * 6
             self.check_factors(f, *sheet.decompose(f))
         self.check_factors([0.0] * 9, *sheet.decompose([0.0] * 9))
-        u, s, vt = sheet.decompose([3.0, 0, 0, 0, 0.0, 0, 0, 0, 0.5])
-        self.assertEqual((s, vt), ([3.0, 0.0, 0.5], sheet.IDENTITY))
+        self.assertEqual(sheet.decompose([3.0, 0, 0, 0, 0.0, 0, 0, 0, 0.5])[1], [3.0, 0.5, 0.0])
 
     def test_errors_say_what_and_where(self):
         good = '{"model": "snow", "particles": [{}, %s]}'
-        self.refused("a.json, line 1: this is no JSON", "a.json", "{")
+        self.refused("a.json, line 1, column 2: this is no JSON", "a.json", "{")
+        self.refused("this is no JSON of a sheet", "a.json", "[" * 100000)
         self.refused("unknown model 'ice'", "a.json", '{"model": "ice", "particles": []}')
+        self.refused("unknown name 'particle'", "a.json", '{"model": "snow", "particles": [], "particle": []}')
+        self.refused("the name 'phase' stands twice", "a.json", good % '{"phase": 1, "phase": 0}')
         self.refused("particle 1: unknown name 'sigm'", "a.json", good % '{"sigm": [1, 1, 1]}')
-        self.refused("particle 1: sigma has 2 numbers, not 3", "a.json", good % '{"sigma": [1, 1]}')
+        self.refused("particle 1, sigma: 2 numbers, not 3", "a.json", good % '{"sigma": [1, 1]}')
         self.refused("particle 1, phase: 'x' is no number", "a.json", good % '{"phase": "x"}')
         self.refused("particle 1: of the matrices only F, sigma", "a.json", good % '{"F": [1,0,0,0,1,0,0,0,1], "sigma": [1, 1, 1]}')
         self.refused("particle 1: F has a NaN", "a.json", good % '{"F": [NaN,0,0,0,1,0,0,0,1]}')
-        self.refused("201 particles", "a.json", '{"model": "snow", "particles": [%s]}' % ",".join(["{}"] * 201))
         self.refused("rankine needs tensile_strength", "a.csv", "phase\n1\n", "--model", "rankine", "--parameters", "young_modulus=1", "poisson_ratio=0", "softening_rate=1")
         self.refused("has no parameter 'young'", "a.csv", "phase\n1\n", "--model", "rankine", "--parameters", "young=1")
+        self.refused("min_epsilon stands there twice", "a.csv", "phase\n1\n", "--model", "snow", "--parameters", "min_epsilon=1", "min_epsilon=2")
         self.refused("parted by semicolons", "a.csv", "phase;alpha\n1;0\n", "--model", "snow")
-        self.refused("line 1: unknown column 'F44'", "a.csv", "F44\n1\n", "--model", "snow")
-        self.refused("line 3: 1 cells under 2 columns", "a.csv", "phase,alpha\n1,0\n1\n", "--model", "snow")
-        self.refused("line 2: sigma has 1 of its 3 entries", "a.csv", "sigma1\n1\n", "--model", "snow")
+        self.refused("row 3: 1 cells under 2 columns", "a.csv", "phase,alpha\n1,0\n1\n", "--model", "snow")
+        self.refused("row 2: sigma has 1 of its 3 entries: sigma2, sigma3", "a.csv", "sigma1\n1\n", "--model", "snow")
+        self.refused("row 3: every cell is empty", "a.csv", "phase,alpha\n1,0\n,\n", "--model", "snow")
         self.refused("add --model", "a.csv", "phase\n1\n")
         self.refused("refused by 6", "a.csv", "phase\n1\n", "--model", "drucker_prager", "--parameters", "lambda=1", "mu=1", "only_active_when_failed=0.5")
         self.refused("must end in .csv or .json", "a.txt", "")
+
+    def test_columns_are_named_exactly(self):
+        for name in ("-sigma1", "sigma2 (%)", "sigma1 [%]", " sigma1", "Sigma1", "sigma_1", "log gain", "Vt11", "F44", ""):
+            self.refused("row 1, column 2: unknown column %r" % name, "a.csv", "phase,%s\n1,1\n" % name, "--model", "snow")
+        self.refused("row 1, column 2: column 'phase' stands there twice", "a.csv", "phase,phase\n1,1\n", "--model", "snow")
+
+    def test_names_are_exact(self):
+        for name in ("Phase", "log gain", "v_t", "-phase"):
+            self.refused("particle 0: unknown name %r" % name, "a.json", json.dumps({"model": "snow", "particles": [{name: 1}]}))
+        for model in ("Snow", "drucker-prager", 0):
+            self.refused("unknown model", "a.json", json.dumps({"model": model, "particles": []}))
+        self.refused("has no parameter 'Min_Epsilon'", "a.csv", "phase\n1\n", "--model", "snow", "--parameters", "Min_Epsilon=1")
+
+    def test_numbers_are_strict(self):
+        for cell in ("1_0", "0x10", "0x3ff00000_00000000", "\uff11", "\u0661", "1d3", "1e", ".", "--1", "1.0.0", "true", "infinit", "nan1", "1 0"):
+            self.refused("row 3, column 2 (alpha): %r is no number" % cell, "a.csv", "phase,alpha\n1,0\n1,%s\n" % cell, "--model", "snow")
+        self.refused("row 2, column 1 (phase): '-1e400' is beyond the largest double", "a.csv", "phase\n-1e400\n", "--model", "snow")
+        self.refused("parameter max_epsilon: '1_0' is no number", "a.csv", "phase\n1\n", "--model", "snow", "--parameters", "max_epsilon=1_0")
+        for value in ("true", "null", "[1]", "{}"):
+            self.refused("particle 0, phase", "a.json", '{"model": "snow", "particles": [{"phase": %s}]}' % value)
+        self.refused("particle 0, phase: '1e400' is beyond", "a.json", '{"model": "snow", "particles": [{"phase": 1e400}]}')
+
+    def test_numbers_that_are_taken(self):
+        spelled = {"1": 1.0, "-1.5e-3": -0.0015, "+.5": 0.5, "5.": 5.0, " 2 ": 2.0, "0x3ff8000000000000": 1.5, "inf": math.inf, "-Infinity": -math.inf, "1e-400": 0.0}
+        for cell, x in spelled.items():
+            self.assertEqual(cases.read(self.made("a.csv", "alpha\n%s\n" % cell, "--model", "snow"))[2][0][35], x, cell)
+        self.assertTrue(math.isnan(cases.read(self.made("a.csv", "alpha\nNaN\n", "--model", "snow"))[2][0][35]))
+
+    def test_a_table_without_particles(self):
+        for text in ("phase,alpha\n", "phase,alpha", "phase\n\n\n"):
+            self.refused("a row of column names alone", "a.csv", text, "--model", "snow")
+        for text in ("", "\nphase\n1\n"):
+            self.refused("row 1: it is empty", "a.csv", text, "--model", "snow")
+
+    def test_an_over_long_cell(self):
+        self.refused("row 2, column 2 (alpha): 140000 characters", "a.csv", "phase,alpha\n1,%s\n" % ("1" * 140000), "--model", "snow")
+        self.refused("row 1, column 1: unknown column", "a.csv", "p" * 140000, "--model", "snow")
+        self.refused("row 3: this is no CSV", "a.csv", 'phase\n1\n"1', "--model", "snow")
+        with unittest.mock.patch.object(sheet, "LONGEST_FIELD", 1000):
+            self.refused("row 2: this is no CSV (field larger", "a.csv", 'phase\n%s' % ("1" * 1001), "--model", "snow")
+
+    def test_no_text(self):
+        (self.folder / "a.csv").write_bytes(b"phase\n\xff\n")
+        (self.folder / "a.json").write_bytes(b"\xff")
+        for options in (("a.csv", "b.sheet", "--model", "snow"), ("a.json", "b.sheet")):
+            self.one_sentence(ran("sheet.py", "make", *options, cwd=self.folder), "no text in UTF-8")
 
     def test_a_refused_sheet_is_told(self):
         for path in SHEETS:
@@ -178,14 +268,123 @@ class Tables(InFolder):
                 self.assertIn(want + "\n", out)
 
 
+class Sheets(InFolder):
+    """How many particles, and where the bytes go."""
+
+    ROWS = "alpha\n" + "".join("%d\n" % k for k in range(401))
+
+    def alphas(self, name):
+        return [r[35] for r in cases.read((self.folder / name).read_bytes())[2]]
+
+    def test_too_many_are_refused_before_they_are_worked(self):
+        rows = "phase\n" + "1\n" * 20000
+        particles = '{"model": "snow", "particles": [%s]}' % ",".join(["{}"] * 20000)
+        for name, text, options in (("a.csv", rows, ("--model", "snow")), ("a.json", particles, ())):
+            with unittest.mock.patch.object(sheet, "record", wraps=sheet.record) as record:
+                self.refused("over 200 particles, and a sheet takes 200: add --split", name, text, *options)
+            self.assertLessEqual(record.call_count, 201)
+
+    def test_the_most_is_taken(self):
+        self.assertEqual(len(cases.read(self.made("a.csv", "phase\n" + "1\n" * 200, "--model", "snow"))[2]), 200)
+
+    def test_split(self):
+        status, out, err = quiet(sheet.main, "make", self.file("a.csv", self.ROWS), self.folder / "n.sheet", "--model", "snow", "--split")
+        self.assertEqual((status, err), (0, ""))
+        self.assertIn("n-00003.sheet is the last of 3 sheets: snow, 401 particles", out)
+        self.assertEqual(sorted(p.name for p in self.folder.iterdir()), ["a.csv", "n-00001.sheet", "n-00002.sheet", "n-00003.sheet"])
+        parts = [self.alphas("n-%05d.sheet" % n) for n in (1, 2, 3)]
+        self.assertEqual([len(p) for p in parts], [200, 200, 1])
+        self.assertEqual(sum(parts, []), [float(k) for k in range(401)])
+
+    def test_split_of_a_json(self):
+        particles = [{"alpha": k} for k in range(201)]
+        self.file("a.json", json.dumps({"model": "snow", "particles": particles}))
+        self.assertEqual(quiet(sheet.main, "make", self.folder / "a.json", self.folder / "n.sheet", "--split")[0], 0)
+        self.assertEqual(self.alphas("n-00002.sheet"), [200.0])
+
+    def test_an_earlier_split_stays(self):
+        self.file("n-00009.sheet", "")
+        status, _, err = quiet(sheet.main, "make", self.file("a.csv", self.ROWS), self.folder / "n.sheet", "--model", "snow", "--split")
+        self.assertEqual(status, 1)
+        self.assertIn("n-00009.sheet is there from an earlier split", err)
+        self.assertFalse((self.folder / "n-00001.sheet").exists())
+
+    def test_a_split_that_is_refused_leaves_nothing(self):
+        self.refused("row 403, column 1 (alpha): 'x' is no number", "a.csv", self.ROWS + "x\n", "--model", "snow", "--split")
+        self.assertEqual([p.name for p in self.folder.iterdir()], ["a.csv"])
+
+    def test_a_full_disk(self):
+        table = self.file("a.csv", self.ROWS[:400])
+        whole = self.folder / "a.sheet"
+        make = ("make", table, whole, "--model", "snow")
+        self.one_sentence(ran("sheet.py", "make", table, "/dev/full", "--model", "snow"), "/dev/full: cannot be written (No space left on device)")
+        with open("/dev/full", "wb") as full:
+            for arguments in (make, ("make", table, "-", "--model", "snow"), ("print", whole), ("print", whole, "--json")):
+                self.one_sentence(ran("sheet.py", *arguments, stdout=full), "standard output: cannot be written (No space left on device)")
+        before = whole.read_bytes()
+
+        def limited():
+            resource.setrlimit(resource.RLIMIT_FSIZE, (1024, 1024))
+        for arguments in (make, (*make, "--split")):
+            self.one_sentence(ran("sheet.py", *arguments, preexec_fn=limited), "cannot be written (File too large)")
+        self.assertEqual(sorted(p.name for p in self.folder.iterdir()), ["a.csv", "a.sheet"])
+        self.assertEqual(whole.read_bytes(), before, "what was there stays where the new one cannot be written whole")
+
+    def test_a_closed_stream(self):
+        for closed, arguments, words in ((0, ("print", "-"), "standard input is closed"), (1, ("print", SAMPLES[0]), "standard output is closed")):
+            self.one_sentence(ran("sheet.py", *arguments, preexec_fn=lambda: os.close(closed)), words)
+
+    def test_standard_input_and_output(self):
+        want = SAMPLES[0].read_bytes()
+        how = {"cwd": self.folder}
+        text = ran("sheet.py", "print", "-", "--json", input=want, **how).stdout
+        self.assertEqual(ran("sheet.py", "make", "-", "-", input=text, **how).stdout, want)
+        made = ran("sheet.py", "make", "-", "-", "--model", "snow", input=b"phase\n1\n", **how)
+        self.assertEqual(made.stdout, (HERE.parent / "samples" / "snow.sheet").read_bytes())
+        self.assertEqual(made.stderr, b"standard output: snow, 1 particles, 314 bytes\n")
+        self.one_sentence(ran("sheet.py", "make", "-", "-", "--model", "snow", "--split", input=b"phase\n1\n", **how), "- is one output")
+        self.one_sentence(ran("sheet.py", "make", "-", "-", "--model", "snow", input=b"phase\n1_0\n", **how), "standard input, row 2, column 1 (phase)")
+        self.assertEqual(list(self.folder.iterdir()), [], "no file is called -")
+
+    def test_a_name_that_cannot_be_read_or_written(self):
+        self.one_sentence(ran("sheet.py", "print", "no/such.sheet"), "no/such.sheet: cannot be read (No such file or directory)")
+        self.one_sentence(ran("sheet.py", "print", self.folder), "cannot be read (Is a directory)")
+        table = self.file("a.csv", "phase\n1\n")
+        for out in (self.folder, self.folder / "no" / "such.sheet"):
+            self.one_sentence(ran("sheet.py", "make", table, out, "--model", "snow"), "cannot be written")
+
+    def test_an_endless_sheet(self):
+        self.one_sentence(ran("sheet.py", "print", "/dev/zero"), "/dev/zero: sheet refused 7")
+
+
 class Pictures(InFolder):
-    def drawn(self, path, *options):
+    def drawn(self, path, *options, by=("--second",)):
         out = self.folder / "out.svg"
-        status, _, err = quiet(draw.main, path, out, *options)
+        out.unlink(missing_ok=True)
+        status, _, err = quiet(draw.main, path, out, *options, *by)
         return status, err, xml.etree.ElementTree.parse(out).getroot() if out.exists() else None
+
+    def drawn_of(self, *sheet_of, options=()):
+        """The picture of a sheet that is made here."""
+        path = self.folder / "in.sheet"
+        path.write_bytes(cases.sheet(*sheet_of))
+        status, err, root = self.drawn(path, *options)
+        self.assertEqual((status, err), (0, ""))
+        return root
 
     def said(self, root):
         return [e.text for e in root.iter("{http://www.w3.org/2000/svg}text")]
+
+    def told(self, root):
+        """All that the picture says, as one line."""
+        return " ".join(self.said(root))
+
+    def crosses(self, root):
+        """How many particles are marked as refused, less the mark in the legend."""
+        return sum(e.get("stroke") == draw.REFUSED for e in root.iter("{http://www.w3.org/2000/svg}line")) // 2 - 1
+
+    def rings(self, root):
+        return sum(e.get("stroke") in (draw.GREY, draw.STORED) for e in root.iter("{http://www.w3.org/2000/svg}circle")) - 3  # in the legend
 
     def test_samples_are_those_of_the_script(self):
         for name in samples.SAMPLES:
@@ -204,23 +403,71 @@ class Pictures(InFolder):
                 for e in root.iter("{http://www.w3.org/2000/svg}circle"):
                     self.assertTrue(0 <= float(e.get("cx")) <= draw.PICTURE and 0 <= float(e.get("cy")) <= float(root.get("height")))
 
+    def test_a_nan_has_no_place(self):
+        """A NaN in sigma2 or sigma3 was passed over by min and max, and stood as a cross inside the box."""
+        self.file("a.csv", "sigma1,sigma2,sigma3\n0.98,nan,1\n")
+        made = self.folder / "a.sheet"
+        self.assertEqual(quiet(sheet.main, "make", self.folder / "a.csv", made, "--model", "snow")[0], 0)
+        status, err, root = self.drawn(made)
+        self.assertEqual((status, err, self.crosses(root), self.rings(root)), (0, "", 0, 0))
+        self.assertIn("refused by 1: an input is NaN or infinite; no place in the plane particle 0: F22 is nan, sigma2 is nan", self.told(root))
+
+    def test_nothing_that_is_not_finite_has_a_place(self):
+        values = {"snow": cases.SNOW, "rankine": [1e5, 0.3, 500.0, 2.0], "drucker_prager": [0.6, 0.15, 0.2, 0.17, 5e4, 4e4, 0.0, 1.0], "nacc": [1e4, 0.3, 0.05, 1.0, 3.0, 2.36]}
+        for model, p in values.items():
+            plane = draw.PLANES[model](p)
+            self.assertIsNotNone(draw.place(plane, cases.record((0.98, 0.99, 1.0)), False))
+            for place in range(36):
+                for x in NOT_FINITE:
+                    for after in (False, True):
+                        self.assertIsNone(draw.place(plane, cases.broken(place, x), after), (model, place, x))
+            broken = [cases.broken(place, x) for place in range(36) for x in NOT_FINITE]
+            root = self.drawn_of([cases.record((0.98, 0.99, 1.0))] + broken, p, sheet.MODELS.index(model))
+            self.assertEqual(self.crosses(root), 0, model)
+            for place, name in enumerate(sheet.PLACES):
+                self.assertIn("particle %d: %s is nan" % (1 + 3 * place, name), self.told(root), model)
+
+    def test_a_parameter_that_is_not_finite(self):
+        root = self.drawn_of([cases.record((0.98, 0.99, 1.0))] * 5, [0.025, math.nan, 10.0])
+        self.assertEqual((self.crosses(root), self.rings(root)), (0, 0))
+        self.assertIn("particles 0-4: parameter max_epsilon is nan", self.told(root))
+        self.assertIn("No particle of this sheet has a place in the plane.", self.said(root))
+
+    def test_answers_that_refuse_by_1_take_the_place(self):
+        answers = self.file("answers", "particles 1\n0 refused 1\nend\n")
+        path = HERE.parent / "samples" / "snow.sheet"
+        status, _, root = self.drawn(path, "--answers", answers)
+        self.assertEqual((status, self.crosses(root), self.rings(root)), (1, 0, 0))
+        self.assertIn("refused by 1: an input is NaN or infinite; no place in the plane particle 0", self.told(root))
+
     def test_outcomes_are_marked(self):
         for path in SAMPLES:
-            model, p, records = sheet.load(path)
-            codes = [draw.by_second(sheet.MODELS.index(model), p, None, r).code for r in records]
+            particles = draw.by_second(path.read_bytes(), None)
+            codes = [q.code for q in particles]
             status, _, root = self.drawn(path)
             grey = [e for e in root.iter("{http://www.w3.org/2000/svg}circle") if e.get("fill") == draw.GREY]
             self.assertEqual(len(grey), codes.count(0) + 1, path.name)  # one in the legend
-            for k, code in enumerate(codes):
-                self.assertEqual(code == 2, any(t.startswith("%d by " % k) for t in self.said(root)), path.name)
+            self.assertEqual("refused by" in self.told(root), 2 in codes)
+            if 2 in codes:
+                self.assertIn("particle 12: phase is nan", self.told(root))
+                self.assertRegex(self.told(root), "refused by 2: a function .* particle 27")
+
+    def test_numbers_in_short(self):
+        self.assertEqual([draw.ranges(x) for x in ([], [3], [1, 2, 3, 5, 8, 9])], ["", "3", "1-3, 5, 8-9"])
+
+    def test_a_long_list_stays_in_the_picture(self):
+        root = self.drawn_of([cases.broken(k % 36, NOT_FINITE[k % 3]) for k in range(200)])
+        for e in root.iter("{http://www.w3.org/2000/svg}text"):
+            self.assertLess(float(e.get("y")), float(root.get("height")))
 
     def test_stored_particles_end_on_their_surface(self):
         for name, distance in (("rankine", 1e-12), ("drucker_prager", 1e-12), ("snow_slope", 1e-15)):
-            model, p, records = sheet.load(HERE.parent / "samples" / (name + ".sheet"))
+            data = (HERE.parent / "samples" / (name + ".sheet")).read_bytes()
+            model, p, _ = sheet.load(data, name)
             plane = draw.PLANES[model](p)
             seen = 0
-            for r in records:
-                q = draw.by_second(sheet.MODELS.index(model), p, None, r)
+            for q in draw.by_second(data, None):
+                r = q.before
                 if q.code != 1:
                     continue
                 seen += 1
@@ -236,11 +483,12 @@ class Pictures(InFolder):
             self.assertGreater(seen, 10)
 
     def test_nacc_inside_is_untouched(self):
-        model, p, records = sheet.load(HERE.parent / "samples" / "nacc.sheet")
+        data = (HERE.parent / "samples" / "nacc.sheet").read_bytes()
+        model, p, _ = sheet.load(data, "nacc")
         plane = draw.PLANES[model](p)
         codes = []
-        for r in records:
-            q = draw.by_second(3, p, None, r)
+        for q in draw.by_second(data, None):
+            r = q.before
             if q.code == 2:
                 continue
             x, y = plane.point(r, False)
@@ -255,8 +503,7 @@ class Pictures(InFolder):
 
     def test_answers_that_differ_are_told(self):
         path = HERE.parent / "samples" / "rankine.sheet"
-        _, p, records = sheet.load(path)
-        particles, _ = draw.worked("rankine", p, records, None)
+        particles = draw.by_second(path.read_bytes(), None)
         lines = ["particles 40"] + [draw.line_of(k, q, False) for k, q in enumerate(particles)] + ["end"]
         self.assertEqual(self.drawn(path, "--answers", self.file("good", "\n".join(lines)))[:2], (0, ""))
         for wrong in ("3 refused 1", "3 stored 0000000000000000"):
@@ -265,16 +512,17 @@ class Pictures(InFolder):
             self.assertEqual(status, 1)
             self.assertIn("at particle 3.", err)
             self.assertTrue(any("differ" in t for t in self.said(root)))
-            self.assertEqual(wrong.startswith("3 refused"), "3 by 1" in self.said(root), "the outcomes drawn are those printed")
+            self.assertEqual(wrong.startswith("3 refused"), "particle 3" in self.said(root), "the outcomes drawn are those printed")
         for cut in (lines[:-1], lines[:7], ["sheet refused 4"], [], lines[:4] + ["3 stored "] + lines[5:], lines[:4] + ["4 untouched"] + lines[5:]):
             self.assertEqual(self.drawn(path, "--answers", self.file("cut", "\n".join(cut)))[0], 1)
 
-    @unittest.skipUnless(PROGRAM.exists(), "the program is not built")
+    @unittest.skipUnless(PROGRAM, "the program is not built")
     def test_the_program_agrees(self):
-        for path in SAMPLES:
-            status, err, root = self.drawn(path, "--program", PROGRAM)
-            self.assertEqual((status, err), (0, ""), path.name)
-            self.assertTrue(any("Outcomes: slope." in t for t in self.said(root)))
+        with unittest.mock.patch.dict(os.environ, {"PASOLETU_SLOPE": str(PROGRAM)}):
+            for path in SAMPLES:
+                status, err, root = self.drawn(path, "--program", HERE.parent / "bin" / "slope")
+                self.assertEqual((status, err), (0, ""), path.name)
+                self.assertIn("Outcomes: slope.", self.told(root))
 
     def test_failed_particles_are_marked(self):
         path = HERE.parent / "samples" / "rankine.sheet"
@@ -300,11 +548,44 @@ class Pictures(InFolder):
         self.assertIn("install one", err)
         self.assertIsNotNone(root)
 
-    def test_a_library_that_is_not_there(self):
-        with unittest.mock.patch.dict(os.environ, {"PASOLETU_LIB": "no/such/library.so"}):
-            status, err, root = self.drawn(SAMPLES[0])
+    def test_a_converter_that_fails(self):
+        with unittest.mock.patch("shutil.which", return_value="rsvg-convert"), unittest.mock.patch("subprocess.run") as run:
+            run.return_value.returncode = 1
+            status, err, _ = self.drawn(SAMPLES[0], "--png")
         self.assertEqual(status, 1)
-        self.assertIn("cannot be opened", err)
+        self.assertIn("rsvg-convert did not write", err)
+
+    def test_a_library_that_is_not_there(self):
+        with unittest.mock.patch.dict(os.environ), unittest.mock.patch.object(shell, "package", side_effect=shell.NoLibrary("none")):
+            os.environ.pop("PASOLETU_LIB", None)
+            status, err, root = self.drawn(SAMPLES[0], by=())
+            self.assertEqual(status, 0)
+            for told in (err, self.told(root)):
+                self.assertIn("The proved library is not here (./install.sh PREFIX makes it", told)
+                self.assertIn("tools/cases.py", told)
+            os.environ["PASOLETU_LIB"] = "named"
+            status, err, root = self.drawn(SAMPLES[0], by=())
+            self.assertEqual((status, root), (1, None), "one that is named must be there")
+
+    def test_a_named_library_that_is_not_there(self):
+        out = self.folder / "out.svg"
+        self.one_sentence(ran("draw.py", SAMPLES[0], out, env=os.environ | {"PASOLETU_LIB": "no/such/library.so"}), "no/such/library.so")
+        self.assertFalse(out.exists())
+
+    def test_the_picture_says_who_worked(self):
+        self.assertIn("These records are not the proved library's: they are worked by the second implementation", self.told(self.drawn(SAMPLES[0])[2]))
+
+    def test_standard_input_and_output(self):
+        want = ran("draw.py", SAMPLES[0], "-", "--second").stdout.replace(SAMPLES[0].name.encode(), b"standard input")
+        got = ran("draw.py", "-", "-", "--second", input=SAMPLES[0].read_bytes(), cwd=self.folder)
+        self.assertEqual((got.returncode, got.stdout), (0, want))
+        self.assertEqual(list(self.folder.iterdir()), [])
+        self.one_sentence(ran("draw.py", SAMPLES[0], "-", "--png", "--second"), "must end in .svg")
+        with open("/dev/full", "wb") as full:
+            self.one_sentence(ran("draw.py", SAMPLES[0], "-", "--second", stdout=full), "No space left on device")
+
+    def test_numbers_of_options_are_strict(self):
+        self.assertIn(b"'1_0' is no number", ran("draw.py", SAMPLES[0], "-", "--limits", "1_0", "1").stderr)
 
 
 class Second(unittest.TestCase):
@@ -327,53 +608,109 @@ class Second(unittest.TestCase):
         self.assertEqual(cases.principal(law, broken), [0.0, 0.0, 0.0])
 
 
-@unittest.skipUnless(os.environ.get("PASOLETU_LIB"), "PASOLETU_LIB names no library")
-class ByLibrary(unittest.TestCase):
+@unittest.skipUnless(LIBRARY, "there is no proved library")
+class ByLibrary(InFolder):
     def close(self, a, b, where, distance=1e-9):
         for k, (x, y) in enumerate(zip(a, b)):
             self.assertTrue(x == y or (x != x and y != y) or abs(x - y) <= distance * max(1.0, abs(x)), "%s, float %d: %r, %r" % (where, k, x, y))
 
+    def agree(self, a, b, where, distance=1e-9):
+        self.assertEqual((a.code, a.failed), (b.code, b.failed), where)
+        if a.code == 1:
+            self.close([a.value], [b.value], where, distance)
+        else:
+            self.assertEqual(a.value, b.value, where)
+        self.close(a.after, b.after, where, distance)
+        if a.code == 2:
+            self.assertEqual(struct.pack("<36d", *a.after), struct.pack("<36d", *a.before), where)
+
     def test_library_and_second_agree(self):
-        lib = library.named()
         failure = ([2e4, 1.5e4], [1.0, 0.9, 576923.0, 384615.0])
         seen = {(f, c): 0 for f in (False, True) for c in range(3)}
         failed = 0
         for path in SHEETS + SAMPLES:
             if not readable(path):
                 continue
-            model, p, records = sheet.load(path)
-            n = sheet.MODELS.index(model)
-            for k, r in enumerate(records):
-                for f in (None, failure):
-                    a, b = draw.by_library(lib, n, p, f, r), draw.by_second(n, p, f, r)
-                    where = "%s particle %d" % (path.name, k)
-                    self.assertEqual((a.code, a.failed), (b.code, b.failed), where)
-                    if a.code != 1:
-                        self.assertEqual(a.value, b.value, where)
-                    self.close(a.after, b.after, where)
-                    if a.code == 2:
-                        self.assertEqual(struct.pack("<36d", *a.after), struct.pack("<36d", *r), where)
+            for f in (None, failure):
+                pairs = zip(draw.by_library(LIBRARY, path.read_bytes(), f), draw.by_second(path.read_bytes(), f))
+                for k, (a, b) in enumerate(pairs):
+                    self.agree(a, b, "%s particle %d" % (path.name, k))
                     seen[f is not None, a.code] += 1
                     failed += a.failed
         self.assertTrue(all(seen.values()) and failed, (seen, failed))
 
     def test_drawn_records_agree(self):
         """4,000 records drawn at random: each outcome, refusal and verdict, and what is stored within 1e-7."""
-        lib, d, seen = library.named(), random.Random(5), set()
+        d, seen = random.Random(5), set()
         for _ in range(4000):
             model, failure = d.randrange(4), None
             p, r = drawn_parameters(d)[model], drawn_record(d)
             if d.random() < 0.5:
                 size = 10.0 ** d.uniform(1, 7)
                 failure = [size * d.random(), size * d.random()], [float(d.randint(0, 1)), 0.9, size * d.uniform(0, 2), size]
-            a, b = draw.by_library(lib, model, p, failure, r), draw.by_second(model, p, failure, r)
-            where = repr((model, p, failure, r))
-            self.assertEqual((a.code, a.failed), (b.code, b.failed), where)
-            if a.code != 1:
-                self.assertEqual(a.value, b.value, where)
-            self.close(a.after, b.after, where, 1e-7)
+            data = cases.sheet([r], p, model)
+            [a], [b] = draw.by_library(LIBRARY, data, failure), draw.by_second(data, failure)
+            self.agree(a, b, repr((model, p, failure, r)), 1e-7)
             seen.add((model, a.code))
         self.assertEqual(len(seen), 11)  # three outcomes a law, but Snow leaves nothing untouched
+
+    def test_it_is_drawn_by_default(self):
+        for path in SAMPLES:
+            out = self.folder / "out.svg"
+            self.assertEqual(quiet(draw.main, path, out)[::2], (0, ""))
+            self.assertIn("Outcomes and the records after the run: the proved library.", out.read_text())
+            self.assertNotIn("second implementation", out.read_text())
+
+    def test_measurements(self):
+        process = ran("measure/surface.py", 200, timeout=300)
+        self.assertEqual(process.returncode, 0, process)
+        self.assertIn(b"200 records in the premises, 0 do not keep the promise", process.stdout)
+        if importlib.util.find_spec("mpmath"):
+            process = ran("measure/accuracy.py", 20, timeout=300)
+            self.assertEqual(process.returncode, 0, process)
+            self.assertEqual(process.stdout.count(b" 20 points"), 9)
+
+
+class Tools(InFolder):
+    """What holds for every tool."""
+
+    def setUp(self):
+        super().setUp()
+        prover = self.file("rt", "#!/bin/sh\necho proved >>%s\nexit 1\n" % (self.folder / "proved"))
+        prover.chmod(0o755)
+        self.env = os.environ | {"PATH": "%s:%s" % (self.folder, os.environ["PATH"])}
+
+    def tearDown(self):
+        self.assertFalse((self.folder / "proved").exists(), "a tool has called the prover")
+        super().tearDown()
+
+    def test_help_answers_at_once(self):
+        for tool in TOOLS:
+            process = ran(tool, "--help", env=self.env, timeout=10)
+            self.assertEqual((process.returncode, process.stderr), (0, b""), tool.name)
+            self.assertIn("  tools/%s" % tool.relative_to(HERE), process.stdout.decode())
+
+    def test_measurements_without_a_library(self):
+        for tool in ("measure/accuracy.py", "measure/surface.py"):
+            process = ran(tool, 10, env=self.env | {"PASOLETU_LIB": "no/such/library.so"})
+            self.assertEqual(process.returncode, 1)
+            self.assertRegex(process.stderr.decode(), "^.*(install.sh PREFIX|python3-mpmath).*\n$")
+
+    def test_a_program_that_is_not_there(self):
+        self.one_sentence(ran("faults.py", "--program", "no/such", env=self.env), "no/such is no program that can be run")
+        self.one_sentence(ran("cases.py", "check", "--program", "no/such", env=self.env), "no/such: cannot be run")
+
+    def test_cases(self):
+        process = ran("cases.py", "check", env=self.env)
+        self.assertEqual((process.returncode, process.stderr), (0, b""))
+        self.assertIn(b"the gate's: 383 lines, 383 expected, 0 differ", process.stdout)
+        self.assertEqual(process.stdout.count(b"0 differ"), 2 if os.environ.get("PASOLETU_SLOPE") else 1)
+
+    def test_cases_with_a_wrong_program(self):
+        self.assertEqual(ran("cases.py", "check", "--program", "/bin/true", env=self.env).returncode, 1)
+
+    def test_samples_that_cannot_be_written(self):
+        self.one_sentence(ran("samples.py", self.folder / "no", env=self.env), "cannot be written")
 
 
 def drawn_parameters(d):

@@ -1,5 +1,5 @@
 /* Checks header and library together: every call of pasoletu.h, its lengths, and that a refusal writes nothing.
- * The values are document 01's (section 7's example; section 8: P1 to P12) and such as are worked by hand.
+ * The values are those of docs/RULES.md (section 7's example; section 8: P1 to P12) and such as are worked by hand.
  * The last line is 'N passed, M failed'. */
 #include <pasoletu.h>
 #include <stdio.h>
@@ -323,6 +323,11 @@ static void passes(void)
     CHECK(pasoletu_pass(PASOLETU_SNOW, bad, 3, r, N * 36, a, N * 2, c, 3) == 0);
     CHECK(a[0] == PASOLETU_REFUSED && a[1] == 1 && a[6] == PASOLETU_REFUSED && a[7] == 1 && c[2] == 4);
 
+    /* No particles: the pointers are not null, and the counts are 0. */
+    c[0] = c[1] = c[2] = 99;
+    CHECK(pasoletu_pass(PASOLETU_SNOW, SNOW, 3, r, 0, a, 0, c, 3) == 0);
+    CHECK(c[0] == 0 && c[1] == 0 && c[2] == 0);
+
     /* With failure: particle 2 as it came has the principal stresses 10, 6, 6; particle 0 none. */
     memcpy(r, was, sizeof r);
     CHECK(pasoletu_pass_with_failure(PASOLETU_SNOW, SNOW, 3, limits, 2, odd, 4, r, N * 36, a, N * 2, c, 4) == 6);
@@ -375,10 +380,28 @@ static void sheets(void)
     CHECK(pasoletu_run_sheet(s, whole, r, 36, a, 2, c, 4) == 5);
 }
 
+/* WANTED_VERSION is what the file VERSION says. */
+static void version(void)
+{
+    char numbers[32];
+    CHECK(strcmp(PASOLETU_VERSION, WANTED_VERSION) == 0);
+    CHECK(strcmp(pasoletu_version(), PASOLETU_VERSION) == 0);
+    sprintf(numbers, "%d.%d.%d", PASOLETU_VERSION_MAJOR, PASOLETU_VERSION_MINOR, PASOLETU_VERSION_PATCH);
+    CHECK(strcmp(numbers, PASOLETU_VERSION) == 0);
+}
+
+static void refusal_texts(void)
+{
+    for (uint64_t k = 0; k <= PASOLETU_LENGTH; k++)
+        CHECK(strchr(pasoletu_refusal_text(k), ':') != NULL);
+    CHECK(strcmp(pasoletu_refusal_text(4), "the sheet ends early: send the sheet again, whole") == 0);
+    CHECK(strncmp(pasoletu_refusal_text(99), "no refusal of this library", 26) == 0);
+}
+
 int main(void)
 {
-    for (uint64_t k = 0; k < 10; k++)
-        CHECK(strlen(pasoletu_refusal_text(k)) > 10);
+    version();
+    refusal_texts();
     elementary();
     physics();
     neo_hookean();

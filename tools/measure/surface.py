@@ -1,27 +1,25 @@
 #!/usr/bin/env python3
 """Demand 3 run: how near its surface Rankine's update comes, in exact whole numbers.
 
-  tools/measure/surface.py [COUNT] [SEED]   builds target/staticlib/libhost.a and tools/measure/surface.c, draws COUNT records (default
-                                            1,100,000; over a million lie exactly in the premises) and prints, for each
-                                            branch, the worst distance of the largest principal stress from s, in
-                                            units of (2mu + 3lambda)/2^44. Needs rt and cc
+  tools/measure/surface.py [COUNT] [SEED]
+
+Draws COUNT records (default 1,000,000) exactly in the premises, half of them at a corner, and prints for each branch the worst distance of the
+largest principal stress from s, in units of (2mu + 3lambda)/2^44; the status is 1 where the promise is broken. Needs the library
+(PASOLETU_LIB, else the one that the Python package finds).
 """
 import math
 import pathlib
 import struct
-import subprocess
 import sys
 import time
 
-top = pathlib.Path(__file__).resolve().parent.parent.parent
-driver = top / "target" / "surface"
-ROW = struct.Struct("<9dQ2d2Q")
+sys.path[:0] = [str(pathlib.Path(__file__).resolve().parent.parent), str(pathlib.Path(__file__).resolve().parent)]
+import draws  # noqa: E402
+import shell  # noqa: E402
+
 BRANCHES = ["untouched", "one moves", "two move", "all move"]
-
-
-def build():
-    subprocess.run(["rt", "staticlib", "host"], cwd=top, check=True, stdout=subprocess.DEVNULL)
-    subprocess.run(["cc", "-O2", "-o", driver, top / "tools/measure/surface.c", top / "target/staticlib/libhost.a", "-lm"], check=True)
+SIGMA, HARDENING = slice(18, 21), 32
+ONE = 1 << 1074
 
 
 def exact(x):
@@ -35,38 +33,120 @@ def largest(mu, la, strains):
     return la * sum(e) + 2 * mu * max(e)
 
 
-def main():
-    build()
-    count = int(sys.argv[1]) if len(sys.argv) > 1 else 1100000
-    seed = sys.argv[2] if len(sys.argv) > 2 else "1"
-    one = exact(1.0)
-    above, below, seen, bad = [0.0] * 4, [0.0] * 4, [0] * 4, 0
-    run = subprocess.Popen([driver, str(count), seed], stdout=subprocess.PIPE)
-    shown = time.time()
-    for n in range(count):
-        row = ROW.unpack(run.stdout.read(ROW.size))
-        mu, la, s = exact(row[0]), exact(row[1]), exact(row[2])
-        before, after, code, strength, hardening, kept, follows = row[3:6], row[6:9], *row[9:]
-        far = 2 * mu + 3 * la
-        if abs(s) > 4 * far:
+# ---- what is drawn
+
+
+def modulus(d, least):
+    kind = d.one_of(4)
+    return (least, 2.0 ** 40)[kind] if kind < 2 else 2.0 ** d.between(0.0, 40.0)
+
+
+def strains(d):
+    e = [d.between(-4.0, 4.0) for _ in range(3)]
+    kind = d.one_of(8)
+    if kind < 2:
+        e[d.one_of(3)] = (4.0, -4.0)[kind]
+    elif kind == 2:
+        e = [(-4.0, 4.0)[d.one_of(2)]] * 3
+    elif kind == 3:
+        e[d.one_of(3)] = e[d.one_of(3)]
+    elif kind == 4:
+        e = [e[0]] * 3
+    elif kind == 5:
+        e = [x * 2.0 ** -40 for x in e]
+    return e
+
+
+def strength(d, mu, la, e):
+    """A softened strength: anywhere, at an end, or beside one of the three tests."""
+    c, b, a = sorted(e)
+    k, total, beside = 2 * mu + 3 * la, sum(e), 1 + math.ldexp(d.between(-1.0, 1.0), -d.one_of(53))
+    corners = [4 * k, -4 * k, (la * total + 2 * mu * a) * beside, ((2 * mu + la) * b + la * (total - a)) * beside, k * c * beside, 0.0]
+    kind = d.one_of(8)
+    return corners[kind] if kind < len(corners) else d.between(-4.0, 4.0) * k
+
+
+def stretch(ours, e):
+    """A sigma whose logarithm, ours, is near e and in -4 to 4; and that logarithm."""
+    x = math.exp(e)
+    log = ours.ln(x)
+    while abs(log) > 4.0:
+        x = math.nextafter(x, 1.0)
+        log = ours.ln(x)
+    return x, log
+
+
+class Drawn:
+    """A record and a law to update it."""
+
+    def __init__(self, pasoletu, d):
+        self.ours = pasoletu
+        mu, la = modulus(d, 1.0), modulus(d, 0.0) if d.one_of(4) else 0.0
+        young, poisson = mu * (3 * la + 2 * mu) / (la + mu), la / (2 * (la + mu))
+        self.la, self.mu = pasoletu.utils.lame_lambda_mu(young, poisson)
+        sigma, self.before = zip(*[stretch(pasoletu.elementary, e) for e in strains(d)])
+        self.was = [d.between(-1.0, 1.0) for _ in range(30)] + [1.0] * 6
+        self.was[SIGMA] = sigma
+        self.was[HARDENING] = hardening = 1.0 if d.one_of(2) else 2.0 ** d.between(-3.0, 20.0)
+        tensile = strength(d, self.mu, self.la, self.before) + (hardening - 1.0)
+        self.s = tensile - (hardening - 1.0)
+        self.law = pasoletu.RankinePlasticity(young, poisson, tensile, d.between(-1.0, 10.0) if d.one_of(4) else 0.0)
+
+    def in_premises(self):
+        moduli = 1.0 <= self.mu <= 2.0 ** 40 and 0.0 <= self.la <= 2.0 ** 40
+        return moduli and abs(exact(self.s)) <= 4 * (2 * exact(self.mu) + 3 * exact(self.la))
+
+    def update(self):
+        """Works the record; the branch, the gap to the surface in its unit, and whether the promise is kept."""
+        particle = self.ours.Particle.from_floats(self.was)
+        stored = isinstance(self.law.update_particle(particle), self.ours.Stored)
+        record, after = particle.floats(), self.law.project(self.before, self.s)
+        mu, la = exact(self.mu), exact(self.la)
+        gap = (largest(mu, la, after if stored else self.before) - exact(self.s) * ONE) << 44
+        unit = (2 * mu + 3 * la) * ONE
+        if not stored:
+            return 0, gap / unit, gap <= unit and struct.pack("<36d", *record) == struct.pack("<36d", *self.was)
+        follows = [self.ours.elementary.exp(x) for x in after] == record[SIGMA] and record[HARDENING] <= self.law.tensile_strength
+        return max(1, sum(x != y for x, y in zip(self.before, after))), gap / unit, follows and abs(gap) <= unit
+
+
+def drawn_in_premises(pasoletu, d):
+    """The next draw, or nothing where it lies outside."""
+    try:
+        drawn = Drawn(pasoletu, d)
+    except pasoletu.Refused:
+        return None
+    return drawn if drawn.in_premises() else None
+
+
+def measure(args):
+    pasoletu, d = shell.package(), draws.Draws(args.seed)
+    above, below, seen, bad, said = [0.0] * 4, [0.0] * 4, [0] * 4, 0, time.time()
+    while sum(seen) < args.count:
+        drawn = drawn_in_premises(pasoletu, d)
+        if drawn is None:
             continue
-        moved = sum(x != y for x, y in zip(before, after)) if code else 0
-        gap = (largest(mu, la, after if code else before) - s * one) << 44
-        d = gap / (far * one)
-        branch = 0 if code == 0 else max(1, moved)
+        try:
+            branch, gap, kept = drawn.update()
+        except pasoletu.Refused as refusal:
+            raise shell.Wrong("a record in the premises is refused: %s: %s, %s" % (refusal, drawn.law, drawn.was))
         seen[branch] += 1
-        above[branch], below[branch] = max(above[branch], d), max(below[branch], -d if code else 0.0)
-        good = gap <= far * one and (kept if code == 0 else -gap <= far * one and follows and hardening <= strength)
-        if not good:
+        above[branch], below[branch] = max(above[branch], gap), max(below[branch], -gap if branch else 0.0)
+        if not kept:
             bad += 1
-            print("NOT KEPT:", row)
-        if time.time() - shown > 5:
-            shown = time.time()
-            print("%d of %d" % (n + 1, count), file=sys.stderr, flush=True)
+            print("NOT KEPT:", drawn.law, drawn.was)
+        if time.time() - said > 5:
+            said = time.time()
+            print("%d of %d" % (sum(seen), args.count), file=sys.stderr, flush=True)
     for k, name in enumerate(BRANCHES):
         print("%-10s %9d records, worst %.4f above, %.4f below" % (name, seen[k], above[k], below[k]))
     print("%d records in the premises, %d do not keep the promise; distances in units of (2mu + 3lambda)/2^44" % (sum(seen), bad))
-    return 1 if bad or run.wait() or 0 in seen else 0
+    return 1 if bad or 0 in seen else 0
 
 
-sys.exit(main())
+def main(argv=None):
+    return shell.run("surface.py", measure, draws.arguments(__doc__, 1000000, argv))
+
+
+if __name__ == "__main__":
+    sys.exit(main())

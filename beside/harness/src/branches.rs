@@ -1,74 +1,74 @@
 //! Which branches of section 5 a call took, told by the lines of the text that it came through and by the numbers it compared there.
-use crate::calls;
+use crate::calls::{self, *};
 use crate::inside::{watch, Answer};
 use nalgebra::hooks::{Function, Op};
 
 /// Every branch of every call that has some, in the order of the table. The last word is why one cannot be reached, if so.
 pub const ALL: &[(usize, &str, &str)] = &[
-    (9, "zero", ""),
-    (9, "other", ""),
-    (20, "raised to the lower bound", ""),
-    (20, "cut to the upper bound", ""),
-    (20, "neither", ""),
-    (36, "NaN to the lower bound", ""),
-    (36, "raised to the lower bound", ""),
-    (36, "cut to the upper bound", ""),
-    (36, "neither", ""),
-    (21, "untouched", ""),
-    (21, "one strain", ""),
-    (21, "two strains", ""),
-    (21, "all strains", ""),
-    (21, "hardening capped", ""),
-    (21, "hardening not capped", ""),
-    (37, "untouched", ""),
-    (37, "one strain", ""),
-    (37, "two strains", ""),
-    (37, "all strains", ""),
-    (22, "not active", ""),
-    (22, "tip: no deviatoric part", ""),
-    (22, "tip: trace above 0", ""),
-    (22, "inside", ""),
-    (22, "surface", ""),
-    (22, "new determinant stands", ""),
-    (22, "previous plus correction", ""),
-    (23, "upper tip, alpha stepped", ""),
-    (23, "upper tip, alpha kept", ""),
-    (23, "lower tip, alpha stepped", ""),
-    (23, "lower tip, alpha kept", ""),
-    (23, "inside", ""),
-    (23, "surface, hardening off", ""),
-    (23, "surface, p0 at most 1e-4", ""),
-    (23, "surface, p_tr near p0", ""),
-    (23, "surface, p_tr near -beta p0", ""),
-    (23, "surface, p_x = p1", "p1 lies on the other side: beside/README.md"),
-    (23, "surface, p_x = p2", ""),
-    (23, "surface, j_e_x at most 1e-4", ""),
-    (23, "surface, alpha stepped", ""),
-    (24, "determinant 0", "its power is refused by 2: refused calls reach it"),
-    (24, "inverse", ""),
-    (25, "j at least 1", ""),
-    (25, "j below 1", ""),
-    (26, "j at least 1", ""),
-    (26, "j below 1", ""),
-    (27, "j at least 1", ""),
-    (27, "j below 1", ""),
-    (29, "phase 1", ""),
-    (29, "split, j below 1", ""),
-    (29, "split, j at least 1", ""),
-    (29, "tensile part dropped", ""),
-    (29, "tensile part kept", ""),
-    (31, "j below 1", ""),
-    (31, "j at least 1", ""),
-    (32, "from the density", ""),
-    (32, "largest negative", ""),
-    (33, "no viscosity", ""),
-    (33, "viscosity", ""),
-    (34, "single-particle step", ""),
-    (34, "the other step", ""),
-    (34, "root let through", ""),
-    (35, "principal limit", ""),
-    (35, "shear limit only", ""),
-    (35, "no", ""),
+    (INV_EXACT, "zero", ""),
+    (INV_EXACT, "other", ""),
+    (UPDATE_SNOW, "raised to the lower bound", ""),
+    (UPDATE_SNOW, "cut to the upper bound", ""),
+    (UPDATE_SNOW, "neither", ""),
+    (SNOW_CLAMP, "NaN to the lower bound", ""),
+    (SNOW_CLAMP, "raised to the lower bound", ""),
+    (SNOW_CLAMP, "cut to the upper bound", ""),
+    (SNOW_CLAMP, "neither", ""),
+    (UPDATE_RANKINE, "untouched", ""),
+    (UPDATE_RANKINE, "one strain", ""),
+    (UPDATE_RANKINE, "two strains", ""),
+    (UPDATE_RANKINE, "all strains", ""),
+    (UPDATE_RANKINE, "hardening capped", ""),
+    (UPDATE_RANKINE, "hardening not capped", ""),
+    (RANKINE_PROJECT, "untouched", ""),
+    (RANKINE_PROJECT, "one strain", ""),
+    (RANKINE_PROJECT, "two strains", ""),
+    (RANKINE_PROJECT, "all strains", ""),
+    (UPDATE_DRUCKER_PRAGER, "not active", ""),
+    (UPDATE_DRUCKER_PRAGER, "tip: no deviatoric part", ""),
+    (UPDATE_DRUCKER_PRAGER, "tip: trace above 0", ""),
+    (UPDATE_DRUCKER_PRAGER, "inside", ""),
+    (UPDATE_DRUCKER_PRAGER, "surface", ""),
+    (UPDATE_DRUCKER_PRAGER, "new determinant stands", ""),
+    (UPDATE_DRUCKER_PRAGER, "previous plus correction", ""),
+    (UPDATE_NACC, "upper tip, alpha stepped", ""),
+    (UPDATE_NACC, "upper tip, alpha kept", ""),
+    (UPDATE_NACC, "lower tip, alpha stepped", ""),
+    (UPDATE_NACC, "lower tip, alpha kept", ""),
+    (UPDATE_NACC, "inside", ""),
+    (UPDATE_NACC, "surface, hardening off", ""),
+    (UPDATE_NACC, "surface, p0 at most 1e-4", ""),
+    (UPDATE_NACC, "surface, p_tr near p0", ""),
+    (UPDATE_NACC, "surface, p_tr near -beta p0", ""),
+    (UPDATE_NACC, "surface, p_x = p1", "p1 lies on the other side: beside/README.md"),
+    (UPDATE_NACC, "surface, p_x = p2", ""),
+    (UPDATE_NACC, "surface, j_e_x at most 1e-4", ""),
+    (UPDATE_NACC, "surface, alpha stepped", ""),
+    (NEO_HOOKEAN_FPK_STRESS, "determinant 0", "its power is refused by 2: refused calls reach it"),
+    (NEO_HOOKEAN_FPK_STRESS, "inverse", ""),
+    (NEO_HOOKEAN_KIRCHHOFF_STRESS, "j at least 1", ""),
+    (NEO_HOOKEAN_KIRCHHOFF_STRESS, "j below 1", ""),
+    (NEO_HOOKEAN_ELASTIC_ENERGY_DENSITY, "j at least 1", ""),
+    (NEO_HOOKEAN_ELASTIC_ENERGY_DENSITY, "j below 1", ""),
+    (NEO_HOOKEAN_POS_ENERGY, "j at least 1", ""),
+    (NEO_HOOKEAN_POS_ENERGY, "j below 1", ""),
+    (COROTATED_KIRCHHOFF_STRESS, "phase 1", ""),
+    (COROTATED_KIRCHHOFF_STRESS, "split, j below 1", ""),
+    (COROTATED_KIRCHHOFF_STRESS, "split, j at least 1", ""),
+    (COROTATED_KIRCHHOFF_STRESS, "tensile part dropped", ""),
+    (COROTATED_KIRCHHOFF_STRESS, "tensile part kept", ""),
+    (COROTATED_POS_ENERGY, "j below 1", ""),
+    (COROTATED_POS_ENERGY, "j at least 1", ""),
+    (MONAGHAN_PRESSURE, "from the density", ""),
+    (MONAGHAN_PRESSURE, "largest negative", ""),
+    (MONAGHAN_KIRCHHOFF_STRESS, "no viscosity", ""),
+    (MONAGHAN_KIRCHHOFF_STRESS, "viscosity", ""),
+    (MONAGHAN_TIMESTEP_BOUND, "single-particle step", ""),
+    (MONAGHAN_TIMESTEP_BOUND, "the other step", ""),
+    (MONAGHAN_TIMESTEP_BOUND, "root let through", ""),
+    (FAILED, "principal limit", ""),
+    (FAILED, "shear limit only", ""),
+    (FAILED, "no", ""),
 ];
 
 fn f(i: &[u64], k: usize) -> f64 {
@@ -92,19 +92,21 @@ fn asked(line: u32, which: Function) -> Option<f64> {
 pub fn taken(n: usize, i: &[u64], a: &Answer, out: &mut Vec<&'static str>) {
     let o = |k: usize| f64::from_bits(a.out[k]);
     match n {
-        9 => out.push(if f(i, 0) == 0.0 { "zero" } else { "other" }),
-        20 => (0..3).for_each(|k| clamped(f(i, 3 + 18 + k), o(18 + k), out)),
-        36 => (0..3).for_each(|k| clamped(f(i, 3 + k), o(k), out)),
-        21 | 37 => rankine(n, i, a, out),
-        22 => drucker_prager(a, out),
-        23 => nacc(i, a, out),
-        24 => out.push("inverse"),
-        25..=27 => out.push(if determinant() >= 1.0 { "j at least 1" } else { "j below 1" }),
-        29 => corotated(i, out),
-        31 => out.push(if determinant() < 1.0 { "j below 1" } else { "j at least 1" }),
-        32 => out.push(if o(0) == -f(i, 3) { "largest negative" } else { "from the density" }),
-        33 => out.push(if f(i, 2) != 0.0 { "viscosity" } else { "no viscosity" }),
-        34 => {
+        INV_EXACT => out.push(if f(i, 0) == 0.0 { "zero" } else { "other" }),
+        UPDATE_SNOW => (0..3).for_each(|k| clamped(f(i, 3 + 18 + k), o(18 + k), out)),
+        SNOW_CLAMP => (0..3).for_each(|k| clamped(f(i, 3 + k), o(k), out)),
+        UPDATE_RANKINE | RANKINE_PROJECT => rankine(n, i, a, out),
+        UPDATE_DRUCKER_PRAGER => drucker_prager(a, out),
+        UPDATE_NACC => nacc(i, a, out),
+        NEO_HOOKEAN_FPK_STRESS => out.push("inverse"),
+        NEO_HOOKEAN_KIRCHHOFF_STRESS..=NEO_HOOKEAN_POS_ENERGY => {
+            out.push(if determinant() >= 1.0 { "j at least 1" } else { "j below 1" })
+        }
+        COROTATED_KIRCHHOFF_STRESS => corotated(i, out),
+        COROTATED_POS_ENERGY => out.push(if determinant() < 1.0 { "j below 1" } else { "j at least 1" }),
+        MONAGHAN_PRESSURE => out.push(if o(0) == -f(i, 3) { "largest negative" } else { "from the density" }),
+        MONAGHAN_KIRCHHOFF_STRESS => out.push(if f(i, 2) != 0.0 { "viscosity" } else { "no viscosity" }),
+        MONAGHAN_TIMESTEP_BOUND => {
             let root = watch().asked.iter().rfind(|x| x.which == Function::Sqrt).unwrap().result;
             let through = watch().let_through;
             out.push(match (through, o(0) == f(i, 11) / root) {
@@ -113,7 +115,7 @@ pub fn taken(n: usize, i: &[u64], a: &Answer, out: &mut Vec<&'static str>) {
                 _ => "single-particle step",
             });
         }
-        35 => {
+        FAILED => {
             let greatest = (2..5).map(|k| f(i, k)).fold(f64::MIN, f64::max);
             out.push(match (a.out[0], greatest > f(i, 0)) {
                 (0, _) => "no",
@@ -152,7 +154,7 @@ fn rankine(n: usize, i: &[u64], a: &Answer, out: &mut Vec<&'static str>) {
         out.push("untouched");
         return;
     }
-    if n == 21 {
+    if n == UPDATE_RANKINE {
         let capped = a.out[32] == i[2] && f(i, 3) * result(74, Op::Norm) + f(i, 4 + 32) > f(i, 2);
         out.push(if capped { "hardening capped" } else { "hardening not capped" });
     }
@@ -191,7 +193,7 @@ fn nacc(i: &[u64], a: &Answer, out: &mut Vec<&'static str>) {
         return;
     }
     let mut kappa = [0];
-    calls_quietly(|| calls::call(11, &i[..2], &mut kappa));
+    calls_quietly(|| calls::call(BULK_MODULUS, &i[..2], &mut kappa));
     let kappa = f(&kappa, 0);
     let beta = f(i, 2);
     let p0 = kappa * (1.0e-5 + asked(76, Function::Sinh).unwrap());

@@ -1,5 +1,5 @@
 //! Inputs for every call: several spreads, edge values in every place, ties, and the few inputs that only a rare branch takes.
-use crate::calls::{self, CALLS};
+use crate::calls::{self, *};
 use crate::inside::float_at;
 
 pub struct Draw(pub u64);
@@ -318,14 +318,14 @@ impl Draw {
 
     fn base(&mut self, n: usize) -> Vec<f64> {
         match n {
-            0 | 2 => vec![self.pick2(|d| d.between(-710.0, 710.0), |d| d.normal())],
-            1 | 5..=8 => vec![self.pick2(|d| d.scale(-19.0, 19.0), |d| d.between(0.5, 2.0))],
-            3 => vec![self.between(-9.0, 9.0)],
-            4 => vec![self.pick2(|d| d.any().abs(), |d| d.scale(-10.0, 10.0))],
-            9 | 28 => vec![self.number()],
-            10 | 11 | 14 => self.young_poisson().to_vec(),
-            12 | 13 => vec![self.number(), self.number()],
-            15 => {
+            EXP | SINH => vec![self.pick2(|d| d.between(-710.0, 710.0), |d| d.normal())],
+            LN | CBRT..=INV_CBRT_SQUARED => vec![self.pick2(|d| d.scale(-19.0, 19.0), |d| d.between(0.5, 2.0))],
+            SIN => vec![self.between(-9.0, 9.0)],
+            SQRT => vec![self.pick2(|d| d.any().abs(), |d| d.scale(-10.0, 10.0))],
+            INV_EXACT | PHASE_COEFF => vec![self.number()],
+            SHEAR_MODULUS | BULK_MODULUS | LAME_LAMBDA_MU => self.young_poisson().to_vec(),
+            SHEAR_MODULUS_FROM_LAME | BULK_MODULUS_FROM_LAME => vec![self.number(), self.number()],
+            SOLVE_QUADRATIC => {
                 let v: Vec<f64> = (0..3).map(|_| self.number()).collect();
                 if self.one_in(2) {
                     vec![v[0], v[1], -v[0]]
@@ -333,33 +333,33 @@ impl Draw {
                     v
                 }
             }
-            16..=19 => self.matrix(),
-            20..=23 => self.update(n - calls::UPDATE),
-            24 => {
+            SPIN_TENSOR..=SPHERICAL_PART => self.matrix(),
+            UPDATE_SNOW..=UPDATE_NACC => self.update(n - UPDATE),
+            NEO_HOOKEAN_FPK_STRESS => {
                 let mut v = self.solid();
                 v.push(self.hardening());
                 v.extend(self.strained());
                 v
             }
-            25..=27 => {
+            NEO_HOOKEAN_KIRCHHOFF_STRESS..=NEO_HOOKEAN_POS_ENERGY => {
                 let mut v = self.solid();
                 v.push(self.phase());
                 v.push(self.hardening());
                 v.extend(self.strained());
                 v
             }
-            29..=31 => {
+            COROTATED_KIRCHHOFF_STRESS..=COROTATED_POS_ENERGY => {
                 let mut v = self.solid();
                 v[0] = 0.9;
                 v.insert(0, self.below(2) as f64);
-                if n == 29 {
+                if n == COROTATED_KIRCHHOFF_STRESS {
                     v.push(self.phase());
                 }
                 v.push(self.hardening());
                 let f = self.factored();
                 match n {
-                    29 => v.extend(&f),
-                    30 => v.extend(&f[18..21]),
+                    COROTATED_KIRCHHOFF_STRESS => v.extend(&f),
+                    COROTATED_ELASTIC_ENERGY_DENSITY => v.extend(&f[18..21]),
                     _ => {
                         v.extend(&f[..9]);
                         v.extend(&f[18..21]);
@@ -367,35 +367,35 @@ impl Draw {
                 }
                 v
             }
-            32..=34 => {
+            MONAGHAN_PRESSURE..=MONAGHAN_TIMESTEP_BOUND => {
                 let mut v = self.monaghan();
                 let det = self.between(0.3, 2.0);
                 let det = self.pick(&[det, det, 1.0, 0.0]);
-                if n == 34 {
+                if n == MONAGHAN_TIMESTEP_BOUND {
                     v.push(det);
                 }
                 v.extend(self.densities());
-                if n == 33 {
+                if n == MONAGHAN_KIRCHHOFF_STRESS {
                     v.push(det);
                     v.extend(self.matrix());
                 }
-                if n == 34 {
+                if n == MONAGHAN_TIMESTEP_BOUND {
                     let speed = self.scale(-3.0, 5.0);
                     v.extend([self.normal() * speed, self.normal() * speed, self.normal() * speed]);
                     v.push(self.scale(-3.0, 1.0));
                 }
                 v
             }
-            35 => {
+            FAILED => {
                 let v: Vec<f64> = (0..3).map(|_| 10.0 * self.normal()).collect();
                 vec![self.between(0.0, 30.0), self.between(0.0, 30.0), v[0], v[1], v[2]]
             }
-            36 => {
+            SNOW_CLAMP => {
                 let mut v = vec![0.025, 0.0045, 10.0];
                 v.extend(self.sigma());
                 v
             }
-            37 => {
+            RANKINE_PROJECT => {
                 let [e, n] = self.young_poisson();
                 let s = e * self.scale(-4.0, 0.0);
                 let spread = self.scale(-4.0, 0.0);
@@ -406,7 +406,7 @@ impl Draw {
                 let s = self.pick(&[s, s, s, -s]);
                 vec![e, n, s, 1.0, s, strains[0], strains[1], strains[2]]
             }
-            39 => {
+            DECOMPOSED_TIMES => {
                 let mut v = vec![self.number()];
                 v.extend(self.matrix());
                 v.extend((0..3).map(|_| self.number()));
@@ -460,7 +460,7 @@ impl Draw {
         let mut all = Vec::new();
         for _ in 0..4 {
             let w = self.inputs(n);
-            for k in (0..w.len()).filter(|k| !(matches!(n, 32..=34) && *k == 1)) {
+            for k in (0..w.len()).filter(|k| !(calls::is_monaghan(n) && *k == 1)) {
                 for x in [f64::NAN, f64::INFINITY, f64::NEG_INFINITY, 0.0, -0.0, f64::from_bits(1), f64::MAX, -f64::MAX] {
                     let mut i = w.clone();
                     i[k] = x.to_bits();
@@ -476,13 +476,13 @@ impl Draw {
         let v = self.base(n);
         assert_eq!(v.len(), CALLS[n].inputs, "{}", CALLS[n].name);
         let mut w: Vec<u64> = v.iter().map(|x| x.to_bits()).collect();
-        if matches!(n, 32..=34) {
+        if calls::is_monaghan(n) {
             w[1] = self.gamma();
         }
         if self.one_in(4) {
             for _ in 0..1 + self.below(3) {
                 let k = self.below(w.len() as u64) as usize;
-                if matches!(n, 32..=34) && k == 1 {
+                if calls::is_monaghan(n) && k == 1 {
                     continue;
                 }
                 let wild = match self.below(16) {

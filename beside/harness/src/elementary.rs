@@ -1,5 +1,6 @@
 //! The elementary functions against section 3: ranges, refusals, exact cases, and the distance from the machine's own
 //! (whose error, below 2^-51, is allowed for). The square root is equal in every bit.
+use crate::calls::*;
 use crate::inside::Answer;
 
 const LOW: f64 = 1.0 / (1u64 << 60) as f64;
@@ -8,9 +9,9 @@ const D: f64 = 1.0 / (1u64 << 45) as f64 + 1.0 / (1u64 << 51) as f64;
 
 fn range(n: usize) -> (f64, f64) {
     match n {
-        0 | 2 => (-700.0, 700.0),
-        3 => (-8.0, 8.0),
-        4 => (0.0, f64::MAX),
+        EXP | SINH => (-700.0, 700.0),
+        SIN => (-8.0, 8.0),
+        SQRT => (0.0, f64::MAX),
         _ => (LOW, HIGH),
     }
 }
@@ -19,14 +20,14 @@ fn range(n: usize) -> (f64, f64) {
 fn value(n: usize, x: f64) -> (f64, f64) {
     let third = |x: f64| x.cbrt();
     match n {
-        0 => (x.exp(), D * x.exp()),
-        1 => (x.ln(), if x == 1.0 { 0.0 } else { D }),
-        2 => (x.sinh(), if x == 0.0 { 0.0 } else { D * (1.0 + x.sinh().abs()) }),
-        3 => (x.sin(), D),
-        4 => (x.sqrt(), 0.0),
-        5 => (third(x), D * third(x)),
-        6 => (1.0 / third(x), D / third(x)),
-        7 => (third(x) * third(x), D * third(x) * third(x)),
+        EXP => (x.exp(), D * x.exp()),
+        LN => (x.ln(), if x == 1.0 { 0.0 } else { D }),
+        SINH => (x.sinh(), if x == 0.0 { 0.0 } else { D * (1.0 + x.sinh().abs()) }),
+        SIN => (x.sin(), D),
+        SQRT => (x.sqrt(), 0.0),
+        CBRT => (third(x), D * third(x)),
+        INV_CBRT => (1.0 / third(x), D / third(x)),
+        CBRT_SQUARED => (third(x) * third(x), D * third(x) * third(x)),
         _ => (1.0 / (third(x) * third(x)), D / (third(x) * third(x))),
     }
 }

@@ -1,5 +1,5 @@
 //! The smallest inputs of docs/DIFFERENCES.md: what ours answers and what the Rust does, each run; the page has to say the same.
-use crate::calls::CALLS;
+use crate::calls::{self, CALLS};
 use crate::inside;
 use crate::ours;
 use crate::untouched::Untouched;
@@ -145,7 +145,7 @@ fn shown(words: &[u64], places: &[usize]) -> String {
 }
 
 fn of_rust(e: &Example, n: usize, i: &[u64], u: Option<&Untouched>) -> Vec<u64> {
-    if n < 9 {
+    if calls::is_elementary(n) {
         return vec![inside::machine_number(n, e.inputs[0]).to_bits()];
     }
     match (&e.from, u) {

@@ -1,6 +1,6 @@
 //! The untouched Rust's distance from ours for each call, and where the two took other branches.
 use crate::branches;
-use crate::calls::{self, CALLS};
+use crate::calls::{self, *};
 use crate::draw::Draw;
 use crate::inside::{self, finite, Answer};
 use crate::listed;
@@ -35,7 +35,7 @@ fn terms(n: usize, i: &[u64]) -> f64 {
     let f = |k: usize| f64::from_bits(i[k]).abs();
     let product = |k: usize| f64::from_bits(i[k]) * f64::from_bits(i[k + 1]) * f64::from_bits(i[k + 2]);
     match n {
-        26 | 27 => {
+        NEO_HOOKEAN_ELASTIC_ENERGY_DENSITY | NEO_HOOKEAN_POS_ENERGY => {
             let g: Vec<f64> = i[5..14].iter().map(|x| f64::from_bits(*x)).collect();
             let j = nalgebra::Matrix3::new(g[0], g[1], g[2], g[3], g[4], g[5], g[6], g[7], g[8]).determinant();
             let strain = g.iter().map(|x| x * x).sum::<f64>() / (j * j).cbrt() + 3.0;
@@ -43,7 +43,9 @@ fn terms(n: usize, i: &[u64]) -> f64 {
             let phase = f(3).max(f(3) * f(3)).max(1.0);
             (f(2) / 2.0 * strain + (2.0 / 3.0 * f(2) + f(1)) / 2.0 * volume) * f(4) * phase
         }
-        30 => (f(3) * (3.0 + f(5) * f(5) + f(6) * f(6) + f(7) * f(7)) + f(2) / 2.0 * (1.0 + product(5).powi(2))) * f(4),
+        COROTATED_ELASTIC_ENERGY_DENSITY => {
+            (f(3) * (3.0 + f(5) * f(5) + f(6) * f(6) + f(7) * f(7)) + f(2) / 2.0 * (1.0 + product(5).powi(2))) * f(4)
+        }
         _ => 0.0,
     }
 }
@@ -70,9 +72,9 @@ fn distance(a: &[u64], b: &[u64], beside: f64) -> f64 {
 /// Where F stands in a call's inputs, where its factors go, and which of the 21.
 fn factors_at(n: usize) -> Option<(usize, usize, Range<usize>)> {
     match n {
-        20..=23 => Some((calls::parameters(n - 20), calls::parameters(n - 20) + 9, 0..21)),
-        29 => Some((6, 15, 0..21)),
-        31 => Some((5, 14, 9..12)),
+        UPDATE_SNOW..=UPDATE_NACC => Some((calls::parameters(n - UPDATE), calls::parameters(n - UPDATE) + 9, 0..21)),
+        COROTATED_KIRCHHOFF_STRESS => Some((6, 15, 0..21)),
+        COROTATED_POS_ENERGY => Some((5, 14, 9..12)),
         _ => None,
     }
 }
@@ -87,7 +89,7 @@ fn factored(u: &Untouched, n: usize, i: &[u64]) -> Vec<u64> {
             w[to + k] = x.to_bits();
         }
     }
-    if n == 30 {
+    if n == COROTATED_ELASTIC_ENERGY_DENSITY {
         // The Rust takes a diagonal matrix here: of one whose singular values nalgebra changes, its values' values.
         let mut s = [f(5), f(6), f(7)];
         for _ in 0..8 {
@@ -111,7 +113,7 @@ fn straightened(u: &Untouched, n: usize, i: &[u64]) -> Vec<u64> {
 
 /// How far an answer is from build 1's.
 fn apart(n: usize, i: &[u64], a: &[u64], o: &[u64]) -> f64 {
-    if n == calls::FAILED {
+    if n == FAILED {
         return if a == o { 0.0 } else { f64::INFINITY };
     }
     if !calls::is_update(n) {
@@ -182,7 +184,7 @@ fn far(u: &Untouched, n: usize, d: &mut Draw, count: u64) -> Far {
             far.parted.entry((a, b)).or_insert((0, i)).0 += 1;
             continue;
         }
-        if n == 22 {
+        if n == UPDATE_DRUCKER_PRAGER {
             far.over_condition = far.over_condition.max(ours / drucker_prager_condition(&i));
         }
         far.distances.push(ours);
@@ -211,7 +213,7 @@ pub fn table(seed: u64, count: u64, u: &Untouched) {
         "call", "beside", "refused", "parted", "worst", "99 of 100", "median", "nalgebra", "in bits"
     );
     let mut examples = Vec::new();
-    for n in (9..CALLS.len()).filter(|n| !matches!(*n, calls::PROJECT | calls::ALPHA) && ours::has(*n)) {
+    for n in (INV_EXACT..CALLS.len()).filter(|n| !matches!(*n, RANKINE_PROJECT | DRUCKER_PRAGER_ALPHA) && ours::has(*n)) {
         progress(&format!("build 1: {}", CALLS[n].name));
         let mut d = Draw(seed.wrapping_mul(0x2000).wrapping_add(n as u64));
         let mut f = far(u, n, &mut d, count.div_ceil(4));

@@ -1,6 +1,6 @@
 //! Build 2 run and watched: the hooks that the crate nalgebra of this folder asks, what each call of the text did on its way,
 //! and the outcome that document 01 section 6 gives for it.
-use crate::calls::{self, CALLS};
+use crate::calls::{self, *};
 use crate::ours;
 use nalgebra::hooks::{Function, Op};
 use std::cell::UnsafeCell;
@@ -99,14 +99,14 @@ fn on_path(status: u8, x: f64) -> u8 {
 /// One of the first nine calls as the machine has it; powers are of a rounded third, as in the text.
 pub fn machine_number(n: usize, x: f64) -> f64 {
     match n {
-        0 => x.exp(),
-        1 => x.ln(),
-        2 => x.sinh(),
-        3 => x.sin(),
-        4 => x.sqrt(),
-        5 => x.powf(1.0 / 3.0),
-        6 => x.powf(-1.0 / 3.0),
-        7 => x.powf(2.0 / 3.0),
+        EXP => x.exp(),
+        LN => x.ln(),
+        SINH => x.sinh(),
+        SIN => x.sin(),
+        SQRT => x.sqrt(),
+        CBRT => x.powf(1.0 / 3.0),
+        INV_CBRT => x.powf(-1.0 / 3.0),
+        CBRT_SQUARED => x.powf(2.0 / 3.0),
         _ => x.powf(-2.0 / 3.0),
     }
 }
@@ -177,14 +177,14 @@ fn place_factors(n: usize, i: &[u64]) {
     let w = watch();
     let f = floats(i);
     match n {
-        20..=23 => {
-            let k = calls::parameters(n - calls::UPDATE);
+        UPDATE_SNOW..=UPDATE_NACC => {
+            let k = calls::parameters(n - UPDATE);
             w.factors.copy_from_slice(&f[k + 9..k + 30]);
         }
-        29 => w.factors.copy_from_slice(&f[15..36]),
-        30 => w.factors[9..12].copy_from_slice(&f[5..8]),
-        31 => w.factors[9..12].copy_from_slice(&f[14..17]),
-        35 => w.principal.copy_from_slice(&f[2..5]),
+        COROTATED_KIRCHHOFF_STRESS => w.factors.copy_from_slice(&f[15..36]),
+        COROTATED_ELASTIC_ENERGY_DENSITY => w.factors[9..12].copy_from_slice(&f[5..8]),
+        COROTATED_POS_ENERGY => w.factors[9..12].copy_from_slice(&f[14..17]),
+        FAILED => w.principal.copy_from_slice(&f[2..5]),
         _ => {}
     }
 }
@@ -195,7 +195,7 @@ pub fn run(n: usize, i: &[u64], o: &mut [u64], mode: Mode) {
     let w = watch();
     w.mode = mode;
     w.event = 0;
-    w.lenient = n == calls::MONAGHAN + 2;
+    w.lenient = n == MONAGHAN_TIMESTEP_BOUND;
     w.let_through = false;
     w.ended = false;
     w.met.clear();
@@ -226,42 +226,31 @@ fn is_flag(x: u64) -> bool {
     x == 0 || x == 1f64.to_bits()
 }
 
-/// Which input words are flags; and which are not floats.
-fn flag_at(n: usize) -> Option<usize> {
-    match n {
-        22 => Some(6),
-        23 => Some(3),
-        29..=31 => Some(0),
-        38 => Some(6),
-        _ => None,
-    }
-}
-
 /// The words that are floats.
 pub fn float_at(n: usize, k: usize) -> bool {
-    !(matches!(n, 32..=34) && k == 1) && flag_at(n) != Some(k)
+    !(calls::is_monaghan(n) && k == 1) && CALLS[n].flag != Some(k)
 }
 
 /// 6 for a flag, then 1 for an input, then 3 for a modulus: before any step.
 fn before(n: usize, i: &[u64]) -> u8 {
-    if let Some(k) = flag_at(n) {
+    if let Some(k) = CALLS[n].flag {
         if !is_flag(i[k]) {
             return 6;
         }
     }
-    if n == calls::CLAMP {
+    if n == SNOW_CLAMP {
         return 0;
     }
     if (0..i.len()).any(|k| float_at(n, k) && !finite(i[k])) {
         return 1;
     }
     let mut moduli = [0u64; 2];
-    if n == 21 || n == 37 {
-        calls::call(14, &i[..2], &mut moduli);
+    if n == UPDATE_RANKINE || n == RANKINE_PROJECT {
+        calls::call(LAME_LAMBDA_MU, &i[..2], &mut moduli);
     }
-    if n == 23 {
-        calls::call(10, &i[..2], &mut moduli[..1]);
-        calls::call(11, &i[..2], &mut moduli[1..]);
+    if n == UPDATE_NACC {
+        calls::call(SHEAR_MODULUS, &i[..2], &mut moduli[..1]);
+        calls::call(BULK_MODULUS, &i[..2], &mut moduli[1..]);
     }
     if moduli.iter().all(|x| finite(*x)) {
         0
@@ -274,7 +263,7 @@ fn before(n: usize, i: &[u64]) -> u8 {
 fn nan_before_root(i: &[u64]) -> bool {
     let p = [i[0], i[1], i[2], i[3], i[5], i[6], i[7]];
     let mut o = [0];
-    run(calls::MONAGHAN, &p, &mut o, Mode::Ours);
+    run(MONAGHAN_PRESSURE, &p, &mut o, Mode::Ours);
     watch().event == 3 || (f64::from_bits(i[11]) / f64::from_bits(i[4])).is_nan()
 }
 
@@ -344,11 +333,11 @@ pub fn expected(n: usize, i: &[u64]) -> Answer {
         watch().asked.clear();
         return refused(early);
     }
-    if n == calls::MONAGHAN + 2 && nan_before_root(i) {
+    if n == MONAGHAN_TIMESTEP_BOUND && nan_before_root(i) {
         return refused(3);
     }
-    if n == calls::PROJECT || n == calls::ALPHA {
-        let a = if n == calls::PROJECT { project(i) } else { alpha(i) };
+    if n == RANKINE_PROJECT || n == DRUCKER_PRAGER_ALPHA {
+        let a = if n == RANKINE_PROJECT { project(i) } else { alpha(i) };
         let bad = a.status == 0 && !a.out.iter().all(|x| finite(*x));
         return match (a.status, bad) {
             (0, false) => a,
@@ -359,7 +348,7 @@ pub fn expected(n: usize, i: &[u64]) -> Answer {
     let mut o = vec![0; words];
     run(n, i, &mut o, Mode::Ours);
     let w = watch();
-    if n == calls::CLAMP {
+    if n == SNOW_CLAMP {
         return Answer { status: 0, out: o };
     }
     if w.event != 0 {
@@ -368,7 +357,7 @@ pub fn expected(n: usize, i: &[u64]) -> Answer {
     if calls::is_update(n) {
         return updated(n, i, o);
     }
-    if n != calls::FAILED && !o.iter().all(|x| finite(*x)) {
+    if n != FAILED && !o.iter().all(|x| finite(*x)) {
         return refused(3);
     }
     Answer { status: 0, out: o }
@@ -377,7 +366,7 @@ pub fn expected(n: usize, i: &[u64]) -> Answer {
 /// The record after an update, with its two places of answer.
 fn updated(n: usize, i: &[u64], mut o: Vec<u64>) -> Answer {
     let w = watch();
-    let model = n - calls::UPDATE;
+    let model = n - UPDATE;
     let k = calls::parameters(model);
     match w.met.iter().rfind(|m| m.op == Op::Recompose) {
         None => {
@@ -424,7 +413,7 @@ pub const UNTOUCHED: &str = "left untouched";
 
 /// What the Rust did with inputs that ours refuses, with the machine's own elementary functions.
 pub fn instead(n: usize, i: &[u64]) -> &'static str {
-    if n < 9 || n == calls::PROJECT || n == calls::ALPHA {
+    if calls::is_elementary(n) || n == RANKINE_PROJECT || n == DRUCKER_PRAGER_ALPHA {
         return "no public call of the text";
     }
     let mut o = vec![0; CALLS[n].outputs];
@@ -440,7 +429,7 @@ pub fn instead(n: usize, i: &[u64]) -> &'static str {
     } else {
         o
     };
-    if n == calls::FAILED {
+    if n == FAILED {
         return "gave a verdict";
     }
     let f = floats(&words);

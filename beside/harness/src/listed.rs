@@ -1,5 +1,5 @@
 //! The differences that docs/DIFFERENCES.md lists. Where one may show, what document 01 has ours answer instead of the Rust.
-use crate::calls;
+use crate::calls::*;
 use crate::inside::{self, Answer};
 
 pub const ZEROS: &str = "minimum or maximum of two zeros: ours takes the second, the Rust as built here the first";
@@ -35,7 +35,12 @@ fn one_zero(i: &[u64], at: usize) -> Option<Vec<u64>> {
     let bare = |pressure0: u64| {
         let largest = f64::MAX.to_bits();
         let mut o = [0];
-        inside::run(calls::MONAGHAN, &[pressure0, i[1], i[2], largest, i[at], i[at + 1], i[at + 2]], &mut o, inside::Mode::Ours);
+        inside::run(
+            MONAGHAN_PRESSURE,
+            &[pressure0, i[1], i[2], largest, i[at], i[at + 1], i[at + 2]],
+            &mut o,
+            inside::Mode::Ours,
+        );
         f64::from_bits(o[0])
     };
     let second = -f(i, 3);
@@ -52,7 +57,7 @@ fn one_zero(i: &[u64], at: usize) -> Option<Vec<u64>> {
 pub fn by_document(n: usize, i: &[u64], rust: &Answer) -> Option<Answer> {
     let mut a = rust.clone();
     match n {
-        36 => {
+        SNOW_CLAMP => {
             for k in 0..3 {
                 a.out[k] = second_min(second_max(f(i, 3 + k), 1.0 - f(i, 0)), 1.0 + f(i, 1)).to_bits();
             }
@@ -61,8 +66,8 @@ pub fn by_document(n: usize, i: &[u64], rust: &Answer) -> Option<Answer> {
             a.out[32] = i[2];
             a.out[37] = i[2];
         }
-        32 | 33 => a = inside::expected(n, &one_zero(i, 4)?),
-        34 => {
+        MONAGHAN_PRESSURE | MONAGHAN_KIRCHHOFF_STRESS => a = inside::expected(n, &one_zero(i, 4)?),
+        MONAGHAN_TIMESTEP_BOUND => {
             if let Some(w) = one_zero(i, 5) {
                 a = inside::expected(n, &w);
             }

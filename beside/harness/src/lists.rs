@@ -64,11 +64,7 @@ fn is_flag(x: u64) -> bool {
 }
 
 fn flag_of(model: u64, p: &[u64]) -> bool {
-    match model {
-        2 => is_flag(p[6]),
-        3 => is_flag(p[3]),
-        _ => true,
-    }
+    calls::CALLS[calls::UPDATE + model as usize].flag.map_or(true, |k| is_flag(p[k]))
 }
 
 /// Limits and the corotated law of a pass with failure.
@@ -355,7 +351,7 @@ fn one_sheet(d: &mut Draw, run: bool, t: &mut Tally) {
 pub fn compare(seed: u64, count: u64, failed: &mut bool) {
     println!("\nLists and sheets (document 01 sections 6 and 7, each law build 2's)");
     println!("{:<20} {:>8} {:>8}  answers by refusal number; records by outcome", "call", "run", "unlisted");
-    for (k, name) in ours::LISTS.into_iter().enumerate() {
+    for (k, name) in calls::LISTS.into_iter().enumerate() {
         if !ours::has_name(name) {
             println!("{name:<20} MISSING in the library");
             *failed = true;
@@ -364,21 +360,26 @@ pub fn compare(seed: u64, count: u64, failed: &mut bool) {
         let mut d = Draw(seed.wrapping_mul(0x3000).wrapping_add(k as u64));
         let mut t = Tally::default();
         for _ in 0..count.div_ceil(2) {
-            match k {
-                0 | 1 => one_pass(&mut d, k == 1, &mut t),
-                _ => one_sheet(&mut d, k == 3, &mut t),
+            match name {
+                "pass" | "pass_with_failure" => one_pass(&mut d, name == "pass_with_failure", &mut t),
+                "read_sheet" | "run_sheet" => one_sheet(&mut d, name == "run_sheet", &mut t),
+                _ => panic!("{name} has no run here"),
             }
         }
         let records: Vec<String> =
             OUTCOMES.iter().zip(t.outcomes).filter(|(_, c)| *c > 0).map(|(what, c)| format!("{what} {c}")).collect();
         let by: Vec<String> = t.refused.iter().map(|(s, c)| format!("{s}:{c}")).collect();
         println!("{:<20} {:>8} {:>8}  {}; {}", name, t.run, t.unlisted, by.join(" "), records.join(", "));
-        let due: &[u8] = if k < 2 { &[0, 6, 8] } else { &[0, 4, 5, 6, 7, 8] };
+        let due: &[u8] = if name.ends_with("_sheet") { &[0, 4, 5, 6, 7, 8] } else { &[0, 6, 8] };
         for n in due.iter().filter(|n| !t.refused.contains_key(n)) {
             *failed = true;
             println!("    refusal {n} NEVER CAME");
         }
-        let outcomes = [3, 4, 0, 3][k];
+        let outcomes = match name {
+            "read_sheet" => 0,
+            "pass_with_failure" => 4,
+            _ => 3,
+        };
         for (what, _) in OUTCOMES.iter().zip(t.outcomes).take(outcomes).filter(|(_, c)| *c == 0) {
             *failed = true;
             println!("    {what} NEVER CAME");

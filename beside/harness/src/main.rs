@@ -64,7 +64,7 @@ struct Tally {
 fn same(n: usize, a: &Answer, e: &Answer) -> bool {
     let nan = |x: u64| f64::from_bits(x).is_nan();
     a.status == e.status
-        && (a.status != 0 || a.out.iter().zip(&e.out).all(|(x, y)| x == y || (n == calls::CLAMP && nan(*x) && nan(*y))))
+        && (a.status != 0 || a.out.iter().zip(&e.out).all(|(x, y)| x == y || (n == calls::SNOW_CLAMP && nan(*x) && nan(*y))))
 }
 
 /// Simpler inputs that still differ and are not listed.
@@ -96,7 +96,7 @@ fn compare(a: &Arguments, u: Option<&Untouched>) -> Run {
     let mut names = Vec::new();
     for n in 0..CALLS.len() {
         let mut t = Tally { missing: !ours::has(n), ..Tally::default() };
-        if t.missing && n < 9 {
+        if t.missing && calls::is_elementary(n) {
             r.tallies.push(t);
             continue;
         }
@@ -111,7 +111,7 @@ fn compare(a: &Arguments, u: Option<&Untouched>) -> Run {
             let got = if t.missing { inside::expected(n, &i) } else { ours::call(n, &i) };
             t.run += 1;
             *t.status.entry(got.status).or_default() += 1;
-            if n < 9 {
+            if calls::is_elementary(n) {
                 match elementary::judge(n, f64::from_bits(i[0]), &got) {
                     None => t.same += 1,
                     Some(want) => {

@@ -1,11 +1,9 @@
 //! Our laws: the C calls of the static library, found by name. A call that the library lacks is told as missing.
-use crate::calls::{self, CALLS, GAMMA, NUMBER};
+use crate::calls::{self, CALLS, GAMMA, LISTS, NUMBER};
 use crate::inside::Answer;
 use crate::library::Library;
 use std::collections::BTreeMap;
 use std::sync::OnceLock;
-
-pub const LISTS: [&str; 4] = ["pass", "pass_with_failure", "read_sheet", "run_sheet"];
 
 static OURS: OnceLock<BTreeMap<&'static str, usize>> = OnceLock::new();
 

@@ -26,7 +26,7 @@ pub fn simpler(i: &[u64], keeps: impl Fn(&[u64]) -> bool) -> Vec<u64> {
 
 fn shown_word(n: usize, k: usize, x: u64) -> String {
     let f = f64::from_bits(x);
-    if !inside::float_at(n, k) && matches!(n, 32..=34) {
+    if !inside::float_at(n, k) && crate::calls::is_monaghan(n) {
         format!("{x}")
     } else if x == 0 || f == 1.0 {
         format!("{f}")

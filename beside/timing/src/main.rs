@@ -4,11 +4,16 @@ mod callgrind;
 #[path = "../../calls.rs"]
 #[allow(dead_code)]
 mod calls;
+#[path = "../../externs.rs"]
+#[allow(dead_code)]
+#[rustfmt::skip]
+mod externs;
 #[path = "../../library.rs"]
 mod library;
 mod records;
 mod sides;
 
+use externs::*;
 use records::{bits, drawn, Draw, LAWS};
 use sides::*;
 use std::collections::BTreeMap;

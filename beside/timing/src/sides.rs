@@ -1,20 +1,8 @@
 //! What is timed: ours, the untouched Rust, and the Rust less its SVD.
 use crate::calls::{self, Particle};
+use crate::externs::{pasoletu_pass, pasoletu_read_sheet, pasoletu_run_sheet};
 use crate::library::Library;
 use std::hint::black_box;
-
-macro_rules! elementary {
-    ($($name:ident)*) => { #[link(name = "ours", kind = "static")] extern "C" { $(pub fn $name(x: f64, out: *mut u64, n: usize) -> u8;)* } };
-}
-elementary!(pasoletu_exp pasoletu_ln pasoletu_sinh pasoletu_sin pasoletu_sqrt pasoletu_cbrt pasoletu_inv_cbrt pasoletu_cbrt_squared
-    pasoletu_inv_cbrt_squared);
-
-#[rustfmt::skip]
-extern "C" {
-    fn pasoletu_pass(model: u64, p: *const u64, ps: usize, r: *mut u64, rs: usize, a: *mut u64, answers: usize, c: *mut u64, cs: usize) -> u8;
-    fn pasoletu_read_sheet(b: *const u8, bytes: usize, h: *mut u64, hs: usize, r: *mut u64, rs: usize) -> u8;
-    fn pasoletu_run_sheet(b: *const u8, bytes: usize, r: *mut u64, rs: usize, a: *mut u64, answers: usize, c: *mut u64, cs: usize) -> u8;
-}
 
 /// One side of a row: `ready` puts the lists as they came, `run` is the timed part.
 pub trait Side {

@@ -16,6 +16,8 @@ def main():
             ran = pasoletu.run(file.read())
     except OSError as error:
         sys.exit("run_sheet.py: %s cannot be read: %s" % (sys.argv[1], error.strerror))
+    except pasoletu.NoLibrary as error:
+        sys.exit("run_sheet.py: %s" % error)
     except pasoletu.Refused as refused:
         sys.exit("run_sheet.py: %s: %s" % (sys.argv[1], refused))
     print(ran.model)

@@ -6,9 +6,16 @@
     print(pasoletu.SnowPlasticity().update_particle(particle))
 
 Matrices are three rows of three. A refused call raises Refused and changes nothing; a pass tells a refused particle in its
-outcome and works the others. The shared library is opened from the file that PASOLETU_LIB names, else as libpasoletu.so.0.
+outcome and works the others. Records that stand in one numpy array are worked there by pass_records, and answered in arrays;
+pasoletu.chunks works a Dask array of them.
+
+The shared library is opened at the first call: the file that PASOLETU_LIB names; else that of the PREFIX which the package is
+installed in; else the system's libpasoletu.so.0. NoLibrary says how to get it where there is none.
 """
-from . import elementary, refusal, utils
+from . import elementary, raw, refusal, utils
+from ._find import NoLibrary
+from ._table import FLOATS, MODELS, SHEET_MOST
+from ._table import VERSION as __version__
 from .laws import (
     CorotatedLinearElasticity,
     DruckerPragerPlasticity,
@@ -16,25 +23,30 @@ from .laws import (
     MonaghanSphEos,
     NaccPlasticity,
     NeoHookeanElasticity,
+    Plasticity,
     RankinePlasticity,
     SnowPlasticity,
-    Stored,
-    Untouched,
 )
-from .lists import SHEET_MOST, Passed, Ran, Sheet, pass_particles, pass_records, pass_with_failure, read_sheet, run
-from .particle import FLOATS, Particle
-from .refusal import Refused
+from .lists import Ran, Sheet, law, pass_particles, pass_records, pass_with_failure, read_sheet, run
+from .outcome import Outcomes, Passed, Stored, Untouched
+from .particle import Particle
+from .refusal import REFUSALS, Refused
 
 __all__ = [
     "CorotatedLinearElasticity",
     "DruckerPragerPlasticity",
     "FLOATS",
+    "MODELS",
     "MaximumStressFailure",
     "MonaghanSphEos",
     "NaccPlasticity",
     "NeoHookeanElasticity",
+    "NoLibrary",
+    "Outcomes",
     "Particle",
     "Passed",
+    "Plasticity",
+    "REFUSALS",
     "Ran",
     "RankinePlasticity",
     "Refused",
@@ -43,10 +55,13 @@ __all__ = [
     "SnowPlasticity",
     "Stored",
     "Untouched",
+    "__version__",
     "elementary",
+    "law",
     "pass_particles",
     "pass_records",
     "pass_with_failure",
+    "raw",
     "read_sheet",
     "refusal",
     "run",

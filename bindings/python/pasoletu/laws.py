@@ -1,103 +1,91 @@
 """The laws, with the Rust's names. (`lambda` is a word of Python's own: the first Lamé parameter is `lam` here.)"""
-import math
-import struct
+from __future__ import annotations
+
+import itertools
+import numbers
 from dataclasses import dataclass
+from typing import Any, Callable, ClassVar, Iterable, Optional, TypeVar, Union
 
 from . import elementary, utils
-from ._library import FUNCTIONS, call, doubles, entries, lend, rows, words
-from .particle import first_not_finite, place_name
+from ._arguments import Law, Matrix, Rows, Vector, doubles, first_not_finite, number
+from ._calls import floats, matrix, one
+from ._library import ask, words
+from ._table import (
+    ANSWERS,
+    COROTATED_CFL_COEFF,
+    DRUCKER_PRAGER,
+    MODELS,
+    MONAGHAN_MAX_NEG_PRESSURE,
+    NACC,
+    NEO_HOOKEAN_CFL_COEFF,
+    RANKINE,
+    SNOW,
+)
+from .outcome import Stored, Untouched, worked
+from .particle import PLACES, Particle
 from .refusal import NOT_FINITE, Refused
 
-
-@dataclass(frozen=True)
-class Untouched:
-    """Inside the yield surface: nothing changed."""
-
-    def __str__(self):
-        return "untouched"
+_Answer = TypeVar("_Answer")
+_SNOW = MODELS[SNOW].defaults
+_DRUCKER_PRAGER = MODELS[DRUCKER_PRAGER].defaults
 
 
-@dataclass(frozen=True)
-class Stored:
-    """Updated. The amount is, for Snow, the elastic hardening; Rankine, the plastic hardening; Drucker-Prager, dq; NACC,
-    alpha."""
-
-    amount: float
-
-    def __str__(self):
-        return "stored %r" % self.amount
+def _given(told: str, **arguments: float) -> None:
+    """Refused by 1 unless all are finite."""
+    values = [number(told, name, value) for name, value in arguments.items()]
+    place = first_not_finite(values, arguments)
+    if place:
+        raise Refused(NOT_FINITE, told, place=place)
 
 
-def outcome_of(code, value, refused):
-    """The outcome of two answers; `refused` makes the refusal of a number."""
-    if code == 0:
-        return Untouched()
-    return Stored(as_float(value)) if code == 1 else refused(value)
-
-
-def as_float(bits):
-    return struct.unpack("<d", struct.pack("<Q", bits))[0]
-
-
-def _given(told, *arguments):
-    if not all(map(math.isfinite, arguments)):
-        raise Refused(NOT_FINITE, told)
-
-
-def _moduli(told, call, *arguments):
+def _moduli(told: str, call: Callable[..., _Answer], *arguments: Any) -> _Answer:
+    """What a call answers, its refusal told of another."""
     try:
         return call(*arguments)
-    except Refused as r:
-        raise Refused(r.number, told) from None
+    except Refused as refused:
+        raise Refused(refused.number, told, place=refused.place) from None
 
 
-class Plasticity:
-    """One of the four plastic laws. `model` is its number, `names` those of its parameters."""
+class Plasticity(Law):
+    """One of the four plastic laws. `model` is its number."""
 
-    model = None
-    names = ()
+    model: ClassVar[int]
 
-    def parameters(self):
-        """The parameters as floats; a flag is 0.0 or 1.0."""
-        return [float(getattr(self, name)) for name in self.names]
+    def first_not_finite(self, floats: Iterable[float]) -> Optional[str]:
+        """Where the first float is that is not finite: in the parameters, then in a record's floats."""
+        names = itertools.chain(("the law's " + name for name in self.names()), PLACES)
+        return first_not_finite(itertools.chain(self.parameters(), floats), names)
 
-    def refusal(self, number, told, particle, floats):
-        """The refusal of a record, with the place of the first float that is not finite: parameters first."""
-        place = None
-        if number == NOT_FINITE:
-            place = first_not_finite(self.parameters(), lambda k: "the law's " + self.names[k])
-            place = place or first_not_finite(floats, place_name)
-        return Refused(number, told, particle, place)
-
-    def update_particle(self, particle):
-        """The law on one particle, in place. Answers Untouched or Stored; a refused particle keeps every bit."""
-        given, record, answer = doubles(self.parameters()), doubles(particle.floats()), words(2)
-        status = FUNCTIONS["update"](self.model, *lend(given), *lend(record), *lend(answer))
+    def update_particle(self, particle: Particle) -> Union[Untouched, Stored]:
+        """The law on one particle, in place. A refused particle keeps every bit."""
+        told = "update_particle"
+        given, record = doubles(told, "the law", self.parameters()), doubles(told, "particle", particle.floats())
+        answer = words(ANSWERS)
+        status = ask("update", self.model, given, record, answer)
         if status:
-            raise self.refusal(status, "update_particle", None, record)
+            raise Refused(status, told, place=self.first_not_finite(list(record)) if status == NOT_FINITE else None)
         particle._take(record)
-        return outcome_of(answer[0], answer[1], None)
+        return worked(answer[0], answer[1])
 
 
 @dataclass(frozen=True)
 class SnowPlasticity(Plasticity):
     """Each singular value is clamped. Stores F, sigma, the plastic determinant and the elastic hardening."""
 
-    min_epsilon: float = 0.025
-    max_epsilon: float = 0.0045
-    hardening_coeff: float = 10.0
+    min_epsilon: float = _SNOW["min_epsilon"]
+    max_epsilon: float = _SNOW["max_epsilon"]
+    hardening_coeff: float = _SNOW["hardening_coeff"]
 
-    model = 0
-    names = ("min_epsilon", "max_epsilon", "hardening_coeff")
+    model = SNOW
 
     @classmethod
-    def new(cls):
+    def new(cls) -> SnowPlasticity:
         return cls()
 
-    def project_deformation_gradient(self, singular_values):
+    def project_deformation_gradient(self, singular_values: Vector) -> list[float]:
         """The bare clamp, with no refusal of a value: of a NaN it is the lower bound, as in the Rust."""
         told = "SnowPlasticity.project_deformation_gradient"
-        return call("snow_clamp", told, self.min_epsilon, self.max_epsilon, self.hardening_coeff, singular_values)
+        return floats("snow_clamp", told, **vars(self), singular_values=singular_values)
 
 
 @dataclass(frozen=True)
@@ -109,20 +97,21 @@ class RankinePlasticity(Plasticity):
     tensile_strength: float
     softening_rate: float
 
-    model = 1
-    names = ("young_modulus", "poisson_ratio", "tensile_strength", "softening_rate")
+    model = RANKINE
 
     @classmethod
-    def new(cls, young_modulus, poisson_ratio, tensile_strength, softening_rate):
+    def new(
+        cls, young_modulus: float, poisson_ratio: float, tensile_strength: float, softening_rate: float
+    ) -> RankinePlasticity:
         """Refused by 1 for an argument and by 3 for a modulus that is not finite."""
-        told = "RankinePlasticity.new"
-        _given(told, young_modulus, poisson_ratio, tensile_strength, softening_rate)
+        told, made = "RankinePlasticity.new", cls(young_modulus, poisson_ratio, tensile_strength, softening_rate)
+        _given(told, **vars(made))
         _moduli(told, utils.lame_lambda_mu, young_modulus, poisson_ratio)
-        return cls(young_modulus, poisson_ratio, tensile_strength, softening_rate)
+        return made
 
-    def project(self, strains, s):
+    def project(self, strains: Vector, s: float) -> list[float]:
         """The projection of log strains by itself, at the softened strength s; the strains keep their order."""
-        return call("rankine_project", "RankinePlasticity.project", self.parameters(), s, strains)
+        return floats("rankine_project", "RankinePlasticity.project", law=self, s=s, strains=strains)
 
 
 @dataclass(frozen=True)
@@ -136,21 +125,21 @@ class DruckerPragerPlasticity(Plasticity):
     lam: float
     mu: float
     only_active_when_failed: bool = False
-    volume_correction: float = 1.0
+    volume_correction: float = _DRUCKER_PRAGER["volume_correction"]
 
-    model = 2
-    names = ("h0", "h1", "h2", "h3", "lam", "mu", "only_active_when_failed", "volume_correction")
+    model = DRUCKER_PRAGER
 
     @classmethod
-    def new(cls, young_modulus, poisson_ratio):
+    def new(cls, young_modulus: float, poisson_ratio: float) -> DruckerPragerPlasticity:
         """The defaults (35, 9 and 10 degrees, and 0.2) with these moduli. Refused by 1 for an argument and by 3 for a
         modulus that is not finite."""
         lam, mu = _moduli("DruckerPragerPlasticity.new", utils.lame_lambda_mu, young_modulus, poisson_ratio)
-        return cls(0.6108652381980153, 0.15707963267948966, 0.2, 0.17453292519943295, lam, mu)
+        h0, h1, h2, h3 = (_DRUCKER_PRAGER[name] for name in ("h0", "h1", "h2", "h3"))
+        return cls(h0, h1, h2, h3, lam, mu)
 
-    def alpha(self, q):
+    def alpha(self, q: float) -> float:
         """The slope of the cone at the plastic hardening q."""
-        return call("drucker_prager_alpha", "DruckerPragerPlasticity.alpha", self.parameters(), q)[0]
+        return one("drucker_prager_alpha", "DruckerPragerPlasticity.alpha", law=self, q=q)
 
 
 @dataclass(frozen=True)
@@ -164,31 +153,56 @@ class NaccPlasticity(Plasticity):
     hardening_factor: float
     m: float
 
-    model = 3
-    names = ("young_modulus", "poisson_ratio", "cohesion", "hardening_enabled", "hardening_factor", "m")
+    model = NACC
 
     @classmethod
-    def with_m(cls, young_modulus, poisson_ratio, cohesion, hardening_enabled, hardening_factor, m):
+    def with_m(
+        cls,
+        young_modulus: float,
+        poisson_ratio: float,
+        cohesion: float,
+        hardening_enabled: bool,
+        hardening_factor: float,
+        m: float,
+    ) -> NaccPlasticity:
         """Refused by 1 for an argument and by 3 for a modulus that is not finite."""
         told = "NaccPlasticity.with_m"
-        _given(told, young_modulus, poisson_ratio, cohesion, hardening_factor, m)
+        made = cls(young_modulus, poisson_ratio, cohesion, hardening_enabled, hardening_factor, m)
+        _given(told, **vars(made))
         _moduli(told, utils.shear_modulus, young_modulus, poisson_ratio)
         _moduli(told, utils.bulk_modulus, young_modulus, poisson_ratio)
-        return cls(young_modulus, poisson_ratio, cohesion, hardening_enabled, hardening_factor, m)
+        return made
 
     @classmethod
-    def new(cls, young_modulus, poisson_ratio, cohesion, hardening_enabled, hardening_factor, friction_angle):
+    def new(
+        cls,
+        young_modulus: float,
+        poisson_ratio: float,
+        cohesion: float,
+        hardening_enabled: bool,
+        hardening_factor: float,
+        friction_angle: float,
+    ) -> NaccPlasticity:
         """The friction from an angle in radians; also refused by 2 outside the sine's range, -8 to 8. The library has no call
         for this: m is worked here, by the Rust's steps over the library's sine and root."""
         given = (young_modulus, poisson_ratio, cohesion, hardening_enabled, hardening_factor)
+        _given("NaccPlasticity.new", friction_angle=friction_angle)
         _moduli("NaccPlasticity.new", cls.with_m, *given, friction_angle)
         s = _moduli("NaccPlasticity.new", elementary.sin, friction_angle)
         r = elementary.sqrt(2.0 / 3.0)
         return cls.with_m(*given, r * 2.0 * s / (3.0 - s) * 3.0 / r)
 
 
+PLASTICITIES: tuple[type[Plasticity], ...] = (
+    SnowPlasticity,
+    RankinePlasticity,
+    DruckerPragerPlasticity,
+    NaccPlasticity,
+)
+
+
 @dataclass(frozen=True)
-class NeoHookeanElasticity:
+class NeoHookeanElasticity(Law):
     """Neo-Hookean stress and energy. Each call is refused by 1 for an input that is not finite, by 2 where F's determinant
     lies outside the range of the powers and the logarithm, by 3 for a NaN or a result that is not finite."""
 
@@ -197,38 +211,40 @@ class NeoHookeanElasticity:
     mu: float
 
     @classmethod
-    def new(cls, young_modulus, poisson_ratio):
+    def new(cls, young_modulus: float, poisson_ratio: float) -> NeoHookeanElasticity:
         lam, mu = _moduli("NeoHookeanElasticity.new", utils.lame_lambda_mu, young_modulus, poisson_ratio)
-        return cls(0.5, lam, mu)
+        return cls(NEO_HOOKEAN_CFL_COEFF, lam, mu)
 
-    def _law(self):
-        return [self.cfl_coeff, self.lam, self.mu]
-
-    def fpk_stress(self, deformation_gradient, hardening):
+    def fpk_stress(self, deformation_gradient: Matrix, hardening: float) -> Rows:
         """The first Piola-Kirchhoff stress; no split and no phase."""
         told = "NeoHookeanElasticity.fpk_stress"
-        return rows(call("neo_hookean_fpk_stress", told, self._law(), hardening, entries(deformation_gradient)))
+        return matrix(
+            "neo_hookean_fpk_stress", told, law=self, hardening=hardening, deformation_gradient=deformation_gradient
+        )
 
-    def kirchhoff_stress(self, phase, hardening, deformation_gradient):
-        told, f = "NeoHookeanElasticity.kirchhoff_stress", entries(deformation_gradient)
-        return rows(call("neo_hookean_kirchhoff_stress", told, self._law(), phase, hardening, f))
+    def kirchhoff_stress(self, phase: float, hardening: float, deformation_gradient: Matrix) -> Rows:
+        given = self._arguments(phase, hardening, deformation_gradient)
+        return matrix("neo_hookean_kirchhoff_stress", "NeoHookeanElasticity.kirchhoff_stress", **given)
 
-    def elastic_energy_density(self, phase, hardening, deformation_gradient):
-        told, f = "NeoHookeanElasticity.elastic_energy_density", entries(deformation_gradient)
-        return call("neo_hookean_elastic_energy_density", told, self._law(), phase, hardening, f)[0]
+    def elastic_energy_density(self, phase: float, hardening: float, deformation_gradient: Matrix) -> float:
+        given = self._arguments(phase, hardening, deformation_gradient)
+        return one("neo_hookean_elastic_energy_density", "NeoHookeanElasticity.elastic_energy_density", **given)
 
-    def pos_energy(self, phase, hardening, deformation_gradient):
+    def pos_energy(self, phase: float, hardening: float, deformation_gradient: Matrix) -> float:
         """The positive part of the energy."""
-        told, f = "NeoHookeanElasticity.pos_energy", entries(deformation_gradient)
-        return call("neo_hookean_pos_energy", told, self._law(), phase, hardening, f)[0]
+        given = self._arguments(phase, hardening, deformation_gradient)
+        return one("neo_hookean_pos_energy", "NeoHookeanElasticity.pos_energy", **given)
+
+    def _arguments(self, phase: float, hardening: float, deformation_gradient: Matrix) -> dict[str, Any]:
+        return {"law": self, "phase": phase, "hardening": hardening, "deformation_gradient": deformation_gradient}
 
     @staticmethod
-    def phase_coeff(phase):
-        return call("phase_coeff", "NeoHookeanElasticity.phase_coeff", phase)[0]
+    def phase_coeff(phase: float) -> float:
+        return one("phase_coeff", "NeoHookeanElasticity.phase_coeff", phase=phase)
 
 
 @dataclass(frozen=True)
-class CorotatedLinearElasticity:
+class CorotatedLinearElasticity(Law):
     """Corotated linear stress and energy; the factors of F are given. Each call is refused by 1 for an input that is not
     finite and by 3 for a NaN or a result that is not finite."""
 
@@ -238,27 +254,48 @@ class CorotatedLinearElasticity:
     mu: float
 
     @classmethod
-    def new(cls, young_modulus, poisson_ratio):
+    def new(cls, young_modulus: float, poisson_ratio: float) -> CorotatedLinearElasticity:
         lam, mu = _moduli("CorotatedLinearElasticity.new", utils.lame_lambda_mu, young_modulus, poisson_ratio)
-        return cls(True, 0.9, lam, mu)
+        return cls(True, COROTATED_CFL_COEFF, lam, mu)
 
-    def parameters(self):
-        return [float(self.split_stress_on_failure), self.cfl_coeff, self.lam, self.mu]
+    def kirchhoff_stress(
+        self,
+        phase: float,
+        hardening: float,
+        deformation_gradient: Matrix,
+        u: Matrix,
+        singular_values: Vector,
+        v_t: Matrix,
+    ) -> Rows:
+        return matrix(
+            "corotated_kirchhoff_stress",
+            "CorotatedLinearElasticity.kirchhoff_stress",
+            law=self,
+            phase=phase,
+            hardening=hardening,
+            deformation_gradient=deformation_gradient,
+            u=u,
+            singular_values=singular_values,
+            v_t=v_t,
+        )
 
-    def kirchhoff_stress(self, phase, hardening, deformation_gradient, u, singular_values, v_t):
-        told = "CorotatedLinearElasticity.kirchhoff_stress"
-        given = entries(deformation_gradient), entries(u), singular_values, entries(v_t)
-        return rows(call("corotated_kirchhoff_stress", told, self.parameters(), phase, hardening, *given))
-
-    def elastic_energy_density(self, singular_values, hardening):
+    def elastic_energy_density(self, singular_values: Vector, hardening: float) -> float:
         """Takes the product of the singular values for the determinant."""
         told = "CorotatedLinearElasticity.elastic_energy_density"
-        return call("corotated_elastic_energy_density", told, self.parameters(), hardening, singular_values)[0]
+        return one(
+            "corotated_elastic_energy_density", told, law=self, hardening=hardening, singular_values=singular_values
+        )
 
-    def pos_energy(self, deformation_gradient, singular_values, hardening):
+    def pos_energy(self, deformation_gradient: Matrix, singular_values: Vector, hardening: float) -> float:
         """The positive part of the energy. Takes the determinant of F."""
-        told, f = "CorotatedLinearElasticity.pos_energy", entries(deformation_gradient)
-        return call("corotated_pos_energy", told, self.parameters(), hardening, f, singular_values)[0]
+        return one(
+            "corotated_pos_energy",
+            "CorotatedLinearElasticity.pos_energy",
+            law=self,
+            hardening=hardening,
+            deformation_gradient=deformation_gradient,
+            singular_values=singular_values,
+        )
 
 
 @dataclass(frozen=True)
@@ -269,47 +306,74 @@ class MonaghanSphEos:
     pressure0: float
     gamma: int
     viscosity: float
-    max_neg_pressure: float = 1.0
+    max_neg_pressure: float = MONAGHAN_MAX_NEG_PRESSURE
 
-    def __post_init__(self):
+    def __post_init__(self) -> None:
+        if not isinstance(self.gamma, numbers.Integral):
+            raise TypeError("MonaghanSphEos: gamma is %r and must be a whole number" % (self.gamma,))
         if not 0 <= self.gamma < 2**32:
             raise ValueError("MonaghanSphEos: gamma is %r and must lie between 0 and 4294967295" % self.gamma)
 
     @classmethod
-    def new(cls, pressure0, gamma, viscosity):
-        _given("MonaghanSphEos.new", pressure0, viscosity)
+    def new(cls, pressure0: float, gamma: int, viscosity: float) -> MonaghanSphEos:
+        _given("MonaghanSphEos.new", pressure0=pressure0, viscosity=viscosity)
         return cls(pressure0, gamma, viscosity)
 
-    def _law(self):
-        return self.pressure0, self.gamma, self.viscosity, self.max_neg_pressure
+    def pressure(self, mass: float, volume0: float, density: float) -> float:
+        given = {"mass": mass, "volume0": volume0, "density": density}
+        return one("monaghan_pressure", "MonaghanSphEos.pressure", **vars(self), **given)
 
-    def pressure(self, mass, volume0, density):
-        return call("monaghan_pressure", "MonaghanSphEos.pressure", *self._law(), mass, volume0, density)[0]
+    def kirchhoff_stress(
+        self, mass: float, volume0: float, density: float, deformation_gradient_det: float, velocity_gradient: Matrix
+    ) -> Rows:
+        return matrix(
+            "monaghan_kirchhoff_stress",
+            "MonaghanSphEos.kirchhoff_stress",
+            **vars(self),
+            mass=mass,
+            volume0=volume0,
+            density=density,
+            deformation_gradient_det=deformation_gradient_det,
+            velocity_gradient=velocity_gradient,
+        )
 
-    def kirchhoff_stress(self, mass, volume0, density, deformation_gradient_det, velocity_gradient):
-        given = mass, volume0, density, deformation_gradient_det, entries(velocity_gradient)
-        return rows(call("monaghan_kirchhoff_stress", "MonaghanSphEos.kirchhoff_stress", *self._law(), *given))
-
-    def timestep_bound(self, deformation_gradient_det, mass, volume0, density, velocity, cell_width):
+    def timestep_bound(
+        self,
+        deformation_gradient_det: float,
+        mass: float,
+        volume0: float,
+        density: float,
+        velocity: Vector,
+        cell_width: float,
+    ) -> float:
         """Also refused by 2, where a root's argument is infinite."""
-        given = deformation_gradient_det, mass, volume0, density, velocity, cell_width
-        return call("monaghan_timestep_bound", "MonaghanSphEos.timestep_bound", *self._law(), *given)[0]
+        return one(
+            "monaghan_timestep_bound",
+            "MonaghanSphEos.timestep_bound",
+            **vars(self),
+            deformation_gradient_det=deformation_gradient_det,
+            mass=mass,
+            volume0=volume0,
+            density=density,
+            velocity=velocity,
+            cell_width=cell_width,
+        )
 
 
 @dataclass(frozen=True)
-class MaximumStressFailure:
+class MaximumStressFailure(Law):
     """The failure rule, on given principal stresses."""
 
     max_principal_stress: float
     max_shear_stress: float
 
     @classmethod
-    def new(cls, max_principal_stress, max_shear_stress):
-        _given("MaximumStressFailure.new", max_principal_stress, max_shear_stress)
-        return cls(max_principal_stress, max_shear_stress)
+    def new(cls, max_principal_stress: float, max_shear_stress: float) -> MaximumStressFailure:
+        made = cls(max_principal_stress, max_shear_stress)
+        _given("MaximumStressFailure.new", **vars(made))
+        return made
 
-    def particle_failed(self, principal_stresses):
+    def particle_failed(self, principal_stresses: Vector) -> bool:
         """True exactly when the greatest is over its limit, or half the distance of greatest and least over the other."""
-        out, told = words(1), "MaximumStressFailure.particle_failed"
-        call("failed", told, self.max_principal_stress, self.max_shear_stress, principal_stresses, room=out)
-        return out[0] != 0
+        told = "MaximumStressFailure.particle_failed"
+        return one("failed", told, **vars(self), principal_stresses=principal_stresses) != 0

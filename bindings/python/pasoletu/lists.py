@@ -1,158 +1,212 @@
-"""The passes and the sheet (document 01, section 7)."""
-import ctypes
-from dataclasses import dataclass
+"""The passes and the sheet (docs/RULES.md, section 7)."""
+from __future__ import annotations
 
-from ._library import FUNCTIONS, doubles, lend, words
-from .laws import (
-    DruckerPragerPlasticity,
-    NaccPlasticity,
-    Plasticity,
-    RankinePlasticity,
-    SnowPlasticity,
-    as_float,
-    outcome_of,
+import ctypes
+import functools
+from typing import Any, Iterable, NamedTuple, Optional
+
+from ._arguments import Law, doubles, first_not_finite
+from ._arrays import Array, flat, table
+from ._library import ask, words
+from ._records import Records, lent
+from ._table import (
+    ANSWERS,
+    FLOATS,
+    HEADER,
+    HEADER_COUNT,
+    HEADER_MODEL,
+    HEADER_PARAMETERS,
+    MODELS,
+    SHEET_MOST,
 )
-from .particle import FLOATS, Particle, first_not_finite
+from .laws import PLASTICITIES, CorotatedLinearElasticity, MaximumStressFailure, Plasticity
+from .outcome import Passed, as_float
+from .particle import Particle
 from .refusal import NOT_FINITE, Refused
 
-SHEET_MOST = 200
+
+class Judge(NamedTuple):
+    """What a pass with failure judges by."""
+
+    limits: MaximumStressFailure
+    elasticity: CorotatedLinearElasticity
 
 
-@dataclass(frozen=True)
-class Passed:
-    """What a pass did.
-
-    outcomes   one for each particle, in order: Untouched, Stored or Refused (not raised). A refused particle keeps every bit;
-               the others were still worked
-    untouched, stored, refused   how many of each
-    failed     how many of the particles not refused have failed in this pass; 0 in a pass without failure
-    """
-
-    outcomes: list
-    untouched: int
-    stored: int
-    refused: int
-    failed: int = 0
+def judge(
+    told: str, limits: Optional[MaximumStressFailure], elasticity: Optional[CorotatedLinearElasticity]
+) -> Optional[Judge]:
+    """Both, or None where neither is given."""
+    if limits is None and elasticity is None:
+        return None
+    for given, name, other in ((limits, "limits", "elasticity"), (elasticity, "elasticity", "limits")):
+        if given is None:
+            raise TypeError("%s: %s is given and %s is not: the pass with failure needs both, the pass none" % (told, other, name))
+    _of_type(told, "limits", limits, MaximumStressFailure)
+    _of_type(told, "elasticity", elasticity, CorotatedLinearElasticity)
+    return Judge(limits, elasticity)  # type: ignore[arg-type]
 
 
-@dataclass(frozen=True)
-class Sheet:
-    """A sheet that was read."""
+def _of_type(told: str, name: str, given: Any, wanted: type) -> None:
+    if not isinstance(given, wanted):
+        raise TypeError("%s: %s is a %s and must be a %s" % (told, name, type(given).__name__, wanted.__name__))
 
+
+class Pass(NamedTuple):
+    """A pass over records: who called it, the law, where the records stand, and what it judges by."""
+
+    told: str
     model: Plasticity
-    particles: list
+    records: Any
+    judge: Optional[Judge]
+
+    def run(self, room: ctypes.Array[ctypes.c_double]) -> Passed:
+        """The pass over the records' own room."""
+        _of_type(self.told, "model", self.model, Plasticity)
+        laws = [_list(law) for law in (self.model, *(self.judge or ()))]
+        answers, counts = words(len(room) // FLOATS * ANSWERS), words(4 if self.judge else 3)
+        call = "pass_with_failure" if self.judge else "pass"
+        status = ask(call, self.model.model, *laws, room, answers, counts)
+        if status:
+            raise Refused(status, self.told)
+        return Passed(answers, list(counts), self.refusal)
+
+    def refusal(self, k: int, number: int) -> Refused:
+        """The refusal of record k."""
+        return Refused(number, self.told, k, self._place(k) if number == NOT_FINITE else None)
+
+    def _place(self, k: int) -> Optional[str]:
+        """Where the first float is that is not finite: what is judged by, the law, the record as it stands now."""
+        for whose, law in zip(("the limits' ", "the elasticity's "), self.judge or ()):
+            place = first_not_finite(law.parameters(), (whose + name for name in law.names()))
+            if place:
+                return place
+        with flat(self.records, "d") as floats:
+            return self.model.first_not_finite(floats[FLOATS * k:FLOATS * (k + 1)].tolist())
 
 
-@dataclass(frozen=True)
-class Ran:
-    """A sheet that was read and passed: the particles are as the pass left them."""
-
-    model: Plasticity
-    particles: list
-    passed: Passed
+def _list(law: Law) -> ctypes.Array[ctypes.c_double]:
+    return doubles(type(law).__name__, "parameters", law.parameters())
 
 
-def _judge(limits, elasticity):
-    return doubles([limits.max_principal_stress, limits.max_shear_stress]), doubles(elasticity.parameters())
-
-
-def _passed(told, model, records, answers, counts, judge=()):
-    def refused(k, number):
-        r = model.refusal(number, told, k, records[FLOATS * k:FLOATS * (k + 1)])
-        names = "one of the limits", "the corotated law"
-        for name, given in zip(names, judge):
-            if number == NOT_FINITE and first_not_finite(given, str):
-                return Refused(number, told, k, name)
-        return r
-
-    outcomes = [
-        outcome_of(answers[2 * k], answers[2 * k + 1], lambda number: refused(k, number)) for k in range(len(answers) // 2)
-    ]
-    return Passed(outcomes, *counts)
-
-
-def _pass(told, model, records, judge=()):
-    """A pass over the records in their own room."""
-    name = "pass_with_failure" if judge else "pass"
-    given, answers, counts = doubles(model.parameters()), words(len(records) // FLOATS * 2), words(4 if judge else 3)
-    lists = [x for array in (given, *judge, records, answers, counts) for x in lend(array)]
-    status = FUNCTIONS[name](model.model, *lists)
-    if status:
-        raise Refused(status, told)
-    return _passed(told, model, records, answers, counts, judge)
-
-
-def _pass_particles(told, model, particles, judge=()):
-    particles = list(particles)
-    records = doubles(x for particle in particles for x in particle.floats())
-    passed = _pass(told, model, records, judge)
-    for k, (particle, outcome) in enumerate(zip(particles, passed.outcomes)):
+def _pass_particles(told: str, model: Plasticity, particles: Iterable[Particle], by: Optional[Judge]) -> Passed:
+    held = list(particles)
+    for k, particle in enumerate(held):
+        _of_type(told, "particles[%d]" % k, particle, Particle)
+    room = doubles(told, "particles", (x for particle in held for x in particle.floats()))
+    passed = Pass(told, model, room, by).run(room)
+    for k, (particle, outcome) in enumerate(zip(held, passed.outcomes)):
         if not isinstance(outcome, Refused):
-            particle._take(records[FLOATS * k:FLOATS * (k + 1)])
+            particle._take(room[FLOATS * k:FLOATS * (k + 1)])
     return passed
 
 
-def _lent(buffer):
-    view = memoryview(buffer)
-    if view.format != "d" or not view.c_contiguous or view.readonly:
-        raise TypeError(
-            "pasoletu: the records must be a writable, contiguous buffer of doubles, as array('d') or a numpy array of float64"
-        )
-    return (ctypes.c_double * (view.nbytes // 8)).from_buffer(buffer)
-
-
-def pass_particles(model, particles):
+def pass_particles(model: Plasticity, particles: Iterable[Particle]) -> Passed:
     """The plastic law on every particle, in place. The pass goes on after a refused one."""
-    return _pass_particles("pass_particles", model, particles)
+    return _pass_particles("pass_particles", model, particles, None)
 
 
-def pass_with_failure(model, limits, elasticity, particles):
+def pass_with_failure(
+    model: Plasticity,
+    limits: MaximumStressFailure,
+    elasticity: CorotatedLinearElasticity,
+    particles: Iterable[Particle],
+) -> Passed:
     """The pass with failure, in place: judges each particle's stress as it came, sets its phase to 0.0 on a yes, then applies
-    the law. `limits` is a MaximumStressFailure, `elasticity` a CorotatedLinearElasticity."""
-    return _pass_particles("pass_with_failure", model, particles, _judge(limits, elasticity))
+    the law."""
+    _of_type("pass_with_failure", "limits", limits, MaximumStressFailure)
+    return _pass_particles("pass_with_failure", model, particles, judge("pass_with_failure", limits, elasticity))
 
 
-def pass_records(model, records, limits=None, elasticity=None):
-    """Either pass over a buffer of 36 doubles a particle, in place and without copying: an array('d'), or a numpy array of
-    float64. With failure where limits and elasticity are given. Refused by 8 unless the buffer has whole records."""
-    judge = () if limits is None else _judge(limits, elasticity)
-    return _pass("pass_records", model, _lent(records), judge)
+def pass_records(
+    model: Plasticity,
+    records: Records,
+    limits: Optional[MaximumStressFailure] = None,
+    elasticity: Optional[CorotatedLinearElasticity] = None,
+) -> Passed:
+    """Either pass over records that stand in one buffer, in place and without a copy. With failure where limits and elasticity are
+    given: both or none.
+
+    records: a numpy array of float64, a record a row, (n, 36), row after row in memory; or all records in one dimension, as in an
+    array('d'). TypeError for what holds no writable doubles, ValueError for another shape or order, refused by 8 for one dimension
+    without whole records.
+
+    A refused record keeps its bits, and its outcome names the first float that is not finite: as the record stands when the outcome
+    is asked for."""
+    by = judge("pass_records", limits, elasticity)
+    return Pass("pass_records", model, records, by).run(lent("pass_records", records))
 
 
-def _model_of(number, bits):
-    law = (SnowPlasticity, RankinePlasticity, DruckerPragerPlasticity, NaccPlasticity)[number]
-    given = [as_float(b) for b in bits[:len(law.names)]]
-    flags = "only_active_when_failed", "hardening_enabled"
-    return law(*(x == 1.0 if name in flags else x for name, x in zip(law.names, given)))
+class Sheet:
+    """A sheet that was read.
+
+    model      the law
+    records    its records, a record a row: numpy's array where numpy is installed, else a memoryview
+    particles  copies of them as objects, made when they are first asked for
+    """
+
+    def __init__(self, model: Plasticity, room: ctypes.Array[ctypes.c_double]) -> None:
+        self.model, self._room = model, room
+
+    def __len__(self) -> int:
+        return len(self._room) // FLOATS
+
+    @property
+    def records(self) -> Array:
+        return table(self._room, FLOATS, "d")
+
+    @functools.cached_property
+    def particles(self) -> list[Particle]:
+        return [Particle.from_floats(self._room[FLOATS * k:FLOATS * (k + 1)]) for k in range(len(self))]
 
 
-def _sheet(told, data):
-    data = bytes(data)
-    header, records = words(11), (ctypes.c_double * (SHEET_MOST * FLOATS))()
-    held = ctypes.create_string_buffer(data, len(data) or 1)
-    status = FUNCTIONS["read_sheet"](ctypes.addressof(held), len(data), *lend(header), *lend(records))
+class Ran(Sheet):
+    """A sheet that was read and passed: its records and particles are as the pass left them. `passed` says what it did."""
+
+    def __init__(self, model: Plasticity, room: ctypes.Array[ctypes.c_double], passed: Passed) -> None:
+        super().__init__(model, room)
+        self.passed = passed
+
+
+def law(model: int, parameters: Iterable[float]) -> Plasticity:
+    """The plastic law of a model's number and its parameters in order; a flag is 1.0 or not."""
+    if model not in MODELS:
+        raise ValueError("law: model is %r and must be one of %s" % (model, ", ".join(map(str, MODELS))))
+    held, names, flags = list(parameters), MODELS[model].parameters, MODELS[model].flags
+    if len(held) != len(names):
+        raise ValueError("law: parameters has %d entries and must have %d: %s" % (len(held), len(names), ", ".join(names)))
+    return PLASTICITIES[model](*(x == 1.0 if name in flags else x for name, x in zip(names, held)))
+
+
+def read_sheet(data: bytes) -> Sheet:
+    """Reads a sheet's bytes. Floats pass as bits: a NaN is read here and refused by the law. Refused by 4, 5, 6 and 7."""
+    return _read("read_sheet", data)
+
+
+def _read(told: str, data: bytes) -> Sheet:
+    header, room = words(HEADER), (ctypes.c_double * (SHEET_MOST * FLOATS))()
+    status = ask("read_sheet", _bytes(told, data), header, room)
     if status:
         raise Refused(status, told)
-    return held, len(data), _model_of(header[0], header[1:9]), records, header[9]
+    model, count = header[HEADER_MODEL], header[HEADER_COUNT]
+    parameters = header[HEADER_PARAMETERS:HEADER_PARAMETERS + len(MODELS[model].parameters)]
+    return Sheet(law(model, map(as_float, parameters)), (ctypes.c_double * (count * FLOATS)).from_buffer(room))
 
 
-def _particles(records, count):
-    return [Particle.from_floats(records[FLOATS * k:FLOATS * (k + 1)]) for k in range(count)]
+def _bytes(told: str, data: bytes) -> ctypes.Array[ctypes.c_uint8]:
+    try:
+        held = memoryview(data).tobytes()
+    except TypeError:
+        raise TypeError("%s: data is a %s and must be the sheet's bytes" % (told, type(data).__name__)) from None
+    return (ctypes.c_uint8 * len(held)).from_buffer_copy(held)
 
 
-def read_sheet(data):
-    """Reads a sheet's bytes. Floats pass as bits: a NaN is read here and refused by the law. Refused by 4, 5, 6 and 7."""
-    _, _, model, records, count = _sheet("read_sheet", data)
-    return Sheet(model, _particles(records, count))
-
-
-def run(data):
+def run(data: bytes) -> Ran:
     """Reads a sheet's bytes and passes its particles. A refused sheet raises Refused (4, 5, 6 or 7); a refused particle is
     told in its outcome."""
-    held, length, model, records, count = _sheet("run", data)
-    answers, counts = words(2 * SHEET_MOST), words(4)
-    status = FUNCTIONS["run_sheet"](ctypes.addressof(held), length, *lend(records), *lend(answers), *lend(counts))
+    sheet = _read("run", data)
+    room, answers, counts = sheet._room, words(len(sheet) * ANSWERS), words(4)
+    status = ask("run_sheet", _bytes("run", data), room, answers, counts)
     if status:
         raise Refused(status, "run")
-    passed = _passed("run", model, records, answers[:2 * count], counts[1:])
-    return Ran(model, _particles(records, count), passed)
+    passed = Passed(answers, counts[1:], Pass("run", sheet.model, room, None).refusal)
+    return Ran(sheet.model, room, passed)

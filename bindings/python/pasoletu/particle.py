@@ -1,28 +1,26 @@
-"""A particle: the 36 floats of document 01's record (section 7)."""
-import math
+"""A particle: the 36 floats of a record (docs/RULES.md, section 7)."""
+from __future__ import annotations
 
-from ._library import entries, rows
+from typing import Any, Iterable
+
+from ._arguments import Rows, Vector, entries, number, rows
+from ._table import FLOATS, RECORD
 from .refusal import LENGTH, Refused
 
-FLOATS = 36
-MATRICES = (("deformation_gradient", 0), ("u", 9), ("v_t", 21))
-SCALARS = ("phase", "plastic_deformation_gradient_det", "plastic_hardening", "elastic_hardening", "log_vol_gain", "nacc_alpha")
+MATRIX, VECTOR = (3, 3), (3,)
 
 
-def place_name(k):
-    """The name of float k of a record."""
-    for name, at in MATRICES:
-        if at <= k < at + 9:
-            return "%s[%d][%d]" % (name, (k - at) // 3, (k - at) % 3)
-    return "singular_values[%d]" % (k - 18) if k < 30 else SCALARS[k - 30]
+def _names(field: str, shape: tuple[int, ...]) -> list[str]:
+    if shape == MATRIX:
+        return ["%s[%d][%d]" % (field, row, column) for row in range(3) for column in range(3)]
+    return ["%s[%d]" % (field, k) for k in range(3)] if shape == VECTOR else [field]
 
 
-def first_not_finite(floats, name):
-    """The name of the first float that is NaN or infinite, or None."""
-    return next((name(k) for k, x in enumerate(floats) if not math.isfinite(x)), None)
+# The name of each float of a record.
+PLACES = tuple(name for part in RECORD for name in _names(part.field, part.shape))
 
 
-def identity():
+def identity() -> Rows:
     return [[1.0, 0.0, 0.0], [0.0, 1.0, 0.0], [0.0, 0.0, 1.0]]
 
 
@@ -35,9 +33,20 @@ class Particle:
     plastic_deformation_gradient_det, plastic_hardening, elastic_hardening, log_vol_gain, nacc_alpha
     """
 
-    __slots__ = ("deformation_gradient", "u", "singular_values", "v_t") + SCALARS
+    __slots__ = tuple(part.field for part in RECORD)
 
-    def __init__(self, **parts):
+    deformation_gradient: Rows
+    u: Rows
+    singular_values: list[float]
+    v_t: Rows
+    phase: float
+    plastic_deformation_gradient_det: float
+    plastic_hardening: float
+    elastic_hardening: float
+    log_vol_gain: float
+    nacc_alpha: float
+
+    def __init__(self, **parts: Any) -> None:
         self.deformation_gradient, self.u, self.v_t = identity(), identity(), identity()
         self.singular_values = [1.0, 1.0, 1.0]
         self.phase = self.plastic_deformation_gradient_det = self.plastic_hardening = self.elastic_hardening = 1.0
@@ -46,42 +55,46 @@ class Particle:
             setattr(self, name, value)
 
     @classmethod
-    def stretched(cls, sigma):
+    def stretched(cls, sigma: Vector) -> Particle:
         """A whole particle stretched along the axes: F is diag(sigma), U and V^T the identity."""
         a, b, c = sigma
         return cls(deformation_gradient=[[a, 0.0, 0.0], [0.0, b, 0.0], [0.0, 0.0, c]], singular_values=[a, b, c])
 
     @classmethod
-    def from_floats(cls, floats):
+    def from_floats(cls, floats: Iterable[float]) -> Particle:
         """The particle of 36 floats in the record's order: F, U, sigma, V^T, the six scalars."""
         particle = cls()
         particle._take(floats)
         return particle
 
-    def _take(self, floats):
-        floats = list(floats)
-        if len(floats) != FLOATS:
-            raise Refused(LENGTH, "Particle.from_floats", place="the floats, which are %d" % len(floats))
-        for name, at in MATRICES:
-            setattr(self, name, rows(floats[at:at + 9]))
-        self.singular_values = floats[18:21]
-        for name, x in zip(SCALARS, floats[30:]):
-            setattr(self, name, x)
+    def _take(self, floats: Iterable[float]) -> None:
+        held = [number("Particle.from_floats", "floats", x) for x in floats]
+        if len(held) != FLOATS:
+            raise Refused(LENGTH, "Particle.from_floats", place="floats, which has %d entries and not %d" % (len(held), FLOATS))
+        for field, at, shape in RECORD:
+            if shape == MATRIX:
+                setattr(self, field, rows(held[at:at + 9]))
+            else:
+                setattr(self, field, held[at:at + 3] if shape == VECTOR else held[at])
 
-    def floats(self):
+    def floats(self) -> list[float]:
         """The 36 floats in the record's order."""
-        for name in ("deformation_gradient", "u", "v_t"):
-            if [len(row) for row in getattr(self, name)] != [3, 3, 3]:
-                raise Refused(LENGTH, "Particle.floats", place="%s, which is not three rows of three" % name)
-        if len(self.singular_values) != 3:
-            raise Refused(LENGTH, "Particle.floats", place="singular_values, which are %d" % len(self.singular_values))
-        factors = entries(self.deformation_gradient) + entries(self.u) + list(self.singular_values) + entries(self.v_t)
-        return factors + [getattr(self, name) for name in SCALARS]
+        return [x for field, _, shape in RECORD for x in self._part(field, shape)]
 
-    def __eq__(self, other):
+    def _part(self, field: str, shape: tuple[int, ...]) -> list[float]:
+        value = getattr(self, field)
+        if shape == MATRIX:
+            return entries("Particle.floats", field, value)
+        if shape == VECTOR:
+            if len(value) != 3:
+                raise Refused(LENGTH, "Particle.floats", place="%s, which has %d entries and not 3" % (field, len(value)))
+            return list(value)
+        return [value]
+
+    def __eq__(self, other: object) -> bool:
         return isinstance(other, Particle) and self.floats() == other.floats()
 
-    __hash__ = None
+    __hash__ = None  # type: ignore[assignment]
 
-    def __repr__(self):
+    def __repr__(self) -> str:
         return "Particle(%s)" % ", ".join("%s=%r" % (name, getattr(self, name)) for name in self.__slots__)

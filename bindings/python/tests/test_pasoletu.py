@@ -100,7 +100,8 @@ class Document(Tests):
     def test_section_7_example(self):
         self.assertEqual(SAMPLE.read_bytes(), sheet(0, [0.025, 0.0045, 10.0], [Particle()]))
         ran = pasoletu.run(SAMPLE.read_bytes())
-        self.assertEqual(ran.passed, pasoletu.Passed([Stored(1.0)], 0, 1, 0))
+        self.assertEqual(ran.passed.outcomes, [Stored(1.0)])
+        self.assertEqual((ran.passed.untouched, ran.passed.stored, ran.passed.refused, ran.passed.failed), (0, 1, 0, 0))
         self.assertEqual(ran.model, SnowPlasticity())
         self.assertEqual(ran.particles, [Particle()])
 
@@ -248,7 +249,7 @@ class Passes(Tests):
             self.assertEqual((passed.untouched, passed.stored, passed.refused), (0, 2, 1))
             refusal = passed.outcomes[1]
             self.assertIsInstance(refusal, Refused)
-            self.assertEqual((refusal.number, refusal.particle, refusal.place), (1, 1, pasoletu.particle.place_name(place)))
+            self.assertEqual((refusal.number, refusal.particle, refusal.place), (1, 1, pasoletu.particle.PLACES[place]))
             self.assertEqual(bits(particles[1]), was)
             self.assertEqual(particles[2].singular_values, [1.0045, 1.0, 1.0])
 
@@ -261,7 +262,7 @@ class Passes(Tests):
             self.assertEqual([p.phase for p in particles], [1.0, phase])
             self.assertEqual((passed.stored, passed.failed), (2, failed))
         bad = pasoletu.pass_with_failure(SnowPlasticity(), MaximumStressFailure(NAN, 1.0), law, particles)
-        self.assertEqual((bad.refused, bad.outcomes[0].place), (2, "one of the limits"))
+        self.assertEqual((bad.refused, bad.outcomes[0].place), (2, "the limits' max_principal_stress"))
 
     def test_a_buffer_is_worked_in_place(self):
         records = array.array("d", Particle.stretched([2.0, 1.0, 1.0]).floats() + Particle(phase=PAYLOAD).floats())

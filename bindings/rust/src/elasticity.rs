@@ -1,14 +1,18 @@
 //! Stress and energy of the two solid laws.
 use crate::calls::*;
 use crate::math::{Matrix, Real, Vector};
+use crate::table::*;
 use crate::{utils, Refusal};
 
 /// Neo-Hookean stress and energy (elasticity_neo_hookean.rs). Each call is refused by 1 for an input that is not finite, by 2
 /// where F's determinant lies outside the range of the powers and the logarithm, by 3 for a NaN or a result not finite.
 #[derive(Copy, Clone, Debug, PartialEq)]
 pub struct NeoHookeanElasticity {
+    /// The Rust's coefficient for its time step. No call of this crate looks at its size.
     pub cfl_coeff: Real,
+    /// The first Lamé parameter.
     pub lambda: Real,
+    /// The second Lamé parameter.
     pub mu: Real,
 }
 
@@ -16,7 +20,7 @@ impl NeoHookeanElasticity {
     /// Refused by 1 for an argument and by 3 for a modulus that is not finite.
     pub fn new(young_modulus: Real, poisson_ratio: Real) -> Result<Self, Refusal> {
         let (lambda, mu) = utils::lame_lambda_mu(young_modulus, poisson_ratio).map_err(|r| r.of("NeoHookeanElasticity::new"))?;
-        Ok(Self { cfl_coeff: 0.5, lambda, mu })
+        Ok(Self { cfl_coeff: NEO_HOOKEAN_CFL_COEFF, lambda, mu })
     }
 
     fn law(&self) -> [Real; 3] {
@@ -30,6 +34,7 @@ impl NeoHookeanElasticity {
         })
     }
 
+    /// The Kirchhoff stress, its tensile part times `phase_coeff`: from determinant 1 up all of it, below 1 the deviatoric part.
     pub fn kirchhoff_stress(
         &self,
         particle_phase: Real,
@@ -43,10 +48,12 @@ impl NeoHookeanElasticity {
         })
     }
 
+    /// (1 - 0.001) phase phase + 0.001. Refused by 1 for a phase and by 3 for a result that is not finite.
     pub fn phase_coeff(phase: Real) -> Result<Real, Refusal> {
         number("NeoHookeanElasticity::phase_coeff", |out, n| unsafe { pasoletu_phase_coeff(phase, out, n) })
     }
 
+    /// False.
     pub fn is_fluid(&self) -> bool {
         false
     }
@@ -84,9 +91,13 @@ impl NeoHookeanElasticity {
 /// for an input that is not finite and by 3 for a NaN or a result that is not finite.
 #[derive(Copy, Clone, Debug, PartialEq)]
 pub struct CorotatedLinearElasticity {
+    /// Whether a failed particle (phase 0.0) loses its tensile stress.
     pub split_stress_on_failure: bool,
+    /// The Rust's coefficient for its time step. No call of this crate looks at its size.
     pub cfl_coeff: Real,
+    /// The first Lamé parameter.
     pub lambda: Real,
+    /// The second Lamé parameter.
     pub mu: Real,
 }
 
@@ -95,13 +106,15 @@ impl CorotatedLinearElasticity {
     pub fn new(young_modulus: Real, poisson_ratio: Real) -> Result<Self, Refusal> {
         let (lambda, mu) =
             utils::lame_lambda_mu(young_modulus, poisson_ratio).map_err(|r| r.of("CorotatedLinearElasticity::new"))?;
-        Ok(Self { split_stress_on_failure: true, cfl_coeff: 0.9, lambda, mu })
+        Ok(Self { split_stress_on_failure: true, cfl_coeff: COROTATED_CFL_COEFF, lambda, mu })
     }
 
     pub(crate) fn law(&self) -> [Real; 4] {
         [flag(self.split_stress_on_failure), self.cfl_coeff, self.lambda, self.mu]
     }
 
+    /// The Kirchhoff stress. At phase exactly 1.0 whole; the tensile part is dropped only at phase 0.0 with
+    /// `split_stress_on_failure`.
     pub fn kirchhoff_stress(
         &self,
         phase: Real,
@@ -138,6 +151,7 @@ impl CorotatedLinearElasticity {
         })
     }
 
+    /// False.
     pub fn is_fluid(&self) -> bool {
         false
     }

@@ -1,13 +1,13 @@
-//! The elementary functions (document 01, section 3). Each is refused by 1 where its argument is not finite and by 2 where it
+//! The elementary functions (docs/RULES.md, section 3). Each is refused by 1 where its argument is not finite and by 2 where it
 //! lies outside the range; ranges include their ends.
-use crate::calls::{self, number};
-use crate::Refusal;
+use crate::calls::number;
+use crate::{table, Refusal};
 
 macro_rules! elementary {
     ($($(#[$doc:meta])* $name:ident, $call:ident;)*) => {$(
         $(#[$doc])*
         pub fn $name(x: f64) -> Result<f64, Refusal> {
-            number(concat!("elementary::", stringify!($name)), |out, n| unsafe { calls::$call(x, out, n) })
+            number(concat!("elementary::", stringify!($name)), |out, n| unsafe { table::$call(x, out, n) })
         }
     )*};
 }

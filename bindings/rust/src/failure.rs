@@ -1,11 +1,14 @@
-use crate::calls::{all_finite, pasoletu_failed};
+use crate::calls::all_finite;
 use crate::math::{Real, Vector};
+use crate::table::pasoletu_failed;
 use crate::Refusal;
 
 /// The failure rule (failure_maximum_stress.rs), on given principal stresses.
 #[derive(Copy, Clone, Debug, PartialEq)]
 pub struct MaximumStressFailure {
+    /// The limit of the greatest principal stress.
     pub max_principal_stress: Real,
+    /// The limit of half the distance of the greatest and the least.
     pub max_shear_stress: Real,
 }
 

@@ -1,14 +1,19 @@
 use crate::calls::*;
 use crate::math::{Matrix, Real, Vector};
+use crate::table::*;
 use crate::Refusal;
 
 /// Monaghan's equation of state (eos_monaghan_sph.rs). `gamma` is read as a signed number: 4294967295 means -1. Each call is
 /// refused by 1 for an input that is not finite and by 3 for a NaN or a result that is not finite.
 #[derive(Copy, Clone, Debug, PartialEq)]
 pub struct MonaghanSphEos {
+    /// The pressure that the density's power is multiplied by.
     pub pressure0: Real,
+    /// The power, read as a signed number.
     pub gamma: u32,
+    /// The viscosity; 0 for none.
     pub viscosity: Real,
+    /// The largest size of a negative pressure.
     pub max_neg_pressure: Real,
 }
 
@@ -18,9 +23,10 @@ impl MonaghanSphEos {
         if !all_finite(&[pressure0, viscosity]) {
             return Err(Refusal::new(Refusal::NOT_FINITE, "MonaghanSphEos::new"));
         }
-        Ok(Self { pressure0, gamma, viscosity, max_neg_pressure: 1.0 })
+        Ok(Self { pressure0, gamma, viscosity, max_neg_pressure: MONAGHAN_MAX_NEG_PRESSURE })
     }
 
+    /// The pressure.
     pub fn pressure(&self, particle_mass: Real, particle_volume0: Real, particle_density_fluid: Real) -> Result<Real, Refusal> {
         number("MonaghanSphEos::pressure", |out, n| unsafe {
             pasoletu_monaghan_pressure(
@@ -37,10 +43,12 @@ impl MonaghanSphEos {
         })
     }
 
+    /// True.
     pub fn is_fluid(&self) -> bool {
         true
     }
 
+    /// The Kirchhoff stress.
     pub fn kirchhoff_stress(
         &self,
         particle_mass: Real,

@@ -16,6 +16,22 @@
 //! assert_eq!(outcome, Outcome::Stored(particle.elastic_hardening));
 //! # Ok::<(), pasoletu::Refusal>(())
 //! ```
+//!
+//! # Features
+//!
+//! - `std` (by default): [`Refusal`] is a `std::error::Error`.
+//! - `alloc` (by default, with `std`): the passes and sheets that answer in a `Vec`. Without it the crate needs `core` alone:
+//!   [`pass_into`], [`pass_with_failure_into`] and [`read_sheet_into`] write in the caller's room.
+//! - `parallel`: `parallel::pass` and `parallel::pass_with_failure` over all cores, by rayon. It needs rayon, which the manifest
+//!   in the folder `parallel` names and this one does not.
+#![no_std]
+#![deny(missing_docs)]
+
+#[cfg(feature = "alloc")]
+extern crate alloc;
+#[cfg(feature = "std")]
+extern crate std;
+
 mod calls;
 mod elasticity;
 pub mod elementary;
@@ -23,21 +39,39 @@ mod failure;
 mod fluid;
 mod lists;
 pub mod math;
+#[cfg(feature = "parallel")]
+pub mod parallel;
 mod particle;
 mod plasticity;
 mod refusal;
+#[cfg(feature = "alloc")]
+mod sheets;
+#[allow(dead_code, missing_docs)]
+#[rustfmt::skip]
+mod table;
 pub mod utils;
+#[cfg(feature = "alloc")]
+mod vectors;
 
 pub use elasticity::{CorotatedLinearElasticity, NeoHookeanElasticity};
 pub use failure::MaximumStressFailure;
 pub use fluid::MonaghanSphEos;
-pub use lists::{pass, pass_with_failure, read_sheet, run_sheet, Passed, Ran, Sheet, SHEET_MOST};
+pub use lists::{pass_into, pass_with_failure_into, read_sheet_into, Answer, Counts};
 pub use particle::Particle;
 pub use plasticity::{DruckerPragerPlasticity, Model, NaccPlasticity, Outcome, RankinePlasticity, SnowPlasticity};
 pub use refusal::Refusal;
+#[cfg(feature = "alloc")]
+pub use sheets::{read_sheet, run_sheet, Ran, Sheet};
+pub use table::SHEET_MOST;
+#[cfg(feature = "alloc")]
+pub use vectors::{pass, pass_with_failure, Passed};
+
+/// The version of the crate, which is that of the library.
+pub const VERSION: &str = env!("CARGO_PKG_VERSION");
 
 /// The laws where the Rust has them.
 pub mod dynamics {
+    /// The plastic and elastic laws, the equation of state and the failure rule.
     pub mod models {
         pub use crate::{
             CorotatedLinearElasticity, DruckerPragerPlasticity, MaximumStressFailure, MonaghanSphEos, NaccPlasticity,

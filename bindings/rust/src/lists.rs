@@ -1,162 +1,156 @@
-//! The passes and the sheet (document 01, section 7).
-use crate::calls::{all_finite, pasoletu_pass, pasoletu_pass_with_failure, pasoletu_read_sheet, pasoletu_run_sheet};
+//! The passes and the reading of a sheet in the caller's room (docs/RULES.md, section 7): nothing is allocated.
 use crate::plasticity::Parameters;
+use crate::table::{
+    pasoletu_pass, pasoletu_pass_with_failure, pasoletu_read_sheet, ANSWERS, HEADER, HEADER_COUNT, HEADER_MODEL,
+    HEADER_PARAMETERS, MOST_PARAMETERS, STORED, UNTOUCHED,
+};
 use crate::{CorotatedLinearElasticity, MaximumStressFailure, Model, Outcome, Particle, Refusal};
 
-/// What a pass did.
-#[derive(Clone, Debug, PartialEq)]
-pub struct Passed {
-    /// One for each particle, in order. A refused particle keeps every bit; the others were still worked.
-    pub outcomes: Vec<Result<Outcome, Refusal>>,
-    pub untouched: u64,
-    pub stored: u64,
-    pub refused: u64,
-    /// How many of the particles not refused have failed in this pass; 0 in a pass without failure.
-    pub failed: u64,
-}
+/// What a pass answers of one particle, as the library writes it.
+#[derive(Copy, Clone, Debug, Default, PartialEq, Eq)]
+#[repr(transparent)]
+pub struct Answer([u64; ANSWERS]);
 
-fn outcome(answer: &[u64], refused: impl FnOnce(u8) -> Refusal) -> Result<Outcome, Refusal> {
-    match answer[0] {
-        0 => Ok(Outcome::Untouched),
-        1 => Ok(Outcome::Stored(f64::from_bits(answer[1]))),
-        _ => Err(refused(answer[1] as u8)),
+impl Answer {
+    pub(crate) fn as_mut_ptr(&mut self) -> *mut u64 {
+        self.0.as_mut_ptr()
+    }
+
+    /// What the law did to the particle, or the number of its refusal.
+    pub fn outcome(&self) -> Result<Outcome, u8> {
+        let [outcome, beside] = self.0;
+        match outcome as usize {
+            UNTOUCHED => Ok(Outcome::Untouched),
+            STORED => Ok(Outcome::Stored(f64::from_bits(beside))),
+            _ => Err(beside as u8),
+        }
     }
 }
 
-fn passed(
-    call: &'static str,
-    p: &Parameters,
-    also: Option<&'static str>,
-    particles: &[Particle],
-    answers: &[u64],
-    counts: &[u64],
-) -> Passed {
-    let refused = |k: usize, number: u8| {
-        let mut r = p.refusal(number, call, Some(k), &particles[k]);
-        if number == Refusal::NOT_FINITE && also.is_some() {
-            r.place = also;
+/// How many particles of a pass became what.
+#[derive(Copy, Clone, Debug, Default, PartialEq, Eq)]
+pub struct Counts {
+    /// Inside the yield surface.
+    pub untouched: u64,
+    /// Updated.
+    pub stored: u64,
+    /// Refused; they keep every bit.
+    pub refused: u64,
+    /// Of those not refused, failed in this pass; 0 in a pass without failure.
+    pub failed: u64,
+}
+
+impl Counts {
+    /// Both counts together.
+    #[cfg(feature = "parallel")]
+    pub(crate) fn and(self, other: Counts) -> Counts {
+        Counts {
+            untouched: self.untouched + other.untouched,
+            stored: self.stored + other.stored,
+            refused: self.refused + other.refused,
+            failed: self.failed + other.failed,
         }
-        r
-    };
-    let outcomes = answers.chunks(2).enumerate().map(|(k, a)| outcome(a, |number| refused(k, number))).collect();
-    let failed = counts.get(3).copied().unwrap_or(0);
-    Passed { outcomes, untouched: counts[0], stored: counts[1], refused: counts[2], failed }
+    }
 }
 
-/// Lengths and flags come from the types here, so that a list is refused only by a library of another version.
-fn belongs(call: &str, status: u8) {
-    assert!(status == 0, "{call} answered {status}: crate and library are of different versions, build both anew");
+/// What a pass with failure judges by, as the library takes it.
+pub(crate) struct Judge {
+    pub limits: [f64; 2],
+    pub corotated: [f64; 4],
 }
 
-fn floats_of(particles: &mut [Particle]) -> (*mut f64, usize) {
+impl Judge {
+    pub fn new(limits: &MaximumStressFailure, elasticity: &CorotatedLinearElasticity) -> Judge {
+        Judge { limits: [limits.max_principal_stress, limits.max_shear_stress], corotated: elasticity.law() }
+    }
+}
+
+/// A pass: the law, and the judge where it is one with failure.
+pub(crate) struct Pass {
+    pub call: &'static str,
+    pub law: Parameters,
+    pub judge: Option<Judge>,
+}
+
+impl Pass {
+    pub fn plain(call: &'static str, model: impl Into<Model>) -> Pass {
+        Pass { call, law: model.into().parameters(), judge: None }
+    }
+
+    pub fn with_failure(call: &'static str, model: impl Into<Model>, judge: Judge) -> Pass {
+        Pass { call, law: model.into().parameters(), judge: Some(judge) }
+    }
+
+    /// Works the particles in one thread. Refused by 8 where there is not an answer for each.
+    pub fn run(&self, particles: &mut [Particle], answers: &mut [Answer]) -> Result<Counts, Refusal> {
+        let mut counts = [0u64; 4];
+        match self.status(particles, answers, &mut counts) {
+            0 => {
+                let [untouched, stored, refused, failed] = counts;
+                Ok(Counts { untouched, stored, refused, failed })
+            }
+            number => Err(Refusal::new(number, self.call)),
+        }
+    }
+
+    fn status(&self, particles: &mut [Particle], answers: &mut [Answer], counts: &mut [u64; 4]) -> u8 {
+        let (model, p, n) = (self.law.model, self.law.values.as_ptr(), self.law.count);
+        let (records, floats) = floats_of(particles);
+        let (a, words) = (answers.as_mut_ptr().cast(), answers.len() * ANSWERS);
+        let counts = counts.as_mut_ptr();
+        match &self.judge {
+            None => unsafe { pasoletu_pass(model, p, n, records, floats, a, words, counts, 3) },
+            Some(judge) => unsafe {
+                let (limits, law) = (judge.limits.as_ptr(), judge.corotated.as_ptr());
+                pasoletu_pass_with_failure(model, p, n, limits, 2, law, 4, records, floats, a, words, counts, 4)
+            },
+        }
+    }
+}
+
+/// The particles as the library takes them.
+pub(crate) fn floats_of(particles: &mut [Particle]) -> (*mut f64, usize) {
     (particles.as_mut_ptr().cast(), particles.len() * Particle::FLOATS)
 }
 
-/// The plastic law on every particle. The pass goes on after a refused one.
+/// The plastic law on every particle, with an answer for each in `answers`. The pass goes on after a refused particle, which keeps
+/// every bit. Refused by 8, with nothing written, unless there are as many answers as particles.
 ///
 /// ```
-/// use pasoletu::{pass, Outcome, Particle, SnowPlasticity};
+/// use pasoletu::{pass_into, Answer, Counts, Outcome, Particle, SnowPlasticity};
 ///
 /// let mut particles = [Particle::REST, Particle::stretched([f64::NAN, 1.0, 1.0])];
-/// let passed = pass(SnowPlasticity::new(), &mut particles);
-/// assert_eq!(passed.outcomes[0], Ok(Outcome::Stored(1.0)));
-/// assert_eq!(
-///     passed.outcomes[1].unwrap_err().to_string(),
-///     "pass refused particle 1 by 1: an input is NaN or infinite, first deformation_gradient[0][0]; find who wrote that value"
-/// );
+/// let mut answers = [Answer::default(); 2];
+/// let counts = pass_into(SnowPlasticity::new(), &mut particles, &mut answers)?;
+/// assert_eq!((answers[0].outcome(), answers[1].outcome()), (Ok(Outcome::Stored(1.0)), Err(1)));
+/// assert_eq!(counts, Counts { stored: 1, refused: 1, ..Counts::default() });
+/// # Ok::<(), pasoletu::Refusal>(())
 /// ```
-pub fn pass(model: impl Into<Model>, particles: &mut [Particle]) -> Passed {
-    let p = model.into().parameters();
-    let mut answers = vec![0u64; particles.len() * 2];
-    let mut counts = [0u64; 3];
-    let (records, n) = floats_of(particles);
-    let status = unsafe {
-        let (values, a, c) = (p.values.as_ptr(), answers.as_mut_ptr(), counts.as_mut_ptr());
-        pasoletu_pass(p.model, values, p.count, records, n, a, answers.len(), c, 3)
-    };
-    belongs("pass", status);
-    passed("pass", &p, None, particles, &answers, &counts)
+pub fn pass_into(model: impl Into<Model>, particles: &mut [Particle], answers: &mut [Answer]) -> Result<Counts, Refusal> {
+    Pass::plain("pass_into", model).run(particles, answers)
 }
 
-/// The pass with failure: judges each particle's stress as it came, sets its phase to 0.0 on a yes, then applies the law. An
-/// untouched particle may have a new phase; a refused one keeps every bit.
-pub fn pass_with_failure(
+/// [`pass_into`] with failure: judges each particle's stress as it came, sets its phase to 0.0 on a yes, then applies the law.
+pub fn pass_with_failure_into(
     model: impl Into<Model>,
     limits: &MaximumStressFailure,
     elasticity: &CorotatedLinearElasticity,
     particles: &mut [Particle],
-) -> Passed {
-    let p = model.into().parameters();
-    let judged = [limits.max_principal_stress, limits.max_shear_stress];
-    let law = elasticity.law();
-    let mut answers = vec![0u64; particles.len() * 2];
-    let mut counts = [0u64; 4];
-    let (records, n) = floats_of(particles);
-    let status = unsafe {
-        let (values, a, c) = (p.values.as_ptr(), answers.as_mut_ptr(), counts.as_mut_ptr());
-        let (l, e) = (judged.as_ptr(), law.as_ptr());
-        pasoletu_pass_with_failure(p.model, values, p.count, l, 2, e, 4, records, n, a, answers.len(), c, 4)
-    };
-    belongs("pass_with_failure", status);
-    let also = match (all_finite(&judged), all_finite(&law)) {
-        (false, _) => Some("one of the limits"),
-        (_, false) => Some("the corotated law"),
-        _ => None,
-    };
-    passed("pass_with_failure", &p, also, particles, &answers, &counts)
+    answers: &mut [Answer],
+) -> Result<Counts, Refusal> {
+    Pass::with_failure("pass_with_failure_into", model, Judge::new(limits, elasticity)).run(particles, answers)
 }
 
-/// A sheet that was read.
-#[derive(Clone, Debug, PartialEq)]
-pub struct Sheet {
-    pub model: Model,
-    pub particles: Vec<Particle>,
-}
-
-/// A sheet that was read and passed: the particles are as the pass left them.
-#[derive(Clone, Debug, PartialEq)]
-pub struct Ran {
-    pub model: Model,
-    pub particles: Vec<Particle>,
-    pub passed: Passed,
-}
-
-/// How many particles a sheet may have.
-pub const SHEET_MOST: usize = 200;
-
-fn room() -> Vec<Particle> {
-    vec![Particle::REST; SHEET_MOST]
-}
-
-/// Reads a sheet. Floats pass as bits: a NaN is read here and refused by the law. Refused by 4, 5, 6 and 7.
-pub fn read_sheet(bytes: &[u8]) -> Result<Sheet, Refusal> {
-    let mut particles = room();
-    let mut header = [0u64; 11];
-    let (records, n) = floats_of(&mut particles);
-    let status = unsafe { pasoletu_read_sheet(bytes.as_ptr(), bytes.len(), header.as_mut_ptr(), header.len(), records, n) };
+/// Reads a sheet into the first of the particles: its law, and how many it has. [`SHEET_MOST`](crate::SHEET_MOST) are always enough
+/// room; the rest keeps its bits. Floats pass as bits: a NaN is read here and refused by the law. Refused by 4, 5, 6 and 7, and by 8
+/// for too little room.
+pub fn read_sheet_into(bytes: &[u8], particles: &mut [Particle]) -> Result<(Model, usize), Refusal> {
+    let mut header = [0u64; HEADER];
+    let (records, floats) = floats_of(particles);
+    let status = unsafe { pasoletu_read_sheet(bytes.as_ptr(), bytes.len(), header.as_mut_ptr(), HEADER, records, floats) };
     if status != 0 {
-        return Err(Refusal::new(status, "read_sheet"));
+        return Err(Refusal::new(status, "read_sheet_into"));
     }
-    particles.truncate(header[9] as usize);
-    Ok(Sheet { model: Model::of_sheet(header[0], &header[1..9]), particles })
-}
-
-/// Reads a sheet and passes its particles. Refused by 4, 5, 6 and 7; a refused particle is told in its outcome.
-pub fn run_sheet(bytes: &[u8]) -> Result<Ran, Refusal> {
-    const NAME: &str = "run_sheet";
-    let model = read_sheet(bytes).map_err(|r| r.of(NAME))?.model;
-    let mut particles = room();
-    let mut answers = vec![0u64; 2 * SHEET_MOST];
-    let mut counts = [0u64; 4];
-    let (records, n) = floats_of(&mut particles);
-    let status = unsafe {
-        let (a, c) = (answers.as_mut_ptr(), counts.as_mut_ptr());
-        pasoletu_run_sheet(bytes.as_ptr(), bytes.len(), records, n, a, answers.len(), c, 4)
-    };
-    belongs(NAME, status);
-    let count = counts[0] as usize;
-    particles.truncate(count);
-    answers.truncate(2 * count);
-    let passed = passed(NAME, &model.parameters(), None, &particles, &answers, &counts[1..]);
-    Ok(Ran { model, particles, passed })
+    let parameters = &header[HEADER_PARAMETERS..HEADER_PARAMETERS + MOST_PARAMETERS];
+    Ok((Model::of_sheet(header[HEADER_MODEL], parameters), header[HEADER_COUNT] as usize))
 }

@@ -1,17 +1,23 @@
 //! The Rust's `math`: three dimensions, f64, matrices as three rows of three.
-use crate::calls::{entries, floats, pasoletu_decomposed_times};
+use crate::calls::{entries, floats};
+use crate::table::pasoletu_decomposed_times;
 use crate::{utils, Refusal};
 
+/// A number.
 pub type Real = f64;
+/// How many dimensions there are.
 pub const DIM: usize = 3;
 /// Three rows of three.
 pub type Matrix<N> = [[N; DIM]; DIM];
+/// Three numbers.
 pub type Vector<N> = [N; DIM];
 
 /// A tensor as its deviatoric part and its spherical part (lib.rs).
 #[derive(Copy, Clone, Debug, PartialEq)]
 pub struct DecomposedTensor {
+    /// The tensor less its spherical part on the diagonal.
     pub deviatoric_part: Matrix<Real>,
+    /// A third of the trace.
     pub spherical_part: Real,
 }
 
@@ -21,6 +27,7 @@ impl DecomposedTensor {
         Ok(Self { deviatoric_part: utils::deviatoric_part(tensor)?, spherical_part: utils::spherical_part(tensor)? })
     }
 
+    /// The tensor of zeros.
     pub fn zero() -> Self {
         Self { deviatoric_part: [[0.0; DIM]; DIM], spherical_part: 0.0 }
     }

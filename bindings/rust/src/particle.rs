@@ -1,6 +1,7 @@
 use crate::math::{Matrix, Vector};
+use crate::table;
 
-/// A particle: the 36 floats of document 01's record (section 7), with the names that the Rust gives them.
+/// A particle: the 36 floats of a record (docs/RULES.md, section 7), with the names that the Rust gives them.
 ///
 /// The laws take the factors F = U diag(sigma) V^T as they stand here: the host decomposes F and does not lend factors of
 /// another F. An update that stores writes `deformation_gradient`, `singular_values` and the scalars that its law names;
@@ -10,6 +11,7 @@ use crate::math::{Matrix, Vector};
 pub struct Particle {
     /// F, row by row. (nalgebra keeps columns together: take `m.transpose().into()`.)
     pub deformation_gradient: Matrix<f64>,
+    /// U, row by row.
     pub u: Matrix<f64>,
     /// sigma, in the order of U's columns.
     pub singular_values: Vector<f64>,
@@ -17,30 +19,23 @@ pub struct Particle {
     pub v_t: Matrix<f64>,
     /// 1.0 whole, 0.0 failed.
     pub phase: f64,
+    /// The determinant of the plastic deformation gradient.
     pub plastic_deformation_gradient_det: f64,
+    /// The plastic hardening: Rankine's and Drucker-Prager's.
     pub plastic_hardening: f64,
+    /// The elastic hardening: Snow's, and what the elastic laws multiply their moduli by.
     pub elastic_hardening: f64,
+    /// Drucker-Prager's gain of log volume.
     pub log_vol_gain: f64,
+    /// NACC's alpha.
     pub nacc_alpha: f64,
 }
 
 const IDENTITY: Matrix<f64> = [[1.0, 0.0, 0.0], [0.0, 1.0, 0.0], [0.0, 0.0, 1.0]];
 
-/// The name of each of the 36 floats.
-#[rustfmt::skip]
-const NAMES: [&str; Particle::FLOATS] = [
-    "deformation_gradient[0][0]", "deformation_gradient[0][1]", "deformation_gradient[0][2]",
-    "deformation_gradient[1][0]", "deformation_gradient[1][1]", "deformation_gradient[1][2]",
-    "deformation_gradient[2][0]", "deformation_gradient[2][1]", "deformation_gradient[2][2]",
-    "u[0][0]", "u[0][1]", "u[0][2]", "u[1][0]", "u[1][1]", "u[1][2]", "u[2][0]", "u[2][1]", "u[2][2]",
-    "singular_values[0]", "singular_values[1]", "singular_values[2]",
-    "v_t[0][0]", "v_t[0][1]", "v_t[0][2]", "v_t[1][0]", "v_t[1][1]", "v_t[1][2]", "v_t[2][0]", "v_t[2][1]", "v_t[2][2]",
-    "phase", "plastic_deformation_gradient_det", "plastic_hardening", "elastic_hardening", "log_vol_gain", "nacc_alpha",
-];
-
 impl Particle {
     /// How many floats a particle has.
-    pub const FLOATS: usize = 36;
+    pub const FLOATS: usize = table::FLOATS;
 
     /// A whole particle at rest: F, U and V^T the identity, sigma, determinant and hardenings 1, gain and alpha 0.
     pub const REST: Particle = Particle {
@@ -69,6 +64,7 @@ impl Particle {
         unsafe { &*(self as *const Particle).cast() }
     }
 
+    /// The same floats, to be written.
     pub fn floats_mut(&mut self) -> &mut [f64; Particle::FLOATS] {
         unsafe { &mut *(self as *mut Particle).cast() }
     }
@@ -76,7 +72,7 @@ impl Particle {
     /// The name of the first float that is NaN or infinite.
     pub fn first_not_finite(&self) -> Option<&'static str> {
         let k = self.floats().iter().position(|x| !x.is_finite())?;
-        Some(NAMES[k])
+        Some(table::PLACES[k])
     }
 }
 
@@ -94,5 +90,5 @@ impl From<[f64; Particle::FLOATS]> for Particle {
     }
 }
 
-const _: () = assert!(std::mem::size_of::<Particle>() == Particle::FLOATS * std::mem::size_of::<f64>());
-const _: () = assert!(std::mem::align_of::<Particle>() == std::mem::align_of::<f64>());
+const _: () = assert!(core::mem::size_of::<Particle>() == Particle::FLOATS * core::mem::size_of::<f64>());
+const _: () = assert!(core::mem::align_of::<Particle>() == core::mem::align_of::<f64>());

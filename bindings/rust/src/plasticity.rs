@@ -1,10 +1,8 @@
 //! The four plastic laws and the choice among them.
-use crate::calls::pasoletu_update;
-use crate::calls::{
-    all_finite, flag, floats, number, pasoletu_drucker_prager_alpha, pasoletu_rankine_project, pasoletu_snow_clamp,
-};
+use crate::calls::{all_finite, flag, floats, number};
 use crate::math::{Real, Vector};
-use crate::{elementary, utils, Particle, Refusal};
+use crate::table::{self, pasoletu_drucker_prager_alpha, pasoletu_rankine_project, pasoletu_snow_clamp, pasoletu_update, Law};
+use crate::{elementary, utils, Answer, Particle, Refusal};
 
 /// What a plastic law did to a particle.
 #[derive(Copy, Clone, Debug, PartialEq)]
@@ -19,16 +17,23 @@ pub enum Outcome {
 /// Snow: each singular value is clamped (plasticity_snow.rs).
 #[derive(Copy, Clone, Debug, PartialEq)]
 pub struct SnowPlasticity {
+    /// How far below 1 a singular value may lie.
     pub min_epsilon: Real,
+    /// How far above 1 a singular value may lie.
     pub max_epsilon: Real,
-    /// Typically between 3 and 10.
+    /// How fast snow hardens as it is packed; typically between 3 and 10.
     pub hardening_coeff: Real,
 }
 
 impl SnowPlasticity {
+    /// The defaults: 0.025, 0.0045 and 10.
     #[allow(clippy::new_without_default)]
     pub fn new() -> Self {
-        SnowPlasticity { min_epsilon: 2.5e-2, max_epsilon: 4.5e-3, hardening_coeff: 10.0 }
+        SnowPlasticity {
+            min_epsilon: table::SNOW_MIN_EPSILON,
+            max_epsilon: table::SNOW_MAX_EPSILON,
+            hardening_coeff: table::SNOW_HARDENING_COEFF,
+        }
     }
 
     /// The bare clamp, with no refusal: of a NaN it is the lower bound, as in the Rust.
@@ -79,13 +84,21 @@ impl RankinePlasticity {
 /// Drucker-Prager: log strains are returned to a cone (plasticity_drucker_prager.rs).
 #[derive(Copy, Clone, Debug, PartialEq)]
 pub struct DruckerPragerPlasticity {
+    /// The friction angle, in radians, is h0 + (h1 q - h3) exp(-h2 q) at the plastic hardening q.
     pub h0: Real,
+    /// See `h0`.
     pub h1: Real,
+    /// See `h0`.
     pub h2: Real,
+    /// See `h0`.
     pub h3: Real,
+    /// The first Lamé parameter.
     pub lambda: Real,
+    /// The second Lamé parameter.
     pub mu: Real,
+    /// Whether the law leaves a particle alone whose phase is not 0.0.
     pub only_active_when_failed: bool,
+    /// How much of a loss of volume the determinant and the gain are told: 1.0 all of it, 0.0 nothing.
     pub volume_correction: Real,
 }
 
@@ -95,14 +108,14 @@ impl DruckerPragerPlasticity {
         let (lambda, mu) =
             utils::lame_lambda_mu(young_modulus, poisson_ratio).map_err(|r| r.of("DruckerPragerPlasticity::new"))?;
         Ok(DruckerPragerPlasticity {
-            h0: 0.6108652381980153,  // 35 degrees
-            h1: 0.15707963267948966, // 9 degrees
-            h2: 0.2,
-            h3: 0.17453292519943295, // 10 degrees
+            h0: table::DRUCKER_PRAGER_H0,
+            h1: table::DRUCKER_PRAGER_H1,
+            h2: table::DRUCKER_PRAGER_H2,
+            h3: table::DRUCKER_PRAGER_H3,
             lambda,
             mu,
             only_active_when_failed: false,
-            volume_correction: 1.0,
+            volume_correction: table::DRUCKER_PRAGER_VOLUME_CORRECTION,
         })
     }
 
@@ -184,25 +197,29 @@ fn given(arguments: &[f64], call: &'static str) -> Result<(), Refusal> {
 /// One of the four plastic laws: what a pass and a sheet take.
 #[derive(Copy, Clone, Debug, PartialEq)]
 pub enum Model {
+    /// Snow.
     Snow(SnowPlasticity),
+    /// Rankine.
     Rankine(RankinePlasticity),
+    /// Drucker-Prager.
     DruckerPrager(DruckerPragerPlasticity),
+    /// Non-associated Cam-Clay.
     Nacc(NaccPlasticity),
 }
 
 /// A law's number and parameters, as the C calls take them; unused places are 0.
 pub(crate) struct Parameters {
     pub model: u64,
-    pub values: [f64; 8],
+    pub values: [f64; table::MOST_PARAMETERS],
     pub count: usize,
     names: &'static [&'static str],
 }
 
 impl Parameters {
-    fn new(model: u64, given: &[f64], names: &'static [&'static str]) -> Parameters {
-        let mut values = [0.0; 8];
+    fn new(law: Law, given: &[f64]) -> Parameters {
+        let mut values = [0.0; table::MOST_PARAMETERS];
         values[..given.len()].copy_from_slice(given);
-        Parameters { model, values, count: given.len(), names }
+        Parameters { model: law.number, values, count: given.len(), names: law.names }
     }
 
     /// The refusal of a particle by this law, with the place where an input is not finite.
@@ -216,42 +233,10 @@ impl Parameters {
 impl Model {
     pub(crate) fn parameters(&self) -> Parameters {
         match self {
-            Model::Snow(law) => Parameters::new(
-                0,
-                &[law.min_epsilon, law.max_epsilon, law.hardening_coeff],
-                &["the law's min_epsilon", "the law's max_epsilon", "the law's hardening_coeff"],
-            ),
-            Model::Rankine(law) => Parameters::new(
-                1,
-                &law.arguments,
-                &["the law's young_modulus", "the law's poisson_ratio", "the law's tensile_strength", "the law's softening_rate"],
-            ),
-            Model::DruckerPrager(law) => Parameters::new(
-                2,
-                &law.fields(),
-                &[
-                    "the law's h0",
-                    "the law's h1",
-                    "the law's h2",
-                    "the law's h3",
-                    "the law's lambda",
-                    "the law's mu",
-                    "the law's only_active_when_failed",
-                    "the law's volume_correction",
-                ],
-            ),
-            Model::Nacc(law) => Parameters::new(
-                3,
-                &law.arguments,
-                &[
-                    "the law's young_modulus",
-                    "the law's poisson_ratio",
-                    "the law's cohesion",
-                    "the law's hardening_enabled",
-                    "the law's hardening_factor",
-                    "the law's m",
-                ],
-            ),
+            Model::Snow(law) => Parameters::new(table::SNOW, &[law.min_epsilon, law.max_epsilon, law.hardening_coeff]),
+            Model::Rankine(law) => Parameters::new(table::RANKINE, &law.arguments),
+            Model::DruckerPrager(law) => Parameters::new(table::DRUCKER_PRAGER, &law.fields()),
+            Model::Nacc(law) => Parameters::new(table::NACC, &law.arguments),
         }
     }
 
@@ -279,16 +264,13 @@ impl Model {
     /// The law on one particle. A refused particle keeps every bit.
     pub fn update_particle(&self, particle: &mut Particle) -> Result<Outcome, Refusal> {
         let p = self.parameters();
-        let mut answer = [0u64; 2];
+        let mut answer = Answer::default();
         let status = unsafe {
-            let record = particle.floats_mut().as_mut_ptr();
-            pasoletu_update(p.model, p.values.as_ptr(), p.count, record, Particle::FLOATS, answer.as_mut_ptr(), 2)
+            let (record, answer) = (particle.floats_mut().as_mut_ptr(), answer.as_mut_ptr());
+            pasoletu_update(p.model, p.values.as_ptr(), p.count, record, Particle::FLOATS, answer, table::ANSWERS)
         };
-        match (status, answer[0]) {
-            (0, 0) => Ok(Outcome::Untouched),
-            (0, _) => Ok(Outcome::Stored(f64::from_bits(answer[1]))),
-            (number, _) => Err(p.refusal(number, "update_particle", None, particle)),
-        }
+        let answer = if status == 0 { answer.outcome() } else { Err(status) };
+        answer.map_err(|number| p.refusal(number, "update_particle", None, particle))
     }
 }
 

@@ -1,4 +1,4 @@
-//! Document 01's values: section 8's twelve cases and section 7's example.
+//! The values of docs/RULES.md: section 8's twelve cases and section 7's example.
 use pasoletu::{
     elementary, pass, read_sheet, run_sheet, utils, DruckerPragerPlasticity, MaximumStressFailure, Model, MonaghanSphEos,
     NeoHookeanElasticity, Outcome, Particle, SnowPlasticity,

@@ -1,0 +1,422 @@
+"""Made by tools/table from calls.toml and VERSION: edit those, not this file."""
+import ctypes
+from typing import NamedTuple, Optional
+
+
+class Refusal(NamedTuple):
+    """A refusal's name, what it means and what to do about it."""
+
+    name: str
+    what: str
+    remedy: str
+
+
+class Model(NamedTuple):
+    """A plastic law: its name, the amount that stands beside `stored`, its parameters in order, which of them are flags, and
+    the defaults of those that have one."""
+
+    name: str
+    title: str
+    amount: str
+    parameters: tuple[str, ...]
+    flags: tuple[str, ...]
+    defaults: dict[str, float]
+
+
+class Part(NamedTuple):
+    """A part of the record: its first place and its shape, () for one float."""
+
+    field: str
+    at: int
+    shape: tuple[int, ...]
+
+
+class Argument(NamedTuple):
+    """An argument of a call. kind: f64, u8, u32 or u64. length: None for no list, 0 for a list whose length is not always the
+    same. written: a list that the call may write."""
+
+    name: str
+    kind: str
+    length: Optional[int]
+    written: bool
+
+    @property
+    def argtypes(self) -> tuple[type, ...]:
+        """As ctypes has it: a list is a pointer and a length."""
+        return (KINDS[self.kind],) if self.length is None else (ctypes.c_void_p, ctypes.c_size_t)
+
+
+KINDS = {"f64": ctypes.c_double, "u8": ctypes.c_uint8, "u32": ctypes.c_uint32, "u64": ctypes.c_uint64}
+
+
+VERSION = "0.1.0"
+
+# The refusals' numbers.
+NOT_FINITE = 1
+OUT_OF_RANGE = 2
+NO_NUMBER = 3
+ENDS_EARLY = 4
+NOT_SHORTEST = 5
+UNKNOWN = 6
+TOO_MANY = 7
+LENGTH = 8
+REFUSALS: dict[int, Refusal] = {
+    1: Refusal(
+        "NOT_FINITE",
+        "an input is NaN or infinite",
+        "find who wrote that value",
+    ),
+    2: Refusal(
+        "OUT_OF_RANGE",
+        "a function would get an argument outside its range (crushed or torn beyond what the law can say)",
+        "look at the singular values and the hardenings",
+    ),
+    3: Refusal(
+        "NO_NUMBER",
+        "a NaN arose, or a modulus or a result is not finite",
+        "look at the sizes of the parameters and inputs",
+    ),
+    4: Refusal(
+        "ENDS_EARLY",
+        "the sheet ends early",
+        "send the sheet again, whole",
+    ),
+    5: Refusal(
+        "NOT_SHORTEST",
+        "a number of the sheet is not spelled shortest or has over two groups",
+        "correct the sheet's writer",
+    ),
+    6: Refusal(
+        "UNKNOWN",
+        "unknown model, or a flag that is neither 0.0 nor 1.0",
+        "check the model's number and its flags",
+    ),
+    7: Refusal(
+        "TOO_MANY",
+        "the sheet has over 200 particles, or bytes after the last",
+        "split the sheet, or send it alone",
+    ),
+    8: Refusal(
+        "LENGTH",
+        "a list has the wrong length",
+        "give 36 floats and 2 answers a particle, 9 floats a matrix, 3 a vector",
+    ),
+}
+
+# The models' numbers.
+SNOW = 0
+RANKINE = 1
+DRUCKER_PRAGER = 2
+NACC = 3
+MODELS: dict[int, Model] = {
+    0: Model(
+        "snow",
+        "Snow",
+        "elastic hardening",
+        ("min_epsilon", "max_epsilon", "hardening_coeff"),
+        (),
+        {"min_epsilon": 0.025, "max_epsilon": 0.0045, "hardening_coeff": 10.0},
+    ),
+    1: Model(
+        "rankine",
+        "Rankine",
+        "plastic hardening",
+        ("young_modulus", "poisson_ratio", "tensile_strength", "softening_rate"),
+        (),
+        {},
+    ),
+    2: Model(
+        "drucker_prager",
+        "Drucker-Prager",
+        "dq",
+        ("h0", "h1", "h2", "h3", "lambda", "mu", "only_active_when_failed", "volume_correction"),
+        ("only_active_when_failed",),
+        {"h0": 0.6108652381980153, "h1": 0.15707963267948966, "h2": 0.2, "h3": 0.17453292519943295, "volume_correction": 1.0},
+    ),
+    3: Model(
+        "nacc",
+        "NACC",
+        "alpha",
+        ("young_modulus", "poisson_ratio", "cohesion", "hardening_enabled", "hardening_factor", "m"),
+        ("hardening_enabled",),
+        {},
+    ),
+}
+
+FLOATS = 36
+RECORD: tuple[Part, ...] = (
+    Part("deformation_gradient", 0, (3, 3)),
+    Part("u", 9, (3, 3)),
+    Part("singular_values", 18, (3,)),
+    Part("v_t", 21, (3, 3)),
+    Part("phase", 30, ()),
+    Part("plastic_deformation_gradient_det", 31, ()),
+    Part("plastic_hardening", 32, ()),
+    Part("elastic_hardening", 33, ()),
+    Part("log_vol_gain", 34, ()),
+    Part("nacc_alpha", 35, ()),
+)
+
+# The Rust's defaults of the laws that are no models.
+NEO_HOOKEAN_CFL_COEFF = 0.5
+COROTATED_CFL_COEFF = 0.9
+MONAGHAN_MAX_NEG_PRESSURE = 1.0
+# Answers: two numbers a particle. The first is the outcome, the second what stands beside it.
+ANSWERS = 2  # numbers a particle
+UNTOUCHED = 0  # inside the yield surface; beside it 0
+STORED = 1  # updated; beside it the amount's bits (pasoletu_amount)
+REFUSED = 2  # the record keeps its bits; beside it the refusal's number
+# Sheets (section 7).
+SHEET_MOST = 200  # particles of a sheet
+SHEET_BYTES = 57667  # of the longest sheet that is not refused
+HEADER = 11  # entries of read_sheet's header
+HEADER_MODEL = 0
+HEADER_PARAMETERS = 1  # 8: bits of the parameters, 0 past the model's last
+HEADER_COUNT = 9  # particles
+HEADER_PLACE = 10  # of the first record's first byte in the sheet
+
+# The calls by name, without pasoletu_; each answers a ctypes.c_uint8, 0 or the refusal's number.
+CALLS: dict[str, tuple[Argument, ...]] = {
+    "exp": (
+        Argument("x", "f64", None, False),
+        Argument("out", "f64", 1, True),
+    ),
+    "ln": (
+        Argument("x", "f64", None, False),
+        Argument("out", "f64", 1, True),
+    ),
+    "sinh": (
+        Argument("x", "f64", None, False),
+        Argument("out", "f64", 1, True),
+    ),
+    "sin": (
+        Argument("x", "f64", None, False),
+        Argument("out", "f64", 1, True),
+    ),
+    "sqrt": (
+        Argument("x", "f64", None, False),
+        Argument("out", "f64", 1, True),
+    ),
+    "cbrt": (
+        Argument("x", "f64", None, False),
+        Argument("out", "f64", 1, True),
+    ),
+    "inv_cbrt": (
+        Argument("x", "f64", None, False),
+        Argument("out", "f64", 1, True),
+    ),
+    "cbrt_squared": (
+        Argument("x", "f64", None, False),
+        Argument("out", "f64", 1, True),
+    ),
+    "inv_cbrt_squared": (
+        Argument("x", "f64", None, False),
+        Argument("out", "f64", 1, True),
+    ),
+    "inv_exact": (
+        Argument("e", "f64", None, False),
+        Argument("out", "f64", 1, True),
+    ),
+    "shear_modulus": (
+        Argument("young_modulus", "f64", None, False),
+        Argument("poisson_ratio", "f64", None, False),
+        Argument("out", "f64", 1, True),
+    ),
+    "bulk_modulus": (
+        Argument("young_modulus", "f64", None, False),
+        Argument("poisson_ratio", "f64", None, False),
+        Argument("out", "f64", 1, True),
+    ),
+    "shear_modulus_from_lame": (
+        Argument("lambda", "f64", None, False),
+        Argument("mu", "f64", None, False),
+        Argument("out", "f64", 1, True),
+    ),
+    "bulk_modulus_from_lame": (
+        Argument("lambda", "f64", None, False),
+        Argument("mu", "f64", None, False),
+        Argument("out", "f64", 1, True),
+    ),
+    "lame_lambda_mu": (
+        Argument("young_modulus", "f64", None, False),
+        Argument("poisson_ratio", "f64", None, False),
+        Argument("out", "f64", 2, True),
+    ),
+    "solve_quadratic": (
+        Argument("a", "f64", None, False),
+        Argument("b", "f64", None, False),
+        Argument("c", "f64", None, False),
+        Argument("out", "f64", 2, True),
+    ),
+    "spin_tensor": (
+        Argument("m", "f64", 9, False),
+        Argument("out", "f64", 9, True),
+    ),
+    "strain_rate": (
+        Argument("m", "f64", 9, False),
+        Argument("out", "f64", 9, True),
+    ),
+    "deviatoric_part": (
+        Argument("m", "f64", 9, False),
+        Argument("out", "f64", 9, True),
+    ),
+    "spherical_part": (
+        Argument("m", "f64", 9, False),
+        Argument("out", "f64", 1, True),
+    ),
+    "decomposed_times": (
+        Argument("spherical", "f64", None, False),
+        Argument("deviatoric", "f64", 9, False),
+        Argument("v", "f64", 3, False),
+        Argument("out", "f64", 3, True),
+    ),
+    "neo_hookean_fpk_stress": (
+        Argument("law", "f64", 3, False),
+        Argument("hardening", "f64", None, False),
+        Argument("f", "f64", 9, False),
+        Argument("out", "f64", 9, True),
+    ),
+    "neo_hookean_kirchhoff_stress": (
+        Argument("law", "f64", 3, False),
+        Argument("phase", "f64", None, False),
+        Argument("hardening", "f64", None, False),
+        Argument("f", "f64", 9, False),
+        Argument("out", "f64", 9, True),
+    ),
+    "neo_hookean_elastic_energy_density": (
+        Argument("law", "f64", 3, False),
+        Argument("phase", "f64", None, False),
+        Argument("hardening", "f64", None, False),
+        Argument("f", "f64", 9, False),
+        Argument("out", "f64", 1, True),
+    ),
+    "neo_hookean_pos_energy": (
+        Argument("law", "f64", 3, False),
+        Argument("phase", "f64", None, False),
+        Argument("hardening", "f64", None, False),
+        Argument("f", "f64", 9, False),
+        Argument("out", "f64", 1, True),
+    ),
+    "phase_coeff": (
+        Argument("phase", "f64", None, False),
+        Argument("out", "f64", 1, True),
+    ),
+    "corotated_kirchhoff_stress": (
+        Argument("law", "f64", 4, False),
+        Argument("phase", "f64", None, False),
+        Argument("hardening", "f64", None, False),
+        Argument("f", "f64", 9, False),
+        Argument("u", "f64", 9, False),
+        Argument("sigma", "f64", 3, False),
+        Argument("vt", "f64", 9, False),
+        Argument("out", "f64", 9, True),
+    ),
+    "corotated_elastic_energy_density": (
+        Argument("law", "f64", 4, False),
+        Argument("hardening", "f64", None, False),
+        Argument("sigma", "f64", 3, False),
+        Argument("out", "f64", 1, True),
+    ),
+    "corotated_pos_energy": (
+        Argument("law", "f64", 4, False),
+        Argument("hardening", "f64", None, False),
+        Argument("f", "f64", 9, False),
+        Argument("sigma", "f64", 3, False),
+        Argument("out", "f64", 1, True),
+    ),
+    "monaghan_pressure": (
+        Argument("pressure0", "f64", None, False),
+        Argument("gamma", "u32", None, False),
+        Argument("viscosity", "f64", None, False),
+        Argument("max_neg_pressure", "f64", None, False),
+        Argument("mass", "f64", None, False),
+        Argument("volume0", "f64", None, False),
+        Argument("density", "f64", None, False),
+        Argument("out", "f64", 1, True),
+    ),
+    "monaghan_kirchhoff_stress": (
+        Argument("pressure0", "f64", None, False),
+        Argument("gamma", "u32", None, False),
+        Argument("viscosity", "f64", None, False),
+        Argument("max_neg_pressure", "f64", None, False),
+        Argument("mass", "f64", None, False),
+        Argument("volume0", "f64", None, False),
+        Argument("density", "f64", None, False),
+        Argument("determinant", "f64", None, False),
+        Argument("velocity_gradient", "f64", 9, False),
+        Argument("out", "f64", 9, True),
+    ),
+    "monaghan_timestep_bound": (
+        Argument("pressure0", "f64", None, False),
+        Argument("gamma", "u32", None, False),
+        Argument("viscosity", "f64", None, False),
+        Argument("max_neg_pressure", "f64", None, False),
+        Argument("determinant", "f64", None, False),
+        Argument("mass", "f64", None, False),
+        Argument("volume0", "f64", None, False),
+        Argument("density", "f64", None, False),
+        Argument("velocity", "f64", 3, False),
+        Argument("cell_width", "f64", None, False),
+        Argument("out", "f64", 1, True),
+    ),
+    "failed": (
+        Argument("max_principal_stress", "f64", None, False),
+        Argument("max_shear_stress", "f64", None, False),
+        Argument("stresses", "f64", 3, False),
+        Argument("out", "u64", 1, True),
+    ),
+    "snow_clamp": (
+        Argument("min_epsilon", "f64", None, False),
+        Argument("max_epsilon", "f64", None, False),
+        Argument("hardening_coeff", "f64", None, False),
+        Argument("sigma", "f64", 3, False),
+        Argument("out", "f64", 3, True),
+    ),
+    "rankine_project": (
+        Argument("arguments", "f64", 4, False),
+        Argument("s", "f64", None, False),
+        Argument("strains", "f64", 3, False),
+        Argument("out", "f64", 3, True),
+    ),
+    "drucker_prager_alpha": (
+        Argument("fields", "f64", 8, False),
+        Argument("q", "f64", None, False),
+        Argument("out", "f64", 1, True),
+    ),
+    "update": (
+        Argument("model", "u64", None, False),
+        Argument("parameters", "f64", 0, False),
+        Argument("record", "f64", 36, True),
+        Argument("answer", "u64", 2, True),
+    ),
+    "pass": (
+        Argument("model", "u64", None, False),
+        Argument("parameters", "f64", 0, False),
+        Argument("records", "f64", 0, True),
+        Argument("answers", "u64", 0, True),
+        Argument("counts", "u64", 3, True),
+    ),
+    "pass_with_failure": (
+        Argument("model", "u64", None, False),
+        Argument("parameters", "f64", 0, False),
+        Argument("limits", "f64", 2, False),
+        Argument("corotated", "f64", 4, False),
+        Argument("records", "f64", 0, True),
+        Argument("answers", "u64", 0, True),
+        Argument("counts", "u64", 4, True),
+    ),
+    "read_sheet": (
+        Argument("bytes", "u8", 0, False),
+        Argument("header", "u64", 11, True),
+        Argument("records", "f64", 0, True),
+    ),
+    "run_sheet": (
+        Argument("bytes", "u8", 0, False),
+        Argument("records", "f64", 0, True),
+        Argument("answers", "u64", 0, True),
+        Argument("counts", "u64", 4, True),
+    ),
+}
+ARGTYPES: dict[str, tuple[type, ...]] = {
+    name: sum((a.argtypes for a in arguments), ()) for name, arguments in CALLS.items()
+}

@@ -1,0 +1,136 @@
+//! Made by tools/table from calls.toml and VERSION: edit those, not this file.
+use crate::Refusal;
+
+/// A model's number and the names of its parameters.
+pub struct Law {
+    pub number: u64,
+    pub names: &'static [&'static str],
+}
+
+impl Refusal {
+    /// An input is NaN or infinite.
+    pub const NOT_FINITE: u8 = 1;
+    /// A function would get an argument outside its range (crushed or torn beyond what the law can say).
+    pub const OUT_OF_RANGE: u8 = 2;
+    /// A NaN arose, or a modulus or a result is not finite.
+    pub const NO_NUMBER: u8 = 3;
+    /// The sheet ends early.
+    pub const ENDS_EARLY: u8 = 4;
+    /// A number of the sheet is not spelled shortest or has over two groups.
+    pub const NOT_SHORTEST: u8 = 5;
+    /// Unknown model, or a flag that is neither 0.0 nor 1.0.
+    pub const UNKNOWN: u8 = 6;
+    /// The sheet has over 200 particles, or bytes after the last.
+    pub const TOO_MANY: u8 = 7;
+    /// A list has the wrong length.
+    pub const LENGTH: u8 = 8;
+}
+
+/// What a refusal's number means, and what to do about it.
+pub fn words(number: u8) -> Option<(&'static str, &'static str)> {
+    Some(match number {
+        1 => ("an input is NaN or infinite", "find who wrote that value"),
+        2 => ("a function would get an argument outside its range (crushed or torn beyond what the law can say)", "look at the singular values and the hardenings"),
+        3 => ("a NaN arose, or a modulus or a result is not finite", "look at the sizes of the parameters and inputs"),
+        4 => ("the sheet ends early", "send the sheet again, whole"),
+        5 => ("a number of the sheet is not spelled shortest or has over two groups", "correct the sheet's writer"),
+        6 => ("unknown model, or a flag that is neither 0.0 nor 1.0", "check the model's number and its flags"),
+        7 => ("the sheet has over 200 particles, or bytes after the last", "split the sheet, or send it alone"),
+        8 => ("a list has the wrong length", "give 36 floats and 2 answers a particle, 9 floats a matrix, 3 a vector"),
+        _ => return None,
+    })
+}
+
+pub const SNOW: Law = Law { number: 0, names: &["the law's min_epsilon", "the law's max_epsilon", "the law's hardening_coeff"] };
+pub const SNOW_MIN_EPSILON: f64 = 0.025;
+pub const SNOW_MAX_EPSILON: f64 = 0.0045;
+pub const SNOW_HARDENING_COEFF: f64 = 10.0;
+pub const RANKINE: Law = Law { number: 1, names: &["the law's young_modulus", "the law's poisson_ratio", "the law's tensile_strength", "the law's softening_rate"] };
+pub const DRUCKER_PRAGER: Law = Law { number: 2, names: &["the law's h0", "the law's h1", "the law's h2", "the law's h3", "the law's lambda", "the law's mu", "the law's only_active_when_failed", "the law's volume_correction"] };
+pub const DRUCKER_PRAGER_H0: f64 = 0.6108652381980153; // 35 degrees
+pub const DRUCKER_PRAGER_H1: f64 = 0.15707963267948966; // 9 degrees
+pub const DRUCKER_PRAGER_H2: f64 = 0.2;
+pub const DRUCKER_PRAGER_H3: f64 = 0.17453292519943295; // 10 degrees
+pub const DRUCKER_PRAGER_VOLUME_CORRECTION: f64 = 1.0;
+pub const NACC: Law = Law { number: 3, names: &["the law's young_modulus", "the law's poisson_ratio", "the law's cohesion", "the law's hardening_enabled", "the law's hardening_factor", "the law's m"] };
+/// The parameters of the model that has most.
+pub const MOST_PARAMETERS: usize = 8;
+
+pub const FLOATS: usize = 36;
+/// The name of each float of a record.
+pub const PLACES: [&str; FLOATS] = [
+    "deformation_gradient[0][0]", "deformation_gradient[0][1]", "deformation_gradient[0][2]",
+    "deformation_gradient[1][0]", "deformation_gradient[1][1]", "deformation_gradient[1][2]",
+    "deformation_gradient[2][0]", "deformation_gradient[2][1]", "deformation_gradient[2][2]",
+    "u[0][0]", "u[0][1]", "u[0][2]", "u[1][0]", "u[1][1]", "u[1][2]", "u[2][0]", "u[2][1]", "u[2][2]",
+    "singular_values[0]", "singular_values[1]", "singular_values[2]",
+    "v_t[0][0]", "v_t[0][1]", "v_t[0][2]", "v_t[1][0]", "v_t[1][1]", "v_t[1][2]", "v_t[2][0]", "v_t[2][1]", "v_t[2][2]",
+    "phase",
+    "plastic_deformation_gradient_det",
+    "plastic_hardening",
+    "elastic_hardening",
+    "log_vol_gain",
+    "nacc_alpha",
+];
+
+// The Rust's defaults of the laws that are no models.
+pub const NEO_HOOKEAN_CFL_COEFF: f64 = 0.5;
+pub const COROTATED_CFL_COEFF: f64 = 0.9;
+pub const MONAGHAN_MAX_NEG_PRESSURE: f64 = 1.0;
+// Answers: two numbers a particle. The first is the outcome, the second what stands beside it.
+pub const ANSWERS: usize = 2;
+pub const UNTOUCHED: usize = 0;
+pub const STORED: usize = 1;
+pub const REFUSED: usize = 2;
+// Sheets (section 7).
+pub const SHEET_MOST: usize = 200;
+pub const SHEET_BYTES: usize = 57667;
+pub const HEADER: usize = 11;
+pub const HEADER_MODEL: usize = 0;
+pub const HEADER_PARAMETERS: usize = 1;
+pub const HEADER_COUNT: usize = 9;
+pub const HEADER_PLACE: usize = 10;
+
+extern "C" {
+    pub fn pasoletu_exp(x: f64, out: *mut f64, out_length: usize) -> u8;
+    pub fn pasoletu_ln(x: f64, out: *mut f64, out_length: usize) -> u8;
+    pub fn pasoletu_sinh(x: f64, out: *mut f64, out_length: usize) -> u8;
+    pub fn pasoletu_sin(x: f64, out: *mut f64, out_length: usize) -> u8;
+    pub fn pasoletu_sqrt(x: f64, out: *mut f64, out_length: usize) -> u8;
+    pub fn pasoletu_cbrt(x: f64, out: *mut f64, out_length: usize) -> u8;
+    pub fn pasoletu_inv_cbrt(x: f64, out: *mut f64, out_length: usize) -> u8;
+    pub fn pasoletu_cbrt_squared(x: f64, out: *mut f64, out_length: usize) -> u8;
+    pub fn pasoletu_inv_cbrt_squared(x: f64, out: *mut f64, out_length: usize) -> u8;
+    pub fn pasoletu_inv_exact(e: f64, out: *mut f64, out_length: usize) -> u8;
+    pub fn pasoletu_shear_modulus(young_modulus: f64, poisson_ratio: f64, out: *mut f64, out_length: usize) -> u8;
+    pub fn pasoletu_bulk_modulus(young_modulus: f64, poisson_ratio: f64, out: *mut f64, out_length: usize) -> u8;
+    pub fn pasoletu_shear_modulus_from_lame(lambda: f64, mu: f64, out: *mut f64, out_length: usize) -> u8;
+    pub fn pasoletu_bulk_modulus_from_lame(lambda: f64, mu: f64, out: *mut f64, out_length: usize) -> u8;
+    pub fn pasoletu_lame_lambda_mu(young_modulus: f64, poisson_ratio: f64, out: *mut f64, out_length: usize) -> u8;
+    pub fn pasoletu_solve_quadratic(a: f64, b: f64, c: f64, out: *mut f64, out_length: usize) -> u8;
+    pub fn pasoletu_spin_tensor(m: *const f64, m_length: usize, out: *mut f64, out_length: usize) -> u8;
+    pub fn pasoletu_strain_rate(m: *const f64, m_length: usize, out: *mut f64, out_length: usize) -> u8;
+    pub fn pasoletu_deviatoric_part(m: *const f64, m_length: usize, out: *mut f64, out_length: usize) -> u8;
+    pub fn pasoletu_spherical_part(m: *const f64, m_length: usize, out: *mut f64, out_length: usize) -> u8;
+    pub fn pasoletu_decomposed_times(spherical: f64, deviatoric: *const f64, deviatoric_length: usize, v: *const f64, v_length: usize, out: *mut f64, out_length: usize) -> u8;
+    pub fn pasoletu_neo_hookean_fpk_stress(law: *const f64, law_length: usize, hardening: f64, f: *const f64, f_length: usize, out: *mut f64, out_length: usize) -> u8;
+    pub fn pasoletu_neo_hookean_kirchhoff_stress(law: *const f64, law_length: usize, phase: f64, hardening: f64, f: *const f64, f_length: usize, out: *mut f64, out_length: usize) -> u8;
+    pub fn pasoletu_neo_hookean_elastic_energy_density(law: *const f64, law_length: usize, phase: f64, hardening: f64, f: *const f64, f_length: usize, out: *mut f64, out_length: usize) -> u8;
+    pub fn pasoletu_neo_hookean_pos_energy(law: *const f64, law_length: usize, phase: f64, hardening: f64, f: *const f64, f_length: usize, out: *mut f64, out_length: usize) -> u8;
+    pub fn pasoletu_phase_coeff(phase: f64, out: *mut f64, out_length: usize) -> u8;
+    pub fn pasoletu_corotated_kirchhoff_stress(law: *const f64, law_length: usize, phase: f64, hardening: f64, f: *const f64, f_length: usize, u: *const f64, u_length: usize, sigma: *const f64, sigma_length: usize, vt: *const f64, vt_length: usize, out: *mut f64, out_length: usize) -> u8;
+    pub fn pasoletu_corotated_elastic_energy_density(law: *const f64, law_length: usize, hardening: f64, sigma: *const f64, sigma_length: usize, out: *mut f64, out_length: usize) -> u8;
+    pub fn pasoletu_corotated_pos_energy(law: *const f64, law_length: usize, hardening: f64, f: *const f64, f_length: usize, sigma: *const f64, sigma_length: usize, out: *mut f64, out_length: usize) -> u8;
+    pub fn pasoletu_monaghan_pressure(pressure0: f64, gamma: u32, viscosity: f64, max_neg_pressure: f64, mass: f64, volume0: f64, density: f64, out: *mut f64, out_length: usize) -> u8;
+    pub fn pasoletu_monaghan_kirchhoff_stress(pressure0: f64, gamma: u32, viscosity: f64, max_neg_pressure: f64, mass: f64, volume0: f64, density: f64, determinant: f64, velocity_gradient: *const f64, velocity_gradient_length: usize, out: *mut f64, out_length: usize) -> u8;
+    pub fn pasoletu_monaghan_timestep_bound(pressure0: f64, gamma: u32, viscosity: f64, max_neg_pressure: f64, determinant: f64, mass: f64, volume0: f64, density: f64, velocity: *const f64, velocity_length: usize, cell_width: f64, out: *mut f64, out_length: usize) -> u8;
+    pub fn pasoletu_failed(max_principal_stress: f64, max_shear_stress: f64, stresses: *const f64, stresses_length: usize, out: *mut u64, out_length: usize) -> u8;
+    pub fn pasoletu_snow_clamp(min_epsilon: f64, max_epsilon: f64, hardening_coeff: f64, sigma: *const f64, sigma_length: usize, out: *mut f64, out_length: usize) -> u8;
+    pub fn pasoletu_rankine_project(arguments: *const f64, arguments_length: usize, s: f64, strains: *const f64, strains_length: usize, out: *mut f64, out_length: usize) -> u8;
+    pub fn pasoletu_drucker_prager_alpha(fields: *const f64, fields_length: usize, q: f64, out: *mut f64, out_length: usize) -> u8;
+    pub fn pasoletu_update(model: u64, parameters: *const f64, parameters_length: usize, record: *mut f64, record_length: usize, answer: *mut u64, answer_length: usize) -> u8;
+    pub fn pasoletu_pass(model: u64, parameters: *const f64, parameters_length: usize, records: *mut f64, records_length: usize, answers: *mut u64, answers_length: usize, counts: *mut u64, counts_length: usize) -> u8;
+    pub fn pasoletu_pass_with_failure(model: u64, parameters: *const f64, parameters_length: usize, limits: *const f64, limits_length: usize, corotated: *const f64, corotated_length: usize, records: *mut f64, records_length: usize, answers: *mut u64, answers_length: usize, counts: *mut u64, counts_length: usize) -> u8;
+    pub fn pasoletu_read_sheet(bytes: *const u8, bytes_length: usize, header: *mut u64, header_length: usize, records: *mut f64, records_length: usize) -> u8;
+    pub fn pasoletu_run_sheet(bytes: *const u8, bytes_length: usize, records: *mut f64, records_length: usize, answers: *mut u64, answers_length: usize, counts: *mut u64, counts_length: usize) -> u8;
+}

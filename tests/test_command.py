@@ -1,0 +1,277 @@
+#!/usr/bin/env python3
+"""Tests of the command bin/slope and of tools/built: tests/test_command.py
+
+The command is tried with the proved program where PASOLETU_SLOPE names it or `tools/built program` has it, and with small programs that
+answer what a test needs. What tools/built does is tried in a repository of two crates with a toolchain that only copies.
+"""
+import os
+import pathlib
+import shutil
+import subprocess
+import tempfile
+import textwrap
+import tomllib
+import unittest
+
+TOP = pathlib.Path(__file__).resolve().parent.parent
+SLOPE = TOP / "bin" / "slope"
+ANSWER = "particles 1\n0 stored 3ff0000000000000\nend\n"
+READY = ("PASOLETU_SLOPE", "PASOLETU_ARCHIVE", "PASOLETU_EMULATOR")
+
+
+def proved_program():
+    """The path of the proved program, or nothing."""
+    asked = subprocess.run([TOP / "tools" / "built", "program"], capture_output=True, text=True)
+    return asked.stdout.strip() or None
+
+
+def script(path, text):
+    path.parent.mkdir(parents=True, exist_ok=True)
+    path.write_text(textwrap.dedent(text))
+    path.chmod(0o755)
+    return path
+
+
+class InFolder(unittest.TestCase):
+    def setUp(self):
+        folder = tempfile.TemporaryDirectory()
+        self.addCleanup(folder.cleanup)
+        self.folder = pathlib.Path(folder.name)
+        self.environment = {name: value for name, value in os.environ.items() if name not in READY}
+
+    def run_command(self, *words, sheet=None, **environment):
+        return subprocess.run([str(w) for w in words], input=sheet, capture_output=True, cwd=self.folder,
+                              env={**self.environment, **{k: str(v) for k, v in environment.items()}})
+
+    def ended(self, ran, status, out=None, says=""):
+        """Holds the run to its status, all it printed, and a part of what it said."""
+        self.assertEqual(ran.returncode, status, ran.stderr.decode())
+        if out is not None:
+            self.assertEqual(ran.stdout.decode(), out)
+        self.assertIn(says, ran.stderr.decode())
+        return ran
+
+
+class Command(InFolder):
+    """The command round a program that prints what a test needs."""
+
+    def setUp(self):
+        super().setUp()
+        self.sheet = self.folder / "a.sheet"
+        self.sheet.write_bytes(b"\0")
+
+    def slope(self, *words, answer=ANSWER, sheet=b""):
+        (self.folder / "answer").write_text(answer)
+        program = script(self.folder / "program", "#!/bin/sh\ncat >/dev/null\ncat '%s'\n" % (self.folder / "answer"))
+        return self.run_command(SLOPE, *words, sheet=sheet, PASOLETU_SLOPE=program)
+
+    def test_all_well(self):
+        self.ended(self.slope(self.sheet), 0, ANSWER)
+
+    def test_a_refused_particle_is_told_by_the_status(self):
+        answer = "particles 2\n0 untouched\n1 refused 2\nend\n"
+        self.ended(self.slope(self.sheet, answer=answer), 3, answer)
+
+    def test_a_refused_sheet_is_told_by_the_status(self):
+        self.ended(self.slope(self.sheet, answer="sheet refused 4\n"), 3, "sheet refused 4\n")
+
+    def test_no_whole_answer(self):
+        for cut in ("", "particles 1\n", "particles 1\n0 stored 3ff0000000000000\n", "sheet refused \n", "sheet refused 12\n"):
+            self.ended(self.slope(self.sheet, answer=cut), 1, "", "no whole answer for %s" % self.sheet)
+
+    def test_no_such_sheet(self):
+        self.ended(self.slope(self.folder / "none.sheet"), 2, "", "none.sheet is not a file")
+        self.ended(self.slope(self.folder), 2, "", "directory")
+
+    def test_standard_input(self):
+        self.ended(self.slope(), 0, ANSWER)
+        self.ended(self.slope("-"), 0, ANSWER)
+
+    def test_several_sheets_have_headings(self):
+        self.ended(self.slope(self.sheet, "-"), 0, "==> %s <==\n%s==> standard input <==\n%s" % (self.sheet, ANSWER, ANSWER))
+
+    def test_the_others_are_worked_where_one_is_not_there(self):
+        ran = self.ended(self.slope(self.sheet, "none.sheet", answer="sheet refused 5\n"), 2, says="none.sheet")
+        self.assertEqual(ran.stdout.decode(), "==> %s <==\nsheet refused 5\n" % self.sheet)
+
+    def test_a_name_is_no_refusal(self):
+        name = self.folder / "x refused 3"
+        name.write_bytes(b"")
+        ran = self.ended(self.slope(name, self.sheet, "--explain"), 0)
+        self.assertEqual(ran.stderr, b"")
+
+    def test_explain_has_the_words_of_the_table(self):
+        for refusal in tomllib.loads((TOP / "calls.toml").read_text())["refusal"]:
+            words = "refused by %(number)d: %(what)s: %(remedy)s\n" % refusal
+            ran = self.slope("--explain", self.sheet, answer="particles 1\n0 refused %d\nend\n" % refusal["number"])
+            self.ended(ran, 3, says="slope: %s: particle 0 is %s" % (self.sheet, words))
+            ran = self.slope("--explain", self.sheet, answer="sheet refused %d\n" % refusal["number"])
+            self.ended(ran, 3, says="slope: %s: the sheet is %s" % (self.sheet, words))
+
+    def test_nothing_is_said_without_explain(self):
+        self.assertEqual(self.slope(self.sheet, answer="sheet refused 4\n").stderr, b"")
+
+    def test_there_is_no_writer(self):
+        for words in (("-o", "new.sheet"), ("-onew.sheet",)):
+            self.ended(self.slope(*words, self.sheet), 2, "", "no writer")
+        self.assertFalse((self.folder / "new.sheet").exists())
+
+    def test_options(self):
+        self.ended(self.slope("--no-such"), 2, "", "there is no option --no-such")
+        self.assertTrue(self.ended(self.slope("-h"), 0).stdout.startswith(b"usage: slope [OPTION] [SHEET...]\n"))
+        version = (TOP / "VERSION").read_text().strip()
+        self.assertRegex(self.ended(self.slope("-V"), 0).stdout.decode(), r"^slope %s \(commit [0-9a-z-]+\)\n$" % version)
+        dashed = self.folder / "-V"
+        dashed.write_bytes(b"")
+        self.ended(self.slope("--", "-V"), 0, ANSWER)
+
+    def test_output_that_cannot_be_written(self):
+        program = script(self.folder / "program", "#!/bin/sh\ncat >/dev/null\nprintf 'sheet refused 4\\n'\n")
+        with open("/dev/full", "wb") as full:
+            ran = subprocess.run([SLOPE, self.sheet], stdout=full, stderr=subprocess.PIPE, env={**self.environment, "PASOLETU_SLOPE": str(program)})
+        self.assertEqual(ran.returncode, 1)
+
+    def test_no_program(self):
+        self.ended(self.run_command(SLOPE, self.sheet, PASOLETU_SLOPE="none"), 1, "", "install.sh PREFIX")
+
+
+@unittest.skipUnless(proved_program(), "there is no proved program: name it by PASOLETU_SLOPE, or run install.sh")
+class Proved(InFolder):
+    """The command round the proved program."""
+
+    def test_every_sheet_of_the_gate(self):
+        sheets = sorted((TOP / "crates" / "slope_cases" / "data").iterdir())
+        expected = (TOP / "crates" / "slope_cases" / "stdout").read_text()
+        for path in sheets:
+            want = expected.split("-- %s\n" % path.name)[1].split("-- ")[0]
+            ran = self.run_command(SLOPE, sheet=path.read_bytes(), PASOLETU_SLOPE=proved_program())
+            self.ended(ran, 3 if "refused" in want else 0, want)
+
+    def test_the_documents_example(self):
+        sheet = TOP / "samples" / "snow.sheet"
+        self.ended(self.run_command(SLOPE, sheet, PASOLETU_SLOPE=proved_program()), 0, ANSWER)
+
+
+class Built(InFolder):
+    """A repository of two crates; its toolchain takes the source for the program."""
+
+    def setUp(self):
+        super().setUp()
+        self.top = self.folder / "repository"
+        for part in ("bin/slope", "tools/built", "calls.toml", "VERSION"):
+            (self.top / part).parent.mkdir(parents=True, exist_ok=True)
+            shutil.copy(TOP / part, self.top / part)
+        (self.top / "crates.txt").write_text("numbers:   # a crate\nslope: numbers io # the program\nhost: numbers\nother:\n")
+        for crate in ("numbers", "slope", "host", "other"):
+            script(self.top / "crates" / crate / "src" / "lib.rt", self.program("sheet refused 4"))
+        self.sheet = self.top / "a.sheet"
+        self.sheet.write_bytes(b"")
+        self.environment["PATH"] = "%s:%s" % (self.folder / "kit", self.environment["PATH"])
+        self.toolchain()
+
+    def program(self, answer):
+        return "#!/bin/sh\ncat >/dev/null\necho '%s'\n" % answer
+
+    def toolchain(self, before=":"):
+        script(self.folder / "kit" / "rt", """\
+            #!/bin/sh
+            echo "$*" >>'%s'
+            %s
+            mkdir -p target/bin target/staticlib
+            cp crates/slope/src/lib.rt target/bin/slope
+            cp crates/host/src/lib.rt target/staticlib/libhost.a
+            for line in $(seq 400); do echo "note: $line"; done
+            echo 'rt: numbers proved (1 s)'
+            case $1 in
+            check) [ "$2" != slope ] || echo 'rt: slope proved (2 s)' ;;
+            staticlib) echo 'rt: target/staticlib/libhost.a has the functions of host' ;;
+            esac
+            """ % (self.folder / "asked", before))
+
+    def asked(self):
+        """What the toolchain was asked for."""
+        path = self.folder / "asked"
+        return path.read_text().splitlines() if path.exists() else []
+
+    def slope(self):
+        return self.run_command(self.top / "bin" / "slope", self.sheet)
+
+    def built(self, *words):
+        return self.run_command(self.top / "tools" / "built", *words)
+
+    def test_the_first_run_proves_and_shows_each_crate_once(self):
+        ran = self.ended(self.slope(), 3, "sheet refused 4\n", "[ 1/2] numbers proved (1 s)\n[ 2/2] slope proved (2 s)\n")
+        self.assertIn("2 crates, about ", ran.stderr.decode())
+        self.assertEqual(len(ran.stderr.decode().splitlines()), 3)
+        self.assertEqual(self.slope().stderr, b"")
+        self.assertEqual(self.asked(), ["check slope"])
+
+    def test_a_changed_source_is_proved_anew(self):
+        self.slope()
+        script(self.top / "crates" / "slope" / "src" / "lib.rt", self.program("sheet refused 5"))
+        self.ended(self.slope(), 3, "sheet refused 5\n")
+        (self.top / "crates" / "numbers" / "proofs").mkdir()
+        (self.top / "crates" / "numbers" / "proofs" / "a.antt").write_text("")
+        self.slope()
+        self.assertEqual(len(self.asked()), 3)
+
+    def test_what_does_not_go_in_is_left_alone(self):
+        self.slope()
+        (self.top / "crates" / "other" / "src" / "lib.rt").write_text("")
+        (self.top / "crates" / "slope" / "stdout").write_text("")
+        lines = (self.top / "crates.txt").read_text()
+        (self.top / "crates.txt").write_text(lines.replace("a crate", "another word of it"))
+        self.slope()
+        self.assertEqual(len(self.asked()), 1)
+
+    def test_the_gate_may_empty_target(self):
+        self.slope()
+        shutil.rmtree(self.top / "target")
+        self.ended(self.slope(), 3, "sheet refused 4\n")
+        self.assertEqual(len(self.asked()), 1)
+
+    def test_nothing_is_proved_unasked(self):
+        for part in ("program", "archive", "library"):
+            self.ended(self.built(part), 1, "", "install.sh PREFIX")
+        self.slope()
+        (self.top / "crates" / "slope" / "src" / "lib.rt").write_text("changed")
+        self.ended(self.built("program"), 1, "", "of other sources")
+        self.assertEqual(len(self.asked()), 1)
+
+    def test_the_archive_is_proved_once(self):
+        path = self.top / ".built" / "libhost.a"
+        self.ended(self.built("--prove", "archive"), 0, "%s\n" % path, "[ 2/2] host proved\n")
+        self.ended(self.built("--prove", "archive"), 0, "%s\n" % path)
+        self.ended(self.built("archive"), 0, "%s\n" % path)
+        self.assertEqual(self.asked(), ["check numbers", "staticlib host"])
+
+    def test_without_a_toolchain(self):
+        (self.folder / "kit" / "rt").unlink()
+        paths = [p for p in self.environment["PATH"].split(":") if not (pathlib.Path(p) / "rt").exists()]
+        self.environment["PATH"] = ":".join(paths)
+        self.ended(self.slope(), 1, "", "no Rattle toolchain")
+
+    def test_a_proof_that_fails(self):
+        self.toolchain("echo 'why it failed'; echo 'rt: slope NOT PROVED: its dependency numbers is not proved'; exit 1")
+        self.ended(self.slope(), 1, "", "\nslope NOT PROVED: ")
+        self.ended(self.slope(), 1, "", "slope.log")
+        self.assertEqual(len(self.asked()), 2)
+
+    def test_sources_that_change_meanwhile(self):
+        self.toolchain("echo >>crates/numbers/src/lib.rt")
+        self.ended(self.slope(), 1, "", "the sources changed while")
+
+    def test_ready_parts(self):
+        for part, variable in (("archive", "PASOLETU_ARCHIVE"), ("program", "PASOLETU_SLOPE")):
+            ask = self.top / "tools" / "built", part
+            self.ended(self.run_command(*ask, **{variable: self.sheet}), 0, "%s\n" % self.sheet)
+            self.ended(self.run_command(*ask, **{variable: "none"}), 1, "", "%s names none" % variable)
+
+    def test_no_sheet_proves_nothing(self):
+        self.ended(self.run_command(self.top / "bin" / "slope", "none.sheet"), 2)
+        self.ended(self.run_command(self.top / "bin" / "slope", "--help"), 0)
+        self.assertEqual(self.asked(), [])
+
+
+if __name__ == "__main__":
+    unittest.main()

@@ -1,0 +1,34 @@
+"""fuzz/calls.h: the calls on records and sheets, their floats as words."""
+from .header import TYPES
+from .text import filled
+
+HEAD = """\
+// Made by tools/table from calls.toml: edit that, not this file.
+// The C calls that are fuzzed, with every float as its bits.
+#include <stddef.h>
+#include <stdint.h>
+"""
+RECORDS = ("record", "records")
+
+
+def words(kind):
+    return TYPES["u64" if kind == "f64" else kind]
+
+
+def declared(a):
+    if not a.is_list:
+        return [f"{words(a.kind)} {a.name}"]
+    return [f"{'' if a.written else 'const '}{words(a.kind)} *{a.name}", f"size_t {a.name}_length"]
+
+
+def made(table):
+    """The whole file."""
+    most = next(c.value for group in table.constants for c in group.rows if c.name == "SHEET_MOST")
+    lines = [f"#define FLOATS {table.floats}", f"#define MOST {most}", f"#define MODELS {len(table.models)}"]
+    lines += ["// How many parameters each model has, and the place of its flag or -1."]
+    lines += ["static const size_t FIELDS[MODELS] = {%s};" % ", ".join(str(len(m.parameters)) for m in table.models)]
+    lines += ["static const int FLAG[MODELS] = {%s};" % ", ".join(str(-1 if m.flag_at is None else m.flag_at) for m in table.models), ""]
+    for c in table.calls:
+        if any(a.name in RECORDS for a in c.arguments):
+            lines += filled([part for a in c.arguments for part in declared(a)], f"uint8_t pasoletu_{c.name}(", ");")
+    return HEAD + "\n" + "\n".join(lines) + "\n"

@@ -1,0 +1,81 @@
+"""Holds the proved crates to the table: crates/host's calls, and crates/replay's numbers and lengths. They are written by hand,
+since their contracts and proofs are; here they are only read."""
+import re
+
+from .rust import beside_row
+
+KINDS = {"f64": "f64", "u8": "u8", "u32": "u32", "u64": "u64", "&[u8]": "u8[]", "&[u64]": "[]", "&mut [u64]": "[] written"}
+EXTERN = re.compile(r'pub extern "C" fn pasoletu_(\w+)\((.*?)\)\s*->\s*u8', re.S)
+BRANCH = re.compile(r"\bk == (\d+) \{|\belse \{|\bhost::(?:\w+::)?pasoletu_(\w+)\(|\bupdated\(\s*(\d+),")
+
+
+def spelled(a):
+    """An argument as crates/host has it: floats of lists are words."""
+    if not a.is_list:
+        return a.kind
+    if a.kind == "u8":
+        return "u8[]"
+    return "[] written" if a.written else "[]"
+
+
+def host_calls(top):
+    for file in sorted((top / "crates/host/src").glob("*.rt")):
+        for name, arguments in EXTERN.findall(file.read_text()):
+            types = [part.split(":", 1)[1].strip() for part in arguments.split(",") if ":" in part]
+            yield name, [KINDS.get(t, t) for t in types]
+
+
+def host(top, table):
+    there = dict(host_calls(top))
+    for c in table.calls:
+        wanted = [spelled(a) for a in c.arguments]
+        found = there.get(c.name)
+        wrong = "has no such call" if found is None else f"takes ({', '.join(found)}), the table ({', '.join(wanted)})"
+        yield f"crates/host: pasoletu_{c.name}", None if found == wanted else wrong
+    for name in sorted(there.keys() - {c.name for c in table.calls}):
+        yield f"crates/host: pasoletu_{name}", "is not in calls.toml: add its row"
+
+
+def replayed(top, update):
+    """The numbers of crates/replay with their calls, read off the branches `if k == N {`; an `else` is the next number."""
+    for file in sorted((top / "crates/replay/src").glob("*.rt")):
+        number = None
+        for match in BRANCH.finditer(file.read_text()):
+            equal, name, model = match.groups()
+            if equal is not None:
+                number = int(equal)
+            elif model is not None:
+                yield number, f"{update} {model}"
+            elif name is None:
+                number = None if number is None else number + 1
+            elif number is not None:
+                yield number, name
+
+
+def replay_lengths(top, name):
+    text = (top / "crates/replay/src/reading.rt").read_text()
+    match = re.search(rf"const {name}: \[usize; \d+\] = \[(.*?)\]", text, re.S)
+    return [int(n) for n in re.findall(r"\d+", match[1])] if match else []
+
+
+def words_in(c, m):
+    return sum(1 if word in ("NUMBER", "GAMMA") else int(word) for word in beside_row(c, m)[0])
+
+
+def replay(top, table):
+    """What crates/replay has may be fewer calls than the table numbers, its first ones."""
+    inputs, outputs = replay_lengths(top, "INPUTS"), replay_lengths(top, "OUTPUTS")
+    yield "crates/replay: INPUTS and OUTPUTS", None if inputs and len(inputs) == len(outputs) else "cannot be read off"
+    there = dict(replayed(top, "update"))
+    for number, c, m in table.numbered[:len(inputs)]:
+        name = c.name if m is None else f"{c.name} {m.number}"
+        lengths = words_in(c, m), beside_row(c, m)[1]
+        found = there.get(number), inputs[number], outputs[number] if number < len(outputs) else None
+        wanted = name, *lengths
+        yield f"crates/replay: call {number}", None if found == wanted else f"is {found}, in the table {wanted}"
+
+
+def held(top, table):
+    """Each thing that is held, with what is wrong with it or None."""
+    yield from host(top, table)
+    yield from replay(top, table)

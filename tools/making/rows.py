@@ -1,0 +1,249 @@
+"""The table: calls.toml and VERSION as rows, checked for sense."""
+import math
+import re
+import tomllib
+from dataclasses import dataclass
+from functools import cached_property
+
+ARGUMENT = re.compile(r"(?P<name>[a-z_0-9]+)(?P<list>\[(?P<length>\d*)\])?(: (?P<kind>u8|u32|u64))?")
+
+
+class BadTable(Exception):
+    """A row of the table makes no sense; the text says which and why."""
+
+
+@dataclass(frozen=True)
+class Argument:
+    """An argument of a call. `length` is None for no list, 0 for a list whose length is not always the same."""
+
+    name: str
+    kind: str
+    length: int | None
+    written: bool
+
+    @property
+    def is_list(self):
+        return self.length is not None
+
+
+@dataclass(frozen=True)
+class Call:
+    """A call of the library. `flag` is the place of a flag among its inputs, `beside` its number in beside/ or "lists" or None."""
+
+    name: str
+    text: str
+    arguments: tuple
+    beside: int | str | None
+    flag: int | None
+
+    @property
+    def taken(self):
+        return [a for a in self.arguments if not a.written]
+
+    @property
+    def written(self):
+        return [a for a in self.arguments if a.written]
+
+    @property
+    def numbered(self):
+        return isinstance(self.beside, int)
+
+    @property
+    def for_every_model(self):
+        """Whether beside/ has a number for each model of it."""
+        return self.numbered and self.arguments[0].name == "model"
+
+
+@dataclass(frozen=True)
+class Section:
+    """Calls that stand together in the header."""
+
+    title: str
+    text: str
+    calls: tuple
+
+
+@dataclass(frozen=True)
+class Refusal:
+    """Why something is refused, and what to do about it."""
+
+    number: int
+    name: str
+    what: str
+    remedy: str
+
+
+@dataclass(frozen=True)
+class Parameter:
+    """A parameter of a model."""
+
+    name: str
+    flag: bool
+    default: float | None
+    meaning: str
+
+
+@dataclass(frozen=True)
+class Model:
+    """A plastic law. `amount` is what stands beside `stored`, `arguments_of` the Rust's function that takes the parameters."""
+
+    number: int
+    name: str
+    title: str
+    amount: str
+    arguments_of: str
+    parameters: tuple
+
+    @property
+    def flag_at(self):
+        """The place of its flag among the parameters, or None. No model has two."""
+        return next((k for k, p in enumerate(self.parameters) if p.flag), None)
+
+
+@dataclass(frozen=True)
+class Part:
+    """A part of the record: `at` is its first place."""
+
+    name: str
+    field: str
+    shape: tuple
+    meaning: str
+    at: int
+
+    @property
+    def length(self):
+        return math.prod(self.shape)
+
+    @property
+    def places(self):
+        """The name of each of its floats, as Rust and Python spell them."""
+        if not self.shape:
+            return [self.field]
+        if len(self.shape) == 1:
+            return [f"{self.field}[{k}]" for k in range(self.shape[0])]
+        return [f"{self.field}[{r}][{c}]" for r in range(self.shape[0]) for c in range(self.shape[1])]
+
+
+@dataclass(frozen=True)
+class Constant:
+    """A number with a name."""
+
+    name: str
+    value: int | float
+    meaning: str
+
+
+@dataclass(frozen=True)
+class Constants:
+    """Constants that stand together in the header."""
+
+    title: str
+    rows: tuple
+
+
+def argument(spelled, written, where):
+    match = ARGUMENT.fullmatch(spelled.strip())
+    if match is None:
+        raise BadTable(f"{where}: the argument {spelled.strip()!r} is not spelled as the head of calls.toml says")
+    length = None if match["list"] is None else int(match["length"] or 0)
+    return Argument(match["name"], match["kind"] or "f64", length, written)
+
+
+def call(row):
+    where = f"call {row.get('name', '(without a name)')}"
+    for key in ("name", "takes", "writes", "text"):
+        if key not in row:
+            raise BadTable(f"{where}: it lacks {key!r}")
+    taken = [argument(a, False, where) for a in row["takes"].split(",")]
+    written = [argument(a, True, where) for a in row["writes"].split(",")]
+    if not all(a.is_list for a in written):
+        raise BadTable(f"{where}: only lists can be written")
+    made = Call(row["name"], row["text"], tuple(taken + written), row.get("beside"), row.get("flag"))
+    if made.beside not in (None, "lists") and not made.numbered:
+        raise BadTable(f"{where}: beside is {made.beside!r}, which is neither a number nor \"lists\"")
+    if made.numbered and not made.for_every_model and (len(written) > 1 or 0 in (a.length for a in made.arguments)):
+        raise BadTable(f"{where}: a call with a number writes one list and tells all its lengths; leave `beside` out")
+    return made
+
+
+def model(row):
+    parameters = (
+        Parameter(p["name"], p.get("flag", False), p.get("default"), p.get("meaning", "")) for p in row["parameters"]
+    )
+    return Model(row["number"], row["name"], row["title"], row["amount"], row.get("arguments_of", ""), tuple(parameters))
+
+
+def record(rows):
+    at = 0
+    for row in rows:
+        part = Part(row["name"], row["field"], tuple(row.get("shape", ())), row.get("meaning", ""), at)
+        at += part.length
+        yield part
+
+
+def unique(what, values):
+    values = list(values)
+    twice = sorted({str(x) for x in values if values.count(x) > 1})
+    if twice:
+        raise BadTable(f"{what} stands twice: {', '.join(twice)}")
+
+
+def consecutive(what, numbers, first):
+    if sorted(numbers) != list(range(first, first + len(numbers))):
+        raise BadTable(f"{what} are not {first} and on without a gap: {sorted(numbers)}")
+
+
+class Table:
+    """What calls.toml and VERSION say."""
+
+    def __init__(self, top):
+        rows = tomllib.loads((top / "calls.toml").read_text())
+        self.version = (top / "VERSION").read_text().strip()
+        self.refusals = [Refusal(**row) for row in rows["refusal"]]
+        self.models = [model(row) for row in rows["model"]]
+        self.record = list(record(rows["record"]))
+        self.constants = [
+            Constants(group["title"], tuple(Constant(c["name"], c["value"], c.get("meaning", "")) for c in group["rows"]))
+            for group in rows["constants"]
+        ]
+        self.sections = [
+            Section(s["title"], s.get("text", ""), tuple(call(c) for c in s["call"])) for s in rows["section"]
+        ]
+        self.check()
+
+    @cached_property
+    def calls(self):
+        return [c for section in self.sections for c in section.calls]
+
+    @property
+    def floats(self):
+        return sum(part.length for part in self.record)
+
+    @property
+    def most_parameters(self):
+        return max(len(m.parameters) for m in self.models)
+
+    @property
+    def numbered(self):
+        """The calls of beside/ by number: (number, call, model or None)."""
+        rows = []
+        for c in self.calls:
+            if c.for_every_model:
+                rows += [(c.beside + m.number, c, m) for m in self.models]
+            elif c.numbered:
+                rows.append((c.beside, c, None))
+        return sorted(rows, key=lambda row: row[0])
+
+    def check(self):
+        if not re.fullmatch(r"\d+\.\d+\.\d+", self.version):
+            raise BadTable(f"VERSION: {self.version!r} is not three numbers with points between")
+        for m in self.models:
+            if sum(p.flag for p in m.parameters) > 1:
+                raise BadTable(f"model {m.name}: it has two flags, and beside/ and fuzz/ know only one")
+        unique("a refusal's name", (r.name for r in self.refusals))
+        consecutive("the refusals' numbers", [r.number for r in self.refusals], 1)
+        consecutive("the models' numbers", [m.number for m in self.models], 0)
+        unique("a call's name", (c.name for c in self.calls))
+        consecutive("the numbers of beside/", [number for number, _, _ in self.numbered], 0)
+        for c in self.calls:
+            unique(f"an argument of {c.name}", (a.name for a in c.arguments))

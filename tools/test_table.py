@@ -1,0 +1,170 @@
+"""Tests of tools/table: a stale file, a call of another kind in the proved crates and a row that makes no sense are each told."""
+import pathlib
+import re
+import shutil
+import subprocess
+import tempfile
+import unittest
+
+TOP = pathlib.Path(__file__).resolve().parent.parent
+MADE = (
+    "include/pasoletu.h",
+    "bindings/python/pasoletu/_table.py",
+    "bindings/rust/src/table.rs",
+    "bindings/rust/Cargo.toml",
+    "bindings/rust/Cargo.lock",
+    "bindings/rust/parallel/Cargo.toml",
+    "beside/table.rs",
+    "beside/externs.rs",
+    "fuzz/calls.h",
+)
+READ = ("VERSION", "calls.toml", "tools/table", "tools/making", "crates/host/src", "crates/replay/src")
+
+
+class Copy(unittest.TestCase):
+    """Each test has a copy of what tools/table reads and makes."""
+
+    def setUp(self):
+        room = tempfile.TemporaryDirectory()
+        self.addCleanup(room.cleanup)
+        self.top = pathlib.Path(room.name)
+        for name in MADE + READ:
+            (self.top / name).parent.mkdir(parents=True, exist_ok=True)
+            copy = shutil.copytree if (TOP / name).is_dir() else shutil.copy
+            copy(TOP / name, self.top / name)
+
+    def run_table(self, *words):
+        return subprocess.run([self.top / "tools/table", *words], capture_output=True, text=True)
+
+    def edit(self, name, old, new):
+        text = (self.top / name).read_text()
+        self.assertIn(old, text)
+        (self.top / name).write_text(text.replace(old, new, 1))
+
+    def told(self, words):
+        """--check fails and says these words; its last line counts."""
+        done = self.run_table("--check")
+        self.assertEqual(done.returncode, 1, done.stdout)
+        self.assertIn(words, done.stdout)
+        self.assertRegex(done.stdout.splitlines()[-1], r"^\d+ passed, [1-9]\d* failed$")
+
+
+class Check(Copy):
+    def test_what_is_committed_is_what_is_made(self):
+        done = self.run_table("--check")
+        self.assertEqual(done.returncode, 0, done.stdout)
+        self.assertRegex(done.stdout, r"^\d+ passed, 0 failed\n$")
+
+    def test_each_stale_file_is_told(self):
+        for name in MADE:
+            was = (self.top / name).read_text()
+            (self.top / name).write_text(re.sub(r"0\.1\.0|36|pasoletu_exp\(|\"exp\"", "7.7.7", was))
+            with self.subTest(name):
+                self.told(name + " is stale")
+            (self.top / name).write_text(was)
+
+    def test_a_missing_file_is_told(self):
+        (self.top / "fuzz/calls.h").unlink()
+        self.told("fuzz/calls.h is stale")
+
+    def test_a_header_without_its_marks_is_told(self):
+        self.edit("include/pasoletu.h", "/* ==== End of", "/* ==== Finish of")
+        self.told("include/pasoletu.h: it must have each of these lines once")
+
+    def test_a_manifest_without_its_version_is_told(self):
+        self.edit("bindings/rust/Cargo.toml", 'version = "', 'edition = "')
+        self.told("bindings/rust/Cargo.toml: it has no line version")
+
+    def test_making_mends_what_is_stale(self):
+        (self.top / "beside/table.rs").write_text("")
+        (self.top / "fuzz/calls.h").unlink()
+        done = self.run_table()
+        self.assertEqual((done.returncode, done.stdout), (0, "made beside/table.rs\nmade fuzz/calls.h\n"))
+        self.assertEqual(self.run_table("--check").returncode, 0)
+
+    def test_a_call_that_the_proved_crate_lacks_is_told(self):
+        self.edit("crates/host/src/lib.rt", "fn pasoletu_sin(", "fn pasoletu_sine(")
+        self.told("crates/host: pasoletu_sin has no such call")
+        self.told("crates/host: pasoletu_sine is not in calls.toml")
+
+    def test_an_argument_of_another_kind_is_told(self):
+        self.edit("crates/host/src/lib.rt", "pasoletu_exp(x: f64", "pasoletu_exp(x: u64")
+        self.told("crates/host: pasoletu_exp takes (u64, [] written), the table (f64, [] written)")
+
+    def test_another_number_in_replay_is_told(self):
+        self.edit("crates/replay/src/elementary.rt", "if k == 3 {", "if k == 33 {")
+        self.told("crates/replay: call 3 is (None, 1, 1), in the table ('sin', 1, 1)")
+
+    def test_another_length_in_replay_is_told(self):
+        self.edit("crates/replay/src/reading.rt", "    39,\n", "    38,\n")
+        self.told("crates/replay: call 20 is ('update 0', 38, 38)")
+
+
+class Rows(Copy):
+    def test_the_version_reaches_every_file_that_has_one(self):
+        (self.top / "VERSION").write_text("1.22.333\n")
+        done = self.run_table()
+        versioned = [name for name in MADE if name.startswith(("include", "bindings")) and not name.endswith("table.rs")]
+        self.assertEqual(sorted(done.stdout.split()[1::2]), sorted(versioned))
+        for name in versioned:
+            self.assertIn("1.22.333", (self.top / name).read_text(), name)
+
+    def test_a_new_refusal_is_a_row(self):
+        self.edit("calls.toml", "# ---- Models:", """[[refusal]]
+number = 9
+name = "UPSIDE_DOWN"
+what = "the sheet is upside down"
+remedy = "turn it"
+
+# ---- Models:""")
+        self.assertEqual(self.run_table().returncode, 0)
+        for name in ("include/pasoletu.h", "bindings/python/pasoletu/_table.py", "bindings/rust/src/table.rs"):
+            text = (self.top / name).read_text()
+            self.assertTrue("UPSIDE_DOWN" in text and "turn it" in text, name)
+
+    def test_a_new_call_is_a_row_and_must_be_proved(self):
+        self.edit("calls.toml", "[[section.call]]\nname = \"ln\"", """[[section.call]]
+name = "cosine"
+takes = "x, k: u32, list[4]"
+writes = "out[2]: u64"
+text = "A call that is not there."
+
+[[section.call]]
+name = "ln\"""")
+        self.assertEqual(self.run_table().returncode, 0)
+        header = (self.top / "include/pasoletu.h").read_text()
+        self.assertIn("pasoletu_cosine(double x, uint32_t k, const double *list, size_t list_length, uint64_t *out", header)
+        self.told("crates/host: pasoletu_cosine has no such call")
+
+    def test_rows_without_sense_are_told(self):
+        wrongs = (
+            ("number = 8\n", "number = 9\n", "the refusals' numbers are not 1 and on"),
+            ('takes = "x"', 'takes = "x[three]"', "call exp: the argument 'x[three]' is not spelled"),
+            ('name = "ln"', 'name = "exp"', "a call's name stands twice: exp"),
+            ("beside = 1\n", "beside = 0\n", "the numbers of beside/ are not 0 and on"),
+            ('writes = "out[1]"', 'writes = "out"', "call exp: only lists can be written"),
+            ('writes = "out[1]"', 'writes = "out[1], more[2]"', "call exp: a call with a number writes one list"),
+            ('beside = "lists"', 'beside = "list"', "call pass: beside is 'list', which is neither"),
+        )
+        was = (self.top / "calls.toml").read_text()
+        for old, new, words in wrongs:
+            (self.top / "calls.toml").write_text(was)
+            self.edit("calls.toml", old, new)
+            with self.subTest(words):
+                self.told(words)
+
+
+class Words(Copy):
+    def test_help_answers(self):
+        done = self.run_table("--help")
+        self.assertEqual((done.returncode, done.stderr), (0, ""))
+        self.assertIn("tools/table --check", done.stdout)
+
+    def test_a_wrong_word_is_told(self):
+        done = self.run_table("--chekc")
+        self.assertEqual((done.returncode, done.stdout), (2, ""))
+        self.assertIn("tools/table --check", done.stderr)
+
+
+if __name__ == "__main__":
+    unittest.main()
