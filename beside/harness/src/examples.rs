@@ -116,6 +116,8 @@ fn all() -> Vec<Example> {
     add(16, "update drucker_prager", "lambda and mu 0, F (0.9, 1, 1): first of F, plastic hardening", &soft, &[0, 32], One);
     let steep = [vec![1.0, 0.0, 0.0, 0.0, 1.0, 1e200], record(&[])].concat();
     add(16, "update nacc", "young 1, m 1e200, F the identity: first of F, alpha", &steep, &[0, 35], One);
+    let stiff = [vec![1.7e308, -0.1, 1.0, 1.0], record(&[])].concat();
+    add(16, "update rankine", "young 1.7e308, poisson -0.1, strength and rate 1: first of F, plastic hardening", &stiff, &[0, 32], One);
     let flag = [-0.0, 0.9, 1.0, 1.0, 1.0, 2.0, 1.0, 1.0];
     add(17, "corotated_elastic_energy_density", "flag -0.0, sigma (2, 1, 1), all else 1", &flag, &[0], One);
     let even = |s: f64| drucker_prager(degrees(), 1.0, [s; 3]);

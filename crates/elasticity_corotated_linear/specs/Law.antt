@@ -1,7 +1,8 @@
 -- The corotated law's own floats and its `new` (document 01, section 6; elasticity_corotated_linear.rs).
 use mathlib.Core.Bool.{Bool, true, cond, _&&_}
 use lib.Ieee.{Float, binary64, ofBits}
-use Rattle.numbers.specs.Rules.{finite}
+use Rattle.answers.specs.Refusals.{notFinite, noNumber}
+use Rattle.numbers.specs.Floats.{finite}
 use Rattle.physics.specs.Physics.{lameOf}
 use Rattle.physics.specs.declared.Lame.{Lame}
 use Rattle.elasticity_corotated_linear.specs.declared.CorotatedLinearElasticity.{CorotatedLinearElasticity}
@@ -24,7 +25,7 @@ lawOf m =
 
 -- a NaN of the formulas is in a modulus
 unfoldable pub fromLame : Lame → Made
-fromLame m = cond (finite (m .lambda) && finite (m .mu)) (Law (lawOf m)) (Refused 3)
+fromLame m = cond (finite (m .lambda) && finite (m .mu)) (Law (lawOf m)) (Refused noNumber)
 
 unfoldable pub newOf : Float → Float → Made
-newOf young poisson = cond (finite young && finite poisson) (fromLame (lameOf young poisson)) (Refused 1)
+newOf young poisson = cond (finite young && finite poisson) (fromLame (lameOf young poisson)) (Refused notFinite)

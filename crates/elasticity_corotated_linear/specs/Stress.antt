@@ -3,7 +3,7 @@ use mathlib.Core.Bool.{Bool, cond, _&&_}
 use mathlib.Core.List.{List, map}
 use lib.Ieee as Ieee
 use lib.Ieee.{Float}
-use Rattle.numbers.specs.Rules.{finite, maxOf, minOf}
+use Rattle.numbers.specs.Floats.{finite, maxOf, minOf}
 use Rattle.physics.specs.Physics.{two}
 use Rattle.tensor.specs.Matrix.{sub, mul, zero, one, detOf, mulOf, transposeOf, recomposeOf, matAddOf, matScaleOf, identityTimesOf}
 use Rattle.tensor.specs.Finite.{rowFinite, matFinite}

@@ -1,6 +1,6 @@
 use crate::CorotatedLinearElasticity;
 use crate::stress;
-use numbers::Elementary;
+use answers::Answer;
 ghost use mathlib.Core.Path.{_≡_};
 ghost use Rattle.elasticity_corotated_linear.specs.Energy.{squaresOf, energyOf, deviatoricEnergy, sphericalEnergy, posEnergyOf};
 
@@ -32,16 +32,16 @@ pub fn spherical_energy(p: CorotatedLinearElasticity, j: f64, hardening: f64) ->
     p.lambda * hardening / 2.0 * (j - 1.0) * (j - 1.0)
 }
 
-pub fn pos_energy(j: f64, dev: f64, sph: f64) -> Elementary
+pub fn pos_energy(j: f64, dev: f64, sph: f64) -> Answer
     ensures { λ r. ⌜ r ≡ posEnergyOf j dev sph ⌝ }
 {
     if numbers::is_number(sph) {
         if j < 1.0 {
-            numbers::answered(dev)
+            answers::answered(dev)
         } else {
-            numbers::answered(dev + sph)
+            answers::answered(dev + sph)
         }
     } else {
-        Elementary::Refused(3)
+        Answer::Refused(answers::NO_NUMBER)
     }
 }

@@ -2,7 +2,7 @@
 mod energy;
 mod stress;
 
-use numbers::Elementary;
+use answers::Answer;
 use physics::Lame;
 pub use stress::less_one;
 pub use stress::negative;
@@ -32,8 +32,8 @@ fn law(m: Lame) -> CorotatedLinearElasticity
     ensures { λ r. ⌜ r ≡ lawOf m ⌝ }
 {
     CorotatedLinearElasticity {
-        split_stress_on_failure: true,
-        cfl_coeff: 0.9,
+        split_stress_on_failure: CorotatedLinearElasticity::SPLIT_STRESS_ON_FAILURE,
+        cfl_coeff: CorotatedLinearElasticity::CFL_COEFF,
         lambda: m.lambda,
         mu: m.mu,
     }
@@ -45,18 +45,22 @@ fn from_lame(m: Lame) -> Made
     if numbers::is_finite(m.lambda) & numbers::is_finite(m.mu) {
         Made::Law(law(m))
     } else {
-        Made::Refused(3)
+        Made::Refused(answers::NO_NUMBER)
     }
 }
 
 impl CorotatedLinearElasticity {
+    pub const SPLIT_STRESS_ON_FAILURE: bool = true;
+
+    pub const CFL_COEFF: f64 = 0.9;
+
     pub fn new(young: f64, poisson: f64) -> Made
         ensures { λ r. ⌜ r ≡ newOf young poisson ⌝ }
     {
         if numbers::is_finite(young) & numbers::is_finite(poisson) {
             from_lame(physics::plain::lame_lambda_mu(young, poisson))
         } else {
-            Made::Refused(1)
+            Made::Refused(answers::NOT_FINITE)
         }
     }
 
@@ -103,22 +107,22 @@ impl CorotatedLinearElasticity {
         if self.stress_inputs(phase, hardening, f, u, sigma, vt) {
             tensor::answered(stress::stress(self, phase, hardening, f, u, sigma, vt))
         } else {
-            tensor::refused_matrix(1)
+            tensor::refused_matrix(answers::NOT_FINITE)
         }
     }
 
-    pub fn elastic_energy_density(self, sigma: [f64; 3], hardening: f64) -> Elementary
+    pub fn elastic_energy_density(self, sigma: [f64; 3], hardening: f64) -> Answer
         ensures { λ r. ⌜ r ≡ elasticEnergyDensity self sigma hardening ⌝ }
     {
         if self.law_finite() & tensor::row_finite(sigma) & numbers::is_finite(hardening) {
-            numbers::answered(energy::energy(self, sigma, hardening))
+            answers::answered(energy::energy(self, sigma, hardening))
         } else {
-            Elementary::Refused(1)
+            Answer::Refused(answers::NOT_FINITE)
         }
     }
 
     // The same, but only the positive part.
-    pub fn pos_energy(self, f: [[f64; 3]; 3], sigma: [f64; 3], hardening: f64) -> Elementary
+    pub fn pos_energy(self, f: [[f64; 3]; 3], sigma: [f64; 3], hardening: f64) -> Answer
         ensures { λ r. ⌜ r ≡ posEnergy self f sigma hardening ⌝ }
     {
         if self.law_finite()
@@ -132,7 +136,7 @@ impl CorotatedLinearElasticity {
             let sph = energy::spherical_energy(self, j, hardening);
             energy::pos_energy(j, dev, sph)
         } else {
-            Elementary::Refused(1)
+            Answer::Refused(answers::NOT_FINITE)
         }
     }
 

@@ -2,8 +2,8 @@
 use mathlib.Core.Path.{_≡_, refl}
 use lib.Ieee as Ieee
 use lib.Ieee.{binary64, ofBits}
-use Rattle.numbers.specs.Rules.{finite}
-use Rattle.numbers.specs.declared.Elementary.the-variants.{Value}
+use Rattle.numbers.specs.Floats.{finite}
+use Rattle.answers.specs.declared.Answer.the-variants.{Value}
 use Rattle.elasticity_neo_hookean.specs.Law.{phaseCoeffOf, phaseCoeff}
 
 -- P5: `phase_coeff(0.0)` is 0.001

@@ -2,9 +2,10 @@
 use mathlib.Core.Bool.{Bool, cond, _&&_}
 use mathlib.Core.List.{List}
 use lib.Ieee.{Float, binary64, ofBits}
-use Rattle.numbers.specs.Rules.{finite}
-use Rattle.numbers.specs.Answer.{answeredOf, given}
-use Rattle.numbers.specs.declared.Elementary.{Elementary}
+use Rattle.answers.specs.Refusals.{notFinite, noNumber}
+use Rattle.numbers.specs.Floats.{finite}
+use Rattle.answers.specs.Answer.{answeredOf, given}
+use Rattle.answers.specs.declared.Answer.{Answer}
 use Rattle.physics.specs.Physics.{two, lameOf}
 use Rattle.physics.specs.declared.Lame.{Lame}
 use Rattle.tensor.specs.Matrix.{add, sub, mul, div, one, mulOf, transposeOf}
@@ -26,10 +27,10 @@ lawOf m = record { «cfl_coeff» = ofBits binary64 0x3fe0_0000_0000_0000; lambda
 
 -- a NaN of the formulas is in a modulus
 unfoldable pub fromLame : Lame → Made
-fromLame m = cond (finite (m .lambda) && finite (m .mu)) (Law (lawOf m)) (Refused 3)
+fromLame m = cond (finite (m .lambda) && finite (m .mu)) (Law (lawOf m)) (Refused noNumber)
 
 unfoldable pub newOf : Float → Float → Made
-newOf young poisson = cond (finite young && finite poisson) (fromLame (lameOf young poisson)) (Refused 1)
+newOf young poisson = cond (finite young && finite poisson) (fromLame (lameOf young poisson)) (Refused notFinite)
 
 -- 0.001
 abbrev pub residual : Float
@@ -39,7 +40,7 @@ residual = ofBits binary64 0x3f50_624d_d2f1_a9fc
 unfoldable pub phaseCoeffOf : Float → Float
 phaseCoeffOf phase = add (mul (mul (sub one residual) phase) phase) residual
 
-unfoldable pub phaseCoeff : Float → Elementary
+unfoldable pub phaseCoeff : Float → Answer
 phaseCoeff phase = given (finite phase) (answeredOf (phaseCoeffOf phase))
 
 -- k = 2/3 mu h + lambda h

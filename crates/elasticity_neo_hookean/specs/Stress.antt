@@ -3,10 +3,11 @@ use mathlib.Core.Bool.{Bool, cond, _&&_}
 use mathlib.Core.List.{List}
 use lib.Ieee as Ieee
 use lib.Ieee.{Float}
-use Rattle.numbers.specs.Rules.{finite, isNumber}
-use Rattle.numbers.specs.Range.{onPath}
-use Rattle.numbers.specs.declared.Elementary.{Elementary}
-use Rattle.numbers.specs.declared.Elementary.the-variants.{Value, Refused}
+use Rattle.answers.specs.Refusals.{noNumber}
+use Rattle.numbers.specs.Floats.{finite, isNumber}
+use Rattle.answers.specs.Range.{onPath}
+use Rattle.answers.specs.declared.Answer.{Answer}
+use Rattle.answers.specs.declared.Answer.the-variants.{Value, Refused}
 use Rattle.physics.specs.Physics.{two}
 use Rattle.tensor.specs.Matrix.{sub, mul, div, one, three, detOf, mulOf, matAddOf, matScaleOf, identityTimesOf}
 use Rattle.tensor.specs.Decomposed.{deviatoricOf}
@@ -34,7 +35,7 @@ unfoldable pub fpkOf : NeoHookeanElasticity → Float → Float → Float → Fl
 fpkOf p h j k w g b = matAddOf (mulOf (shearStress p h w b) g) (fpkVolumetric j k g)
 
 -- a refusal of the power is handed on; a NaN after it is in an entry of the sum
-unfoldable pub fpkPowered : Elementary → NeoHookeanElasticity → Float → Float → Float → List (List Float) → List (List Float) → MatrixAnswer
+unfoldable pub fpkPowered : Answer → NeoHookeanElasticity → Float → Float → Float → List (List Float) → List (List Float) → MatrixAnswer
 fpkPowered (Value w) p h j k g b = answered (fpkOf p h j k w g b)
 fpkPowered (Refused n) p h j k g b = refusedMatrix n
 
@@ -43,7 +44,7 @@ unfoldable pub fpkSteps : NeoHookeanElasticity → Float → Float → Float →
 fpkSteps p h j k g b =
     cond (isNumber k && matNumber g && matNumber b)
     (fpkPowered (onPath j (invCbrtSquaredRanged j)) p h j k g b)
-    (refusedMatrix 3)
+    (refusedMatrix noNumber)
 
 unfoldable pub fpkStress : NeoHookeanElasticity → List (List Float) → Float → MatrixAnswer
 fpkStress p f h =
@@ -62,14 +63,14 @@ splitSum c j dev vol =
     (matAddOf (matScaleOf c (matAddOf dev vol)) (three zeroRow zeroRow zeroRow))
     (matAddOf (matScaleOf c dev) vol)
 
-unfoldable pub kirchhoffPowered : Elementary → NeoHookeanElasticity → Float → Float → Float → Float → List (List Float) → MatrixAnswer
+unfoldable pub kirchhoffPowered : Answer → NeoHookeanElasticity → Float → Float → Float → Float → List (List Float) → MatrixAnswer
 kirchhoffPowered (Value w) p c h j k b = answered (splitSum c j (shearStress p h w b) (volumetricStress j k))
 kirchhoffPowered (Refused n) p c h j k b = refusedMatrix n
 
 -- k and F F^T come before the power: a NaN there is met first, and a NaN in j is the power's 3
 unfoldable pub kirchhoffSteps : NeoHookeanElasticity → Float → Float → Float → Float → List (List Float) → MatrixAnswer
 kirchhoffSteps p c h j k b =
-    cond (isNumber k && matNumber b) (kirchhoffPowered (onPath j (invCbrtSquaredRanged j)) p c h j k b) (refusedMatrix 3)
+    cond (isNumber k && matNumber b) (kirchhoffPowered (onPath j (invCbrtSquaredRanged j)) p c h j k b) (refusedMatrix noNumber)
 
 unfoldable pub kirchhoffStress : NeoHookeanElasticity → Float → Float → List (List Float) → MatrixAnswer
 kirchhoffStress p phase h f =

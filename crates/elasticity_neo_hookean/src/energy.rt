@@ -1,6 +1,6 @@
 use crate::NeoHookeanElasticity;
 use crate::plain;
-use numbers::Elementary;
+use answers::Answer;
 ghost use mathlib.Core.Path.{_≡_};
 ghost use Rattle.elasticity_neo_hookean.specs.Energy.{volumetricEnergy, kappaOf, stretchOf, deviatoricEnergy, energySum, energyLogged, energyPowered, energySteps, posDeviatoric, posSum, posLogged, posPowered, posSteps};
 
@@ -43,35 +43,35 @@ fn energy_sum(c: f64, j: f64, dev: f64, vol: f64) -> f64
     }
 }
 
-fn energy_logged(log: Elementary, c: f64, j: f64, kappa: f64, dev: f64) -> Elementary
+fn energy_logged(log: Answer, c: f64, j: f64, kappa: f64, dev: f64) -> Answer
     ensures { λ r. ⌜ r ≡ energyLogged log c j kappa dev ⌝ }
 {
     match log {
-        Elementary::Value(l) => {
+        Answer::Value(l) => {
             let vol = volumetric_energy(kappa, numbers::powi(j, 2), l);
-            numbers::answered(energy_sum(c, j, dev, vol))
+            answers::answered(energy_sum(c, j, dev, vol))
         }
-        Elementary::Refused(n) => Elementary::Refused(n),
+        Answer::Refused(n) => Answer::Refused(n),
     }
 }
 
 fn energy_powered(
-    power: Elementary,
+    power: Answer,
     p: NeoHookeanElasticity,
     c: f64,
     hardening: f64,
     j: f64,
     kappa: f64,
     f: [[f64; 3]; 3],
-) -> Elementary
+) -> Answer
     ensures { λ r. ⌜ r ≡ energyPowered power p c hardening j kappa f ⌝ }
 {
     match power {
-        Elementary::Value(w) => {
+        Answer::Value(w) => {
             let dev = deviatoric_energy(p, hardening, w, f);
             energy_logged(logarithm::ln_on_path(j), c, j, kappa, dev)
         }
-        Elementary::Refused(n) => Elementary::Refused(n),
+        Answer::Refused(n) => Answer::Refused(n),
     }
 }
 
@@ -82,13 +82,13 @@ pub fn energy_steps(
     j: f64,
     kappa: f64,
     f: [[f64; 3]; 3],
-) -> Elementary
+) -> Answer
     ensures { λ r. ⌜ r ≡ energySteps p c hardening j kappa f ⌝ }
 {
     if numbers::is_number(kappa) {
         energy_powered(thirds::inv_cbrt_on_path(j), p, c, hardening, j, kappa, f)
     } else {
-        Elementary::Refused(3)
+        Answer::Refused(answers::NO_NUMBER)
     }
 }
 
@@ -99,46 +99,46 @@ fn pos_deviatoric(p: NeoHookeanElasticity, hardening: f64, w: f64, b: [[f64; 3];
 }
 
 // From j = 1 up the phase itself multiplies, not its coefficient, as the text has it.
-fn pos_sum(phase: f64, j: f64, dev: f64, vol: f64) -> Elementary
+fn pos_sum(phase: f64, j: f64, dev: f64, vol: f64) -> Answer
     ensures { λ r. ⌜ r ≡ posSum phase j dev vol ⌝ }
 {
     if numbers::is_number(vol) {
         if j < 1.0 {
-            numbers::answered(dev * plain::phase_coeff(phase))
+            answers::answered(dev * plain::phase_coeff(phase))
         } else {
-            numbers::answered((dev + vol) * phase)
+            answers::answered((dev + vol) * phase)
         }
     } else {
-        Elementary::Refused(3)
+        Answer::Refused(answers::NO_NUMBER)
     }
 }
 
-fn pos_logged(log: Elementary, phase: f64, j: f64, k: f64, dev: f64) -> Elementary
+fn pos_logged(log: Answer, phase: f64, j: f64, k: f64, dev: f64) -> Answer
     ensures { λ r. ⌜ r ≡ posLogged log phase j k dev ⌝ }
 {
     match log {
-        Elementary::Value(l) => pos_sum(phase, j, dev, volumetric_energy(k, j * j, l)),
-        Elementary::Refused(n) => Elementary::Refused(n),
+        Answer::Value(l) => pos_sum(phase, j, dev, volumetric_energy(k, j * j, l)),
+        Answer::Refused(n) => Answer::Refused(n),
     }
 }
 
 fn pos_powered(
-    power: Elementary,
+    power: Answer,
     p: NeoHookeanElasticity,
     phase: f64,
     hardening: f64,
     j: f64,
     k: f64,
     b: [[f64; 3]; 3],
-) -> Elementary
+) -> Answer
     ensures { λ r. ⌜ r ≡ posPowered power p phase hardening j k b ⌝ }
 {
     match power {
-        Elementary::Value(w) => {
+        Answer::Value(w) => {
             let dev = pos_deviatoric(p, hardening, w, b);
             pos_logged(logarithm::ln_on_path(j), phase, j, k, dev)
         }
-        Elementary::Refused(n) => Elementary::Refused(n),
+        Answer::Refused(n) => Answer::Refused(n),
     }
 }
 
@@ -150,7 +150,7 @@ pub fn pos_steps(
     j: f64,
     k: f64,
     b: [[f64; 3]; 3],
-) -> Elementary
+) -> Answer
     ensures { λ r. ⌜ r ≡ posSteps p phase hardening j k b ⌝ }
 {
     if numbers::is_number(k) & tensor::mat_number(b) {
@@ -164,6 +164,6 @@ pub fn pos_steps(
             b,
         )
     } else {
-        Elementary::Refused(3)
+        Answer::Refused(answers::NO_NUMBER)
     }
 }

@@ -4,7 +4,7 @@ mod energy;
 pub mod plain;
 mod stress;
 
-use numbers::Elementary;
+use answers::Answer;
 use physics::Lame;
 use tensor::MatrixAnswer;
 ghost use mathlib.Core.Path.{_≡_};
@@ -29,7 +29,7 @@ fn law(m: Lame) -> NeoHookeanElasticity
     ensures { λ r. ⌜ r ≡ lawOf m ⌝ }
 {
     NeoHookeanElasticity {
-        cfl_coeff: 0.5,
+        cfl_coeff: NeoHookeanElasticity::CFL_COEFF,
         lambda: m.lambda,
         mu: m.mu,
     }
@@ -41,7 +41,7 @@ fn from_lame(m: Lame) -> Made
     if numbers::is_finite(m.lambda) & numbers::is_finite(m.mu) {
         Made::Law(law(m))
     } else {
-        Made::Refused(3)
+        Made::Refused(answers::NO_NUMBER)
     }
 }
 
@@ -53,13 +53,15 @@ fn cauchy_green_strain(f: [[f64; 3]; 3]) -> [[f64; 3]; 3]
 }
 
 impl NeoHookeanElasticity {
+    pub const CFL_COEFF: f64 = 0.5;
+
     pub fn new(young: f64, poisson: f64) -> Made
         ensures { λ r. ⌜ r ≡ newOf young poisson ⌝ }
     {
         if numbers::is_finite(young) & numbers::is_finite(poisson) {
             from_lame(physics::plain::lame_lambda_mu(young, poisson))
         } else {
-            Made::Refused(1)
+            Made::Refused(answers::NOT_FINITE)
         }
     }
 
@@ -86,7 +88,7 @@ impl NeoHookeanElasticity {
             let g = tensor::inverse_transpose(f, j);
             stress::fpk_steps(self, hardening, j, k, g, cauchy_green_strain(f))
         } else {
-            tensor::refused_matrix(1)
+            tensor::refused_matrix(answers::NOT_FINITE)
         }
     }
 
@@ -103,17 +105,17 @@ impl NeoHookeanElasticity {
             let k = self.bulk(hardening);
             stress::kirchhoff_steps(self, c, hardening, j, k, cauchy_green_strain(f))
         } else {
-            tensor::refused_matrix(1)
+            tensor::refused_matrix(answers::NOT_FINITE)
         }
     }
 
-    pub fn phase_coeff(phase: f64) -> Elementary
+    pub fn phase_coeff(phase: f64) -> Answer
         ensures { λ r. ⌜ r ≡ phaseCoeff phase ⌝ }
     {
         if numbers::is_finite(phase) {
-            numbers::answered(plain::phase_coeff(phase))
+            answers::answered(plain::phase_coeff(phase))
         } else {
-            Elementary::Refused(1)
+            Answer::Refused(answers::NOT_FINITE)
         }
     }
 
@@ -123,7 +125,7 @@ impl NeoHookeanElasticity {
         false
     }
 
-    pub fn elastic_energy_density(self, phase: f64, hardening: f64, f: [[f64; 3]; 3]) -> Elementary
+    pub fn elastic_energy_density(self, phase: f64, hardening: f64, f: [[f64; 3]; 3]) -> Answer
         ensures { λ r. ⌜ r ≡ elasticEnergyDensity self phase hardening f ⌝ }
     {
         if self.law_finite()
@@ -135,12 +137,12 @@ impl NeoHookeanElasticity {
             let j = tensor::determinant(f);
             energy::energy_steps(self, plain::phase_coeff(phase), hardening, j, kappa, f)
         } else {
-            Elementary::Refused(1)
+            Answer::Refused(answers::NOT_FINITE)
         }
     }
 
     // The same, but only the positive part.
-    pub fn pos_energy(self, phase: f64, hardening: f64, f: [[f64; 3]; 3]) -> Elementary
+    pub fn pos_energy(self, phase: f64, hardening: f64, f: [[f64; 3]; 3]) -> Answer
         ensures { λ r. ⌜ r ≡ posEnergy self phase hardening f ⌝ }
     {
         if self.law_finite()
@@ -152,7 +154,7 @@ impl NeoHookeanElasticity {
             let k = self.bulk(hardening);
             energy::pos_steps(self, phase, hardening, j, k, cauchy_green_strain(f))
         } else {
-            Elementary::Refused(1)
+            Answer::Refused(answers::NOT_FINITE)
         }
     }
 }

@@ -1,5 +1,5 @@
 use crate::NeoHookeanElasticity;
-use numbers::Elementary;
+use answers::Answer;
 use tensor::MatrixAnswer;
 ghost use mathlib.Core.Path.{_≡_};
 ghost use Rattle.elasticity_neo_hookean.specs.Stress.{shearStress, fpkVolumetric, fpkOf, fpkPowered, fpkSteps, volumetricStress, splitSum, kirchhoffPowered, kirchhoffSteps};
@@ -34,7 +34,7 @@ fn fpk(
 }
 
 fn fpk_powered(
-    power: Elementary,
+    power: Answer,
     p: NeoHookeanElasticity,
     hardening: f64,
     j: f64,
@@ -45,8 +45,8 @@ fn fpk_powered(
     ensures { λ r. ⌜ r ≡ fpkPowered power p hardening j k g b ⌝ }
 {
     match power {
-        Elementary::Value(w) => tensor::answered(fpk(p, hardening, j, k, w, g, b)),
-        Elementary::Refused(n) => tensor::refused_matrix(n),
+        Answer::Value(w) => tensor::answered(fpk(p, hardening, j, k, w, g, b)),
+        Answer::Refused(n) => tensor::refused_matrix(n),
     }
 }
 
@@ -65,7 +65,7 @@ pub fn fpk_steps(
         let w = thirds::inv_cbrt_squared_on_path(j);
         fpk_powered(w, p, hardening, j, k, g, b)
     } else {
-        tensor::refused_matrix(3)
+        tensor::refused_matrix(answers::NO_NUMBER)
     }
 }
 
@@ -89,7 +89,7 @@ fn split_sum(c: f64, j: f64, dev: [[f64; 3]; 3], vol: [[f64; 3]; 3]) -> [[f64; 3
 }
 
 fn kirchhoff_powered(
-    power: Elementary,
+    power: Answer,
     p: NeoHookeanElasticity,
     c: f64,
     hardening: f64,
@@ -100,11 +100,11 @@ fn kirchhoff_powered(
     ensures { λ r. ⌜ r ≡ kirchhoffPowered power p c hardening j k b ⌝ }
 {
     match power {
-        Elementary::Value(w) => {
+        Answer::Value(w) => {
             let dev = shear_stress(p, hardening, w, b);
             tensor::answered(split_sum(c, j, dev, volumetric_stress(j, k)))
         }
-        Elementary::Refused(n) => tensor::refused_matrix(n),
+        Answer::Refused(n) => tensor::refused_matrix(n),
     }
 }
 
@@ -123,6 +123,6 @@ pub fn kirchhoff_steps(
         let w = thirds::inv_cbrt_squared_on_path(j);
         kirchhoff_powered(w, p, c, hardening, j, k, b)
     } else {
-        tensor::refused_matrix(3)
+        tensor::refused_matrix(answers::NO_NUMBER)
     }
 }

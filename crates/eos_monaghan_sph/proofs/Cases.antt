@@ -3,10 +3,10 @@ use mathlib.Core.Path.{_≡_, refl}
 use Prim.Native.Nat.{ℕ}
 use lib.Ieee as Ieee
 use lib.Ieee.{Float, binary64, ofBits}
-use Rattle.numbers.specs.Rules.{finite, isNumber}
+use Rattle.numbers.specs.Floats.{finite, isNumber}
 use Rattle.numbers.specs.Power.{powiOf, halvings}
-use Rattle.numbers.specs.declared.Elementary.{Elementary}
-use Rattle.numbers.specs.declared.Elementary.the-variants.{Value}
+use Rattle.answers.specs.declared.Answer.{Answer}
+use Rattle.answers.specs.declared.Answer.the-variants.{Value}
 use Rattle.tensor.specs.Matrix.{zero, one}
 use Rattle.eos_monaghan_sph.specs.Pressure.{pressureOf, workedPressure, ratioOf, unboundedOf}
 
@@ -16,7 +16,7 @@ ten = ofBits binary64 0x4024_0000_0000_0000
 abbrev two : Float
 two = ofBits binary64 0x4000_0000_0000_0000
 
-abbrev pressureAt : ℕ → Float → Elementary
+abbrev pressureAt : ℕ → Float → Answer
 pressureAt gamma density =
     pressureOf (record { pressure0 = ten; gamma = gamma; viscosity = zero; «max_neg_pressure» = one }) one one density
 

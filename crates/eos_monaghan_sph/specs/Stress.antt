@@ -3,9 +3,9 @@ use mathlib.Core.Bool.{cond, _&&_}
 use mathlib.Core.List.{List}
 use lib.Ieee as Ieee
 use lib.Ieee.{Float}
-use Rattle.numbers.specs.Rules.{finite}
-use Rattle.numbers.specs.declared.Elementary.{Elementary}
-use Rattle.numbers.specs.declared.Elementary.the-variants.{Value, Refused}
+use Rattle.numbers.specs.Floats.{finite}
+use Rattle.answers.specs.declared.Answer.{Answer}
+use Rattle.answers.specs.declared.Answer.the-variants.{Value, Refused}
 use Rattle.tensor.specs.Matrix.{mul, zero, matAddOf, matScaleOf, identityTimesOf}
 use Rattle.tensor.specs.Finite.{matFinite}
 use Rattle.tensor.specs.Answer.{answered, refusedMatrix, givenMatrix}
@@ -29,7 +29,7 @@ stressOf law det p gradient =
     cond (Ieee.eq (law .viscosity) zero) (pressurePartOf p det) (matAddOf (pressurePartOf p det) (viscousPartOf law det gradient))
 
 -- of what the pressure answers; no later NaN is lost on the way to an entry
-unfoldable pub stressFrom : MonaghanSphEos → Float → Elementary → List (List Float) → MatrixAnswer
+unfoldable pub stressFrom : MonaghanSphEos → Float → Answer → List (List Float) → MatrixAnswer
 stressFrom law det (Value p) gradient = answered (stressOf law det p gradient)
 stressFrom law det (Refused n) gradient = refusedMatrix n
 

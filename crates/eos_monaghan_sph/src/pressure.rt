@@ -1,6 +1,6 @@
 use crate::Made;
 use crate::MonaghanSphEos;
-use numbers::Elementary;
+use answers::Answer;
 ghost use mathlib.Core.Path.{_≡_};
 ghost use mathlib.Core.Bool.{true};
 ghost use Rattle.eos_monaghan_sph.specs.Pressure.{newOf, inputsFinite, ratioOf, unboundedOf, boundedOf, workedPressure, pressureOf};
@@ -32,18 +32,18 @@ fn unbounded(law: MonaghanSphEos, ratio: f64) -> f64
 }
 
 // At least minus the largest negative pressure.
-fn bounded(law: MonaghanSphEos, p: f64) -> Elementary
+fn bounded(law: MonaghanSphEos, p: f64) -> Answer
     ensures { λ r. ⌜ r ≡ boundedOf law p ⌝ }
 {
     if numbers::is_number(p) {
-        Elementary::Value(numbers::max(p, -law.max_neg_pressure))
+        Answer::Value(numbers::max(p, -law.max_neg_pressure))
     } else {
-        Elementary::Refused(3)
+        Answer::Refused(answers::NO_NUMBER)
     }
 }
 
 // The pressure, which may be infinite, or 3 where a NaN arises.
-pub fn worked_pressure(law: MonaghanSphEos, mass: f64, volume: f64, density: f64) -> Elementary
+pub fn worked_pressure(law: MonaghanSphEos, mass: f64, volume: f64, density: f64) -> Answer
     ensures { λ r. ⌜ r ≡ workedPressure law mass volume density ⌝ }
 {
     let q = ratio(mass, volume, density);
@@ -51,11 +51,13 @@ pub fn worked_pressure(law: MonaghanSphEos, mass: f64, volume: f64, density: f64
         let p = unbounded(law, q);
         bounded(law, p)
     } else {
-        Elementary::Refused(3)
+        Answer::Refused(answers::NO_NUMBER)
     }
 }
 
 impl MonaghanSphEos {
+    pub const MAX_NEG_PRESSURE: f64 = 1.0;
+
     pub fn new(pressure: f64, gamma: u32, viscosity: f64) -> Made
         ensures { λ r. ⌜ r ≡ newOf pressure gamma viscosity ⌝ }
     {
@@ -64,11 +66,11 @@ impl MonaghanSphEos {
                 pressure0: pressure,
                 gamma,
                 viscosity,
-                max_neg_pressure: 1.0,
+                max_neg_pressure: MonaghanSphEos::MAX_NEG_PRESSURE,
             };
             Made::Law(law)
         } else {
-            Made::Refused(1)
+            Made::Refused(answers::NOT_FINITE)
         }
     }
 
@@ -78,13 +80,13 @@ impl MonaghanSphEos {
         true
     }
 
-    pub fn pressure(self, mass: f64, volume: f64, density: f64) -> Elementary
+    pub fn pressure(self, mass: f64, volume: f64, density: f64) -> Answer
         ensures { λ r. ⌜ r ≡ pressureOf self mass volume density ⌝ }
     {
         if inputs_finite(self, mass, volume, density) {
-            numbers::finite_answer(worked_pressure(self, mass, volume, density))
+            answers::finite_answer(worked_pressure(self, mass, volume, density))
         } else {
-            Elementary::Refused(1)
+            Answer::Refused(answers::NOT_FINITE)
         }
     }
 }

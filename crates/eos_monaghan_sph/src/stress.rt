@@ -1,6 +1,6 @@
 use crate::MonaghanSphEos;
 use crate::pressure;
-use numbers::Elementary;
+use answers::Answer;
 use tensor::MatrixAnswer;
 ghost use mathlib.Core.Path.{_≡_};
 ghost use Rattle.eos_monaghan_sph.specs.Stress.{pressurePartOf, viscousPartOf, stressOf, stressFrom, kirchhoffStressOf};
@@ -32,12 +32,12 @@ impl MonaghanSphEos {
         }
     }
 
-    fn stress_from(self, det: f64, pressure: Elementary, gradient: [[f64; 3]; 3]) -> MatrixAnswer
+    fn stress_from(self, det: f64, pressure: Answer, gradient: [[f64; 3]; 3]) -> MatrixAnswer
         ensures { λ r. ⌜ r ≡ stressFrom self det pressure gradient ⌝ }
     {
         match pressure {
-            Elementary::Value(p) => tensor::answered(self.stress(det, p, gradient)),
-            Elementary::Refused(n) => tensor::refused_matrix(n),
+            Answer::Value(p) => tensor::answered(self.stress(det, p, gradient)),
+            Answer::Refused(n) => tensor::refused_matrix(n),
         }
     }
 
@@ -59,7 +59,7 @@ impl MonaghanSphEos {
             let p = pressure::worked_pressure(self, mass, volume, density);
             self.stress_from(det, p, gradient)
         } else {
-            tensor::refused_matrix(1)
+            tensor::refused_matrix(answers::NOT_FINITE)
         }
     }
 }

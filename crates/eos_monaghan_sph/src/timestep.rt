@@ -1,7 +1,7 @@
 use crate::MonaghanSphEos;
 use crate::Single;
 use crate::pressure;
-use numbers::Elementary;
+use answers::Answer;
 ghost use mathlib.Core.Path.{_≡_};
 ghost use Rattle.eos_monaghan_sph.specs.Timestep.{argumentOf, steppedOf, singleOf, singleFrom, speedSquareOf, overRootOf, cflOf, smallerOf, bothOf, timestepBoundOf};
 
@@ -13,19 +13,19 @@ fn argument(j: f64, density0: f64, p: f64) -> f64
     density0 * (j - 1.0) / (6.0 * pressure * 3.0)
 }
 
-fn stepped(lead: f64, root: Elementary) -> Single
+fn stepped(lead: f64, root: Answer) -> Single
     ensures { λ r. ⌜ r ≡ steppedOf lead root ⌝ }
 {
     match root {
-        Elementary::Value(s) => {
+        Answer::Value(s) => {
             let step = lead * s;
             if numbers::is_number(step) {
                 Single::Step(step)
             } else {
-                Single::Refused(3)
+                Single::Refused(answers::NO_NUMBER)
             }
         }
-        Elementary::Refused(n) => Single::Refused(n),
+        Answer::Refused(n) => Single::Refused(n),
     }
 }
 
@@ -40,16 +40,16 @@ fn single(lead: f64, argument: f64) -> Single
             Single::Without
         }
     } else {
-        Single::Refused(3)
+        Single::Refused(answers::NO_NUMBER)
     }
 }
 
-fn single_from(j: f64, density0: f64, width: f64, pressure: Elementary) -> Single
+fn single_from(j: f64, density0: f64, width: f64, pressure: Answer) -> Single
     ensures { λ r. ⌜ r ≡ singleFrom j density0 width pressure ⌝ }
 {
     match pressure {
-        Elementary::Value(p) => single(width / j, argument(j, density0, p)),
-        Elementary::Refused(n) => Single::Refused(n),
+        Answer::Value(p) => single(width / j, argument(j, density0, p)),
+        Answer::Refused(n) => Single::Refused(n),
     }
 }
 
@@ -59,38 +59,38 @@ fn speed_square(velocity: [f64; 3]) -> f64
     numbers::max(tensor::dot(velocity, velocity), 1.0) / 0.1
 }
 
-fn over_root(width: f64, root: Elementary) -> Elementary
+fn over_root(width: f64, root: Answer) -> Answer
     ensures { λ r. ⌜ r ≡ overRootOf width root ⌝ }
 {
     match root {
-        Elementary::Value(s) => Elementary::Value(width / s),
-        Elementary::Refused(n) => Elementary::Refused(n),
+        Answer::Value(s) => Answer::Value(width / s),
+        Answer::Refused(n) => Answer::Refused(n),
     }
 }
 
 // The Courant-Friedrichs-Lewy step.
-fn cfl(velocity: [f64; 3], width: f64) -> Elementary
+fn cfl(velocity: [f64; 3], width: f64) -> Answer
     ensures { λ r. ⌜ r ≡ cflOf velocity width ⌝ }
 {
     over_root(width, square_root::sqrt_on_path(speed_square(velocity)))
 }
 
-fn smaller(x: f64, cfl: Elementary) -> Elementary
+fn smaller(x: f64, cfl: Answer) -> Answer
     ensures { λ r. ⌜ r ≡ smallerOf x cfl ⌝ }
 {
     match cfl {
-        Elementary::Value(y) => numbers::answered(numbers::min(x, y)),
-        Elementary::Refused(n) => Elementary::Refused(n),
+        Answer::Value(y) => answers::answered(numbers::min(x, y)),
+        Answer::Refused(n) => Answer::Refused(n),
     }
 }
 
-fn both(single: Single, cfl: Elementary) -> Elementary
+fn both(single: Single, cfl: Answer) -> Answer
     ensures { λ r. ⌜ r ≡ bothOf single cfl ⌝ }
 {
     match single {
         Single::Step(x) => smaller(x, cfl),
-        Single::Without => numbers::finite_answer(cfl),
-        Single::Refused(n) => Elementary::Refused(n),
+        Single::Without => answers::finite_answer(cfl),
+        Single::Refused(n) => Answer::Refused(n),
     }
 }
 
@@ -104,7 +104,7 @@ impl MonaghanSphEos {
         density: f64,
         velocity: [f64; 3],
         width: f64,
-    ) -> Elementary
+    ) -> Answer
         ensures { λ r. ⌜ r ≡ timestepBoundOf self j mass volume density velocity width ⌝ }
     {
         if pressure::inputs_finite(self, mass, volume, density)
@@ -116,7 +116,7 @@ impl MonaghanSphEos {
             let step = single_from(j, mass / volume, width, p);
             both(step, cfl(velocity, width))
         } else {
-            Elementary::Refused(1)
+            Answer::Refused(answers::NOT_FINITE)
         }
     }
 }

@@ -6,9 +6,9 @@ pub mod Sums
 pub mod Products
 pub mod Value
 pub mod Order
-pub mod Sharp
+pub mod Digits
 pub mod Halves
-pub mod Table
+pub mod Both
 pub mod Match
 pub mod Shift
 pub mod Fields

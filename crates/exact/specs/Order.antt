@@ -9,7 +9,7 @@ use lib.Dec.{T, ltb, ltb→lt, nltb→le}
 use lib.Ieee.{Float, nan, inf, fin, binary64, up, down, below, lt, fits}
 use lib.Ieee.Fits.{down-pos}
 use Rattle.exact.specs.Units.{L, L-pos, mag, sgn, mag-exact, Fin64}
-use Rattle.exact.specs.Sums.{pl, mi, plus, minus, ltb-same, add-same}
+use Rattle.exact.specs.Sums.{over-left, over-right, pl, mi, plus, minus, ltb-same, add-same}
 use Rattle.exact.specs.Integers.{p, n, _≤ᶻ_}
 use Rattle.exact.specs.Value.{val, p-val, n-val}
 
@@ -26,13 +26,7 @@ lt-units (inf s) y f g = absurd (f .0)
 lt-units (fin s m e) nan f g = absurd (g .0)
 lt-units (fin s m e) (inf t) f g = absurd (g .0)
 lt-units (fin s m e) (fin t k d) f g = below-same s t (m * up e * down d) (k * up d * down e) (down e * down d) (mag (fin s m e)) (mag (fin t k d)) L (mul-pos (down-pos e) (down-pos d)) L-pos
-    (go (m * up e) (down e) (down d) (mag (fin s m e)) (mag-exact s m e (f .1))) (go' (k * up d) (down d) (down e) (mag (fin t k d)) (mag-exact t k d (g .1)))
-  where
-    go : (a c d x : ℕ) → x * c ≡ a * L → a * d * L ≡ x * (c * d)
-    go a c d x p = omega (arith, ap (λ z. z * d) p)
-
-    go' : (a c d x : ℕ) → x * c ≡ a * L → a * d * L ≡ x * (d * c)
-    go' a c d x p = omega (arith, ap (λ z. z * d) p)
+    (over-left (m * up e) (down e) (down d) (mag (fin s m e)) (mag-exact s m e (f .1))) (over-right (k * up d) (down d) (down e) (mag (fin t k d)) (mag-exact t k d (g .1)))
 
 by-sign : (s t : Bool) (X Y : ℕ) → (T (below s X t Y) → pl s X + mi t Y < pl t Y + mi s X) × (T (not (below s X t Y)) → pl t Y + mi s X ≤ pl s X + mi t Y)
 by-sign false false X Y = (λ h. omega (arith, ltb→lt X Y h), λ h. omega (arith, nltb→le X Y h))

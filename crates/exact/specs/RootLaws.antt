@@ -11,7 +11,7 @@ use lib.Ieee.{Float, nan, inf, fin, up, down, size, fits}
 use lib.Ieee.Digits.{size-lt, size-le, size-reaches}
 use lib.Ieee.Fits.{down-pos, and-r}
 use Rattle.exact.specs.Units.{L, L-pos, mag, sgn, mag-exact, Fin64}
-use Rattle.exact.specs.Sharp.{Digits, digits}
+use Rattle.exact.specs.Digits.{Digits, digits}
 use Rattle.exact.specs.RootOf.{Rooted, floorRoot, sqrtOf}
 use Rattle.exact.specs.WholeRoot.{floor-root}
 use Rattle.exact.specs.RootDigits.{Parted, parted}

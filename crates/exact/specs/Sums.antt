@@ -58,6 +58,13 @@ sum-same f s t a b c x y l C H p q =
       round-same f (s && ltb y x) (a - b) c (x - y) l C H (sub-same a b c x y l C H p q),
     )
 
+-- a numerator over the other's denominator too
+pub over-left : (a c d x : ℕ) → x * c ≡ a * L → a * d * L ≡ x * (c * d)
+over-left a c d x p = omega (arith, ap (λ z. z * d) p)
+
+pub over-right : (a c d x : ℕ) → x * c ≡ a * L → a * d * L ≡ x * (d * c)
+over-right a c d x p = omega (arith, ap (λ z. z * d) p)
+
 pub add-units : (x y : Float) → Fin64 x → Fin64 y → add binary64 x y ≡ sum binary64 (sgn x) (mag x) (sgn y) (mag y) L
 unfolding add
 add-units nan y p q = absurd (p .0)
@@ -66,13 +73,7 @@ add-units (fin s m e) nan p q = absurd (q .0)
 add-units (fin s m e) (inf t) p q = absurd (q .0)
 add-units (fin s m e) (fin t n d) p q =
     sum-same binary64 s t (m * up e * down d) (n * up d * down e) (down e * down d) (mag (fin s m e)) (mag (fin t n d)) L (mul-pos (down-pos e) (down-pos d)) L-pos
-    (go (m * up e) (down e) (down d) (mag (fin s m e)) (mag-exact s m e (p .1))) (go' (n * up d) (down d) (down e) (mag (fin t n d)) (mag-exact t n d (q .1)))
-  where
-    go : (a c d x : ℕ) → x * c ≡ a * L → a * d * L ≡ x * (c * d)
-    go a c d x p = omega (arith, ap (λ z. z * d) p)
-
-    go' : (a c d x : ℕ) → x * c ≡ a * L → a * d * L ≡ x * (d * c)
-    go' a c d x p = omega (arith, ap (λ z. z * d) p)
+    (over-left (m * up e) (down e) (down d) (mag (fin s m e)) (mag-exact s m e (p .1))) (over-right (n * up d) (down d) (down e) (mag (fin t n d)) (mag-exact t n d (q .1)))
 
 -- a whole number of units, rounded
 pub record Unit64 (s : Bool) (A : ℕ) (z : Float) : Type 0 where

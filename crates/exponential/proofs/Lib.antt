@@ -7,4 +7,3 @@ pub mod Near
 pub mod Unpacking
 pub mod HalfDifference
 pub mod SinhClose
-pub mod Laws

@@ -10,46 +10,28 @@ use lib.IntN.{ℤ, pos, negsuc, negℤ}
 use lib.Ieee as Ieee
 use lib.Ieee.{Float, binary64, ofBits, fits}
 use Rattle.exact.specs.Units.{L, mag, sgn, Fin64}
-use Rattle.exact.specs.Integers.{p, n, abs, abs-is, _≤ᶻ_}
-use Rattle.exact.specs.Value.{val, abs-val}
-use Rattle.exact.specs.OrderLe.{le-val, between-finite}
+use Rattle.exact.specs.Value.{val}
+use Rattle.exact.specs.Symmetric.{symmetric-finite, symmetric-mag}
 use Rattle.series.specs.Exponential.{num, den}
 use Rattle.series.specs.Remainder.{Above}
 use Rattle.series.specs.ExpNear.{ExpNear}
-use Rattle.numbers.specs.Range.{inRange}
-use Rattle.numbers.proofs.Laws.{and-both}
+use Rattle.answers.specs.Range.{inRange}
+use Rattle.answers.proofs.Values.{between}
 use Rattle.exponential.specs.Worked.{low, high, partOf, timesOf, belowOf, aboveOf, tailOf, packOf, expBits, expOf}
 use Rattle.exponential.proofs.Parts.{part-within, part-lt}
 use Rattle.exponential.proofs.Quotients.{below-facts, above-facts}
 use Rattle.exponential.proofs.Packed.{Scaled, scaled-plus, scaled-minus, Packed, packed, exp-near-of}
 
 -- ---- within the range
-true-T : (b : Bool) → b ≡ true → T b
-true-T b e = subst T (sym e) tt
-
 ends : Fin64 low × Fin64 high × (val low ≡ negℤ (pos (700 * 2 ^ 1074))) × (val high ≡ pos (700 * 2 ^ 1074))
 unfolding ofBits fits val mag L Ieee.neg
 ends = ((tt, tt), (tt, tt), refl, refl)
 
-within-ends : (z : ℤ) (m : ℕ) → negℤ (pos (suc m)) ≤ᶻ z → z ≤ᶻ pos (suc m) → abs z ≤ suc m
-within-ends z m h k = rw (abs-is z) (go z h k)
-  where
-    go : (z : ℤ) → negℤ (pos (suc m)) ≤ᶻ z → z ≤ᶻ pos (suc m) → p z + n z ≤ suc m
-    go (pos a) h k = omega arith
-    go (negsuc a) h k = omega arith
-
 pub ranged-finite : (x : Float) → T (fits binary64 x) → inRange low high x ≡ true → Fin64 x
-ranged-finite x f r =
-    let b = and-both (Ieee.le low x) (Ieee.le x high) r in
-    (between-finite low x high (ends .0 .0) (ends .1 .0) (true-T (Ieee.le low x) (b .0)) (true-T (Ieee.le x high) (b .1)), f)
+ranged-finite x f r = let b = between low high x r in symmetric-finite low high x (ends .0) (ends .1) f (b .0) (b .1)
 
 pub ranged-mag : (x : Float) → T (fits binary64 x) → inRange low high x ≡ true → mag x ≤ 700 * 2 ^ 1074
-ranged-mag x f r =
-    let b = and-both (Ieee.le low x) (Ieee.le x high) r in
-    let F = ranged-finite x f r in
-    let lo : negℤ (pos (700 * 2 ^ 1074)) ≤ᶻ val x = subst (λ (z : ℤ). z ≤ᶻ val x) (ends .2) (le-val low x (ends .0) F (true-T (Ieee.le low x) (b .0))) in
-    let hi : val x ≤ᶻ pos (700 * 2 ^ 1074) = subst (λ (z : ℤ). val x ≤ᶻ z) (ends .3) (le-val x high F (ends .1) (true-T (Ieee.le x high) (b .1))) in
-    rw (abs-val x) at (within-ends (val x) (700 * 2 ^ 1074 - 1) lo hi)
+ranged-mag x f r = let b = between low high x r in symmetric-mag low high x (ends .0) (ends .1) f (b .0) (b .1) (700 * 2 ^ 1074 - 1) (ends .2) (ends .3)
 
 pub cut-le : (a : ℕ) → a ≤ 700 * 2 ^ 1074 → a / 2 ^ 1021 ≤ 700 * 2 ^ 53
 unfolding IsLe

@@ -14,7 +14,7 @@ use Rattle.exact.specs.Positives.{neg-mag, neg-fine, neg-sign}
 use Rattle.series.specs.Exponential.{num, den}
 use Rattle.series.specs.Remainder.{Above, Under}
 use Rattle.series.specs.SinhNear.{SinhAtMost, SinhAtLeast, SinhNear}
-use Rattle.numbers.specs.Range.{inRange}
+use Rattle.answers.specs.Range.{inRange}
 use Rattle.exponential.specs.Worked.{low, high, belowOf, tailOf, partOf, packOf, expBits, cutOf}
 use Rattle.exponential.specs.Sinh.{growthOf, halfOf, sinhOf}
 use Rattle.exponential.proofs.Packed.{Packed}

@@ -5,33 +5,16 @@ use Prim.Native.Nat.{ℕ, suc, _+_, _*_, _/_, _^_, _≤_, _<_}
 use native.Mathlib.Nat.{lt-irrefl, lt-of-le-of-lt, le-trans}
 use native.Mathlib.Omega.{arith, by-contra}
 use native.Mathlib.Bridge.{le-by-compare, IsLe}
-use borrow.Author.Tests.{eq-eqb}
-use lib.Dec.{T, eqb}
-use lib.Ieee.{Float, nan, inf, fin, binary64, ofBits, toBits, fits, isNan, nanBits}
-use lib.Ieee.Bits.{nanBits-is}
+use lib.Dec.{T}
+use lib.Ieee.{Float, binary64, ofBits, toBits, fits, isNan, nanBits}
 use lib.Ieee.Scale as Scale
 use Rattle.exact.specs.Units.{mag, sgn}
 use Rattle.exact.specs.Fields.{signAt, exponentAt, digitsAt, of-own}
+use Rattle.exact.specs.Patterns.{finite-not-nan, not-nan-bits, exponent-lt}
 use Rattle.exact.specs.Cut.{Unpacked, unpacked}
-use Rattle.numbers.specs.Range.{inRange}
-use Rattle.numbers.proofs.Laws.{finite-bits, finite-is}
+use Rattle.answers.specs.Range.{inRange}
 use Rattle.exponential.specs.Worked.{low, high, expBits, cutOf, expOf}
 use Rattle.exponential.proofs.Near.{ranged-finite, ranged-mag, cut-le, exp-near}
-
-pub finite-not-nan : (x : Float) → T (Scale.finite x) → T (not (isNan x))
-unfolding isNan
-finite-not-nan nan f = absurd f
-finite-not-nan (inf s) f = absurd f
-finite-not-nan (fin s m e) f = tt
-
-pub not-nan-bits : (n : ℕ) → T (Scale.finite (ofBits binary64 n)) → T (not (nanBits binary64 n))
-not-nan-bits n f = rw (nanBits-is binary64 n) (finite-not-nan (ofBits binary64 n) f)
-
-not-all-ones : (e : ℕ) → e < 2048 → T (not (eqb e 2047)) → e < 2047
-not-all-ones e h t = by-contra (suc e) 2047 (λ g. subst (λ (b : Bool). T (not b)) (eq-eqb e 2047 (omega arith)) t)
-
-exponent-lt : (n : ℕ) → T (Scale.finite (ofBits binary64 n)) → exponentAt n < 2047
-exponent-lt n f = not-all-ones (exponentAt n) (omega arith) (subst T (sym (finite-is (ofBits binary64 n)) ∙ finite-bits n) f)
 
 too-large : (a : ℕ) → 2 ^ 1084 ≤ a → a ≤ 700 * 2 ^ 1074 → ⊥
 unfolding IsLe

@@ -3,14 +3,12 @@
 use mathlib.Core.Bool.{false, cond}
 use lib.Ieee as Ieee
 use lib.Ieee.{Float, binary64, ofBits}
+pub use Rattle.numbers.specs.Constants.{half}
 use Rattle.exact.specs.Units.{sgn}
 use Rattle.numbers.specs.Power.{one}
-use Rattle.numbers.specs.Range.{ranged}
-use Rattle.numbers.specs.declared.Elementary.{Elementary}
+use Rattle.answers.specs.Range.{ranged}
+use Rattle.answers.specs.declared.Answer.{Answer}
 use Rattle.exponential.specs.Worked.{low, high, expBits, cutOf}
-
-abbrev pub half : Float
-half = ofBits binary64 0x3fe0_0000_0000_0000
 
 -- exp |x|
 unfoldable pub growthOf : Float → Float
@@ -23,5 +21,5 @@ unfoldable pub sinhOf : Float → Float
 sinhOf x = cond (sgn x) (Ieee.neg (halfOf (growthOf x))) (halfOf (growthOf x))
 
 -- within its range
-abbrev pub sinhRanged : Float → Elementary
+abbrev pub sinhRanged : Float → Answer
 sinhRanged x = ranged low high x (sinhOf x)

@@ -1,9 +1,11 @@
 // The hyperbolic sine, from the exponential of the argument's size. sinh (-0.0) is -0.0.
-use numbers::Elementary;
+use answers::Answer;
 ghost use mathlib.Core.Path.{_≡_};
 ghost use mathlib.Core.Bool.{true};
+ghost use lib.Ieee.{Float};
+ghost use Rattle.answers.specs.declared.Answer.the-variants.{Value};
 ghost use Rattle.series.specs.SinhNear.{SinhNear};
-ghost use Rattle.numbers.specs.Range.{inRange, bare, onPath};
+ghost use Rattle.answers.specs.Range.{inRange, bare, onPath};
 ghost use Rattle.exponential.specs.Worked.{low, high};
 ghost use Rattle.exponential.specs.Sinh.{growthOf, sinhOf, sinhRanged};
 
@@ -18,7 +20,7 @@ fn growth(x: f64) -> f64
 // sinh x, for an x within the range: within 2^-45 times (1 + the size of the exact value).
 fn sinh_value(x: f64) -> f64
     requires { ⌜ inRange low high x ≡ true ⌝ }
-    ensures { λ r. ⌜ (r ≡ sinhOf x) × SinhNear x r ⌝ }
+    ensures { λ r. ⌜ r ≡ sinhOf x ⌝ }
 {
     let e = growth(x);
     let h = (e - 1.0 / e) * 0.5;
@@ -26,34 +28,26 @@ fn sinh_value(x: f64) -> f64
 }
 
 // sinh x within the range; outside it a refusal by 2.
-fn sinh_ranged(x: f64) -> Elementary
+fn sinh_ranged(x: f64) -> Answer
     ensures { λ r. ⌜ r ≡ sinhRanged x ⌝ }
 {
-    if numbers::in_range(-700.0, 700.0, x) {
-        Elementary::Value(sinh_value(x))
+    if answers::in_range(-700.0, 700.0, x) {
+        Answer::Value(sinh_value(x))
     } else {
-        numbers::outside(-700.0, 700.0, x)
+        answers::outside(-700.0, 700.0, x)
     }
 }
 
-// sinh x: a NaN or an infinity is refused by 1, a number outside the range by 2.
-pub fn sinh(x: f64) -> Elementary
-    ensures { λ r. ⌜ r ≡ bare x (sinhRanged x) ⌝ }
+// sinh x, within 2^-45 times (1 + size of the exact value). A NaN or an infinity is refused by 1, a number outside the range by 2.
+pub fn sinh(x: f64) -> Answer
+    ensures { λ r. ⌜ (r ≡ bare x (sinhRanged x)) × ((v : Float) → r ≡ Value v → SinhNear x v) ⌝ }
 {
-    if numbers::is_finite(x) {
-        sinh_ranged(x)
-    } else {
-        Elementary::Refused(1)
-    }
+    answers::bare(x, sinh_ranged(x))
 }
 
 // sinh x within a law: a NaN is refused by 3, an infinity and a number outside the range by 2.
-pub fn sinh_on_path(x: f64) -> Elementary
+pub fn sinh_on_path(x: f64) -> Answer
     ensures { λ r. ⌜ r ≡ onPath x (sinhRanged x) ⌝ }
 {
-    if numbers::is_number(x) {
-        sinh_ranged(x)
-    } else {
-        Elementary::Refused(3)
-    }
+    answers::on_path(x, sinh_ranged(x))
 }

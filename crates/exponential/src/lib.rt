@@ -4,17 +4,19 @@ mod entries;
 mod hyperbolic;
 mod part;
 
+use answers::Answer;
 use fixed_point::fixed;
 pub use hyperbolic::sinh;
 pub use hyperbolic::sinh_on_path;
-use numbers::Elementary;
 use part::exp_part;
 ghost use mathlib.Core.Path.{_≡_};
 ghost use mathlib.Core.Bool.{true};
+ghost use lib.Ieee.{Float};
+ghost use Rattle.answers.specs.declared.Answer.the-variants.{Value};
 ghost use Prim.Native.Nat.{_+_, _*_, _^_, _≤_, _<_};
 ghost use Rattle.exact.specs.Units.{sgn};
 ghost use Rattle.series.specs.ExpNear.{ExpNear};
-ghost use Rattle.numbers.specs.Range.{inRange, bare, onPath};
+ghost use Rattle.answers.specs.Range.{inRange, bare, onPath};
 ghost use Rattle.exponential.specs.Exp.{expRanged};
 ghost use Rattle.exponential.specs.Worked.{low, high, timesOf, raisedOf, packOf, expBits, cutOf, expOf};
 
@@ -88,40 +90,32 @@ fn negative(x: f64) -> bool
 // exp x, for an x within the range: within 2^-45 of the exact value, times that value.
 fn exp_value(x: f64) -> f64
     requires { ⌜ inRange low high x ≡ true ⌝ }
-    ensures { λ r. ⌜ (r ≡ expOf x) × ExpNear x r ⌝ }
+    ensures { λ r. ⌜ r ≡ expOf x ⌝ }
 {
     f64::from_bits(exp_bits(negative(x), cut(x)))
 }
 
 // exp x within the range; outside it a refusal by 2.
-fn exp_ranged(x: f64) -> Elementary
+fn exp_ranged(x: f64) -> Answer
     ensures { λ r. ⌜ r ≡ expRanged x ⌝ }
 {
-    if numbers::in_range(-700.0, 700.0, x) {
-        Elementary::Value(exp_value(x))
+    if answers::in_range(-700.0, 700.0, x) {
+        Answer::Value(exp_value(x))
     } else {
-        numbers::outside(-700.0, 700.0, x)
+        answers::outside(-700.0, 700.0, x)
     }
 }
 
-// exp x: a NaN or an infinity is refused by 1, a number outside the range by 2.
-pub fn exp(x: f64) -> Elementary
-    ensures { λ r. ⌜ r ≡ bare x (expRanged x) ⌝ }
+// exp x, within 2^-45 of the exact value, times that value. A NaN or an infinity is refused by 1, a number outside the range by 2.
+pub fn exp(x: f64) -> Answer
+    ensures { λ r. ⌜ (r ≡ bare x (expRanged x)) × ((v : Float) → r ≡ Value v → ExpNear x v) ⌝ }
 {
-    if numbers::is_finite(x) {
-        exp_ranged(x)
-    } else {
-        Elementary::Refused(1)
-    }
+    answers::bare(x, exp_ranged(x))
 }
 
 // exp x within a law: a NaN is refused by 3, an infinity and a number outside the range by 2.
-pub fn exp_on_path(x: f64) -> Elementary
+pub fn exp_on_path(x: f64) -> Answer
     ensures { λ r. ⌜ r ≡ onPath x (expRanged x) ⌝ }
 {
-    if numbers::is_number(x) {
-        exp_ranged(x)
-    } else {
-        Elementary::Refused(3)
-    }
+    answers::on_path(x, exp_ranged(x))
 }

@@ -2,7 +2,7 @@
 use mathlib.Core.Path.{_≡_, refl}
 use lib.Ieee as Ieee
 use lib.Ieee.{Float, binary64, ofBits}
-use Rattle.numbers.specs.Rules.{finite, isNumber}
+use Rattle.numbers.specs.Floats.{finite, isNumber}
 use Rattle.tensor.specs.Matrix.{three, zero, one}
 use Rattle.failure_maximum_stress.specs.Failure.{verdictOf, overLimit}
 use Rattle.failure_maximum_stress.specs.declared.MaximumStressFailure.{MaximumStressFailure}

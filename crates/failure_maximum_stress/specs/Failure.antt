@@ -3,7 +3,8 @@ use mathlib.Core.Bool.{Bool, cond, _&&_, _||_}
 use mathlib.Core.List.{List}
 use lib.Ieee as Ieee
 use lib.Ieee.{Float, nan, binary64, ofBits}
-use Rattle.numbers.specs.Rules.{finite, maxOf, minOf}
+use Rattle.answers.specs.Refusals.{notFinite}
+use Rattle.numbers.specs.Floats.{finite, maxOf, minOf}
 use Rattle.tensor.specs.Axes.{fromLeft}
 use Rattle.tensor.specs.Matrix.{sub, div}
 use Rattle.tensor.specs.Finite.{rowFinite}
@@ -18,7 +19,7 @@ unfoldable pub limitsOf : Float → Float → Made
 limitsOf principal shear =
     cond (finite principal && finite shear)
     (Made.Limits (record { «max_principal_stress» = principal; «max_shear_stress» = shear }))
-    (Made.Refused 1)
+    (Made.Refused notFinite)
 
 abbrev pub limitsFinite : MaximumStressFailure → Bool
 limitsFinite l = finite (l .«max_principal_stress») && finite (l .«max_shear_stress»)
@@ -42,4 +43,4 @@ exceedsOf l s = overLimit l (largestOf s) (smallestOf s)
 -- finite stresses have no NaN as their difference, and a difference that overflows lies over every limit: after 1
 -- there is nothing to refuse
 unfoldable pub verdictOf : MaximumStressFailure → List Float → Verdict
-verdictOf l s = cond (limitsFinite l && rowFinite s) (cond (exceedsOf l s) Yes No) (Refused 1)
+verdictOf l s = cond (limitsFinite l && rowFinite s) (cond (exceedsOf l s) Yes No) (Refused notFinite)

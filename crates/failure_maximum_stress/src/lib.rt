@@ -44,7 +44,7 @@ impl MaximumStressFailure {
             };
             Made::Limits(limits)
         } else {
-            Made::Refused(1)
+            Made::Refused(answers::NOT_FINITE)
         }
     }
 
@@ -73,7 +73,7 @@ impl MaximumStressFailure {
                 Verdict::No
             }
         } else {
-            Verdict::Refused(1)
+            Verdict::Refused(answers::NOT_FINITE)
         }
     }
 }

@@ -4,9 +4,9 @@ use mathlib.Core.List.{List}
 use Prim.Native.Nat.{ℕ}
 use lib.ListN.{getD}
 use lib.Ieee.{Float}
-use Rattle.numbers.specs.Rules.{finite}
-use Rattle.numbers.specs.Answer.{answeredOf, given}
-use Rattle.numbers.specs.declared.Elementary.{Elementary}
+use Rattle.numbers.specs.Floats.{finite}
+use Rattle.answers.specs.Answer.{answeredOf, given}
+use Rattle.answers.specs.declared.Answer.{Answer}
 use Rattle.tensor.specs.Finite.{rowFinite, matFinite}
 use Rattle.tensor.specs.Answer.{answered, answeredVector, givenMatrix, givenVector, refusedVector}
 use Rattle.tensor.specs.Decomposed.{deviatoricOf, sphericalOf, timesOf, tensorFinite}
@@ -35,9 +35,9 @@ use Rattle.plasticity_rankine.specs.declared.Made.{Made}
 use Rattle.plasticity_rankine.specs.declared.Made.the-variants as made
 use Rattle.plasticity_drucker_prager.specs.Alpha.{alphaOf}
 use Rattle.record.specs.Layout.{rowAt, matAt}
-use Rattle.lists.specs.Refused.{has, sizedNumber, sizedVector, sizedMatrix, sizedVerdict, flaggedNumber, flaggedMatrix}
-use Rattle.run.specs.Run.{rankineOf, druckerPragerOf}
-use Rattle.host.specs.Laws.{neoHookeanOf, corotatedOf, decomposedOf}
+use Rattle.host_lists.specs.Refused.{has, sizedNumber, sizedVector, sizedMatrix, sizedVerdict, flaggedNumber, flaggedMatrix}
+use Rattle.host_lists.specs.Read.{decomposedOf}
+use Rattle.model.specs.Fields.{neoHookeanOf, corotatedOf, rankineOf, druckerPragerOf}
 
 -- ---- physics.rs
 unfoldable pub spinTensor : List ℕ → MatrixAnswer
@@ -49,7 +49,7 @@ strainRate m = sizedMatrix (has 9 m) (givenMatrix (matFinite (matAt m 0)) (answe
 unfoldable pub deviatoricPart : List ℕ → MatrixAnswer
 deviatoricPart m = sizedMatrix (has 9 m) (givenMatrix (matFinite (matAt m 0)) (answered (deviatoricOf (matAt m 0))))
 
-unfoldable pub sphericalPart : List ℕ → Elementary
+unfoldable pub sphericalPart : List ℕ → Answer
 sphericalPart m = sizedNumber (has 9 m) (given (matFinite (matAt m 0)) (answeredOf (sphericalOf (matAt m 0))))
 
 -- ---- neo-Hookean
@@ -59,10 +59,10 @@ neoHookeanFpkStress p h f = sizedMatrix (has 3 p && has 9 f) (neo.fpkStress (neo
 unfoldable pub neoHookeanKirchhoffStress : List ℕ → Float → Float → List ℕ → MatrixAnswer
 neoHookeanKirchhoffStress p phase h f = sizedMatrix (has 3 p && has 9 f) (neo.kirchhoffStress (neoHookeanOf p) phase h (matAt f 0))
 
-unfoldable pub neoHookeanElasticEnergyDensity : List ℕ → Float → Float → List ℕ → Elementary
+unfoldable pub neoHookeanElasticEnergyDensity : List ℕ → Float → Float → List ℕ → Answer
 neoHookeanElasticEnergyDensity p phase h f = sizedNumber (has 3 p && has 9 f) (neoEnergy.elasticEnergyDensity (neoHookeanOf p) phase h (matAt f 0))
 
-unfoldable pub neoHookeanPosEnergy : List ℕ → Float → Float → List ℕ → Elementary
+unfoldable pub neoHookeanPosEnergy : List ℕ → Float → Float → List ℕ → Answer
 neoHookeanPosEnergy p phase h f = sizedNumber (has 3 p && has 9 f) (neoEnergy.posEnergy (neoHookeanOf p) phase h (matAt f 0))
 
 -- ---- corotated
@@ -71,12 +71,12 @@ corotatedKirchhoffStress p phase h f u sigma vt =
     sizedMatrix (has 4 p && has 9 f && has 9 u && has 3 sigma && has 9 vt)
     (flaggedMatrix (getD p 0 0) (corotated.kirchhoffStress (corotatedOf p) phase h (matAt f 0) (matAt u 0) (rowAt sigma 0) (matAt vt 0)))
 
-unfoldable pub corotatedElasticEnergyDensity : List ℕ → Float → List ℕ → Elementary
+unfoldable pub corotatedElasticEnergyDensity : List ℕ → Float → List ℕ → Answer
 corotatedElasticEnergyDensity p h sigma =
     sizedNumber (has 4 p && has 3 sigma)
     (flaggedNumber (getD p 0 0) (corotatedEnergy.elasticEnergyDensity (corotatedOf p) (rowAt sigma 0) h))
 
-unfoldable pub corotatedPosEnergy : List ℕ → Float → List ℕ → List ℕ → Elementary
+unfoldable pub corotatedPosEnergy : List ℕ → Float → List ℕ → List ℕ → Answer
 corotatedPosEnergy p h f sigma =
     sizedNumber (has 4 p && has 9 f && has 3 sigma)
     (flaggedNumber (getD p 0 0) (corotatedEnergy.posEnergy (corotatedOf p) (matAt f 0) (rowAt sigma 0) h))
@@ -90,7 +90,7 @@ unfoldable pub monaghanKirchhoffStress : MonaghanSphEos → Float → Float → 
 monaghanKirchhoffStress law mass volume density det gradient =
     sizedMatrix (has 9 gradient) (monaghan.kirchhoffStressOf law mass volume density det (matAt gradient 0))
 
-unfoldable pub monaghanTimestepBound : MonaghanSphEos → Float → Float → Float → Float → List ℕ → Float → Elementary
+unfoldable pub monaghanTimestepBound : MonaghanSphEos → Float → Float → Float → Float → List ℕ → Float → Answer
 monaghanTimestepBound law j mass volume density velocity width =
     sizedNumber (has 3 velocity) (timestep.timestepBoundOf law j mass volume density (rowAt velocity 0) width)
 
@@ -130,7 +130,7 @@ unfoldable pub rankineProject : List ℕ → Float → List ℕ → VectorAnswer
 rankineProject p s e = sizedVector (has 4 p && has 3 e) (argumentsProject (rankineOf p) (rowAt e 0) s)
 
 -- ---- Drucker-Prager's slope
-unfoldable pub druckerPragerAlpha : List ℕ → Float → Elementary
+unfoldable pub druckerPragerAlpha : List ℕ → Float → Answer
 druckerPragerAlpha p q = sizedNumber (has 8 p) (flaggedNumber (getD p 6 0) (alphaOf (druckerPragerOf p) q))
 
 -- ---- DecomposedTensor times a vector

@@ -4,18 +4,15 @@ use mathlib.Core.List.{List, [], _∷_}
 use Prim.Native.Nat.{ℕ}
 use lib.Dec.{eqb}
 use lib.ListN.{length, getD}
-use Rattle.failure_maximum_stress.specs.declared.MaximumStressFailure.{MaximumStressFailure}
 use Rattle.particles.specs.declared.list.Passed.{Passed}
 use Rattle.particles.specs.declared.list.Passed.the-variants.{Done, Refused}
 use Rattle.particles.specs.declared.failure.PassedWithFailure.{PassedWithFailure}
 use Rattle.particles.specs.declared.failure.PassedWithFailure.the-variants as failure-variants
-use Rattle.particles.specs.Judged.{failureLaw, failedAt}
-use Rattle.particles.specs.Model.{recordLaw}
+use Rattle.particles.specs.Judged.{failureLaw}
+use Rattle.particles.specs.Plain.{recordLaw}
 use Rattle.particles.specs.Pass.{Worked, passed, passedWithFailure, passRecords, passAnswers, wellSized}
-use Rattle.run.specs.Run.{given}
-use Rattle.sheet.specs.Sheet.{allowed}
-use Rattle.host.specs.Laws.{corotatedOf}
-use Rattle.host.specs.Given.{modelGiven, parametersFit, modelKnown}
+use Rattle.model.specs.Kinds.{allowed, parametersFit, modelKnown}
+use Rattle.model.specs.Fields.{modelOf, corotatedOf, limitsOf}
 
 abbrev pub passedCode : Passed → ℕ
 passedCode (Done c) = 0
@@ -33,10 +30,6 @@ abbrev pub failureCountsOf : PassedWithFailure → List ℕ → List ℕ
 failureCountsOf (failure-variants.Done c) counts = c .untouched ∷ c .stored ∷ c .refused ∷ c .failed ∷ []
 failureCountsOf (failure-variants.Refused n) counts = counts
 
--- the limits in declared order
-unfoldable pub limitsOf : List ℕ → MaximumStressFailure
-limitsOf p = record { «max_principal_stress» = given p 0; «max_shear_stress» = given p 1 }
-
 -- else 8
 abbrev pub passFits : ℕ → List ℕ → List ℕ → List ℕ → List ℕ → Bool
 passFits model p xs out counts = parametersFit model p && wellSized xs out && eqb (length counts) 3
@@ -49,7 +42,7 @@ abbrev pub passGoes : ℕ → List ℕ → List ℕ → List ℕ → List ℕ �
 passGoes model p xs out counts = passFits model p xs out counts && modelKnown model p
 
 abbrev pub passLaw : ℕ → List ℕ → List ℕ → Worked
-passLaw model p = recordLaw (modelGiven model p)
+passLaw model p = recordLaw (modelOf model p)
 
 abbrev pub recordsPassed : ℕ → List ℕ → List ℕ → List ℕ → List ℕ → List ℕ
 recordsPassed model p xs out counts = cond (passGoes model p xs out counts) (passRecords (passLaw model p) xs out) xs
@@ -78,10 +71,7 @@ abbrev pub failureGoes : ℕ → List ℕ → List ℕ → List ℕ → List ℕ
 failureGoes model p l e xs out counts = failureFits model p l e xs out counts && failureKnown model p e
 
 abbrev pub judgedLaw : ℕ → List ℕ → List ℕ → List ℕ → List ℕ → Worked
-judgedLaw model p l e = failureLaw (modelGiven model p) (limitsOf l) (corotatedOf e)
-
-abbrev pub judgedFailed : ℕ → List ℕ → List ℕ → List ℕ → List ℕ → Bool
-judgedFailed model p l e = failedAt (modelGiven model p) (limitsOf l) (corotatedOf e)
+judgedLaw model p l e = failureLaw (modelOf model p) (limitsOf l) (corotatedOf e)
 
 abbrev pub recordsJudged : ℕ → List ℕ → List ℕ → List ℕ → List ℕ → List ℕ → List ℕ → List ℕ
 recordsJudged model p l e xs out counts =
@@ -94,5 +84,5 @@ answersJudged model p l e xs out counts =
 abbrev pub countsJudged : ℕ → List ℕ → List ℕ → List ℕ → List ℕ → List ℕ → List ℕ → List ℕ
 countsJudged model p l e xs out counts =
     cond (failureGoes model p l e xs out counts)
-    (failureCountsOf (passedWithFailure (judgedLaw model p l e) (judgedFailed model p l e) xs out) counts)
+    (failureCountsOf (passedWithFailure (judgedLaw model p l e) xs out) counts)
     counts

@@ -3,12 +3,16 @@ use mathlib.Core.Bool.{cond}
 use mathlib.Core.List.{List, [], _∷_, _++_}
 use Prim.Native.Nat.{ℕ}
 use lib.Dec.{eqb}
-use lib.ListN.{length}
-use Rattle.run.specs.declared.Ran.{Ran}
-use Rattle.run.specs.Run.{ranOf, ranRecords, ranAnswers}
+use lib.ListN.{length, getD}
+use Rattle.sheet_run.specs.declared.Ran.{Ran}
+use Rattle.sheet_run.specs.Run.{ranOf, ranRecords, ranAnswers}
 use Rattle.sheet.specs.declared.Header.{Header}
 use Rattle.sheet.specs.Sheet.{readOf, roomOf}
-use Rattle.host.specs.Given.{eightOf}
+
+-- the eight places of a header's parameters
+abbrev pub eightOf : List ℕ → List ℕ
+eightOf p =
+    getD p 0 0 ∷ getD p 1 0 ∷ getD p 2 0 ∷ getD p 3 0 ∷ getD p 4 0 ∷ getD p 5 0 ∷ getD p 6 0 ∷ getD p 7 0 ∷ []
 
 -- model, the eight parameters, count, and the place of the first record
 abbrev pub headerWords : Header → List ℕ

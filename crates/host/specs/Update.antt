@@ -4,12 +4,13 @@ use mathlib.Core.List.{List, [], _∷_}
 use Prim.Native.Nat.{ℕ}
 use lib.Dec.{eqb}
 use lib.ListN.{length}
-use Rattle.law.specs.declared.Outcome.{Outcome}
-use Rattle.law.specs.declared.Outcome.the-variants.{Untouched, Stored, Refused}
-use Rattle.particles.specs.Model.{recordLaw}
+use Rattle.plasticity.specs.declared.Outcome.{Outcome}
+use Rattle.plasticity.specs.declared.Outcome.the-variants.{Untouched, Stored, Refused}
+use Rattle.particles.specs.Plain.{recordLaw}
 use Rattle.particles.specs.Pass.{Worked, codeOf, valueOf}
 use Rattle.record.specs.Layout.{floats}
-use Rattle.host.specs.Given.{modelGiven, parametersFit, modelKnown}
+use Rattle.model.specs.Kinds.{parametersFit, modelKnown}
+use Rattle.model.specs.Fields.{modelOf}
 
 -- a refusal of the law is the call's
 abbrev pub outcomeCode : Outcome → ℕ
@@ -32,7 +33,7 @@ updateGoes model p r answer = updateFits model p r answer && modelKnown model p
 
 -- what the law makes of the record
 abbrev pub updateOf : ℕ → List ℕ → List ℕ → Worked
-updateOf model p r = recordLaw (modelGiven model p) r
+updateOf model p r = recordLaw (modelOf model p) r
 
 abbrev pub updateCode : ℕ → List ℕ → List ℕ → List ℕ → ℕ
 updateCode model p r answer =

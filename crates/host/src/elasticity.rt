@@ -1,9 +1,8 @@
 // The elastic laws for hosts: neo-Hookean with a list of cfl_coeff, lambda, mu; corotated with the flag before them.
-use crate::laws_in;
 use elasticity_neo_hookean::NeoHookeanElasticity;
 ghost use mathlib.Core.Path.{_≡_};
 ghost use Rattle.elasticity_neo_hookean.specs.Law.{phaseCoeff};
-ghost use Rattle.lists.specs.Out.{numberCode, numberOut, matrixCode, matrixOut};
+ghost use Rattle.host_lists.specs.Out.{numberCode, numberOut, matrixCode, matrixOut};
 ghost use Rattle.host.specs.Calls.{neoHookeanFpkStress, neoHookeanKirchhoffStress, neoHookeanElasticEnergyDensity, neoHookeanPosEnergy, corotatedKirchhoffStress, corotatedElasticEnergyDensity, corotatedPosEnergy};
 
 #[no_mangle]
@@ -17,9 +16,9 @@ pub extern "C" fn pasoletu_neo_hookean_fpk_stress(
     ensures { λ r. ⌜ now (out .exit) ≡ matrixOut (neoHookeanFpkStress (now (law .entry)) hardening (now (f .entry))) (now (out .entry)) ⌝ }
 {
     let ok = (law.len() == 3) & (f.len() == 9);
-    let p = laws_in::neo_hookean(law);
-    lists::put_matrix(
-        lists::sized_matrix(ok, p.fpk_stress(lists::matrix(f), hardening)),
+    let p = model::neo_hookean(law);
+    host_lists::put_matrix(
+        host_lists::sized_matrix(ok, p.fpk_stress(host_lists::matrix(f), hardening)),
         out,
     )
 }
@@ -36,9 +35,12 @@ pub extern "C" fn pasoletu_neo_hookean_kirchhoff_stress(
     ensures { λ r. ⌜ now (out .exit) ≡ matrixOut (neoHookeanKirchhoffStress (now (law .entry)) phase hardening (now (f .entry))) (now (out .entry)) ⌝ }
 {
     let ok = (law.len() == 3) & (f.len() == 9);
-    let p = laws_in::neo_hookean(law);
-    lists::put_matrix(
-        lists::sized_matrix(ok, p.kirchhoff_stress(phase, hardening, lists::matrix(f))),
+    let p = model::neo_hookean(law);
+    host_lists::put_matrix(
+        host_lists::sized_matrix(
+            ok,
+            p.kirchhoff_stress(phase, hardening, host_lists::matrix(f)),
+        ),
         out,
     )
 }
@@ -55,11 +57,11 @@ pub extern "C" fn pasoletu_neo_hookean_elastic_energy_density(
     ensures { λ r. ⌜ now (out .exit) ≡ numberOut (neoHookeanElasticEnergyDensity (now (law .entry)) phase hardening (now (f .entry))) (now (out .entry)) ⌝ }
 {
     let ok = (law.len() == 3) & (f.len() == 9);
-    let p = laws_in::neo_hookean(law);
-    lists::put(
-        lists::sized(
+    let p = model::neo_hookean(law);
+    host_lists::put(
+        host_lists::sized(
             ok,
-            p.elastic_energy_density(phase, hardening, lists::matrix(f)),
+            p.elastic_energy_density(phase, hardening, host_lists::matrix(f)),
         ),
         out,
     )
@@ -77,9 +79,9 @@ pub extern "C" fn pasoletu_neo_hookean_pos_energy(
     ensures { λ r. ⌜ now (out .exit) ≡ numberOut (neoHookeanPosEnergy (now (law .entry)) phase hardening (now (f .entry))) (now (out .entry)) ⌝ }
 {
     let ok = (law.len() == 3) & (f.len() == 9);
-    let p = laws_in::neo_hookean(law);
-    lists::put(
-        lists::sized(ok, p.pos_energy(phase, hardening, lists::matrix(f))),
+    let p = model::neo_hookean(law);
+    host_lists::put(
+        host_lists::sized(ok, p.pos_energy(phase, hardening, host_lists::matrix(f))),
         out,
     )
 }
@@ -89,7 +91,7 @@ pub extern "C" fn pasoletu_phase_coeff(phase: f64, out: &mut [u64]) -> u8
     ensures { λ r. ⌜ r ≡ numberCode (phaseCoeff phase) (now (out .entry)) ⌝ }
     ensures { λ r. ⌜ now (out .exit) ≡ numberOut (phaseCoeff phase) (now (out .entry)) ⌝ }
 {
-    lists::put(NeoHookeanElasticity::phase_coeff(phase), out)
+    host_lists::put(NeoHookeanElasticity::phase_coeff(phase), out)
 }
 
 #[no_mangle]
@@ -111,17 +113,17 @@ pub extern "C" fn pasoletu_corotated_kirchhoff_stress(
         & (u.len() == 9)
         & (sigma.len() == 3)
         & (vt.len() == 9);
-    let p = laws_in::corotated(law);
+    let p = model::corotated(law);
     let a = p.kirchhoff_stress(
         phase,
         hardening,
-        lists::matrix(f),
-        lists::matrix(u),
-        lists::row(sigma),
-        lists::matrix(vt),
+        host_lists::matrix(f),
+        host_lists::matrix(u),
+        host_lists::row(sigma),
+        host_lists::matrix(vt),
     );
-    lists::put_matrix(
-        lists::sized_matrix(ok, lists::flagged_matrix(lists::word(law, 0), a)),
+    host_lists::put_matrix(
+        host_lists::sized_matrix(ok, host_lists::flagged_matrix(record::word(law, 0), a)),
         out,
     )
 }
@@ -137,10 +139,10 @@ pub extern "C" fn pasoletu_corotated_elastic_energy_density(
     ensures { λ r. ⌜ now (out .exit) ≡ numberOut (corotatedElasticEnergyDensity (now (law .entry)) hardening (now (sigma .entry))) (now (out .entry)) ⌝ }
 {
     let ok = (law.len() == 4) & (sigma.len() == 3);
-    let p = laws_in::corotated(law);
-    let a = p.elastic_energy_density(lists::row(sigma), hardening);
-    lists::put(
-        lists::sized(ok, lists::flagged(lists::word(law, 0), a)),
+    let p = model::corotated(law);
+    let a = p.elastic_energy_density(host_lists::row(sigma), hardening);
+    host_lists::put(
+        host_lists::sized(ok, host_lists::flagged(record::word(law, 0), a)),
         out,
     )
 }
@@ -157,10 +159,10 @@ pub extern "C" fn pasoletu_corotated_pos_energy(
     ensures { λ r. ⌜ now (out .exit) ≡ numberOut (corotatedPosEnergy (now (law .entry)) hardening (now (f .entry)) (now (sigma .entry))) (now (out .entry)) ⌝ }
 {
     let ok = (law.len() == 4) & (f.len() == 9) & (sigma.len() == 3);
-    let p = laws_in::corotated(law);
-    let a = p.pos_energy(lists::matrix(f), lists::row(sigma), hardening);
-    lists::put(
-        lists::sized(ok, lists::flagged(lists::word(law, 0), a)),
+    let p = model::corotated(law);
+    let a = p.pos_energy(host_lists::matrix(f), host_lists::row(sigma), hardening);
+    host_lists::put(
+        host_lists::sized(ok, host_lists::flagged(record::word(law, 0), a)),
         out,
     )
 }

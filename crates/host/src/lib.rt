@@ -1,25 +1,23 @@
 // The calls for C, Rust and Python hosts: each answers 0 or document 01's refusal number, and writes nothing where it refuses.
 pub mod elasticity;
-mod laws_in;
 mod lists_out;
 pub mod monaghan;
-mod parameters;
 pub mod passes;
 pub mod physics_calls;
 pub mod returns;
 pub mod sheets;
 pub mod update;
 
-use lists::put;
+use host_lists::put;
 ghost use mathlib.Core.Path.{_≡_};
-ghost use Rattle.numbers.specs.Range.{bare};
+ghost use Rattle.answers.specs.Range.{bare};
 ghost use Rattle.exponential.specs.Exp.{expRanged};
 ghost use Rattle.exponential.specs.Sinh.{sinhRanged};
 ghost use Rattle.logarithm.specs.Ln.{lnRanged};
 ghost use Rattle.sine.specs.Sine.{sinRanged};
 ghost use Rattle.square_root.specs.Sqrt.{sqrtRanged};
 ghost use Rattle.thirds.specs.Thirds.{cbrtRanged, invCbrtRanged, cbrtSquaredRanged, invCbrtSquaredRanged};
-ghost use Rattle.lists.specs.Out.{numberCode, numberOut};
+ghost use Rattle.host_lists.specs.Out.{numberCode, numberOut};
 
 #[no_mangle]
 pub extern "C" fn pasoletu_exp(x: f64, out: &mut [u64]) -> u8

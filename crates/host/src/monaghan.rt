@@ -2,7 +2,7 @@
 use eos_monaghan_sph::MonaghanSphEos;
 ghost use mathlib.Core.Path.{_≡_};
 ghost use Rattle.eos_monaghan_sph.specs.Pressure.{pressureOf};
-ghost use Rattle.lists.specs.Out.{numberCode, numberOut, matrixCode, matrixOut};
+ghost use Rattle.host_lists.specs.Out.{numberCode, numberOut, matrixCode, matrixOut};
 ghost use Rattle.host.specs.Calls.{eosOf, monaghanKirchhoffStress, monaghanTimestepBound};
 
 fn eos(pressure0: f64, gamma: u32, viscosity: f64, max_neg_pressure: f64) -> MonaghanSphEos
@@ -31,7 +31,7 @@ pub extern "C" fn pasoletu_monaghan_pressure(
     ensures { λ r. ⌜ now (out .exit) ≡ numberOut (pressureOf (eosOf pressure0 gamma viscosity «max_neg_pressure») mass volume density) (now (out .entry)) ⌝ }
 {
     let law = eos(pressure0, gamma, viscosity, max_neg_pressure);
-    lists::put(law.pressure(mass, volume, density), out)
+    host_lists::put(law.pressure(mass, volume, density), out)
 }
 
 #[no_mangle]
@@ -52,8 +52,8 @@ pub extern "C" fn pasoletu_monaghan_kirchhoff_stress(
 {
     let ok = gradient.len() == 9;
     let law = eos(pressure0, gamma, viscosity, max_neg_pressure);
-    let a = law.kirchhoff_stress(mass, volume, density, det, lists::matrix(gradient));
-    lists::put_matrix(lists::sized_matrix(ok, a), out)
+    let a = law.kirchhoff_stress(mass, volume, density, det, host_lists::matrix(gradient));
+    host_lists::put_matrix(host_lists::sized_matrix(ok, a), out)
 }
 
 #[no_mangle]
@@ -75,6 +75,6 @@ pub extern "C" fn pasoletu_monaghan_timestep_bound(
 {
     let ok = velocity.len() == 3;
     let law = eos(pressure0, gamma, viscosity, max_neg_pressure);
-    let a = law.timestep_bound(j, mass, volume, density, lists::row(velocity), width);
-    lists::put(lists::sized(ok, a), out)
+    let a = law.timestep_bound(j, mass, volume, density, host_lists::row(velocity), width);
+    host_lists::put(host_lists::sized(ok, a), out)
 }

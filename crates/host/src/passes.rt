@@ -1,27 +1,10 @@
 // The pass over a list of records, and the pass with failure.
-use crate::laws_in;
 use crate::lists_out::copy;
-use crate::parameters::fit;
-use crate::parameters::known;
-use crate::parameters::model_given;
-use failure_maximum_stress::MaximumStressFailure;
 use particles::Passed;
 use particles::PassedWithFailure;
 ghost use mathlib.Core.Path.{_≡_};
-ghost use mathlib.Core.Bool.{_&&_};
-ghost use Prim.Native.Nat.{_*_, _/_};
-ghost use lib.Dec.{eqb};
 ghost use lib.ListN.{length};
-ghost use Rattle.record.specs.Layout.{floats};
-ghost use Rattle.host.specs.Passes.{passedCode, countsOf, failureCode, failureCountsOf, limitsOf, passCode, recordsPassed, answersPassed, countsPassed, failurePassCode, recordsJudged, answersJudged, countsJudged};
-
-// A whole number of records, and two answers for each.
-fn sizes_fit(words: usize, places: usize) -> bool
-    ensures { λ r. ⌜ r ≡ (eqb (words / floats * floats) words && eqb (words / floats * 2) places) ⌝ }
-{
-    let n = words / record::FLOATS;
-    (n * record::FLOATS == words) & (n * 2 == places)
-}
+ghost use Rattle.host.specs.Passes.{passedCode, countsOf, failureCode, failureCountsOf, passCode, recordsPassed, answersPassed, countsPassed, failurePassCode, recordsJudged, answersJudged, countsJudged};
 
 fn put_counts(passed: Passed, counts: &mut [u64]) -> u8
     requires { ⌜ length (now counts) ≡ 3 ⌝ }
@@ -62,15 +45,6 @@ fn put_failure_counts(passed: PassedWithFailure, counts: &mut [u64]) -> u8
     }
 }
 
-fn limits_given(p: &[u64]) -> MaximumStressFailure
-    ensures { λ r. ⌜ r ≡ limitsOf (now (p .entry)) ⌝ }
-{
-    MaximumStressFailure {
-        max_principal_stress: lists::float(p, 0),
-        max_shear_stress: lists::float(p, 1),
-    }
-}
-
 #[no_mangle]
 pub extern "C" fn pasoletu_pass(
     model: u64,
@@ -84,14 +58,17 @@ pub extern "C" fn pasoletu_pass(
     ensures { λ r. ⌜ now (answers .exit) ≡ answersPassed model (now (parameters .entry)) (now (records .entry)) (now (answers .entry)) (now (counts .entry)) ⌝ }
     ensures { λ r. ⌜ now (counts .exit) ≡ countsPassed model (now (parameters .entry)) (now (records .entry)) (now (answers .entry)) (now (counts .entry)) ⌝ }
 {
-    if fit(model, parameters) & sizes_fit(records.len(), answers.len()) & (counts.len() == 3) {
-        if known(model, parameters) {
-            let passed = particles::pass(model_given(model, parameters), records, answers);
+    if model::fit(model, parameters)
+        & particles::well_sized(records.len(), answers.len())
+        & (counts.len() == 3)
+    {
+        if model::known(model, parameters) {
+            let passed = particles::pass(model::model_of(model, parameters), records, answers);
             return put_counts(passed, counts);
         }
-        return 6;
+        return answers::UNKNOWN;
     }
-    8
+    answers::LENGTH
 }
 
 #[no_mangle]
@@ -109,23 +86,23 @@ pub extern "C" fn pasoletu_pass_with_failure(
     ensures { λ r. ⌜ now (answers .exit) ≡ answersJudged model (now (parameters .entry)) (now (limits .entry)) (now (corotated .entry)) (now (records .entry)) (now (answers .entry)) (now (counts .entry)) ⌝ }
     ensures { λ r. ⌜ now (counts .exit) ≡ countsJudged model (now (parameters .entry)) (now (limits .entry)) (now (corotated .entry)) (now (records .entry)) (now (answers .entry)) (now (counts .entry)) ⌝ }
 {
-    if fit(model, parameters)
+    if model::fit(model, parameters)
         & (limits.len() == 2)
         & (corotated.len() == 4)
-        & sizes_fit(records.len(), answers.len())
+        & particles::well_sized(records.len(), answers.len())
         & (counts.len() == 4)
     {
-        if known(model, parameters) & lists::is_flag(lists::word(corotated, 0)) {
+        if model::known(model, parameters) & model::is_flag(record::word(corotated, 0)) {
             let passed = particles::pass_with_failure(
-                model_given(model, parameters),
-                limits_given(limits),
-                laws_in::corotated(corotated),
+                model::model_of(model, parameters),
+                model::limits(limits),
+                model::corotated(corotated),
                 records,
                 answers,
             );
             return put_failure_counts(passed, counts);
         }
-        return 6;
+        return answers::UNKNOWN;
     }
-    8
+    answers::LENGTH
 }

@@ -1,11 +1,12 @@
 // physics.rs for hosts.
 ghost use mathlib.Core.Path.{_≡_};
 ghost use mathlib.Core.Bool.{_&&_};
-ghost use Rattle.numbers.specs.Rules.{finite};
-ghost use Rattle.numbers.specs.Answer.{answeredOf, given};
+ghost use Rattle.numbers.specs.Floats.{finite};
+ghost use Rattle.answers.specs.Answer.{answeredOf, given};
 ghost use Rattle.physics.specs.Physics.{invExactOf, lambdaOf, shearModulusOf, bulkModulusOf, shearFromLameOf, bulkFromLameOf};
-ghost use Rattle.physics.specs.Quadratic.{pairOf, givenPair, solveQuadraticOf};
-ghost use Rattle.lists.specs.Out.{numberCode, numberOut, pairCode, pairOut, matrixCode, matrixOut};
+ghost use Rattle.answers.specs.Answer.{pairOf, givenPair};
+ghost use Rattle.physics.specs.Quadratic.{solveQuadraticOf};
+ghost use Rattle.host_lists.specs.Out.{numberCode, numberOut, pairCode, pairOut, matrixCode, matrixOut};
 ghost use Rattle.host.specs.Calls.{spinTensor, strainRate, deviatoricPart, sphericalPart};
 
 #[no_mangle]
@@ -13,7 +14,7 @@ pub extern "C" fn pasoletu_inv_exact(e: f64, out: &mut [u64]) -> u8
     ensures { λ r. ⌜ r ≡ numberCode (given (finite e) (answeredOf (invExactOf e))) (now (out .entry)) ⌝ }
     ensures { λ r. ⌜ now (out .exit) ≡ numberOut (given (finite e) (answeredOf (invExactOf e))) (now (out .entry)) ⌝ }
 {
-    lists::put(physics::inv_exact(e), out)
+    host_lists::put(physics::inv_exact(e), out)
 }
 
 #[no_mangle]
@@ -21,7 +22,7 @@ pub extern "C" fn pasoletu_shear_modulus(young: f64, poisson: f64, out: &mut [u6
     ensures { λ r. ⌜ r ≡ numberCode (given (finite young && finite poisson) (answeredOf (shearModulusOf young poisson))) (now (out .entry)) ⌝ }
     ensures { λ r. ⌜ now (out .exit) ≡ numberOut (given (finite young && finite poisson) (answeredOf (shearModulusOf young poisson))) (now (out .entry)) ⌝ }
 {
-    lists::put(physics::shear_modulus(young, poisson), out)
+    host_lists::put(physics::shear_modulus(young, poisson), out)
 }
 
 #[no_mangle]
@@ -29,7 +30,7 @@ pub extern "C" fn pasoletu_bulk_modulus(young: f64, poisson: f64, out: &mut [u64
     ensures { λ r. ⌜ r ≡ numberCode (given (finite young && finite poisson) (answeredOf (bulkModulusOf young poisson))) (now (out .entry)) ⌝ }
     ensures { λ r. ⌜ now (out .exit) ≡ numberOut (given (finite young && finite poisson) (answeredOf (bulkModulusOf young poisson))) (now (out .entry)) ⌝ }
 {
-    lists::put(physics::bulk_modulus(young, poisson), out)
+    host_lists::put(physics::bulk_modulus(young, poisson), out)
 }
 
 #[no_mangle]
@@ -37,7 +38,7 @@ pub extern "C" fn pasoletu_shear_modulus_from_lame(lambda: f64, mu: f64, out: &m
     ensures { λ r. ⌜ r ≡ numberCode (given (finite lambda && finite mu) (answeredOf (shearFromLameOf lambda mu))) (now (out .entry)) ⌝ }
     ensures { λ r. ⌜ now (out .exit) ≡ numberOut (given (finite lambda && finite mu) (answeredOf (shearFromLameOf lambda mu))) (now (out .entry)) ⌝ }
 {
-    lists::put(physics::shear_modulus_from_lame(lambda, mu), out)
+    host_lists::put(physics::shear_modulus_from_lame(lambda, mu), out)
 }
 
 #[no_mangle]
@@ -45,7 +46,7 @@ pub extern "C" fn pasoletu_bulk_modulus_from_lame(lambda: f64, mu: f64, out: &mu
     ensures { λ r. ⌜ r ≡ numberCode (given (finite lambda && finite mu) (answeredOf (bulkFromLameOf lambda mu))) (now (out .entry)) ⌝ }
     ensures { λ r. ⌜ now (out .exit) ≡ numberOut (given (finite lambda && finite mu) (answeredOf (bulkFromLameOf lambda mu))) (now (out .entry)) ⌝ }
 {
-    lists::put(physics::bulk_modulus_from_lame(lambda, mu), out)
+    host_lists::put(physics::bulk_modulus_from_lame(lambda, mu), out)
 }
 
 // lambda, then mu.
@@ -54,7 +55,7 @@ pub extern "C" fn pasoletu_lame_lambda_mu(young: f64, poisson: f64, out: &mut [u
     ensures { λ r. ⌜ r ≡ pairCode (givenPair (finite young && finite poisson) (pairOf (lambdaOf young poisson) (shearModulusOf young poisson))) (now (out .entry)) ⌝ }
     ensures { λ r. ⌜ now (out .exit) ≡ pairOut (givenPair (finite young && finite poisson) (pairOf (lambdaOf young poisson) (shearModulusOf young poisson))) (now (out .entry)) ⌝ }
 {
-    lists::put_pair(physics::lame_lambda_mu(young, poisson), out)
+    host_lists::put_pair(physics::lame_lambda_mu(young, poisson), out)
 }
 
 #[no_mangle]
@@ -62,7 +63,7 @@ pub extern "C" fn pasoletu_solve_quadratic(a: f64, b: f64, c: f64, out: &mut [u6
     ensures { λ r. ⌜ r ≡ pairCode (solveQuadraticOf a b c) (now (out .entry)) ⌝ }
     ensures { λ r. ⌜ now (out .exit) ≡ pairOut (solveQuadraticOf a b c) (now (out .entry)) ⌝ }
 {
-    lists::put_pair(physics::solve_quadratic(a, b, c), out)
+    host_lists::put_pair(physics::solve_quadratic(a, b, c), out)
 }
 
 #[no_mangle]
@@ -71,8 +72,8 @@ pub extern "C" fn pasoletu_spin_tensor(m: &[u64], out: &mut [u64]) -> u8
     ensures { λ r. ⌜ now (out .exit) ≡ matrixOut (spinTensor (now (m .entry))) (now (out .entry)) ⌝ }
 {
     let ok = m.len() == 9;
-    lists::put_matrix(
-        lists::sized_matrix(ok, physics::spin_tensor(lists::matrix(m))),
+    host_lists::put_matrix(
+        host_lists::sized_matrix(ok, physics::spin_tensor(host_lists::matrix(m))),
         out,
     )
 }
@@ -83,8 +84,8 @@ pub extern "C" fn pasoletu_strain_rate(m: &[u64], out: &mut [u64]) -> u8
     ensures { λ r. ⌜ now (out .exit) ≡ matrixOut (strainRate (now (m .entry))) (now (out .entry)) ⌝ }
 {
     let ok = m.len() == 9;
-    lists::put_matrix(
-        lists::sized_matrix(ok, physics::strain_rate(lists::matrix(m))),
+    host_lists::put_matrix(
+        host_lists::sized_matrix(ok, physics::strain_rate(host_lists::matrix(m))),
         out,
     )
 }
@@ -95,8 +96,8 @@ pub extern "C" fn pasoletu_deviatoric_part(m: &[u64], out: &mut [u64]) -> u8
     ensures { λ r. ⌜ now (out .exit) ≡ matrixOut (deviatoricPart (now (m .entry))) (now (out .entry)) ⌝ }
 {
     let ok = m.len() == 9;
-    lists::put_matrix(
-        lists::sized_matrix(ok, physics::deviatoric_part(lists::matrix(m))),
+    host_lists::put_matrix(
+        host_lists::sized_matrix(ok, physics::deviatoric_part(host_lists::matrix(m))),
         out,
     )
 }
@@ -107,8 +108,8 @@ pub extern "C" fn pasoletu_spherical_part(m: &[u64], out: &mut [u64]) -> u8
     ensures { λ r. ⌜ now (out .exit) ≡ numberOut (sphericalPart (now (m .entry))) (now (out .entry)) ⌝ }
 {
     let ok = m.len() == 9;
-    lists::put(
-        lists::sized(ok, physics::spherical_part(lists::matrix(m))),
+    host_lists::put(
+        host_lists::sized(ok, physics::spherical_part(host_lists::matrix(m))),
         out,
     )
 }

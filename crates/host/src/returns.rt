@@ -1,5 +1,4 @@
 // The verdict, the bare clamp, Rankine's projection, Drucker-Prager's slope and DecomposedTensor's product for hosts.
-use crate::laws_in;
 use failure_maximum_stress::MaximumStressFailure;
 use plasticity_rankine::Branch;
 use plasticity_rankine::Made;
@@ -9,7 +8,7 @@ use plasticity_rankine::RankinePlasticity;
 use plasticity_snow::SnowPlasticity;
 use tensor::VectorAnswer;
 ghost use mathlib.Core.Path.{_≡_};
-ghost use Rattle.lists.specs.Out.{numberCode, numberOut, vectorCode, vectorOut, verdictCode, verdictOut};
+ghost use Rattle.host_lists.specs.Out.{numberCode, numberOut, vectorCode, vectorOut, verdictCode, verdictOut};
 ghost use Rattle.host.specs.Calls.{failed, snowOf, snowClamp, vectorOf, strainsOf, madeProject, argumentsProject, rankineProject, druckerPragerAlpha, decomposedTimes};
 
 #[no_mangle]
@@ -27,8 +26,8 @@ pub extern "C" fn pasoletu_failed(
         max_principal_stress: max_principal,
         max_shear_stress: max_shear,
     };
-    lists::put_verdict(
-        lists::sized_verdict(ok, limits.particle_failed(lists::row(stresses))),
+    host_lists::put_verdict(
+        host_lists::sized_verdict(ok, limits.particle_failed(host_lists::row(stresses))),
         out,
     )
 }
@@ -50,8 +49,8 @@ pub extern "C" fn pasoletu_snow_clamp(
         max_epsilon,
         hardening_coeff,
     };
-    let v = law.project_deformation_gradient(lists::row(sigma));
-    lists::put_vector(lists::sized_vector(ok, vector(v)), out)
+    let v = law.project_deformation_gradient(host_lists::row(sigma));
+    host_lists::put_vector(host_lists::sized_vector(ok, vector(v)), out)
 }
 
 // A vector that is answered whatever it holds.
@@ -102,7 +101,7 @@ fn project(a: RankineArguments, e: [f64; 3], s: f64) -> VectorAnswer
         );
         made_project(m, e, s)
     } else {
-        tensor::refused_vector(1)
+        tensor::refused_vector(answers::NOT_FINITE)
     }
 }
 
@@ -117,9 +116,9 @@ pub extern "C" fn pasoletu_rankine_project(
     ensures { λ r. ⌜ now (out .exit) ≡ vectorOut (rankineProject (now (arguments .entry)) s (now (strains .entry))) (now (out .entry)) ⌝ }
 {
     let ok = (arguments.len() == 4) & (strains.len() == 3);
-    let a = laws_in::rankine(arguments);
-    lists::put_vector(
-        lists::sized_vector(ok, project(a, lists::row(strains), s)),
+    let a = model::rankine(arguments);
+    host_lists::put_vector(
+        host_lists::sized_vector(ok, project(a, host_lists::row(strains), s)),
         out,
     )
 }
@@ -130,9 +129,9 @@ pub extern "C" fn pasoletu_drucker_prager_alpha(fields: &[u64], q: f64, out: &mu
     ensures { λ r. ⌜ now (out .exit) ≡ numberOut (druckerPragerAlpha (now (fields .entry)) q) (now (out .entry)) ⌝ }
 {
     let ok = fields.len() == 8;
-    let p = laws_in::drucker_prager(fields);
-    lists::put(
-        lists::sized(ok, lists::flagged(lists::word(fields, 6), p.alpha(q))),
+    let p = model::drucker_prager(fields);
+    host_lists::put(
+        host_lists::sized(ok, host_lists::flagged(record::word(fields, 6), p.alpha(q))),
         out,
     )
 }
@@ -148,6 +147,9 @@ pub extern "C" fn pasoletu_decomposed_times(
     ensures { λ r. ⌜ now (out .exit) ≡ vectorOut (decomposedTimes spherical (now (deviatoric .entry)) (now (v .entry))) (now (out .entry)) ⌝ }
 {
     let ok = (deviatoric.len() == 9) & (v.len() == 3);
-    let t = laws_in::decomposed(spherical, deviatoric);
-    lists::put_vector(lists::sized_vector(ok, t.times(lists::row(v))), out)
+    let t = host_lists::decomposed(spherical, deviatoric);
+    host_lists::put_vector(
+        host_lists::sized_vector(ok, t.times(host_lists::row(v))),
+        out,
+    )
 }

@@ -1,7 +1,7 @@
 // A sheet of bytes: read, or run to its answers.
 use crate::lists_out::copy;
-use run::Ran;
 use sheet::Header;
+use sheet_run::Ran;
 ghost use mathlib.Core.Path.{_≡_};
 ghost use lib.ListN.{length};
 ghost use Rattle.host.specs.Sheets.{headerRoom, ranCounts, readCode, headerRead, recordsRead, runCode, recordsRun, answersRun, countsRun};
@@ -82,6 +82,6 @@ pub extern "C" fn pasoletu_run_sheet(
     if counts.len() != 4 {
         return 8;
     }
-    let ran = run::run_sheet(bytes, records, answers);
+    let ran = sheet_run::run_sheet(bytes, records, answers);
     put_ran(ran, counts)
 }

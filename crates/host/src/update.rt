@@ -1,9 +1,6 @@
 // The update of one record by a plastic law.
 use crate::lists_out::copy;
-use crate::parameters::fit;
-use crate::parameters::known;
-use crate::parameters::model_given;
-use law::Outcome;
+use plasticity::Outcome;
 ghost use mathlib.Core.Path.{_≡_};
 ghost use lib.ListN.{length};
 ghost use Rattle.host.specs.Update.{outcomeCode, outcomeAnswer, updateCode, recordUpdated, answerUpdated};
@@ -38,12 +35,12 @@ pub extern "C" fn pasoletu_update(
     ensures { λ n. ⌜ now (r .exit) ≡ recordUpdated model (now (parameters .entry)) (now (r .entry)) (now (answer .entry)) ⌝ }
     ensures { λ n. ⌜ now (answer .exit) ≡ answerUpdated model (now (parameters .entry)) (now (r .entry)) (now (answer .entry)) ⌝ }
 {
-    if fit(model, parameters) & (r.len() == record::FLOATS) & (answer.len() == 2) {
-        if known(model, parameters) {
-            let o = particles::update_record(model_given(model, parameters), r);
+    if model::fit(model, parameters) & (r.len() == record::FLOATS) & (answer.len() == 2) {
+        if model::known(model, parameters) {
+            let o = particles::update_record(model::model_of(model, parameters), r);
             return put_outcome(o, answer);
         }
-        return 6;
+        return answers::UNKNOWN;
     }
-    8
+    answers::LENGTH
 }

@@ -9,6 +9,9 @@ ghost use mathlib.Core.Bool.{false};
 ghost use Prim.Native.Nat.{_<_};
 ghost use lib.ListN.{length};
 
+// A byte more than the longest sheet has, so that every longer input is refused: by 5, 6 or 7, as the reader meets them.
+pub const ROOM: usize = sheet::LONGEST + 1;
+
 // Each part is written only where those before it were: what a failed output holds is a start of the answer.
 fn print_stored(amount: u64) -> bool {
     if !io::write_all(STDOUT_FILENO, b" stored ") {
@@ -87,9 +90,9 @@ pub fn print_answer(room: &[u8], n: usize) -> bool
     if room.len() < n {
         return false;
     }
-    let mut records = [0u64; 7200];
-    let mut answers = [0u64; 400];
-    let r = run::run_sheet(&room[..n], &mut records, &mut answers);
+    let mut records = [0u64; sheet::MOST_WORDS];
+    let mut answers = [0u64; sheet::MOST_ANSWERS];
+    let r = sheet_run::run_sheet(&room[..n], &mut records, &mut answers);
     if r.refusal != 0 {
         print_refused(r.refusal)
     } else {

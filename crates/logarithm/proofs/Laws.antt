@@ -16,8 +16,8 @@ use Rattle.exact.specs.Value.{val, p-val, n-val}
 use Rattle.exact.specs.OrderLe.{le-val, between-finite}
 use Rattle.exact.specs.Fields.{exponentAt, of-own}
 use Rattle.exact.specs.Patterns.{finite-not-nan, exponent-lt}
-use Rattle.numbers.specs.Range.{inRange}
-use Rattle.numbers.proofs.Laws.{and-both}
+use Rattle.answers.specs.Range.{inRange}
+use Rattle.answers.proofs.Values.{between}
 use Rattle.series.specs.LogNear.{LogNear}
 use Rattle.logarithm.specs.Worked.{low, high, exponentOf, fractionOf, lnOf, ln2, partOf}
 use Rattle.logarithm.proofs.Parts.{part-near}
@@ -45,16 +45,16 @@ module _ (x : Float) (f : T (fits binary64 x)) (r : inRange low high x ≡ true)
   own : ofBits binary64 m ≡ x
   own = of-own x f
 
-  both : (Ieee.le low x ≡ true) × (Ieee.le x high ≡ true)
-  both = and-both (Ieee.le low x) (Ieee.le x high) r
+  ends-of : T (Ieee.le low x) × T (Ieee.le x high)
+  ends-of = between low high x r
 
   is-finite : T (Scale.finite x)
-  is-finite = between-finite low x high (ends .2 .0) (ends .3 .0) (subst T (sym (both .0)) tt) (subst T (sym (both .1)) tt)
+  is-finite = between-finite low x high (ends .2 .0) (ends .3 .0) (ends-of .0) (ends-of .1)
 
   bounds : (sgn x ≡ false) × (2 ^ 1014 ≤ mag x) × (mag x ≤ 2 ^ 1134)
   bounds =
-      let a = le-val low x (ends .2) (is-finite, f) (subst T (sym (both .0)) tt) in
-      let b = le-val x high (is-finite, f) (ends .3) (subst T (sym (both .1)) tt) in
+      let a = le-val low x (ends .2) (is-finite, f) (ends-of .0) in
+      let b = le-val x high (is-finite, f) (ends .3) (ends-of .1) in
       positive (sgn x) (mag x) (2 ^ 1014) (2 ^ 1134) (pow-pos 1014) (rw (ends .0, p-val x, n-val x) at a) (rw (ends .1, p-val x, n-val x) at b)
 
   pub no-nan : T (not (isNan x))

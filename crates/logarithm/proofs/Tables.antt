@@ -3,7 +3,7 @@ use mathlib.Core.Bool.{Bool}
 use Prim.Native.Nat.{ℕ, _+_, _-_, _*_, _/_, _%_, _^_, _≤_, _<_}
 use lib.Dec.{T, leb, leb→le}
 use lib.Pow.{pow-pos}
-use Rattle.exact.specs.Table.{both, both-left, both-right}
+use Rattle.exact.specs.Both.{both, both-left, both-right}
 use Rattle.exact.specs.Match.{at-or-last}
 use Rattle.series.specs.Logs.{Between, betweenTest, between}
 use Rattle.logarithm.specs.Entries.{coarse-entries, coarse-last, coarseOf, middle-entries, middle-last, middleOf, fine-entries, fine-last, fineOf}

@@ -3,11 +3,13 @@
 mod entries;
 mod part;
 
-use numbers::Elementary;
+use answers::Answer;
 use part::log_part;
 ghost use mathlib.Core.Path.{_≡_};
 ghost use mathlib.Core.Bool.{true};
-ghost use Rattle.numbers.specs.Range.{inRange, bare, onPath};
+ghost use lib.Ieee.{Float};
+ghost use Rattle.answers.specs.declared.Answer.the-variants.{Value};
+ghost use Rattle.answers.specs.Range.{inRange, bare, onPath};
 ghost use Rattle.logarithm.specs.Ln.{lnRanged};
 ghost use Rattle.series.specs.LogNear.{LogNear};
 ghost use Rattle.logarithm.specs.Worked.{low, high, exponentOf, fractionOf, lnOf};
@@ -30,40 +32,32 @@ fn fraction(n: u64) -> f64
 // ln x, for an x within the range.
 fn ln_value(x: f64) -> f64
     requires { ⌜ inRange low high x ≡ true ⌝ }
-    ensures { λ r. ⌜ (r ≡ lnOf x) × LogNear x r ⌝ }
+    ensures { λ r. ⌜ r ≡ lnOf x ⌝ }
 {
     let n = f64::to_bits(x);
     exponent(n) * 0.6931471805599453 + fraction(n)
 }
 
-fn ln_ranged(x: f64) -> Elementary
+fn ln_ranged(x: f64) -> Answer
     ensures { λ r. ⌜ r ≡ lnRanged x ⌝ }
 {
-    if numbers::in_range(8.673617379884035e-19, 1152921504606846976.0, x) {
-        Elementary::Value(ln_value(x))
+    if answers::in_range(8.673617379884035e-19, 1152921504606846976.0, x) {
+        Answer::Value(ln_value(x))
     } else {
-        numbers::outside(8.673617379884035e-19, 1152921504606846976.0, x)
+        answers::outside(8.673617379884035e-19, 1152921504606846976.0, x)
     }
 }
 
-// ln x: a NaN or an infinity is refused by 1, a number outside the range by 2.
-pub fn ln(x: f64) -> Elementary
-    ensures { λ r. ⌜ r ≡ bare x (lnRanged x) ⌝ }
+// ln x, within 2^-45 of the exact value. A NaN or an infinity is refused by 1, a number outside the range by 2.
+pub fn ln(x: f64) -> Answer
+    ensures { λ r. ⌜ (r ≡ bare x (lnRanged x)) × ((v : Float) → r ≡ Value v → LogNear x v) ⌝ }
 {
-    if numbers::is_finite(x) {
-        ln_ranged(x)
-    } else {
-        Elementary::Refused(1)
-    }
+    answers::bare(x, ln_ranged(x))
 }
 
 // ln x within a law: a NaN is refused by 3, an infinity and a number outside the range by 2.
-pub fn ln_on_path(x: f64) -> Elementary
+pub fn ln_on_path(x: f64) -> Answer
     ensures { λ r. ⌜ r ≡ onPath x (lnRanged x) ⌝ }
 {
-    if numbers::is_number(x) {
-        ln_ranged(x)
-    } else {
-        Elementary::Refused(3)
-    }
+    answers::on_path(x, ln_ranged(x))
 }

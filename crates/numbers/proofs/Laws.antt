@@ -8,7 +8,7 @@ use lib.Ieee.Bits.{nanBits-is, nanBits-above}
 use lib.Ieee as Ieee
 use lib.Ieee.{Float, nan, inf, fin, up, down, lt, eq, neg, isNan, binary64, ofBits, toBits, nanBits, div, odd, ofFields}
 use lib.Ieee.Scale as Scale
-use Rattle.numbers.specs.Rules.{finite, isNumber}
+use Rattle.numbers.specs.Floats.{finite, isNumber}
 
 pub eq-self : (x : Float) → eq x x ≡ isNumber x
 unfolding eq isNumber

@@ -1,4 +1,3 @@
-pub mod Rules
-pub mod Range
+pub mod Constants
+pub mod Floats
 pub mod Power
-pub mod Answer

@@ -4,9 +4,7 @@ use Prim.Native.Nat.{ℕ, zero, suc, _-_, _/_, _%_, _^_, _<_}
 use lib.Dec.{eqb, ltb}
 use lib.Ieee as Ieee
 use lib.Ieee.{Float, binary64, ofBits}
-
-abbrev pub one : Float
-one = ofBits binary64 0x3ff0_0000_0000_0000
+pub use Rattle.numbers.specs.Constants.{one}
 
 -- at most k halvings of e, until it is 0; done says whether e is 0
 unfoldable pub halvings : ℕ → Bool → Float → Float → ℕ → Float

@@ -5,16 +5,19 @@ use Prim.Native.Nat.{ℕ}
 use lib.ListN.{length, set, getD, length-set}
 use lib.Seq.{set-set, set-getD}
 use Rattle.tensor.specs.Matrix.{zero}
-use Rattle.law.specs.declared.Outcome.{Outcome}
-use Rattle.law.specs.declared.Outcome.the-variants as outcome
+use Rattle.plasticity.specs.declared.Outcome.{Outcome}
+use Rattle.plasticity.specs.declared.Outcome.the-variants as outcome
 use Rattle.record.specs.Layout.{putPhase}
 use Rattle.failure_maximum_stress.specs.declared.MaximumStressFailure.{MaximumStressFailure}
 use Rattle.failure_maximum_stress.specs.declared.Verdict.{Verdict}
 use Rattle.failure_maximum_stress.specs.declared.Verdict.the-variants.{No, Yes, Refused}
 use Rattle.elasticity_corotated_linear.specs.declared.CorotatedLinearElasticity.{CorotatedLinearElasticity}
-use Rattle.particles.specs.declared.choice.Model.{Model}
-use Rattle.particles.specs.Model.{recordLaw}
+use Rattle.model.specs.declared.Model.{Model}
+use Rattle.particles.specs.Plain.{recordLaw}
 use Rattle.particles.specs.Judged.{judgedAt, unlessRefused, failedLaw, byVerdict, failureLaw}
+use Rattle.particles.specs.declared.step.Step.{Step}
+use Rattle.particles.specs.declared.step.Step.the-variants.{Plain, Judged}
+use Rattle.particles.specs.Step.{stepLaw}
 use Rattle.particles.proofs.PassLaws.{Keeps, record-keeps}
 
 unless-length : (o : Outcome) (r a : List ℕ) → length a ≡ length r → length (unlessRefused o r a) ≡ length r
@@ -44,6 +47,11 @@ by-verdict-length (Refused n) m r = refl
 pub failure-keeps : (m : Model) (l : MaximumStressFailure) (e : CorotatedLinearElasticity) → Keeps (failureLaw m l e)
 unfolding failureLaw
 failure-keeps m l e r = by-verdict-length (judgedAt m l e r) m r
+
+-- every step of a pass keeps a record's length
+pub step-keeps : (s : Step) → Keeps (stepLaw s)
+step-keeps (Plain m) = record-keeps m
+step-keeps (Judged m l e) = failure-keeps m l e
 
 -- what the law refuses it does not write
 pub refused-after : (m : Model) (r : List ℕ) (n : ℕ) → recordLaw m r .outcome ≡ outcome.Refused n → recordLaw m r .after ≡ r

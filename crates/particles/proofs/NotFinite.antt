@@ -4,10 +4,10 @@ use mathlib.Core.Bool.{Bool, true, false, cond, _&&_}
 use mathlib.Core.List.{List}
 use Prim.Native.Nat.{ℕ}
 use lib.Ieee.{Float}
-use Rattle.law.specs.State.{inputsFinite, refused}
-use Rattle.law.specs.declared.Outcome.the-variants as outcome
-use Rattle.law.specs.declared.State.{State}
-use Rattle.law.specs.declared.Updated.{Updated}
+use Rattle.plasticity.specs.State.{inputsFinite, refused}
+use Rattle.plasticity.specs.declared.Outcome.the-variants as outcome
+use Rattle.plasticity.specs.declared.State.{State}
+use Rattle.plasticity.specs.declared.Updated.{Updated}
 use Rattle.record.specs.Layout.{uAt, vtAt, stateAt, recordFinite}
 use Rattle.plasticity_snow.specs.Snow as snow
 use Rattle.plasticity_rankine.specs.Projection as rankine-projection
@@ -22,11 +22,12 @@ use Rattle.failure_maximum_stress.specs.declared.Verdict.the-variants as verdic
 use Rattle.failure_maximum_stress.specs.Failure.{limitsFinite}
 use Rattle.elasticity_corotated_linear.specs.declared.CorotatedLinearElasticity.{CorotatedLinearElasticity}
 use Rattle.elasticity_corotated_linear.specs.Law.{lawFinite}
-use Rattle.particles.specs.declared.choice.Model.{Model}
-use Rattle.particles.specs.declared.choice.Model.the-variants.{Snow, Rankine, DruckerPrager, Nacc}
-use Rattle.particles.specs.Model.{modelFinite, modelUpdate, updatedAt, kept, recordLaw}
+use Rattle.model.specs.declared.Model.{Model}
+use Rattle.model.specs.declared.Model.the-variants.{Snow, Rankine, DruckerPrager, Nacc}
+use Rattle.model.specs.Model.{modelFinite, modelUpdate}
+use Rattle.particles.specs.Plain.{updatedAt, kept, recordLaw}
 use Rattle.particles.specs.Principal.{principalOf}
-use Rattle.particles.specs.Judged.{verdictOn, judgedOf, judgedAt, byVerdict, failureLaw, failedBy, failedAt}
+use Rattle.particles.specs.Judged.{verdictOn, judgedOf, judgedAt, byVerdict, failureLaw}
 
 -- of a test whose last part fails
 last-fails : {A : Type 0} (a b : Bool) (x y : A) → b ≡ false → cond (a && b) x y ≡ y
@@ -66,13 +67,13 @@ unfolding judgedAt judgedOf
 refused-verdict m l e r q =
     let s = stateAt r in
     sym (last-fails (modelFinite m && limitsFinite l && lawFinite e) (recordFinite r)
-    (verdictOn l (principalOf e (s .phase) (s .«elastic_hardening») (s .sigma))) (verdict.Refused 1) q)
+    (verdictOn l (principalOf e (s .scalars .phase) (s .scalars .«elastic_hardening») (s .sigma))) (verdict.Refused 1) q)
 
 pub refused-failure : (m : Model) (l : MaximumStressFailure) (e : CorotatedLinearElasticity) (r : List ℕ) → recordFinite r ≡ false
-    → (outcome.Refused 1 ≡ failureLaw m l e r .outcome) × ((false ≡ failedAt m l e r) × (r ≡ failureLaw m l e r .after))
-unfolding failureLaw failedAt
+    → (outcome.Refused 1 ≡ failureLaw m l e r .outcome) × ((false ≡ failureLaw m l e r .failed) × (r ≡ failureLaw m l e r .after))
+unfolding failureLaw
 refused-failure m l e r q =
     let v = refused-verdict m l e r q in (
       ap (λ (t : Verdict). byVerdict t m r .outcome) v,
-      (ap (λ (t : Verdict). failedBy t (byVerdict t m r .outcome)) v, ap (λ (t : Verdict). byVerdict t m r .after) v),
+      (ap (λ (t : Verdict). byVerdict t m r .failed) v, ap (λ (t : Verdict). byVerdict t m r .after) v),
     )

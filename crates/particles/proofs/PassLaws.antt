@@ -1,6 +1,6 @@
--- Laws of a pass by any law that keeps a record's length: what record i adds to the records, the answers and the counts.
+-- Laws of a pass by any step that keeps a record's length: what record i adds to the records, the answers and the counts.
 -- Assumes nothing.
-use mathlib.Core.Bool.{Bool, true, false}
+use mathlib.Core.Bool.{Bool, true, false, cond}
 use mathlib.Core.Path.{_≡_, refl, sym, ap, _∙_}
 use mathlib.Core.List.{List, [], _∷_, _++_, append-assoc, append-nil}
 use Prim.Native.Nat.{ℕ, zero, suc, _+_, _*_, _≤_, _<_}
@@ -8,15 +8,17 @@ use native.Mathlib.Omega.{arith}
 use native.Mathlib.Numerals.{add-one}
 use lib.ListN.{length, set, take, drop, getD, length-set, length-append, length-take, length-drop}
 use lib.Seq.{take-at, drop-at, drop-drop, drop-cons, set-at, drop-length}
-use Rattle.law.specs.declared.Outcome.{Outcome}
-use Rattle.law.specs.declared.Outcome.the-variants.{Untouched, Stored, Refused}
-use Rattle.law.specs.declared.State.{State}
+use Rattle.plasticity.specs.declared.Outcome.{Outcome}
+use Rattle.plasticity.specs.declared.Outcome.the-variants.{Untouched, Stored, Refused}
+use Rattle.plasticity.specs.declared.State.{State}
 use Rattle.record.specs.Layout.{floats}
-use Rattle.particles.specs.declared.choice.Model.{Model}
-use Rattle.particles.specs.declared.choice.Model.the-variants.{Snow, Rankine, DruckerPrager, Nacc}
-use Rattle.particles.specs.declared.list.Counts.{Counts}
-use Rattle.particles.specs.Model.{recordLaw, kept, updatedAt, putState}
-use Rattle.particles.specs.Pass.{Worked, answered, recordAt, replaced, worked, answers, counted, counts, countedIf, failures}
+use Rattle.model.specs.declared.Model.{Model}
+use Rattle.model.specs.declared.Model.the-variants.{Snow, Rankine, DruckerPrager, Nacc}
+use Rattle.particles.specs.declared.list.Passed.the-variants as passed-variants
+use Rattle.particles.specs.declared.failure.FailureCounts.{FailureCounts}
+use Rattle.particles.specs.declared.failure.PassedWithFailure.the-variants as failure-variants
+use Rattle.particles.specs.Plain.{recordLaw, kept, updatedAt, putState}
+use Rattle.particles.specs.Pass.{Worked, answered, recordAt, replaced, worked, answers, countedIf, counted, counts, threeOf, withoutVerdicts}
 
 -- a law keeps a record's length
 abbrev pub Keeps : (List ℕ → Worked) → Type 0
@@ -84,13 +86,17 @@ two-set q a k v w n h =
     ∙ simp (append-assoc, e)
 
 -- no count is above the number of records
-abbrev pub Most : Counts → ℕ → Type 0
-Most c i = (c .untouched ≤ i) × (c .stored ≤ i) × (c .refused ≤ i)
+abbrev pub Most : FailureCounts → ℕ → Type 0
+Most c i = (c .untouched ≤ i) × (c .stored ≤ i) × (c .refused ≤ i) × (c .failed ≤ i)
 
-counted-most : (c : Counts) (o : Outcome) (i : ℕ) → Most c i → Most (counted c o) (suc i)
-counted-most c Untouched i h = omega arith
-counted-most c (Stored a) i h = omega arith
-counted-most c (Refused n) i h = omega arith
+counted-if-most : (n i : ℕ) (b : Bool) → n ≤ i → countedIf n b ≤ suc i
+counted-if-most n i true h = omega arith
+counted-if-most n i false h = omega arith
+
+counted-most : (c : FailureCounts) (o : Outcome) (f : Bool) (i : ℕ) → Most c i → Most (counted c o f) (suc i)
+counted-most c Untouched f i h = (omega arith, omega arith, omega arith, counted-if-most (c .failed) i f (h .3))
+counted-most c (Stored a) f i h = (omega arith, omega arith, omega arith, counted-if-most (c .failed) i f (h .3))
+counted-most c (Refused n) f i h = (omega arith, omega arith, omega arith, counted-if-most (c .failed) i f (h .3))
 
 module _ (law : List ℕ → Worked) (l : List ℕ) where
   pub answers-length : (i : ℕ) → length (answers law l i) ≡ i * 2
@@ -115,26 +121,18 @@ module _ (law : List ℕ → Worked) (l : List ℕ) where
   pub counts-most : (i : ℕ) → Most (counts law l i) i
   unfolding counts
   counts-most zero = omega arith
-  counts-most (suc i) = counted-most (counts law l i) (law (recordAt l i) .outcome) i (counts-most i)
+  counts-most (suc i) = counted-most (counts law l i) (law (recordAt l i) .outcome) (law (recordAt l i) .failed) i (counts-most i)
 
-  pub counts-step : (i : ℕ) (c : Counts) (o : Outcome) → c ≡ counts law l i → o ≡ law (recordAt l i) .outcome → counted c o ≡ counts law l (i + 1)
+  pub counts-step : (i : ℕ) (c : FailureCounts) (o : Outcome) (f : Bool) → c ≡ counts law l i → o ≡ law (recordAt l i) .outcome
+      → f ≡ law (recordAt l i) .failed → counted c o f ≡ counts law l (i + 1)
   unfolding counts
-  counts-step i c o e f = rw (add-one i, e, f)
+  counts-step i c o f e g h = rw (add-one i, e, g, h)
 
--- the fourth count
-counted-if-most : (n i : ℕ) (b : Bool) → n ≤ i → countedIf n b ≤ suc i
-counted-if-most n i true h = omega arith
-counted-if-most n i false h = omega arith
-
-module _ (failed : List ℕ → Bool) (l : List ℕ) where
-  pub failures-most : (i : ℕ) → failures failed l i ≤ i
-  unfolding failures
-  failures-most zero = omega arith
-  failures-most (suc i) = counted-if-most (failures failed l i) i (failed (recordAt l i)) (failures-most i)
-
-  pub failures-step : (i n : ℕ) (b : Bool) → n ≡ failures failed l i → b ≡ failed (recordAt l i) → countedIf n b ≡ failures failed l (i + 1)
-  unfolding failures
-  failures-step i n b e f = rw (add-one i, e, f)
+-- the first three counts, or the refusal
+pub three-passed : (b : Bool) (c : FailureCounts) (n : ℕ)
+    → withoutVerdicts (cond b (failure-variants.Done c) (failure-variants.Refused n)) ≡ cond b (passed-variants.Done (threeOf c)) (passed-variants.Refused n)
+three-passed true c n = refl
+three-passed false c n = refl
 
 -- at the end nothing is left of the old list
 pub all-done : (q l : List ℕ) (k : ℕ) → length l ≡ k → q ++ drop k l ≡ q

@@ -3,12 +3,13 @@ use mathlib.Core.Bool.{Bool, true, false, cond, _&&_}
 use mathlib.Core.List.{List}
 use Prim.Native.Nat.{ℕ}
 use lib.Ieee.{Float}
+use Rattle.answers.specs.Refusals.{notFinite, noNumber}
 use Rattle.tensor.specs.Matrix.{zero}
 use Rattle.tensor.specs.Finite.{rowFinite}
-use Rattle.law.specs.declared.Outcome.{Outcome}
-use Rattle.law.specs.declared.Outcome.the-variants as outcome
-use Rattle.law.specs.declared.State.{State}
-use Rattle.law.specs.State.{inputsFinite}
+use Rattle.plasticity.specs.declared.Outcome.{Outcome}
+use Rattle.plasticity.specs.declared.Outcome.the-variants as outcome
+use Rattle.plasticity.specs.declared.State.{State}
+use Rattle.plasticity.specs.State.{inputsFinite}
 use Rattle.record.specs.Layout.{uAt, vtAt, stateAt, putPhase}
 use Rattle.failure_maximum_stress.specs.declared.MaximumStressFailure.{MaximumStressFailure}
 use Rattle.failure_maximum_stress.specs.declared.Verdict.{Verdict}
@@ -16,14 +17,15 @@ use Rattle.failure_maximum_stress.specs.declared.Verdict.the-variants.{No, Yes,
 use Rattle.failure_maximum_stress.specs.Failure.{limitsFinite, verdictOf}
 use Rattle.elasticity_corotated_linear.specs.declared.CorotatedLinearElasticity.{CorotatedLinearElasticity}
 use Rattle.elasticity_corotated_linear.specs.Law.{lawFinite}
-use Rattle.particles.specs.declared.choice.Model.{Model}
+use Rattle.model.specs.declared.Model.{Model}
 use Rattle.particles.specs.Pass.{Worked}
-use Rattle.particles.specs.Model.{modelFinite, recordLaw}
+use Rattle.model.specs.Model.{modelFinite}
+use Rattle.particles.specs.Plain.{recordLaw}
 use Rattle.particles.specs.Principal.{principalOf}
 
 -- 3 where a principal stress isn't finite
 abbrev pub verdictOn : MaximumStressFailure → List Float → Verdict
-verdictOn l stresses = cond (rowFinite stresses) (verdictOf l stresses) (Refused 3)
+verdictOn l stresses = cond (rowFinite stresses) (verdictOf l stresses) (Refused noNumber)
 
 -- parameters and limits count as inputs of each record
 abbrev pub judgedInputs : Model → MaximumStressFailure → CorotatedLinearElasticity → List (List Float) → List (List Float) → State → Bool
@@ -33,8 +35,8 @@ judgedInputs m l e u vt s = modelFinite m && limitsFinite l && lawFinite e && in
 unfoldable pub judgedOf : Model → MaximumStressFailure → CorotatedLinearElasticity → List (List Float) → List (List Float) → State → Verdict
 judgedOf m l e u vt s =
     cond (judgedInputs m l e u vt s)
-    (verdictOn l (principalOf e (s .phase) (s .«elastic_hardening») (s .sigma)))
-    (Refused 1)
+    (verdictOn l (principalOf e (s .scalars .phase) (s .scalars .«elastic_hardening») (s .sigma)))
+    (Refused notFinite)
 
 unfoldable pub judgedAt : Model → MaximumStressFailure → CorotatedLinearElasticity → List ℕ → Verdict
 judgedAt m l e r = judgedOf m l e (uAt r) (vtAt r) (stateAt r)
@@ -45,31 +47,23 @@ unlessRefused outcome.Untouched r after = after
 unlessRefused (outcome.Stored a) r after = after
 unlessRefused (outcome.Refused n) r after = r
 
--- on a yes the law works the record with phase 0.0
-unfoldable pub failedLaw : Model → List ℕ → Worked
-failedLaw m r =
-    let w = recordLaw m (putPhase r zero) in
-    record { outcome = w .outcome; after = unlessRefused (w .outcome) r (w .after) }
-
--- a refused stress skips the law
-abbrev pub byVerdict : Verdict → Model → List ℕ → Worked
-byVerdict No m r = recordLaw m r
-byVerdict Yes m r = failedLaw m r
-byVerdict (Refused n) m r = record { outcome = outcome.Refused n; after = r }
-
-unfoldable pub failureLaw : Model → MaximumStressFailure → CorotatedLinearElasticity → List ℕ → Worked
-failureLaw m l e r = byVerdict (judgedAt m l e r) m r
-
 -- the fourth count: a yes on a record not refused
 abbrev pub standing : Outcome → Bool
 standing outcome.Untouched = true
 standing (outcome.Stored a) = true
 standing (outcome.Refused n) = false
 
-abbrev pub failedBy : Verdict → Outcome → Bool
-failedBy No o = false
-failedBy Yes o = standing o
-failedBy (Refused n) o = false
+-- on a yes the law works the record with phase 0.0
+unfoldable pub failedLaw : Model → List ℕ → Worked
+failedLaw m r =
+    let w = recordLaw m (putPhase r zero) in
+    record { outcome = w .outcome; failed = standing (w .outcome); after = unlessRefused (w .outcome) r (w .after) }
 
-unfoldable pub failedAt : Model → MaximumStressFailure → CorotatedLinearElasticity → List ℕ → Bool
-failedAt m l e r = failedBy (judgedAt m l e r) (failureLaw m l e r .outcome)
+-- a refused stress skips the law
+abbrev pub byVerdict : Verdict → Model → List ℕ → Worked
+byVerdict No m r = recordLaw m r
+byVerdict Yes m r = failedLaw m r
+byVerdict (Refused n) m r = record { outcome = outcome.Refused n; failed = false; after = r }
+
+unfoldable pub failureLaw : Model → MaximumStressFailure → CorotatedLinearElasticity → List ℕ → Worked
+failureLaw m l e r = byVerdict (judgedAt m l e r) m r

@@ -1,4 +1,5 @@
 pub mod Judged
-pub mod Model
 pub mod Pass
+pub mod Plain
 pub mod Principal
+pub mod Step

@@ -1,26 +1,20 @@
 // One record of the pass with failure: the verdict, and then the law.
-use crate::choice;
-use crate::choice::Model;
-use crate::list;
+use crate::plain;
 use crate::principal;
+use crate::step::Stepped;
 use elasticity_corotated_linear::CorotatedLinearElasticity;
 use failure_maximum_stress::MaximumStressFailure;
 use failure_maximum_stress::Verdict;
-use law::Outcome;
+use model::Model;
+use plasticity::Outcome;
 ghost use mathlib.Core.Path.{_≡_};
 ghost use mathlib.Core.Bool.{true, _&&_};
 ghost use lib.ListN.{length};
 ghost use Rattle.record.specs.Layout.{floats, recordFinite};
 ghost use Rattle.failure_maximum_stress.specs.Failure.{limitsFinite};
 ghost use Rattle.elasticity_corotated_linear.specs.Law.{lawFinite};
-ghost use Rattle.particles.specs.Model.{modelFinite};
-ghost use Rattle.particles.specs.Judged.{verdictOn, judgedAt, failedLaw, failureLaw, standing, failedAt};
-
-// The law's outcome, and whether the record failed and was not refused.
-pub struct Judged {
-    pub outcome: Outcome,
-    pub failed: bool,
-}
+ghost use Rattle.model.specs.Model.{modelFinite};
+ghost use Rattle.particles.specs.Judged.{verdictOn, judgedAt, failedLaw, failureLaw, standing};
 
 fn verdict_on(l: MaximumStressFailure, stresses: [f64; 3]) -> Verdict
     ensures { λ r. ⌜ r ≡ verdictOn l stresses ⌝ }
@@ -28,14 +22,14 @@ fn verdict_on(l: MaximumStressFailure, stresses: [f64; 3]) -> Verdict
     if tensor::row_finite(stresses) {
         l.particle_failed(stresses)
     } else {
-        Verdict::Refused(3)
+        Verdict::Refused(answers::NO_NUMBER)
     }
 }
 
 fn parameters_finite(m: Model, l: MaximumStressFailure, e: CorotatedLinearElasticity) -> bool
     ensures { λ r. ⌜ r ≡ modelFinite m && limitsFinite l && lawFinite e ⌝ }
 {
-    choice::model_finite(m) & l.limits_finite() & e.law_finite()
+    model::model_finite(m) & l.limits_finite() & e.law_finite()
 }
 
 // The verdict on a finite record as it stands.
@@ -48,10 +42,10 @@ fn verdict(m: Model, l: MaximumStressFailure, e: CorotatedLinearElasticity, r: &
         let sigma = s.sigma;
         verdict_on(
             l,
-            principal::stresses(e, s.phase, s.elastic_hardening, sigma),
+            principal::stresses(e, s.scalars.phase, s.scalars.elastic_hardening, sigma),
         )
     } else {
-        Verdict::Refused(1)
+        Verdict::Refused(answers::NOT_FINITE)
     }
 }
 
@@ -62,7 +56,7 @@ fn failed_step(m: Model, r: &mut [u64]) -> Outcome
 {
     let phase = r[record::PHASE];
     r[record::PHASE] = numbers::bits_of(0.0);
-    let o = list::step(m, r);
+    let o = plain::step(m, r);
     match o {
         Outcome::Untouched => {}
         Outcome::Stored(_) => {}
@@ -89,52 +83,52 @@ fn finite_step(
     l: MaximumStressFailure,
     e: CorotatedLinearElasticity,
     r: &mut [u64],
-) -> Judged
+) -> Stepped
     requires { ⌜ (length (now r) ≡ floats) × (recordFinite (now r) ≡ true) ⌝ }
     ensures outcome { λ x. ⌜ x .outcome ≡ failureLaw m l e (now (r .entry)) .outcome ⌝ }
-    ensures failed { λ x. ⌜ x .failed ≡ failedAt m l e (now (r .entry)) ⌝ }
+    ensures failed { λ x. ⌜ x .failed ≡ failureLaw m l e (now (r .entry)) .failed ⌝ }
     ensures record { λ x. ⌜ now (r .exit) ≡ failureLaw m l e (now (r .entry)) .after ⌝ }
 {
     let v = verdict(m, l, e, &r[..]);
     match v {
         Verdict::No => {
-            let o = list::finite_step(m, r);
-            Judged {
+            let o = plain::finite_step(m, r);
+            Stepped {
                 outcome: o,
                 failed: false,
             }
         }
         Verdict::Yes => {
             let o = failed_step(m, r);
-            Judged {
+            Stepped {
                 outcome: o,
                 failed: not_refused(o),
             }
         }
-        Verdict::Refused(n) => Judged {
+        Verdict::Refused(n) => Stepped {
             outcome: Outcome::Refused(n),
             failed: false,
         },
     }
 }
 
-// One record: the 36 patterns are tested at once, as by `list::step`.
+// One record: its patterns are tested at once, as by `plain::step`.
 pub fn step(
     m: Model,
     l: MaximumStressFailure,
     e: CorotatedLinearElasticity,
     r: &mut [u64],
-) -> Judged
+) -> Stepped
     requires { ⌜ length (now r) ≡ floats ⌝ }
     ensures outcome { λ x. ⌜ x .outcome ≡ failureLaw m l e (now (r .entry)) .outcome ⌝ }
-    ensures failed { λ x. ⌜ x .failed ≡ failedAt m l e (now (r .entry)) ⌝ }
+    ensures failed { λ x. ⌜ x .failed ≡ failureLaw m l e (now (r .entry)) .failed ⌝ }
     ensures record { λ x. ⌜ now (r .exit) ≡ failureLaw m l e (now (r .entry)) .after ⌝ }
 {
     if record::all_finite(&r[..]) {
         return finite_step(m, l, e, r);
     }
-    Judged {
-        outcome: Outcome::Refused(1),
+    Stepped {
+        outcome: Outcome::Refused(answers::NOT_FINITE),
         failed: false,
     }
 }

@@ -1,12 +1,12 @@
-// The model choice, the pass over a lent list of records, and the pass with failure (document 01, section 7).
-mod choice;
+// One record by itself, the pass over a lent list of records, and the pass with failure (document 01, section 7).
 mod failure;
 mod judged;
 mod list;
+mod plain;
 mod principal;
+mod step;
+mod stored;
 
-pub use choice::Model;
-pub use choice::update;
 pub use failure::FailureCounts;
 pub use failure::PassedWithFailure;
 pub use failure::pass_with_failure;
@@ -14,3 +14,4 @@ pub use list::Counts;
 pub use list::Passed;
 pub use list::pass;
 pub use list::update_record;
+pub use list::well_sized;

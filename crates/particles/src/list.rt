@@ -1,14 +1,19 @@
-use crate::choice;
-use crate::choice::Model;
-use law::Outcome;
-use law::Updated;
+// The pass over a lent list of records by any step.
+use crate::failure::FailureCounts;
+use crate::failure::PassedWithFailure;
+use crate::plain;
+use crate::step;
+use crate::step::Step;
+use crate::step::Stepped;
+use model::Model;
+use plasticity::Outcome;
 ghost use mathlib.Core.Path.{_≡_};
-ghost use mathlib.Core.Bool.{true};
 ghost use Prim.Native.Nat.{_+_, _*_, _^_, _≤_, _<_};
 ghost use lib.ListN.{length};
-ghost use Rattle.record.specs.Layout.{floats, recordFinite};
-ghost use Rattle.particles.specs.Model.{updatedAt, recordLaw, recordOutcome, recordAfter};
-ghost use Rattle.particles.specs.Pass.{codeOf, valueOf, answered, recordAt, replaced, worked, answers, counted, counts, passed, passRecords, passAnswers};
+ghost use Rattle.record.specs.Layout.{floats};
+ghost use Rattle.particles.specs.Plain.{recordLaw, recordOutcome, recordAfter};
+ghost use Rattle.particles.specs.Step.{stepLaw};
+ghost use Rattle.particles.specs.Pass.{codeOf, valueOf, answered, recordAt, replaced, worked, answers, countedIf, counted, counts, sized, withoutVerdicts, passed, passedWithFailure, passRecords, passAnswers};
 
 // How many records were left untouched, stored and refused.
 pub struct Counts {
@@ -22,57 +27,15 @@ pub enum Passed {
     Refused(u8),
 }
 
-// The law on a finite record.
-fn updated(m: Model, r: &[u64]) -> Updated
-    requires { ⌜ (length (now r) ≡ floats) × (recordFinite (now r) ≡ true) ⌝ }
-    ensures { λ x. ⌜ x ≡ updatedAt m (now (r .entry)) ⌝ }
-{
-    choice::update_finite(
-        m,
-        record::read_u(r),
-        record::read_vt(r),
-        record::read_state(r),
-    )
-}
-
-// One finite record: what is refused or untouched keeps its bits.
-pub fn finite_step(m: Model, r: &mut [u64]) -> Outcome
-    requires { ⌜ (length (now r) ≡ floats) × (recordFinite (now r) ≡ true) ⌝ }
-    ensures { λ x. ⌜ (x ≡ recordLaw m (now (r .entry)) .outcome) × (now (r .exit) ≡ recordLaw m (now (r .entry)) .after) ⌝ }
-{
-    let d = updated(m, &r[..]);
-    let o = d.outcome;
-    match o {
-        Outcome::Untouched => {}
-        Outcome::Stored(_) => {
-            let s = d.state;
-            choice::write_state(m, r, s);
-        }
-        Outcome::Refused(_) => {}
-    }
-    o
-}
-
-// One record. A float that isn't finite is the first refusal of every law, so the 36 patterns are tested at once.
-pub fn step(m: Model, r: &mut [u64]) -> Outcome
-    requires { ⌜ length (now r) ≡ floats ⌝ }
-    ensures { λ x. ⌜ (x ≡ recordLaw m (now (r .entry)) .outcome) × (now (r .exit) ≡ recordLaw m (now (r .entry)) .after) ⌝ }
-{
-    if record::all_finite(&r[..]) {
-        return finite_step(m, r);
-    }
-    Outcome::Refused(1)
-}
-
 // One record by itself. A list of another length is refused by 8 and keeps its bits.
 pub fn update_record(m: Model, r: &mut [u64]) -> Outcome
     ensures { λ x. ⌜ x ≡ recordOutcome m (now (r .entry)) ⌝ }
     ensures { λ x. ⌜ now (r .exit) ≡ recordAfter m (now (r .entry)) ⌝ }
 {
     if r.len() == record::FLOATS {
-        return step(m, r);
+        return plain::step(m, r);
     }
-    Outcome::Refused(8)
+    Outcome::Refused(answers::LENGTH)
 }
 
 // The answer's first number: 0 untouched, 1 stored, 2 refused.
@@ -97,31 +60,43 @@ fn value(o: Outcome) -> u64
     }
 }
 
-pub fn count_one(c: Counts, o: Outcome) -> Counts
-    requires { ⌜ (c .untouched < 2 ^ 63) × (c .stored < 2 ^ 63) × (c .refused < 2 ^ 63) ⌝ }
-    ensures { λ r. ⌜ r ≡ counted c o ⌝ }
+fn count_failed(n: usize, failed: bool) -> usize
+    requires { ⌜ n < 2 ^ 63 ⌝ }
+    ensures { λ r. ⌜ r ≡ countedIf n failed ⌝ }
 {
+    if failed { n + 1 } else { n }
+}
+
+// One record more.
+fn count_one(c: FailureCounts, o: Outcome, failed: bool) -> FailureCounts
+    requires { ⌜ (c .untouched < 2 ^ 63) × (c .stored < 2 ^ 63) × (c .refused < 2 ^ 63) × (c .failed < 2 ^ 63) ⌝ }
+    ensures { λ r. ⌜ r ≡ counted c o failed ⌝ }
+{
+    let n = count_failed(c.failed, failed);
     match o {
-        Outcome::Untouched => Counts {
+        Outcome::Untouched => FailureCounts {
             untouched: c.untouched + 1,
             stored: c.stored,
             refused: c.refused,
+            failed: n,
         },
-        Outcome::Stored(_) => Counts {
+        Outcome::Stored(_) => FailureCounts {
             untouched: c.untouched,
             stored: c.stored + 1,
             refused: c.refused,
+            failed: n,
         },
-        Outcome::Refused(_) => Counts {
+        Outcome::Refused(_) => FailureCounts {
             untouched: c.untouched,
             stored: c.stored,
             refused: c.refused + 1,
+            failed: n,
         },
     }
 }
 
 // The two answers of record i.
-pub fn write_answer(out: &mut [u64], i: usize, o: Outcome)
+fn write_answer(out: &mut [u64], i: usize, o: Outcome)
     requires { ⌜ i * 2 + 2 ≤ length (now out) ⌝ }
     ensures { λ _. ⌜ now (out .exit) ≡ answered (now (out .entry)) i o ⌝ }
 {
@@ -131,51 +106,85 @@ pub fn write_answer(out: &mut [u64], i: usize, o: Outcome)
 }
 
 // Record i, and its two answers.
-fn one(m: Model, xs: &mut [u64], out: &mut [u64], i: usize) -> Outcome
+fn one(s: Step, xs: &mut [u64], out: &mut [u64], i: usize) -> Stepped
     requires { ⌜ (i * floats + floats ≤ length (now xs)) × (i * 2 + 2 ≤ length (now out)) ⌝ }
-    ensures outcome { λ o. ⌜ o ≡ recordLaw m (recordAt (now (xs .entry)) i) .outcome ⌝ }
-    ensures record { λ o. ⌜ now (xs .exit) ≡ replaced (now (xs .entry)) i (recordLaw m (recordAt (now (xs .entry)) i) .after) ⌝ }
-    ensures answer { λ o. ⌜ now (out .exit) ≡ answered (now (out .entry)) i o ⌝ }
+    ensures outcome { λ d. ⌜ d .outcome ≡ stepLaw s (recordAt (now (xs .entry)) i) .outcome ⌝ }
+    ensures failed { λ d. ⌜ d .failed ≡ stepLaw s (recordAt (now (xs .entry)) i) .failed ⌝ }
+    ensures record { λ d. ⌜ now (xs .exit) ≡ replaced (now (xs .entry)) i (stepLaw s (recordAt (now (xs .entry)) i) .after) ⌝ }
+    ensures answer { λ d. ⌜ now (out .exit) ≡ answered (now (out .entry)) i (d .outcome) ⌝ }
 {
     let a = i * record::FLOATS;
-    let e = a + record::FLOATS;
-    let o = step(m, &mut xs[a..e]);
+    let b = a + record::FLOATS;
+    let d = step::take_step(s, &mut xs[a..b]);
+    let o = d.outcome;
     write_answer(out, i, o);
-    o
+    d
 }
 
 // Every record by its index, whatever the ones before it gave.
-fn pass_all(m: Model, xs: &mut [u64], out: &mut [u64], n: usize) -> Counts
+fn pass_all(s: Step, xs: &mut [u64], out: &mut [u64], n: usize) -> FailureCounts
     requires { ⌜ (length (now xs) ≡ n * floats) × (length (now out) ≡ n * 2) ⌝ }
-    ensures tallies { λ c. ⌜ c ≡ counts (recordLaw m) (now (xs .entry)) n ⌝ }
-    ensures records { λ c. ⌜ now (xs .exit) ≡ worked (recordLaw m) (now (xs .entry)) n ⌝ }
-    ensures answers { λ c. ⌜ now (out .exit) ≡ answers (recordLaw m) (now (xs .entry)) n ⌝ }
+    ensures tallies { λ c. ⌜ c ≡ counts (stepLaw s) (now (xs .entry)) n ⌝ }
+    ensures records { λ c. ⌜ now (xs .exit) ≡ worked (stepLaw s) (now (xs .entry)) n ⌝ }
+    ensures answers { λ c. ⌜ now (out .exit) ≡ answers (stepLaw s) (now (xs .entry)) n ⌝ }
 {
-    let mut c = Counts {
+    let mut c = FailureCounts {
         untouched: 0,
         stored: 0,
         refused: 0,
+        failed: 0,
     };
     let mut i = 0;
     while i < n {
-        let o = one(m, xs, out, i);
-        c = count_one(c, o);
+        let d = one(s, xs, out, i);
+        let o = d.outcome;
+        c = count_one(c, o, d.failed);
         i += 1;
     }
     c
 }
 
-// The pass over a lent list of records, with two answers a record in another. A list that is no whole
-// number of records, or an answer list of another length, is refused by 8 and nothing is written.
+// Whether so many words are a whole number of records, and so many places two answers for each.
+pub fn well_sized(words: usize, places: usize) -> bool
+    ensures { λ r. ⌜ r ≡ sized words places ⌝ }
+{
+    let n = words / record::FLOATS;
+    (n * record::FLOATS == words) & (n * 2 == places)
+}
+
+// The pass by a step, with two answers a record in another list. A list that is no whole number of records,
+// or an answer list of another length, is refused by 8 and nothing is written.
+pub fn pass_by(s: Step, xs: &mut [u64], out: &mut [u64]) -> PassedWithFailure
+    ensures { λ r. ⌜ r ≡ passedWithFailure (stepLaw s) (now (xs .entry)) (now (out .entry)) ⌝ }
+    ensures { λ r. ⌜ now (xs .exit) ≡ passRecords (stepLaw s) (now (xs .entry)) (now (out .entry)) ⌝ }
+    ensures { λ r. ⌜ now (out .exit) ≡ passAnswers (stepLaw s) (now (xs .entry)) (now (out .entry)) ⌝ }
+{
+    if well_sized(xs.len(), out.len()) {
+        let n = xs.len() / record::FLOATS;
+        PassedWithFailure::Done(pass_all(s, xs, out, n))
+    } else {
+        PassedWithFailure::Refused(answers::LENGTH)
+    }
+}
+
+fn three(p: PassedWithFailure) -> Passed
+    ensures { λ r. ⌜ r ≡ withoutVerdicts p ⌝ }
+{
+    match p {
+        PassedWithFailure::Done(c) => Passed::Done(Counts {
+            untouched: c.untouched,
+            stored: c.stored,
+            refused: c.refused,
+        }),
+        PassedWithFailure::Refused(n) => Passed::Refused(n),
+    }
+}
+
+// The pass by the model's law.
 pub fn pass(m: Model, xs: &mut [u64], out: &mut [u64]) -> Passed
     ensures { λ r. ⌜ r ≡ passed (recordLaw m) (now (xs .entry)) (now (out .entry)) ⌝ }
     ensures { λ r. ⌜ now (xs .exit) ≡ passRecords (recordLaw m) (now (xs .entry)) (now (out .entry)) ⌝ }
     ensures { λ r. ⌜ now (out .exit) ≡ passAnswers (recordLaw m) (now (xs .entry)) (now (out .entry)) ⌝ }
 {
-    let n = xs.len() / record::FLOATS;
-    if (n * record::FLOATS == xs.len()) & (n * 2 == out.len()) {
-        Passed::Done(pass_all(m, xs, out, n))
-    } else {
-        Passed::Refused(8)
-    }
+    three(pass_by(Step::Plain(m), xs, out))
 }

@@ -2,9 +2,9 @@
 use mathlib.Core.Path.{_≡_, refl}
 use lib.Ieee as Ieee
 use lib.Ieee.{ofBits}
-use Rattle.numbers.specs.Rules.{finite}
-use Rattle.numbers.specs.Answer.{answeredOf, given}
-use Rattle.numbers.specs.declared.Elementary.the-variants.{Value}
+use Rattle.numbers.specs.Floats.{finite}
+use Rattle.answers.specs.Answer.{answeredOf, given}
+use Rattle.answers.specs.declared.Answer.the-variants.{Value}
 use Rattle.tensor.specs.Matrix.{zero}
 use Rattle.physics.specs.Physics.{invExactOf}
 

@@ -2,18 +2,10 @@
 use mathlib.Core.Bool.{cond}
 use mathlib.Core.List.{List}
 use lib.Ieee as Ieee
-use lib.Ieee.{Float, binary64, ofBits}
+use lib.Ieee.{Float}
+pub use Rattle.numbers.specs.Constants.{two, three, half}
 use Rattle.tensor.specs.Matrix.{add, sub, mul, div, zero, one, transposeOf, matAddOf, matSubOf, matScaleOf}
 use Rattle.physics.specs.declared.Lame.{Lame}
-
-abbrev pub two : Float
-two = ofBits binary64 0x4000_0000_0000_0000
-
-abbrev thrice : Float
-thrice = ofBits binary64 0x4008_0000_0000_0000
-
-abbrev half : Float
-half = ofBits binary64 0x3fe0_0000_0000_0000
 
 -- no threshold: only the two zeros are told apart
 unfoldable pub invExactOf : Float → Float
@@ -23,7 +15,7 @@ unfoldable pub shearModulusOf : Float → Float → Float
 shearModulusOf young poisson = div young (mul two (add one poisson))
 
 unfoldable pub bulkModulusOf : Float → Float → Float
-bulkModulusOf young poisson = div young (mul thrice (sub one (mul two poisson)))
+bulkModulusOf young poisson = div young (mul three (sub one (mul two poisson)))
 
 unfoldable pub lambdaOf : Float → Float → Float
 lambdaOf young poisson = div (mul young poisson) (mul (add one poisson) (sub one (mul two poisson)))
@@ -35,7 +27,7 @@ abbrev pub shearFromLameOf : Float → Float → Float
 shearFromLameOf lambda mu = mu
 
 unfoldable pub bulkFromLameOf : Float → Float → Float
-bulkFromLameOf lambda mu = add lambda (div (mul two mu) thrice)
+bulkFromLameOf lambda mu = add lambda (div (mul two mu) three)
 
 -- half of the difference of a velocity gradient and its transpose, and of their sum
 unfoldable pub spinTensorOf : List (List Float) → List (List Float)

@@ -24,9 +24,3 @@ pub struct Lame {
     pub lambda: f64,
     pub mu: f64,
 }
-
-// Two numbers, or the refusal's number.
-pub enum Pair {
-    Values(f64, f64),
-    Refused(u8),
-}

@@ -1,21 +1,20 @@
-use crate::Pair;
 use crate::plain;
-use crate::quadratic;
-use numbers::Elementary;
+use answers::Answer;
+use answers::Pair;
 ghost use mathlib.Core.Path.{_≡_};
 ghost use mathlib.Core.Bool.{_&&_};
-ghost use Rattle.numbers.specs.Rules.{finite};
-ghost use Rattle.numbers.specs.Answer.{answeredOf, given};
+ghost use Rattle.numbers.specs.Floats.{finite};
+ghost use Rattle.answers.specs.Answer.{answeredOf, given};
 ghost use Rattle.physics.specs.Physics.{invExactOf, lambdaOf, shearModulusOf, bulkModulusOf, shearFromLameOf, bulkFromLameOf};
-ghost use Rattle.physics.specs.Quadratic.{pairOf, givenPair};
+ghost use Rattle.answers.specs.Answer.{pairOf, givenPair};
 
-pub fn inv_exact(e: f64) -> Elementary
+pub fn inv_exact(e: f64) -> Answer
     ensures { λ r. ⌜ r ≡ given (finite e) (answeredOf (invExactOf e)) ⌝ }
 {
     if numbers::is_finite(e) {
-        numbers::answered(plain::inv_exact(e))
+        answers::answered(plain::inv_exact(e))
     } else {
-        Elementary::Refused(1)
+        Answer::Refused(answers::NOT_FINITE)
     }
 }
 
@@ -25,48 +24,48 @@ pub fn lame_lambda_mu(young: f64, poisson: f64) -> Pair
 {
     if numbers::is_finite(young) & numbers::is_finite(poisson) {
         let l = plain::lame_lambda_mu(young, poisson);
-        quadratic::pair(l.lambda, l.mu)
+        answers::answered_pair(l.lambda, l.mu)
     } else {
-        Pair::Refused(1)
+        Pair::Refused(answers::NOT_FINITE)
     }
 }
 
-pub fn shear_modulus(young: f64, poisson: f64) -> Elementary
+pub fn shear_modulus(young: f64, poisson: f64) -> Answer
     ensures { λ r. ⌜ r ≡ given (finite young && finite poisson) (answeredOf (shearModulusOf young poisson)) ⌝ }
 {
     if numbers::is_finite(young) & numbers::is_finite(poisson) {
-        numbers::answered(plain::shear_modulus(young, poisson))
+        answers::answered(plain::shear_modulus(young, poisson))
     } else {
-        Elementary::Refused(1)
+        Answer::Refused(answers::NOT_FINITE)
     }
 }
 
-pub fn bulk_modulus(young: f64, poisson: f64) -> Elementary
+pub fn bulk_modulus(young: f64, poisson: f64) -> Answer
     ensures { λ r. ⌜ r ≡ given (finite young && finite poisson) (answeredOf (bulkModulusOf young poisson)) ⌝ }
 {
     if numbers::is_finite(young) & numbers::is_finite(poisson) {
-        numbers::answered(plain::bulk_modulus(young, poisson))
+        answers::answered(plain::bulk_modulus(young, poisson))
     } else {
-        Elementary::Refused(1)
+        Answer::Refused(answers::NOT_FINITE)
     }
 }
 
-pub fn shear_modulus_from_lame(lambda: f64, mu: f64) -> Elementary
+pub fn shear_modulus_from_lame(lambda: f64, mu: f64) -> Answer
     ensures { λ r. ⌜ r ≡ given (finite lambda && finite mu) (answeredOf (shearFromLameOf lambda mu)) ⌝ }
 {
     if numbers::is_finite(lambda) & numbers::is_finite(mu) {
-        numbers::answered(plain::shear_modulus_from_lame(lambda, mu))
+        answers::answered(plain::shear_modulus_from_lame(lambda, mu))
     } else {
-        Elementary::Refused(1)
+        Answer::Refused(answers::NOT_FINITE)
     }
 }
 
-pub fn bulk_modulus_from_lame(lambda: f64, mu: f64) -> Elementary
+pub fn bulk_modulus_from_lame(lambda: f64, mu: f64) -> Answer
     ensures { λ r. ⌜ r ≡ given (finite lambda && finite mu) (answeredOf (bulkFromLameOf lambda mu)) ⌝ }
 {
     if numbers::is_finite(lambda) & numbers::is_finite(mu) {
-        numbers::answered(plain::bulk_modulus_from_lame(lambda, mu))
+        answers::answered(plain::bulk_modulus_from_lame(lambda, mu))
     } else {
-        Elementary::Refused(1)
+        Answer::Refused(answers::NOT_FINITE)
     }
 }

@@ -1,8 +1,8 @@
 use crate::plain;
-use numbers::Elementary;
+use answers::Answer;
 use tensor::MatrixAnswer;
 ghost use mathlib.Core.Path.{_≡_};
-ghost use Rattle.numbers.specs.Answer.{answeredOf, given};
+ghost use Rattle.answers.specs.Answer.{answeredOf, given};
 ghost use Rattle.tensor.specs.Finite.{matFinite};
 ghost use Rattle.tensor.specs.Answer.{answered, givenMatrix};
 ghost use Rattle.tensor.specs.Decomposed.{deviatoricOf, sphericalOf};
@@ -14,7 +14,7 @@ pub fn spin_tensor(m: [[f64; 3]; 3]) -> MatrixAnswer
     if tensor::mat_finite(m) {
         tensor::answered(plain::spin_tensor(m))
     } else {
-        tensor::refused_matrix(1)
+        tensor::refused_matrix(answers::NOT_FINITE)
     }
 }
 
@@ -24,7 +24,7 @@ pub fn strain_rate(m: [[f64; 3]; 3]) -> MatrixAnswer
     if tensor::mat_finite(m) {
         tensor::answered(plain::strain_rate(m))
     } else {
-        tensor::refused_matrix(1)
+        tensor::refused_matrix(answers::NOT_FINITE)
     }
 }
 
@@ -34,16 +34,16 @@ pub fn deviatoric_part(m: [[f64; 3]; 3]) -> MatrixAnswer
     if tensor::mat_finite(m) {
         tensor::answered(plain::deviatoric_part(m))
     } else {
-        tensor::refused_matrix(1)
+        tensor::refused_matrix(answers::NOT_FINITE)
     }
 }
 
-pub fn spherical_part(m: [[f64; 3]; 3]) -> Elementary
+pub fn spherical_part(m: [[f64; 3]; 3]) -> Answer
     ensures { λ r. ⌜ r ≡ given (matFinite m) (answeredOf (sphericalOf m)) ⌝ }
 {
     if tensor::mat_finite(m) {
-        numbers::answered(plain::spherical_part(m))
+        answers::answered(plain::spherical_part(m))
     } else {
-        Elementary::Refused(1)
+        Answer::Refused(answers::NOT_FINITE)
     }
 }

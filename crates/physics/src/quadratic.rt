@@ -1,18 +1,8 @@
-use crate::Pair;
-use numbers::Elementary;
+use answers::Answer;
+use answers::Pair;
+use answers::answered_pair;
 ghost use mathlib.Core.Path.{_≡_};
-ghost use Rattle.physics.specs.Quadratic.{pairOf, discriminantOf, rootsOf, solveQuadraticOf};
-
-// Two numbers to be returned: 3 where one isn't finite.
-pub fn pair(x: f64, y: f64) -> Pair
-    ensures { λ r. ⌜ r ≡ pairOf x y ⌝ }
-{
-    if numbers::is_finite(x) & numbers::is_finite(y) {
-        Pair::Values(x, y)
-    } else {
-        Pair::Refused(3)
-    }
-}
+ghost use Rattle.physics.specs.Quadratic.{discriminantOf, rootsOf, solveQuadraticOf};
 
 fn discriminant(a: f64, b: f64, c: f64) -> f64
     ensures { λ r. ⌜ r ≡ discriminantOf a b c ⌝ }
@@ -21,12 +11,12 @@ fn discriminant(a: f64, b: f64, c: f64) -> f64
 }
 
 // The roots, once the discriminant's root is known.
-fn roots(a: f64, b: f64, root: Elementary) -> Pair
+fn roots(a: f64, b: f64, root: Answer) -> Pair
     ensures { λ r. ⌜ r ≡ rootsOf a b root ⌝ }
 {
     match root {
-        Elementary::Value(s) => pair((-b + s) / (2.0 * a), (-b - s) / (2.0 * a)),
-        Elementary::Refused(n) => Pair::Refused(n),
+        Answer::Value(s) => answered_pair((-b + s) / (2.0 * a), (-b - s) / (2.0 * a)),
+        Answer::Refused(n) => Pair::Refused(n),
     }
 }
 
@@ -37,6 +27,6 @@ pub fn solve_quadratic(a: f64, b: f64, c: f64) -> Pair
     if numbers::is_finite(a) & numbers::is_finite(b) & numbers::is_finite(c) {
         roots(a, b, square_root::sqrt_on_path(discriminant(a, b, c)))
     } else {
-        Pair::Refused(1)
+        Pair::Refused(answers::NOT_FINITE)
     }
 }

@@ -4,13 +4,13 @@ use mathlib.Core.List.{List}
 use mathlib.Core.Path.{_≡_, refl}
 use lib.Ieee as Ieee
 use lib.Ieee.{Float, binary64, ofBits}
-use Rattle.numbers.specs.Rules.{finite, isNumber}
-use Rattle.numbers.specs.declared.Elementary.the-variants.{Value}
+use Rattle.numbers.specs.Floats.{finite, isNumber}
+use Rattle.answers.specs.declared.Answer.the-variants.{Value}
 use Rattle.logarithm.specs.Worked.{lnOf}
 use Rattle.exact.specs.RootOf.{sqrtOf}
 use Rattle.tensor.specs.Matrix.{mul, div, zero, one, three, sumOf, productOf, dotOf, scaledRowOf, rowsOf}
-use Rattle.law.specs.declared.Outcome.the-variants.{Stored}
-use Rattle.law.specs.declared.State.{State}
+use Rattle.plasticity.specs.declared.Outcome.the-variants.{Stored}
+use Rattle.plasticity.specs.declared.State.{State}
 use Rattle.plasticity_drucker_prager.specs.declared.Branch.the-variants.{Isotropic}
 use Rattle.plasticity_drucker_prager.specs.declared.DruckerPragerPlasticity.{DruckerPragerPlasticity}
 use Rattle.plasticity_drucker_prager.specs.declared.Projected.{Projected}
@@ -60,12 +60,14 @@ rested =
     record {
       f = rowsOf identity;
       sigma = ones;
-      phase = one;
-      «plastic_determinant» = one;
-      «plastic_hardening» = one;
-      «elastic_hardening» = one;
-      «log_gain» = zero;
-      alpha = zero;
+      scalars = record {
+        phase = one;
+        «plastic_determinant» = one;
+        «plastic_hardening» = one;
+        «elastic_hardening» = one;
+        «log_gain» = zero;
+        alpha = zero;
+      };
     }
 
 moved : (l m : Float) → lnOf one ≡ zero → movedOf (defaultsOf l m) ones zero identity identity rested .outcome ≡ Stored zero

@@ -7,7 +7,7 @@ use lib.Dec.{ltb}
 use lib.IntN.{ℤ}
 use lib.Ieee as Ieee
 use lib.Ieee.{Float, nan, inf, fin, binary64, round, units, odd, sum, low, prec, emax, size, nearest, up, down}
-use Rattle.numbers.specs.Rules.{isNumber}
+use Rattle.numbers.specs.Floats.{isNumber}
 use Rattle.tensor.specs.Axes.{allOf, pairwise}
 use Rattle.tensor.specs.Matrix.{add, mul, sumOf, dotOf}
 use Rattle.plasticity_drucker_prager.specs.Projection.{allNumbers}

@@ -5,10 +5,11 @@ use Prim.Native.Nat.{ℕ}
 use lib.ListN.{getD}
 use lib.Ieee as Ieee
 use lib.Ieee.{Float, nan}
-use Rattle.numbers.specs.Rules.{finite, isNumber}
-use Rattle.numbers.specs.Range.{onPath}
-use Rattle.numbers.specs.declared.Elementary.{Elementary}
-use Rattle.numbers.specs.declared.Elementary.the-variants as elementary
+use Rattle.answers.specs.Refusals.{notFinite, noNumber}
+use Rattle.numbers.specs.Floats.{finite, isNumber}
+use Rattle.answers.specs.Range.{onPath}
+use Rattle.answers.specs.declared.Answer.{Answer}
+use Rattle.answers.specs.declared.Answer.the-variants as answers
 use Rattle.exponential.specs.Exp.{expRanged}
 use Rattle.logarithm.specs.Ln.{lnRanged}
 use Rattle.physics.specs.Norm.{normOf}
@@ -25,16 +26,16 @@ use Rattle.plasticity_drucker_prager.specs.declared.Triple.the-variants 
 use Rattle.plasticity_drucker_prager.specs.Law.{two, dim, parametersFinite}
 
 -- three answers in index order: the first refusal is handed on
-unfoldable pub joinedOf : Elementary → Elementary → Elementary → Triple
-joinedOf (elementary.Value x) (elementary.Value y) (elementary.Value z) = triple.Values x y z
-joinedOf (elementary.Value x) (elementary.Value y) (elementary.Refused n) = triple.Refused n
-joinedOf (elementary.Value x) (elementary.Refused n) c = triple.Refused n
-joinedOf (elementary.Refused n) b c = triple.Refused n
+unfoldable pub joinedOf : Answer → Answer → Answer → Triple
+joinedOf (answers.Value x) (answers.Value y) (answers.Value z) = triple.Values x y z
+joinedOf (answers.Value x) (answers.Value y) (answers.Refused n) = triple.Refused n
+joinedOf (answers.Value x) (answers.Refused n) c = triple.Refused n
+joinedOf (answers.Refused n) b c = triple.Refused n
 
-abbrev lnAt : List Float → ℕ → Elementary
+abbrev lnAt : List Float → ℕ → Answer
 lnAt v i = onPath (getD v i nan) (lnRanged (getD v i nan))
 
-abbrev expAt : List Float → ℕ → Elementary
+abbrev expAt : List Float → ℕ → Answer
 expAt v i = onPath (getD v i nan) (expRanged (getD v i nan))
 
 unfoldable pub logsOf : List Float → Triple
@@ -46,7 +47,7 @@ allNumbers e = isNumber (dotOf e e)
 
 -- the entries are worked before the first exponential: a NaN in any of them is met first
 unfoldable pub expsOf : List Float → Triple
-expsOf e = cond (allNumbers e) (joinedOf (expAt e 0) (expAt e 1) (expAt e 2)) (triple.Refused 3)
+expsOf e = cond (allNumbers e) (joinedOf (expAt e 0) (expAt e 1) (expAt e 2)) (triple.Refused noNumber)
 
 -- "Strain is log sigma + gain/3."
 unfoldable pub strainOf : List Float → Float → List Float
@@ -64,14 +65,14 @@ gammaOf p norm trace alpha =
     add norm (mul (mul (div (add (mul dim (p .lambda)) (mul two (p .mu))) (mul two (p .mu))) trace) alpha)
 
 -- the choice, with the two numbers last compared. "gamma <= 0: untouched." A NaN compares false and would be lost: it is refused by 3 first
-unfoldable pub yieldChoice : DruckerPragerPlasticity → Elementary → Float → Float → Branch
-yieldChoice p (elementary.Value norm) trace alpha =
+unfoldable pub yieldChoice : DruckerPragerPlasticity → Answer → Float → Float → Branch
+yieldChoice p (answers.Value norm) trace alpha =
     cond (isNumber (gammaOf p norm trace alpha))
     (cond (Ieee.le (gammaOf p norm trace alpha) zero)
     (Inside (gammaOf p norm trace alpha) zero)
     (Surface (gammaOf p norm trace alpha) zero norm))
-    (Refused 3)
-yieldChoice p (elementary.Refused n) trace alpha = Refused n
+    (Refused noNumber)
+yieldChoice p (answers.Refused n) trace alpha = Refused n
 
 -- "Deviatoric part all zero, or trace > 0", then gamma. A NaN in the trace is in every entry of the deviatoric part d
 unfoldable pub choiceOf : DruckerPragerPlasticity → Float → List Float → Float → Branch
@@ -79,15 +80,15 @@ choiceOf p trace d alpha =
     cond (allNumbers d)
     (cond (allZero d) (Isotropic (getD d 2 nan) zero)
     (cond (Ieee.lt zero trace) (Expanding trace zero) (yieldChoice p (normOf d) trace alpha)))
-    (Refused 3)
+    (Refused noNumber)
 
 abbrev pub refusedProjection : ℕ → Projected
 refusedProjection n = record { branch = Refused n; sigma = zeroRow; dq = zero }
 
 -- "sigma all ones, dq the norm of the strain"
-unfoldable pub tipOf : Branch → Elementary → Projected
-tipOf b (elementary.Value norm) = record { branch = b; sigma = three one one one; dq = norm }
-tipOf b (elementary.Refused n) = refusedProjection n
+unfoldable pub tipOf : Branch → Answer → Projected
+tipOf b (answers.Value norm) = record { branch = b; sigma = three one one one; dq = norm }
+tipOf b (answers.Refused n) = refusedProjection n
 
 -- the strain less gamma times the deviatoric part over its norm
 unfoldable pub backOf : List Float → List Float → Float → Float → List Float
@@ -123,11 +124,11 @@ projectedOf p sigma gain alpha = loggedOf p (logsOf sigma) sigma gain alpha
 
 -- the results are finite, else 3
 unfoldable pub returnedProjection : Projected → Projected
-returnedProjection q = cond (rowFinite (q .sigma) && finite (q .dq)) q (refusedProjection 3)
+returnedProjection q = cond (rowFinite (q .sigma) && finite (q .dq)) q (refusedProjection noNumber)
 
 -- as a call by itself: 1 comes first
 unfoldable pub projectOf : DruckerPragerPlasticity → List Float → Float → Float → Projected
 projectOf p sigma gain alpha =
     cond (parametersFinite p && rowFinite sigma && finite gain && finite alpha)
     (returnedProjection (projectedOf p sigma gain alpha))
-    (refusedProjection 1)
+    (refusedProjection notFinite)

@@ -1,5 +1,5 @@
 use crate::DruckerPragerPlasticity;
-use numbers::Elementary;
+use answers::Answer;
 ghost use mathlib.Core.Path.{_≡_};
 ghost use Rattle.plasticity_drucker_prager.specs.Alpha.{decayOf, angleOf, slopeOf, rootedOf, sinedOf, angledOf, alphaOnPath, returnedNumber, alphaOf};
 
@@ -11,45 +11,45 @@ fn slope(r: f64, s: f64) -> f64
 }
 
 // Once the root of 2/3 is known.
-fn rooted(root: Elementary, s: f64) -> Elementary
+fn rooted(root: Answer, s: f64) -> Answer
     ensures { λ r. ⌜ r ≡ rootedOf root s ⌝ }
 {
     match root {
-        Elementary::Value(r) => {
+        Answer::Value(r) => {
             let a = slope(r, s);
             if numbers::is_number(a) {
-                Elementary::Value(a)
+                Answer::Value(a)
             } else {
-                Elementary::Refused(3)
+                Answer::Refused(answers::NO_NUMBER)
             }
         }
-        Elementary::Refused(n) => Elementary::Refused(n),
+        Answer::Refused(n) => Answer::Refused(n),
     }
 }
 
 // Once the sine is known.
-fn sined(sine: Elementary) -> Elementary
+fn sined(sine: Answer) -> Answer
     ensures { λ r. ⌜ r ≡ sinedOf sine ⌝ }
 {
     match sine {
-        Elementary::Value(s) => rooted(square_root::sqrt_on_path(2.0 / 3.0), s),
-        Elementary::Refused(n) => Elementary::Refused(n),
+        Answer::Value(s) => rooted(square_root::sqrt_on_path(2.0 / 3.0), s),
+        Answer::Refused(n) => Answer::Refused(n),
     }
 }
 
 // A number to be returned: 3 where it isn't finite.
-fn returned_number(x: Elementary) -> Elementary
+fn returned_number(x: Answer) -> Answer
     ensures { λ r. ⌜ r ≡ returnedNumber x ⌝ }
 {
     match x {
-        Elementary::Value(v) => {
+        Answer::Value(v) => {
             if numbers::is_finite(v) {
-                Elementary::Value(v)
+                Answer::Value(v)
             } else {
-                Elementary::Refused(3)
+                Answer::Refused(answers::NO_NUMBER)
             }
         }
-        Elementary::Refused(n) => Elementary::Refused(n),
+        Answer::Refused(n) => Answer::Refused(n),
     }
 }
 
@@ -68,30 +68,30 @@ impl DruckerPragerPlasticity {
     }
 
     // Once the exponential is known.
-    fn angled(self, q: f64, exponential: Elementary) -> Elementary
+    fn angled(self, q: f64, exponential: Answer) -> Answer
         ensures { λ r. ⌜ r ≡ angledOf self q exponential ⌝ }
     {
         match exponential {
-            Elementary::Value(e) => sined(sine::sin_on_path(self.angle(q, e))),
-            Elementary::Refused(n) => Elementary::Refused(n),
+            Answer::Value(e) => sined(sine::sin_on_path(self.angle(q, e))),
+            Answer::Refused(n) => Answer::Refused(n),
         }
     }
 
     // The slope of the cone at the hardening q, as a step of the law: a NaN is 3.
-    pub fn alpha_on_path(self, q: f64) -> Elementary
+    pub(crate) fn alpha_on_path(self, q: f64) -> Answer
         ensures { λ r. ⌜ r ≡ alphaOnPath self q ⌝ }
     {
         self.angled(q, exponential::exp_on_path(self.decay(q)))
     }
 
     // The slope of the cone at the hardening q.
-    pub fn alpha(self, q: f64) -> Elementary
+    pub fn alpha(self, q: f64) -> Answer
         ensures { λ r. ⌜ r ≡ alphaOf self q ⌝ }
     {
         if self.parameters_finite() & numbers::is_finite(q) {
             returned_number(self.alpha_on_path(q))
         } else {
-            Elementary::Refused(1)
+            Answer::Refused(answers::NOT_FINITE)
         }
     }
 }

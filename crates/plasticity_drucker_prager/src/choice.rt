@@ -1,7 +1,7 @@
 // Which branch is taken.
 use crate::Branch;
 use crate::DruckerPragerPlasticity;
-use numbers::Elementary;
+use answers::Answer;
 ghost use mathlib.Core.Path.{_≡_};
 ghost use Rattle.plasticity_drucker_prager.specs.Projection.{strainOf, deviatoricOf, allZero, gammaOf, yieldChoice, choiceOf};
 
@@ -37,11 +37,11 @@ impl DruckerPragerPlasticity {
     }
 
     // The test of gamma, once the deviatoric norm is known. A NaN would compare false: it is refused first.
-    fn choose_yield(self, norm: Elementary, trace: f64, alpha: f64) -> Branch
+    fn choose_yield(self, norm: Answer, trace: f64, alpha: f64) -> Branch
         ensures { λ r. ⌜ r ≡ yieldChoice self norm trace alpha ⌝ }
     {
         match norm {
-            Elementary::Value(x) => {
+            Answer::Value(x) => {
                 let g = self.gamma(x, trace, alpha);
                 if numbers::is_number(g) {
                     if g <= 0.0 {
@@ -50,10 +50,10 @@ impl DruckerPragerPlasticity {
                         Branch::Surface(g, 0.0, x)
                     }
                 } else {
-                    Branch::Refused(3)
+                    Branch::Refused(answers::NO_NUMBER)
                 }
             }
-            Elementary::Refused(n) => Branch::Refused(n),
+            Answer::Refused(n) => Branch::Refused(n),
         }
     }
 
@@ -71,7 +71,7 @@ impl DruckerPragerPlasticity {
                 self.choose_yield(physics::norm_on_path(d), trace, alpha)
             }
         } else {
-            Branch::Refused(3)
+            Branch::Refused(answers::NO_NUMBER)
         }
     }
 }

@@ -4,7 +4,7 @@ mod choice;
 mod projection;
 mod update;
 
-use physics::Pair;
+use answers::Pair;
 ghost use mathlib.Core.Path.{_≡_};
 ghost use Rattle.plasticity_drucker_prager.specs.Law.{defaultsOf, madeOf, newOf, parametersFinite};
 
@@ -64,6 +64,8 @@ impl DruckerPragerPlasticity {
     // 10 degrees.
     pub const H3: f64 = 0.17453292519943295;
 
+    pub const ONLY_ACTIVE_WHEN_FAILED: bool = false;
+
     pub const VOLUME_CORRECTION: f64 = 1.0;
 
     // The law with these moduli and the defaults.
@@ -77,7 +79,7 @@ impl DruckerPragerPlasticity {
             h3: DruckerPragerPlasticity::H3,
             lambda,
             mu,
-            only_active_when_failed: false,
+            only_active_when_failed: DruckerPragerPlasticity::ONLY_ACTIVE_WHEN_FAILED,
             volume_correction: DruckerPragerPlasticity::VOLUME_CORRECTION,
         }
     }

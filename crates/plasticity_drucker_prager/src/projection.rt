@@ -4,23 +4,23 @@ use crate::DruckerPragerPlasticity;
 use crate::Projected;
 use crate::Triple;
 use crate::choice;
-use numbers::Elementary;
+use answers::Answer;
 ghost use mathlib.Core.Path.{_≡_};
 ghost use Rattle.plasticity_drucker_prager.specs.Projection.{joinedOf, logsOf, expsOf, refusedProjection, tipOf, backOf, surfaceOf, returnedOf, strainedOf, loggedOf, projectedOf, returnedProjection, projectOf};
 
 // Three answers in index order: the first refusal is handed on.
-fn joined(a: Elementary, b: Elementary, c: Elementary) -> Triple
+fn joined(a: Answer, b: Answer, c: Answer) -> Triple
     ensures { λ r. ⌜ r ≡ joinedOf a b c ⌝ }
 {
     match a {
-        Elementary::Value(x) => match b {
-            Elementary::Value(y) => match c {
-                Elementary::Value(z) => Triple::Values(x, y, z),
-                Elementary::Refused(n) => Triple::Refused(n),
+        Answer::Value(x) => match b {
+            Answer::Value(y) => match c {
+                Answer::Value(z) => Triple::Values(x, y, z),
+                Answer::Refused(n) => Triple::Refused(n),
             },
-            Elementary::Refused(n) => Triple::Refused(n),
+            Answer::Refused(n) => Triple::Refused(n),
         },
-        Elementary::Refused(n) => Triple::Refused(n),
+        Answer::Refused(n) => Triple::Refused(n),
     }
 }
 
@@ -45,7 +45,7 @@ fn exps(e: [f64; 3]) -> Triple
             exponential::exp_on_path(e[2]),
         )
     } else {
-        Triple::Refused(3)
+        Triple::Refused(answers::NO_NUMBER)
     }
 }
 
@@ -61,11 +61,11 @@ fn refused_projection(n: u8) -> Projected
 }
 
 // All ones, once the norm of the strain is known.
-fn tip(b: Branch, norm: Elementary) -> Projected
+fn tip(b: Branch, norm: Answer) -> Projected
     ensures { λ r. ⌜ r ≡ tipOf b norm ⌝ }
 {
     match norm {
-        Elementary::Value(x) => {
+        Answer::Value(x) => {
             let ones = [1.0, 1.0, 1.0];
             Projected {
                 branch: b,
@@ -73,7 +73,7 @@ fn tip(b: Branch, norm: Elementary) -> Projected
                 dq: x,
             }
         }
-        Elementary::Refused(n) => refused_projection(n),
+        Answer::Refused(n) => refused_projection(n),
     }
 }
 

@@ -2,13 +2,14 @@
 use crate::Branch;
 use crate::DruckerPragerPlasticity;
 use crate::Projected;
-use law::Outcome;
-use law::State;
-use law::Updated;
-use numbers::Elementary;
+use answers::Answer;
+use plasticity::Outcome;
+use plasticity::Scalars;
+use plasticity::State;
+use plasticity::Updated;
 ghost use mathlib.Core.Path.{_≡_};
 ghost use mathlib.Core.Bool.{true};
-ghost use Rattle.law.specs.State.{inputsFinite};
+ghost use Rattle.plasticity.specs.State.{inputsFinite};
 ghost use Rattle.plasticity_drucker_prager.specs.DruckerPrager.{untouchedOf, correctedOf, determinantOf, differenceOf, stateOf, druckerStore, gainedOf, movedOf, branchOf, slopedOf, staysOf, druckerRun, druckerUpdate};
 
 fn untouched(s: State) -> Updated
@@ -28,15 +29,15 @@ fn determinant(d: f64, prev: f64, new: f64) -> f64
 }
 
 // The logarithm of the previous determinant less that of the new: the first refusal is handed on.
-fn difference(prev: Elementary, new: Elementary) -> Elementary
+fn difference(prev: Answer, new: Answer) -> Answer
     ensures { λ r. ⌜ r ≡ differenceOf prev new ⌝ }
 {
     match prev {
-        Elementary::Value(x) => match new {
-            Elementary::Value(y) => Elementary::Value(x - y),
-            Elementary::Refused(n) => Elementary::Refused(n),
+        Answer::Value(x) => match new {
+            Answer::Value(y) => Answer::Value(x - y),
+            Answer::Refused(n) => Answer::Refused(n),
         },
-        Elementary::Refused(n) => Elementary::Refused(n),
+        Answer::Refused(n) => Answer::Refused(n),
     }
 }
 
@@ -46,12 +47,14 @@ fn state_of(f: [[f64; 3]; 3], sigma: [f64; 3], d: f64, hardening: f64, gain: f64
     State {
         f: tensor::to_rows(f),
         sigma,
-        phase: s.phase,
-        plastic_determinant: d,
-        plastic_hardening: hardening,
-        elastic_hardening: s.elastic_hardening,
-        log_gain: gain,
-        alpha: s.alpha,
+        scalars: Scalars {
+            phase: s.scalars.phase,
+            plastic_determinant: d,
+            plastic_hardening: hardening,
+            elastic_hardening: s.scalars.elastic_hardening,
+            log_gain: gain,
+            alpha: s.scalars.alpha,
+        },
     }
 }
 
@@ -78,13 +81,13 @@ fn store(
             outcome: Outcome::Stored(dq),
         }
     } else {
-        law::refuse(3, s)
+        plasticity::refuse(answers::NO_NUMBER, s)
     }
 }
 
 // Once the difference of the logarithms is known.
 fn gained(
-    difference: Elementary,
+    difference: Answer,
     u: [[f64; 3]; 3],
     sigma: [f64; 3],
     vt: [[f64; 3]; 3],
@@ -95,16 +98,16 @@ fn gained(
     ensures { λ r. ⌜ r ≡ gainedOf difference u sigma vt d dq s ⌝ }
 {
     match difference {
-        Elementary::Value(x) => store(
+        Answer::Value(x) => store(
             tensor::recompose(u, sigma, vt),
             sigma,
             d,
-            s.plastic_hardening + dq,
-            s.log_gain + x,
+            s.scalars.plastic_hardening + dq,
+            s.scalars.log_gain + x,
             dq,
             s,
         ),
-        Elementary::Refused(n) => law::refuse(n, s),
+        Answer::Refused(n) => plasticity::refuse(n, s),
     }
 }
 
@@ -136,12 +139,12 @@ impl DruckerPragerPlasticity {
         let old = s.sigma;
         let prev = tensor::product(old);
         let new = self.corrected(prev, tensor::product(sigma));
-        let d = determinant(s.plastic_determinant, prev, new);
+        let d = determinant(s.scalars.plastic_determinant, prev, new);
         if numbers::is_number(d) {
             let x = difference(logarithm::ln_on_path(prev), logarithm::ln_on_path(new));
             gained(x, u, sigma, vt, d, dq, s)
         } else {
-            law::refuse(3, s)
+            plasticity::refuse(answers::NO_NUMBER, s)
         }
     }
 
@@ -155,20 +158,20 @@ impl DruckerPragerPlasticity {
             Branch::Expanding(_, _) => self.moved(sigma, q.dq, u, vt, s),
             Branch::Inside(_, _) => untouched(s),
             Branch::Surface(_, _, _) => self.moved(sigma, q.dq, u, vt, s),
-            Branch::Refused(n) => law::refuse(n, s),
+            Branch::Refused(n) => plasticity::refuse(n, s),
         }
     }
 
     // Once alpha is known.
-    fn sloped(self, alpha: Elementary, u: [[f64; 3]; 3], vt: [[f64; 3]; 3], s: State) -> Updated
+    fn sloped(self, alpha: Answer, u: [[f64; 3]; 3], vt: [[f64; 3]; 3], s: State) -> Updated
         ensures { λ r. ⌜ r ≡ slopedOf self alpha u vt s ⌝ }
     {
         match alpha {
-            Elementary::Value(a) => {
+            Answer::Value(a) => {
                 let sigma = s.sigma;
-                self.branch(self.projected(sigma, s.log_gain, a), u, vt, s)
+                self.branch(self.projected(sigma, s.scalars.log_gain, a), u, vt, s)
             }
-            Elementary::Refused(n) => law::refuse(n, s),
+            Answer::Refused(n) => plasticity::refuse(n, s),
         }
     }
 
@@ -183,10 +186,10 @@ impl DruckerPragerPlasticity {
     fn run(self, u: [[f64; 3]; 3], vt: [[f64; 3]; 3], s: State) -> Updated
         ensures { λ r. ⌜ r ≡ druckerRun self u vt s ⌝ }
     {
-        if self.stays(s.phase) {
+        if self.stays(s.scalars.phase) {
             untouched(s)
         } else {
-            self.sloped(self.alpha_on_path(s.plastic_hardening), u, vt, s)
+            self.sloped(self.alpha_on_path(s.scalars.plastic_hardening), u, vt, s)
         }
     }
 
@@ -195,22 +198,22 @@ impl DruckerPragerPlasticity {
     pub fn update_particle(self, u: [[f64; 3]; 3], vt: [[f64; 3]; 3], s: State) -> Updated
         ensures { λ r. ⌜ r ≡ druckerUpdate self u vt s ⌝ }
     {
-        if self.parameters_finite() & law::inputs_finite(u, vt, s) {
+        if self.parameters_finite() & plasticity::inputs_finite(u, vt, s) {
             self.run(u, vt, s)
         } else {
-            law::refuse(1, s)
+            plasticity::refuse(answers::NOT_FINITE, s)
         }
     }
 
     // The same of a record that is known to be finite: its 36 floats are not tested again.
-    pub fn update_finite(self, u: [[f64; 3]; 3], vt: [[f64; 3]; 3], s: State) -> Updated
+    pub fn update_tested(self, u: [[f64; 3]; 3], vt: [[f64; 3]; 3], s: State) -> Updated
         requires { ⌜ inputsFinite u vt s ≡ true ⌝ }
         ensures { λ r. ⌜ r ≡ druckerUpdate self u vt s ⌝ }
     {
         if self.parameters_finite() {
             self.run(u, vt, s)
         } else {
-            law::refuse(1, s)
+            plasticity::refuse(answers::NOT_FINITE, s)
         }
     }
 }

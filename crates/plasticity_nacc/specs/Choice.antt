@@ -2,7 +2,8 @@
 use mathlib.Core.Bool.{Bool, cond, _&&_}
 use lib.Ieee as Ieee
 use lib.Ieee.{Float, binary64, ofBits}
-use Rattle.numbers.specs.Rules.{isNumber}
+use Rattle.answers.specs.Refusals.{noNumber}
+use Rattle.numbers.specs.Floats.{isNumber}
 use Rattle.tensor.specs.Matrix.{add, sub, mul, div, one}
 use Rattle.plasticity_nacc.specs.declared.Branch.{Branch}
 use Rattle.plasticity_nacc.specs.declared.Branch.the-variants.{Upper, Lower, Inside, Surface, Refused}
@@ -32,18 +33,18 @@ yOf p t = add (mul (y0Of p) (t .squares)) (y1Of p (t .p) (t .p0))
 
 -- "y < 1e-4: untouched, alpha too. Else the surface". A NaN compares false and would be lost: it is refused by 3 before each test
 unfoldable pub yieldChoice : NaccPlasticity → Trial → Branch
-yieldChoice p t = cond (isNumber (yOf p t)) (cond (Ieee.lt (yOf p t) small) (Inside (yOf p t) small) (Surface (yOf p t) small)) (Refused 3)
+yieldChoice p t = cond (isNumber (yOf p t)) (cond (Ieee.lt (yOf p t) small) (Inside (yOf p t) small) (Surface (yOf p t) small)) (Refused noNumber)
 
 -- "p_tr < -beta p0: lower tip"
 unfoldable pub lowerChoice : NaccPlasticity → Trial → Branch
 lowerChoice p t =
     cond (isNumber (lowOf p (t .p0)))
     (cond (Ieee.lt (t .p) (lowOf p (t .p0))) (Lower (t .p) (lowOf p (t .p0))) (yieldChoice p t))
-    (Refused 3)
+    (Refused noNumber)
 
 -- "p_tr > p0: upper tip"; a sum of squares is a NaN exactly where a stress is, and a tip would lose it
 unfoldable pub choiceOf : NaccPlasticity → Trial → Branch
 choiceOf p t =
     cond (isNumber (t .squares) && isNumber (t .p))
     (cond (Ieee.lt (t .p0) (t .p)) (Upper (t .p) (t .p0)) (lowerChoice p t))
-    (Refused 3)
+    (Refused noNumber)

@@ -2,12 +2,13 @@
 use mathlib.Core.Bool.{Bool, cond, _&&_}
 use lib.Ieee as Ieee
 use lib.Ieee.{Float, binary64, ofBits}
-use Rattle.numbers.specs.Rules.{isNumber}
-use Rattle.numbers.specs.Range.{onPath}
-use Rattle.numbers.specs.declared.Elementary.{Elementary}
-use Rattle.numbers.specs.declared.Elementary.the-variants.{Value, Refused}
-use Rattle.physics.specs.declared.Pair.{Pair}
-use Rattle.physics.specs.declared.Pair.the-variants as pair
+use Rattle.answers.specs.Refusals.{noNumber}
+use Rattle.numbers.specs.Floats.{isNumber}
+use Rattle.answers.specs.Range.{onPath}
+use Rattle.answers.specs.declared.Answer.{Answer}
+use Rattle.answers.specs.declared.Answer.the-variants.{Value, Refused}
+use Rattle.answers.specs.declared.Pair.{Pair}
+use Rattle.answers.specs.declared.Pair.the-variants as pair
 use Rattle.logarithm.specs.Ln.{lnRanged}
 use Rattle.square_root.specs.Sqrt.{sqrtRanged}
 use Rattle.tensor.specs.Matrix.{add, sub, mul, div, zero, one}
@@ -18,12 +19,12 @@ use Rattle.plasticity_nacc.specs.Choice.{halfDim}
 use Rattle.plasticity_nacc.specs.Tip.{volumeSquare, raisedOf}
 
 -- two answers in order, multiplied: the first refusal is handed on
-unfoldable pub timesOf : Elementary → Elementary → Elementary
+unfoldable pub timesOf : Answer → Answer → Answer
 timesOf (Value x) (Value y) = Value (mul x y)
 timesOf (Value x) (Refused n) = Refused n
 timesOf (Refused n) b = Refused n
 
-abbrev rootOf : Float → Elementary
+abbrev rootOf : Float → Answer
 rootOf x = onPath x (sqrtRanged x)
 
 -- enabled, p0 > 1e-4, p_tr < p0 - 1e-4, p_tr > -beta p0 + 1e-4: none of these numbers is a NaN once the branch is chosen
@@ -36,12 +37,12 @@ unfoldable pub centreOf : NaccPlasticity → Float → Float
 centreOf p p0 = div (mul (sub one (p .cohesion)) p0) two
 
 -- a vector of two over its norm, the root of the sum of the two squares
-unfoldable pub normalisedOf : Float → Float → Elementary → Pair
+unfoldable pub normalisedOf : Float → Float → Answer → Pair
 normalisedOf x y (Value norm) = pair.Values (div x norm) (div y norm)
 normalisedOf x y (Refused n) = pair.Refused n
 
 -- the direction of (x, 0 - q)
-unfoldable pub aimedOf : Float → Elementary → Pair
+unfoldable pub aimedOf : Float → Answer → Pair
 aimedOf x (Value q) = normalisedOf x (sub zero q) (rootOf (add (mul x x) (mul (sub zero q) (sub zero q))))
 aimedOf x (Refused n) = pair.Refused n
 
@@ -69,24 +70,24 @@ unfoldable pub discriminantOf : Float → Float → Float → Float
 discriminantOf a b c = sub (mul b b) (mul (mul (ofBits binary64 0x4010_0000_0000_0000) a) c)
 
 -- p1 where (p_tr - p_c) (p1 - p_c) > 0, else p2; both are worked, so a NaN in either is met, and one in the test would be lost
-unfoldable pub pickedOf : Float → Float → Float → Float → Elementary
+unfoldable pub pickedOf : Float → Float → Float → Float → Answer
 pickedOf pTr centre p1 p2 =
     cond (isNumber p1 && isNumber p2 && isNumber (mul (sub pTr centre) (sub p1 centre)))
     (cond (Ieee.lt zero (mul (sub pTr centre) (sub p1 centre))) (Value p1) (Value p2))
-    (Refused 3)
+    (Refused noNumber)
 
 -- p_c + n / (2 a) d0
 unfoldable pub crossingAt : Float → Float → Float → Float → Float
 crossingAt centre n a d0 = add centre (mul (div n (mul two a)) d0)
 
 -- once the discriminant's root is known: n is -b + root, then -b - root
-unfoldable pub crossedOf : Elementary → Float → Float → Float → Float → Float → Elementary
+unfoldable pub crossedOf : Answer → Float → Float → Float → Float → Float → Answer
 crossedOf (Value root) a b d0 centre pTr =
     pickedOf pTr centre (crossingAt centre (add (Ieee.neg b) root) a d0) (crossingAt centre (sub (Ieee.neg b) root) a d0)
 crossedOf (Refused n) a b d0 centre pTr = Refused n
 
 -- the pressure at the crossing, p_x; a NaN in a coefficient is in the discriminant
-unfoldable pub crossingOf : NaccPlasticity → Float → Float → Float → Trial → Elementary
+unfoldable pub crossingOf : NaccPlasticity → Float → Float → Float → Trial → Answer
 crossingOf p d0 d1 centre t =
     let a = quadraticOf p d0 d1 in
     let b = linearOf p centre (t .p0) d0 in
@@ -98,26 +99,26 @@ unfoldable pub sizeOf : Float → Float
 sizeOf x = cond (Ieee.le x zero) (sub zero x) x
 
 -- once p_x is known: the volume there, the root of |-2 p_x / kappa + 1|
-unfoldable pub volumeOf : NaccPlasticity → Elementary → Elementary
+unfoldable pub volumeOf : NaccPlasticity → Answer → Answer
 volumeOf p (Value x) = rootOf (sizeOf (volumeSquare p x))
 volumeOf p (Refused n) = Refused n
 
 -- once that volume is known: above 1e-4 alpha grows by the logarithm of j over it
-unfoldable pub grownOf : Elementary → Float → Float → Elementary
+unfoldable pub grownOf : Answer → Float → Float → Answer
 grownOf (Value x) j alpha = cond (Ieee.lt small x) (raisedOf alpha (onPath (div j x) (lnRanged (div j x)))) (Value alpha)
 grownOf (Refused n) j alpha = Refused n
 
 -- once the direction is known
-unfoldable pub directedOf : NaccPlasticity → Pair → Float → Trial → Float → Elementary
+unfoldable pub directedOf : NaccPlasticity → Pair → Float → Trial → Float → Answer
 directedOf p (pair.Values d0 d1) centre t alpha = grownOf (volumeOf p (crossingOf p d0 d1 centre t)) (t .j) alpha
 directedOf p (pair.Refused n) centre t alpha = Refused n
 
 -- p_c comes before the first root: its NaN is met first
-unfoldable pub hardeningStep : NaccPlasticity → Trial → Float → Elementary
+unfoldable pub hardeningStep : NaccPlasticity → Trial → Float → Answer
 hardeningStep p t alpha =
     let centre = centreOf p (t .p0) in
-    cond (isNumber centre) (directedOf p (directionOf t centre) centre t alpha) (Refused 3)
+    cond (isNumber centre) (directedOf p (directionOf t centre) centre t alpha) (Refused noNumber)
 
 -- the new alpha
-unfoldable pub hardenedOf : NaccPlasticity → Trial → Float → Elementary
+unfoldable pub hardenedOf : NaccPlasticity → Trial → Float → Answer
 hardenedOf p t alpha = cond (hardens p t) (hardeningStep p t alpha) (Value alpha)

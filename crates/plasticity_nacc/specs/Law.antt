@@ -1,10 +1,12 @@
 -- The NACC law of its arguments: `with_m` and `new` (document 01, section 6; plasticity_nacc.rs).
 use mathlib.Core.Bool.{Bool, cond, _&&_}
 use lib.Ieee.{Float, binary64, ofBits}
-use Rattle.numbers.specs.Rules.{finite}
-use Rattle.numbers.specs.Range.{onPath}
-use Rattle.numbers.specs.declared.Elementary.{Elementary}
-use Rattle.numbers.specs.declared.Elementary.the-variants as elementary
+use Rattle.answers.specs.Refusals.{notFinite, noNumber}
+use Rattle.numbers.specs.Constants.{three}
+use Rattle.numbers.specs.Floats.{finite}
+use Rattle.answers.specs.Range.{onPath}
+use Rattle.answers.specs.declared.Answer.{Answer}
+use Rattle.answers.specs.declared.Answer.the-variants as answers
 use Rattle.physics.specs.Physics.{shearModulusOf, bulkModulusOf}
 use Rattle.sine.specs.Sine.{sinRanged}
 use Rattle.square_root.specs.Sqrt.{sqrtRanged}
@@ -62,25 +64,25 @@ moduliFinite p = finite (p .mu) && finite (p .kappa)
 -- `with_m`: 1 for an argument, then 3 for a modulus
 unfoldable pub madeOf : NaccArguments → Made
 madeOf a =
-    cond (elasticFinite a && parametersFinite (lawOf a)) (cond (moduliFinite (lawOf a)) (Law (lawOf a)) (Refused 3)) (Refused 1)
+    cond (elasticFinite a && parametersFinite (lawOf a)) (cond (moduliFinite (lawOf a)) (Law (lawOf a)) (Refused noNumber)) (Refused notFinite)
 
 -- root(2/3) 2 s / (3 - s) 3 / root(2/(6 - 3)), with s the sine of the friction angle; the two roots are one number r
 unfoldable pub frictionOf : Float → Float → Float
-frictionOf r s = div (mul (div (mul (mul r two) s) (sub dim s)) dim) r
+frictionOf r s = div (mul (div (mul (mul r two) s) (sub three s)) dim) r
 
 -- once the root is known; a number to be returned is finite, else 3
-unfoldable pub frictionRooted : Elementary → Float → Elementary
-frictionRooted (elementary.Value r) s =
-    cond (finite (frictionOf r s)) (elementary.Value (frictionOf r s)) (elementary.Refused 3)
-frictionRooted (elementary.Refused n) s = elementary.Refused n
+unfoldable pub frictionRooted : Answer → Float → Answer
+frictionRooted (answers.Value r) s =
+    cond (finite (frictionOf r s)) (answers.Value (frictionOf r s)) (answers.Refused noNumber)
+frictionRooted (answers.Refused n) s = answers.Refused n
 
 -- once the sine is known
-unfoldable pub frictionSined : Elementary → Elementary
-frictionSined (elementary.Value s) = frictionRooted (onPath (div two dim) (sqrtRanged (div two dim))) s
-frictionSined (elementary.Refused n) = elementary.Refused n
+unfoldable pub frictionSined : Answer → Answer
+frictionSined (answers.Value s) = frictionRooted (onPath (div two three) (sqrtRanged (div two three))) s
+frictionSined (answers.Refused n) = answers.Refused n
 
-unfoldable pub framedOf : NaccPlasticity → Elementary → Made
-framedOf p (elementary.Value m) =
+unfoldable pub framedOf : NaccPlasticity → Answer → Made
+framedOf p (answers.Value m) =
     Law (record {
       mu = p .mu;
       kappa = p .kappa;
@@ -89,7 +91,7 @@ framedOf p (elementary.Value m) =
       cohesion = p .cohesion;
       friction = m;
     })
-framedOf p (elementary.Refused n) = Refused n
+framedOf p (answers.Refused n) = Refused n
 
 -- `new`: the law that `with_m` makes with the friction angle in m's place; the angle's sine comes after the moduli
 unfoldable pub angledOf : Made → Made

@@ -3,19 +3,20 @@ use mathlib.Core.Bool.{Bool, cond, _&&_}
 use mathlib.Core.List.{List}
 use Prim.Native.Nat.{ℕ}
 use lib.Ieee.{Float}
-use Rattle.numbers.specs.Rules.{finite}
-use Rattle.numbers.specs.Range.{onPath}
-use Rattle.numbers.specs.declared.Elementary.{Elementary}
-use Rattle.numbers.specs.declared.Elementary.the-variants as elementary
+use Rattle.answers.specs.Refusals.{notFinite, noNumber}
+use Rattle.numbers.specs.Floats.{finite}
+use Rattle.answers.specs.Range.{onPath}
+use Rattle.answers.specs.declared.Answer.{Answer}
+use Rattle.answers.specs.declared.Answer.the-variants as answers
 use Rattle.thirds.specs.Thirds.{invCbrtSquaredRanged}
 use Rattle.tensor.specs.Matrix.{zero, productOf, recomposeOf, rowsOf}
 use Rattle.tensor.specs.Finite.{rowFinite, matFinite}
 use Rattle.tensor.specs.Answer.{zeroRow, zeroRows}
 use Rattle.tensor.specs.declared.Rows.{Rows}
-use Rattle.law.specs.State.{inputsFinite, refused}
-use Rattle.law.specs.declared.Outcome.the-variants as outcome
-use Rattle.law.specs.declared.State.{State}
-use Rattle.law.specs.declared.Updated.{Updated}
+use Rattle.plasticity.specs.State.{inputsFinite, refused}
+use Rattle.plasticity.specs.declared.Outcome.the-variants as outcome
+use Rattle.plasticity.specs.declared.State.{State}
+use Rattle.plasticity.specs.declared.Updated.{Updated}
 use Rattle.plasticity_nacc.specs.declared.Branch.{Branch}
 use Rattle.plasticity_nacc.specs.declared.Branch.the-variants.{Upper, Lower, Inside, Surface, Refused}
 use Rattle.plasticity_nacc.specs.declared.NaccArguments.{NaccArguments}
@@ -41,15 +42,15 @@ unfoldable pub triedOf : NaccPlasticity → Trial → List Float → Float → S
 triedOf p t sigma alpha = workedOf p (choiceOf p t) t sigma alpha
 
 -- once j to the power -2/3 is known
-unfoldable pub poweredOf : NaccPlasticity → Elementary → Float → Float → List Float → Float → Stepped
-poweredOf p (elementary.Value w) p0 j sigma alpha = triedOf p (trialOf p w p0 j sigma) sigma alpha
-poweredOf p (elementary.Refused n) p0 j sigma alpha = refusedStep n
+unfoldable pub poweredOf : NaccPlasticity → Answer → Float → Float → List Float → Float → Stepped
+poweredOf p (answers.Value w) p0 j sigma alpha = triedOf p (trialOf p w p0 j sigma) sigma alpha
+poweredOf p (answers.Refused n) p0 j sigma alpha = refusedStep n
 
 -- once p0 is known; j is the product of sigma, and a NaN there is the power's 3
-unfoldable pub pressedOf : NaccPlasticity → Elementary → List Float → Float → Stepped
-pressedOf p (elementary.Value p0) sigma alpha =
+unfoldable pub pressedOf : NaccPlasticity → Answer → List Float → Float → Stepped
+pressedOf p (answers.Value p0) sigma alpha =
     poweredOf p (onPath (productOf sigma) (invCbrtSquaredRanged (productOf sigma))) p0 (productOf sigma) sigma alpha
-pressedOf p (elementary.Refused n) sigma alpha = refusedStep n
+pressedOf p (answers.Refused n) sigma alpha = refusedStep n
 
 -- the steps in the law's order
 unfoldable pub stepsOf : NaccPlasticity → List Float → Float → Stepped
@@ -63,7 +64,7 @@ unfoldable pub recomposedOf : Branch → List (List Float) → List Float → Li
 recomposedOf b u sigma vt alpha =
     cond (matFinite (recomposeOf u sigma vt) && rowFinite sigma && finite alpha)
     (record { branch = b; f = rowsOf (recomposeOf u sigma vt); sigma = sigma; alpha = alpha })
-    (refusedProjection 3)
+    (refusedProjection noNumber)
 
 -- inside the yield surface F is as it came
 abbrev pub byBranch : Branch → List Float → Float → Rows → List (List Float) → List (List Float) → Projected
@@ -84,8 +85,8 @@ projectionInputs p f u sigma vt alpha =
 unfoldable pub projectOf : NaccPlasticity → List (List Float) → List (List Float) → List Float → List (List Float) → Float → Projected
 projectOf p f u sigma vt alpha =
     cond (projectionInputs p f u sigma vt alpha)
-    (cond (moduliFinite p) (projectedOf (stepsOf p sigma alpha) (rowsOf f) u vt) (refusedProjection 3))
-    (refusedProjection 1)
+    (cond (moduliFinite p) (projectedOf (stepsOf p sigma alpha) (rowsOf f) u vt) (refusedProjection noNumber))
+    (refusedProjection notFinite)
 
 -- ---- the update: F, sigma and alpha are new, and alpha is the amount
 abbrev pub stateOf : Rows → List Float → Float → State → State
@@ -93,12 +94,14 @@ stateOf f sigma alpha s =
     record {
       f = f;
       sigma = sigma;
-      phase = s .phase;
-      «plastic_determinant» = s .«plastic_determinant»;
-      «plastic_hardening» = s .«plastic_hardening»;
-      «elastic_hardening» = s .«elastic_hardening»;
-      «log_gain» = s .«log_gain»;
-      alpha = alpha;
+      scalars = record {
+        phase = s .scalars .phase;
+        «plastic_determinant» = s .scalars .«plastic_determinant»;
+        «plastic_hardening» = s .scalars .«plastic_hardening»;
+        «elastic_hardening» = s .scalars .«elastic_hardening»;
+        «log_gain» = s .scalars .«log_gain»;
+        alpha = alpha;
+      };
     }
 
 abbrev pub storedAs : Rows → List Float → Float → State → Updated
@@ -116,13 +119,13 @@ unfoldable pub storedOf : Projected → State → Updated
 storedOf q s = storedBy (q .branch) (q .f) (q .sigma) (q .alpha) s
 
 unfoldable pub naccRun : NaccPlasticity → List (List Float) → List (List Float) → State → Updated
-naccRun p u vt s = storedOf (projectedOf (stepsOf p (s .sigma) (s .alpha)) (s .f) u vt) s
+naccRun p u vt s = storedOf (projectedOf (stepsOf p (s .sigma) (s .scalars .alpha)) (s .f) u vt) s
 
 -- 1 comes first, then the moduli by 3
 unfoldable pub naccUpdate : NaccPlasticity → List (List Float) → List (List Float) → State → Updated
 naccUpdate p u vt s =
-    cond (parametersFinite p && inputsFinite u vt s) (cond (moduliFinite p) (naccRun p u vt s) (refused 3 s)) (refused 1 s)
+    cond (parametersFinite p && inputsFinite u vt s) (cond (moduliFinite p) (naccRun p u vt s) (refused noNumber s)) (refused notFinite s)
 
 -- by the law that `with_m` makes of the arguments
 unfoldable pub argumentsUpdate : NaccArguments → List (List Float) → List (List Float) → State → Updated
-argumentsUpdate a u vt s = cond (elasticFinite a) (naccUpdate (lawOf a) u vt s) (refused 1 s)
+argumentsUpdate a u vt s = cond (elasticFinite a) (naccUpdate (lawOf a) u vt s) (refused notFinite s)

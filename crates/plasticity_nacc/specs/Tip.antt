@@ -3,9 +3,9 @@ use mathlib.Core.Bool.{cond}
 use Prim.Native.Nat.{ℕ}
 use lib.Ieee as Ieee
 use lib.Ieee.{Float}
-use Rattle.numbers.specs.Range.{onPath}
-use Rattle.numbers.specs.declared.Elementary.{Elementary}
-use Rattle.numbers.specs.declared.Elementary.the-variants as elementary
+use Rattle.answers.specs.Range.{onPath}
+use Rattle.answers.specs.declared.Answer.{Answer}
+use Rattle.answers.specs.declared.Answer.the-variants as answers
 use Rattle.logarithm.specs.Ln.{lnRanged}
 use Rattle.square_root.specs.Sqrt.{sqrtRanged}
 use Rattle.thirds.specs.Thirds.{cbrtRanged}
@@ -29,25 +29,25 @@ unfoldable pub lowerSquare : NaccPlasticity → Float → Float
 lowerSquare p p0 = add (div (mul (mul two (p .cohesion)) p0) (p .kappa)) one
 
 -- alpha and a logarithm, once it is known
-unfoldable pub raisedOf : Float → Elementary → Elementary
-raisedOf alpha (elementary.Value x) = elementary.Value (add alpha x)
-raisedOf alpha (elementary.Refused n) = elementary.Refused n
+unfoldable pub raisedOf : Float → Answer → Answer
+raisedOf alpha (answers.Value x) = answers.Value (add alpha x)
+raisedOf alpha (answers.Refused n) = answers.Refused n
 
 -- with no hardening alpha stays
-unfoldable pub tipAlpha : NaccPlasticity → Float → Float → Elementary
+unfoldable pub tipAlpha : NaccPlasticity → Float → Float → Answer
 tipAlpha p alpha ratio =
-    cond (p .«hardening_enabled») (raisedOf alpha (onPath ratio (lnRanged ratio))) (elementary.Value alpha)
+    cond (p .«hardening_enabled») (raisedOf alpha (onPath ratio (lnRanged ratio))) (answers.Value alpha)
 
 -- all singular values alike; the cube root comes before the logarithm
-unfoldable pub filledOf : Branch → Elementary → Elementary → Stepped
-filledOf b (elementary.Value x) (elementary.Value a) = record { branch = b; sigma = three x x x; alpha = a }
-filledOf b (elementary.Value x) (elementary.Refused n) = refusedStep n
-filledOf b (elementary.Refused n) a = refusedStep n
+unfoldable pub filledOf : Branch → Answer → Answer → Stepped
+filledOf b (answers.Value x) (answers.Value a) = record { branch = b; sigma = three x x x; alpha = a }
+filledOf b (answers.Value x) (answers.Refused n) = refusedStep n
+filledOf b (answers.Refused n) a = refusedStep n
 
 -- once the tip's volume x is known: its cube root, and alpha raised by the logarithm of j / x
-unfoldable pub rootedOf : NaccPlasticity → Branch → Elementary → Float → Float → Stepped
-rootedOf p b (elementary.Value x) j alpha = filledOf b (onPath x (cbrtRanged x)) (tipAlpha p alpha (div j x))
-rootedOf p b (elementary.Refused n) j alpha = refusedStep n
+unfoldable pub rootedOf : NaccPlasticity → Branch → Answer → Float → Float → Stepped
+rootedOf p b (answers.Value x) j alpha = filledOf b (onPath x (cbrtRanged x)) (tipAlpha p alpha (div j x))
+rootedOf p b (answers.Refused n) j alpha = refusedStep n
 
 unfoldable pub tipOf : NaccPlasticity → Branch → Float → Float → Float → Stepped
 tipOf p b square j alpha = rootedOf p b (onPath square (sqrtRanged square)) j alpha

@@ -2,10 +2,10 @@
 use mathlib.Core.List.{List, map}
 use lib.Ieee as Ieee
 use lib.Ieee.{Float, binary64, ofBits}
-use Rattle.numbers.specs.Rules.{maxOf}
-use Rattle.numbers.specs.Range.{onPath}
-use Rattle.numbers.specs.declared.Elementary.{Elementary}
-use Rattle.numbers.specs.declared.Elementary.the-variants.{Value, Refused}
+use Rattle.numbers.specs.Floats.{maxOf}
+use Rattle.answers.specs.Range.{onPath}
+use Rattle.answers.specs.declared.Answer.{Answer}
+use Rattle.answers.specs.declared.Answer.the-variants.{Value, Refused}
 use Rattle.exponential.specs.Sinh.{sinhRanged}
 use Rattle.tensor.specs.Matrix.{add, sub, mul, div, zero, one, sumOf, dotOf}
 use Rattle.plasticity_nacc.specs.declared.NaccPlasticity.{NaccPlasticity}
@@ -28,11 +28,11 @@ unfoldable pub p0From : NaccPlasticity → Float → Float
 p0From p x = mul (p .kappa) (add (ofBits binary64 0x3ee4_f8b5_88e3_68f1) x)
 
 -- once the hyperbolic sine is known; p0 comes before the power of j: its NaN is met first
-unfoldable pub p0Of : NaccPlasticity → Elementary → Elementary
+unfoldable pub p0Of : NaccPlasticity → Answer → Answer
 p0Of p (Value x) = onPath (p0From p x) (Value (p0From p x))
 p0Of p (Refused n) = Refused n
 
-unfoldable pub p0OnPath : NaccPlasticity → Float → Elementary
+unfoldable pub p0OnPath : NaccPlasticity → Float → Answer
 p0OnPath p alpha = p0Of p (onPath (softeningOf p alpha) (sinhRanged (softeningOf p alpha)))
 
 -- mu w (sigma^2 - mean), with w the power -2/3 of j

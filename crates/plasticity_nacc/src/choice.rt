@@ -43,7 +43,7 @@ impl NaccPlasticity {
                 Branch::Surface(y, 0.0001)
             }
         } else {
-            Branch::Refused(3)
+            Branch::Refused(answers::NO_NUMBER)
         }
     }
 
@@ -59,7 +59,7 @@ impl NaccPlasticity {
                 self.choose_yield(t)
             }
         } else {
-            Branch::Refused(3)
+            Branch::Refused(answers::NO_NUMBER)
         }
     }
 
@@ -74,7 +74,7 @@ impl NaccPlasticity {
                 self.choose_lower(t)
             }
         } else {
-            Branch::Refused(3)
+            Branch::Refused(answers::NO_NUMBER)
         }
     }
 }

@@ -2,44 +2,44 @@
 use crate::NaccPlasticity;
 use crate::Trial;
 use crate::tip;
-use numbers::Elementary;
-use physics::Pair;
+use answers::Answer;
+use answers::Pair;
 ghost use mathlib.Core.Path.{_≡_};
 ghost use Rattle.plasticity_nacc.specs.Hardening.{timesOf, hardens, centreOf, normalisedOf, aimedOf, directionOf, quadraticOf, linearOf, constantOf, discriminantOf, pickedOf, crossingAt, crossedOf, crossingOf, sizeOf, grownOf, volumeOf, directedOf, hardeningStep, hardenedOf};
 
 // Two answers in order, multiplied: the first refusal is handed on.
-pub fn times(a: Elementary, b: Elementary) -> Elementary
+pub fn times(a: Answer, b: Answer) -> Answer
     ensures { λ r. ⌜ r ≡ timesOf a b ⌝ }
 {
     match a {
-        Elementary::Value(x) => match b {
-            Elementary::Value(y) => Elementary::Value(x * y),
-            Elementary::Refused(n) => Elementary::Refused(n),
+        Answer::Value(x) => match b {
+            Answer::Value(y) => Answer::Value(x * y),
+            Answer::Refused(n) => Answer::Refused(n),
         },
-        Elementary::Refused(n) => Elementary::Refused(n),
+        Answer::Refused(n) => Answer::Refused(n),
     }
 }
 
 // Once the norm of (x, y) is known.
-fn normalised(x: f64, y: f64, norm: Elementary) -> Pair
+fn normalised(x: f64, y: f64, norm: Answer) -> Pair
     ensures { λ r. ⌜ r ≡ normalisedOf x y norm ⌝ }
 {
     match norm {
-        Elementary::Value(n) => Pair::Values(x / n, y / n),
-        Elementary::Refused(k) => Pair::Refused(k),
+        Answer::Value(n) => Pair::Values(x / n, y / n),
+        Answer::Refused(k) => Pair::Refused(k),
     }
 }
 
 // The direction of (x, 0 - q), once q is known.
-fn aimed(x: f64, q: Elementary) -> Pair
+fn aimed(x: f64, q: Answer) -> Pair
     ensures { λ r. ⌜ r ≡ aimedOf x q ⌝ }
 {
     match q {
-        Elementary::Value(v) => {
+        Answer::Value(v) => {
             let y = 0.0 - v;
             normalised(x, y, square_root::sqrt_on_path(x * x + y * y))
         }
-        Elementary::Refused(n) => Pair::Refused(n),
+        Answer::Refused(n) => Pair::Refused(n),
     }
 }
 
@@ -61,18 +61,18 @@ fn discriminant(a: f64, b: f64, c: f64) -> f64
 }
 
 // The crossing on the trial state's side. Both are worked, and a NaN would compare false: any is refused first.
-fn picked(p: f64, centre: f64, p1: f64, p2: f64) -> Elementary
+fn picked(p: f64, centre: f64, p1: f64, p2: f64) -> Answer
     ensures { λ r. ⌜ r ≡ pickedOf p centre p1 p2 ⌝ }
 {
     let side = (p - centre) * (p1 - centre);
     if numbers::is_number(p1) & numbers::is_number(p2) & numbers::is_number(side) {
         if side > 0.0 {
-            Elementary::Value(p1)
+            Answer::Value(p1)
         } else {
-            Elementary::Value(p2)
+            Answer::Value(p2)
         }
     } else {
-        Elementary::Refused(3)
+        Answer::Refused(answers::NO_NUMBER)
     }
 }
 
@@ -84,16 +84,16 @@ fn crossing_at(centre: f64, n: f64, a: f64, d0: f64) -> f64
 }
 
 // Once the discriminant's root is known.
-fn crossed(root: Elementary, a: f64, b: f64, d0: f64, centre: f64, p: f64) -> Elementary
+fn crossed(root: Answer, a: f64, b: f64, d0: f64, centre: f64, p: f64) -> Answer
     ensures { λ r. ⌜ r ≡ crossedOf root a b d0 centre p ⌝ }
 {
     match root {
-        Elementary::Value(r) => {
+        Answer::Value(r) => {
             let p1 = crossing_at(centre, -b + r, a, d0);
             let p2 = crossing_at(centre, -b - r, a, d0);
             picked(p, centre, p1, p2)
         }
-        Elementary::Refused(n) => Elementary::Refused(n),
+        Answer::Refused(n) => Answer::Refused(n),
     }
 }
 
@@ -105,18 +105,18 @@ fn size(x: f64) -> f64
 }
 
 // Once the volume at the crossing is known.
-fn grown(volume: Elementary, j: f64, alpha: f64) -> Elementary
+fn grown(volume: Answer, j: f64, alpha: f64) -> Answer
     ensures { λ r. ⌜ r ≡ grownOf volume j alpha ⌝ }
 {
     match volume {
-        Elementary::Value(x) => {
+        Answer::Value(x) => {
             if x > 0.0001 {
                 tip::raised(alpha, logarithm::ln_on_path(j / x))
             } else {
-                Elementary::Value(alpha)
+                Answer::Value(alpha)
             }
         }
-        Elementary::Refused(n) => Elementary::Refused(n),
+        Answer::Refused(n) => Answer::Refused(n),
     }
 }
 
@@ -158,7 +158,7 @@ impl NaccPlasticity {
     }
 
     // The pressure at the crossing. A NaN in a coefficient is in the discriminant.
-    fn crossing(self, d0: f64, d1: f64, centre: f64, t: Trial) -> Elementary
+    fn crossing(self, d0: f64, d1: f64, centre: f64, t: Trial) -> Answer
         ensures { λ r. ⌜ r ≡ crossingOf self d0 d1 centre t ⌝ }
     {
         let c = self.constant(centre, t.p0);
@@ -175,17 +175,17 @@ impl NaccPlasticity {
     }
 
     // The volume at the crossing, once its pressure is known.
-    fn volume(self, crossing: Elementary) -> Elementary
+    fn volume(self, crossing: Answer) -> Answer
         ensures { λ r. ⌜ r ≡ volumeOf self crossing ⌝ }
     {
         match crossing {
-            Elementary::Value(p) => square_root::sqrt_on_path(size(self.volume_square(p))),
-            Elementary::Refused(n) => Elementary::Refused(n),
+            Answer::Value(p) => square_root::sqrt_on_path(size(self.volume_square(p))),
+            Answer::Refused(n) => Answer::Refused(n),
         }
     }
 
     // Once the direction is known.
-    fn directed(self, direction: Pair, centre: f64, t: Trial, alpha: f64) -> Elementary
+    fn directed(self, direction: Pair, centre: f64, t: Trial, alpha: f64) -> Answer
         ensures { λ r. ⌜ r ≡ directedOf self direction centre t alpha ⌝ }
     {
         match direction {
@@ -193,30 +193,30 @@ impl NaccPlasticity {
                 let v = self.volume(self.crossing(d0, d1, centre, t));
                 grown(v, t.j, alpha)
             }
-            Pair::Refused(n) => Elementary::Refused(n),
+            Pair::Refused(n) => Answer::Refused(n),
         }
     }
 
     // The centre is worked before the first root: its NaN is met first.
-    fn hardening_step(self, t: Trial, alpha: f64) -> Elementary
+    fn hardening_step(self, t: Trial, alpha: f64) -> Answer
         ensures { λ r. ⌜ r ≡ hardeningStep self t alpha ⌝ }
     {
         let centre = self.centre(t.p0);
         if numbers::is_number(centre) {
             self.directed(direction(t, centre), centre, t, alpha)
         } else {
-            Elementary::Refused(3)
+            Answer::Refused(answers::NO_NUMBER)
         }
     }
 
     // The new alpha.
-    pub(crate) fn hardened(self, t: Trial, alpha: f64) -> Elementary
+    pub(crate) fn hardened(self, t: Trial, alpha: f64) -> Answer
         ensures { λ r. ⌜ r ≡ hardenedOf self t alpha ⌝ }
     {
         if self.hardens(t) {
             self.hardening_step(t, alpha)
         } else {
-            Elementary::Value(alpha)
+            Answer::Value(alpha)
         }
     }
 }

@@ -6,23 +6,23 @@ use crate::Trial;
 use crate::Triple;
 use crate::hardening;
 use crate::tip;
-use numbers::Elementary;
+use answers::Answer;
 ghost use mathlib.Core.Path.{_≡_};
 ghost use Rattle.plasticity_nacc.specs.Surface.{joinedOf, rootsOf, spreadOf, landedOf, normedOf, scaledOf, ratioOf, overMu, scaleOf, alphaedOf, surfaceOf};
 
 // Three answers in index order: the first refusal is handed on.
-fn joined(a: Elementary, b: Elementary, c: Elementary) -> Triple
+fn joined(a: Answer, b: Answer, c: Answer) -> Triple
     ensures { λ r. ⌜ r ≡ joinedOf a b c ⌝ }
 {
     match a {
-        Elementary::Value(x) => match b {
-            Elementary::Value(y) => match c {
-                Elementary::Value(z) => Triple::Values(x, y, z),
-                Elementary::Refused(n) => Triple::Refused(n),
+        Answer::Value(x) => match b {
+            Answer::Value(y) => match c {
+                Answer::Value(z) => Triple::Values(x, y, z),
+                Answer::Refused(n) => Triple::Refused(n),
             },
-            Elementary::Refused(n) => Triple::Refused(n),
+            Answer::Refused(n) => Triple::Refused(n),
         },
-        Elementary::Refused(n) => Triple::Refused(n),
+        Answer::Refused(n) => Triple::Refused(n),
     }
 }
 
@@ -37,7 +37,7 @@ fn roots(e: [f64; 3]) -> Triple
             square_root::sqrt_on_path(e[2]),
         )
     } else {
-        Triple::Refused(3)
+        Triple::Refused(answers::NO_NUMBER)
     }
 }
 
@@ -70,31 +70,31 @@ fn landed(b: Branch, sigma: Triple, alpha: f64) -> Stepped
 }
 
 // Once the stress's norm is known.
-fn normed(b: Branch, k: f64, norm: Elementary, t: Trial, alpha: f64) -> Stepped
+fn normed(b: Branch, k: f64, norm: Answer, t: Trial, alpha: f64) -> Stepped
     ensures { λ r. ⌜ r ≡ normedOf b k norm t alpha ⌝ }
 {
     match norm {
-        Elementary::Value(n) => {
+        Answer::Value(n) => {
             let s = t.s;
             landed(b, roots(spread(k, s, n, t.mean)), alpha)
         }
-        Elementary::Refused(n) => tip::refused_step(n),
+        Answer::Refused(n) => tip::refused_step(n),
     }
 }
 
 // Once the scale is known; it is worked before the norm: its NaN is met first.
-fn scaled(b: Branch, scale: Elementary, t: Trial, alpha: f64) -> Stepped
+fn scaled(b: Branch, scale: Answer, t: Trial, alpha: f64) -> Stepped
     ensures { λ r. ⌜ r ≡ scaledOf b scale t alpha ⌝ }
 {
     match scale {
-        Elementary::Value(k) => {
+        Answer::Value(k) => {
             if numbers::is_number(k) {
                 normed(b, k, square_root::sqrt_on_path(t.squares), t, alpha)
             } else {
                 tip::refused_step(3)
             }
         }
-        Elementary::Refused(n) => tip::refused_step(n),
+        Answer::Refused(n) => tip::refused_step(n),
     }
 }
 
@@ -105,17 +105,17 @@ impl NaccPlasticity {
         -self.y1(t.p, t.p0) / self.y0()
     }
 
-    fn over_mu(self, power: Elementary) -> Elementary
+    fn over_mu(self, power: Answer) -> Answer
         ensures { λ r. ⌜ r ≡ overMu self power ⌝ }
     {
         match power {
-            Elementary::Value(w) => Elementary::Value(w / self.mu),
-            Elementary::Refused(n) => Elementary::Refused(n),
+            Answer::Value(w) => Answer::Value(w / self.mu),
+            Answer::Refused(n) => Answer::Refused(n),
         }
     }
 
     // The root of -y1 / y0 times j to the power 2/3 over mu.
-    fn scale(self, t: Trial) -> Elementary
+    fn scale(self, t: Trial) -> Answer
         ensures { λ r. ⌜ r ≡ scaleOf self t ⌝ }
     {
         hardening::times(
@@ -125,12 +125,12 @@ impl NaccPlasticity {
     }
 
     // Once the new alpha is known.
-    fn alphaed(self, b: Branch, alpha: Elementary, t: Trial) -> Stepped
+    fn alphaed(self, b: Branch, alpha: Answer, t: Trial) -> Stepped
         ensures { λ r. ⌜ r ≡ alphaedOf self b alpha t ⌝ }
     {
         match alpha {
-            Elementary::Value(a) => scaled(b, self.scale(t), t, a),
-            Elementary::Refused(n) => tip::refused_step(n),
+            Answer::Value(a) => scaled(b, self.scale(t), t, a),
+            Answer::Refused(n) => tip::refused_step(n),
         }
     }
 

@@ -2,7 +2,7 @@
 use crate::Branch;
 use crate::NaccPlasticity;
 use crate::Stepped;
-use numbers::Elementary;
+use answers::Answer;
 ghost use mathlib.Core.Path.{_≡_};
 ghost use Rattle.plasticity_nacc.specs.Tip.{refusedStep, volumeSquare, lowerSquare, raisedOf, tipAlpha, filledOf, rootedOf, tipOf};
 
@@ -18,22 +18,22 @@ pub fn refused_step(n: u8) -> Stepped
 }
 
 // Alpha and a logarithm, once it is known.
-pub fn raised(alpha: f64, log: Elementary) -> Elementary
+pub fn raised(alpha: f64, log: Answer) -> Answer
     ensures { λ r. ⌜ r ≡ raisedOf alpha log ⌝ }
 {
     match log {
-        Elementary::Value(x) => Elementary::Value(alpha + x),
-        Elementary::Refused(n) => Elementary::Refused(n),
+        Answer::Value(x) => Answer::Value(alpha + x),
+        Answer::Refused(n) => Answer::Refused(n),
     }
 }
 
 // All singular values alike, once they and alpha are known; the first refusal is handed on.
-fn filled(b: Branch, e: Elementary, alpha: Elementary) -> Stepped
+fn filled(b: Branch, e: Answer, alpha: Answer) -> Stepped
     ensures { λ r. ⌜ r ≡ filledOf b e alpha ⌝ }
 {
     match e {
-        Elementary::Value(x) => match alpha {
-            Elementary::Value(a) => {
+        Answer::Value(x) => match alpha {
+            Answer::Value(a) => {
                 let sigma = [x, x, x];
                 Stepped {
                     branch: b,
@@ -41,9 +41,9 @@ fn filled(b: Branch, e: Elementary, alpha: Elementary) -> Stepped
                     alpha: a,
                 }
             }
-            Elementary::Refused(n) => refused_step(n),
+            Answer::Refused(n) => refused_step(n),
         },
-        Elementary::Refused(n) => refused_step(n),
+        Answer::Refused(n) => refused_step(n),
     }
 }
 
@@ -62,27 +62,23 @@ impl NaccPlasticity {
         2.0 * self.cohesion * p0 / self.kappa + 1.0
     }
 
-    fn tip_alpha(self, alpha: f64, ratio: f64) -> Elementary
+    fn tip_alpha(self, alpha: f64, ratio: f64) -> Answer
         ensures { λ r. ⌜ r ≡ tipAlpha self alpha ratio ⌝ }
     {
         if self.hardening_enabled {
             raised(alpha, logarithm::ln_on_path(ratio))
         } else {
-            Elementary::Value(alpha)
+            Answer::Value(alpha)
         }
     }
 
     // Once the volume is known.
-    fn rooted(self, b: Branch, root: Elementary, j: f64, alpha: f64) -> Stepped
+    fn rooted(self, b: Branch, root: Answer, j: f64, alpha: f64) -> Stepped
         ensures { λ r. ⌜ r ≡ rootedOf self b root j alpha ⌝ }
     {
         match root {
-            Elementary::Value(x) => filled(
-                b,
-                thirds::cbrt_on_path(x),
-                self.tip_alpha(alpha, j / x),
-            ),
-            Elementary::Refused(n) => refused_step(n),
+            Answer::Value(x) => filled(b, thirds::cbrt_on_path(x), self.tip_alpha(alpha, j / x)),
+            Answer::Refused(n) => refused_step(n),
         }
     }
 

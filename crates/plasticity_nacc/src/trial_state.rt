@@ -1,7 +1,7 @@
 // The trial state, in the text's order: p0, the power of j, stress and pressure.
 use crate::NaccPlasticity;
 use crate::Trial;
-use numbers::Elementary;
+use answers::Answer;
 ghost use mathlib.Core.Path.{_≡_};
 ghost use Rattle.plasticity_nacc.specs.TrialState.{squaredOf, meanOf, softeningOf, p0From, p0Of, p0OnPath, stressOf, pressureOf, trialOf};
 
@@ -37,24 +37,24 @@ impl NaccPlasticity {
     }
 
     // Once the hyperbolic sine is known.
-    fn p0_of(self, sinh: Elementary) -> Elementary
+    fn p0_of(self, sinh: Answer) -> Answer
         ensures { λ r. ⌜ r ≡ p0Of self sinh ⌝ }
     {
         match sinh {
-            Elementary::Value(x) => {
+            Answer::Value(x) => {
                 let p0 = self.p0_from(x);
                 if numbers::is_number(p0) {
-                    Elementary::Value(p0)
+                    Answer::Value(p0)
                 } else {
-                    Elementary::Refused(3)
+                    Answer::Refused(answers::NO_NUMBER)
                 }
             }
-            Elementary::Refused(n) => Elementary::Refused(n),
+            Answer::Refused(n) => Answer::Refused(n),
         }
     }
 
     // The yield surface's pressure at alpha.
-    pub(crate) fn p0_on_path(self, alpha: f64) -> Elementary
+    pub(crate) fn p0_on_path(self, alpha: f64) -> Answer
         ensures { λ r. ⌜ r ≡ p0OnPath self alpha ⌝ }
     {
         self.p0_of(exponential::sinh_on_path(self.softening(alpha)))

@@ -5,14 +5,15 @@ use crate::Projected;
 use crate::Stepped;
 use crate::Trial;
 use crate::tip;
-use law::Outcome;
-use law::State;
-use law::Updated;
-use numbers::Elementary;
+use answers::Answer;
+use plasticity::Outcome;
+use plasticity::Scalars;
+use plasticity::State;
+use plasticity::Updated;
 use tensor::Rows;
 ghost use mathlib.Core.Path.{_≡_};
 ghost use mathlib.Core.Bool.{true};
-ghost use Rattle.law.specs.State.{inputsFinite};
+ghost use Rattle.plasticity.specs.State.{inputsFinite};
 ghost use Rattle.plasticity_nacc.specs.Nacc.{workedOf, triedOf, poweredOf, pressedOf, stepsOf, refusedProjection, recomposedOf, projectedOf, projectionInputs, projectOf, stateOf, storedOf, naccRun, naccUpdate};
 
 fn refused_projection(n: u8) -> Projected
@@ -82,12 +83,14 @@ fn state_of(f: Rows, sigma: [f64; 3], alpha: f64, s: State) -> State
     State {
         f,
         sigma,
-        phase: s.phase,
-        plastic_determinant: s.plastic_determinant,
-        plastic_hardening: s.plastic_hardening,
-        elastic_hardening: s.elastic_hardening,
-        log_gain: s.log_gain,
-        alpha,
+        scalars: Scalars {
+            phase: s.scalars.phase,
+            plastic_determinant: s.scalars.plastic_determinant,
+            plastic_hardening: s.scalars.plastic_hardening,
+            elastic_hardening: s.scalars.elastic_hardening,
+            log_gain: s.scalars.log_gain,
+            alpha,
+        },
     }
 }
 
@@ -115,7 +118,7 @@ fn stored(q: Projected, s: State) -> Updated
             state: state_of(f, sigma, q.alpha, s),
             outcome: Outcome::Stored(q.alpha),
         },
-        Branch::Refused(n) => law::refuse(n, s),
+        Branch::Refused(n) => plasticity::refuse(n, s),
     }
 }
 
@@ -148,25 +151,25 @@ impl NaccPlasticity {
     }
 
     // Once j to the power -2/3 is known.
-    fn powered(self, power: Elementary, p0: f64, j: f64, sigma: [f64; 3], alpha: f64) -> Stepped
+    fn powered(self, power: Answer, p0: f64, j: f64, sigma: [f64; 3], alpha: f64) -> Stepped
         ensures { λ r. ⌜ r ≡ poweredOf self power p0 j sigma alpha ⌝ }
     {
         match power {
-            Elementary::Value(w) => self.tried(self.trial(w, p0, j, sigma), sigma, alpha),
-            Elementary::Refused(n) => tip::refused_step(n),
+            Answer::Value(w) => self.tried(self.trial(w, p0, j, sigma), sigma, alpha),
+            Answer::Refused(n) => tip::refused_step(n),
         }
     }
 
     // Once p0 is known.
-    fn pressed(self, p0: Elementary, sigma: [f64; 3], alpha: f64) -> Stepped
+    fn pressed(self, p0: Answer, sigma: [f64; 3], alpha: f64) -> Stepped
         ensures { λ r. ⌜ r ≡ pressedOf self p0 sigma alpha ⌝ }
     {
         match p0 {
-            Elementary::Value(x) => {
+            Answer::Value(x) => {
                 let j = tensor::product(sigma);
                 self.powered(thirds::inv_cbrt_squared_on_path(j), x, j, sigma, alpha)
             }
-            Elementary::Refused(n) => tip::refused_step(n),
+            Answer::Refused(n) => tip::refused_step(n),
         }
     }
 
@@ -222,7 +225,7 @@ impl NaccPlasticity {
     {
         let sigma = s.sigma;
         let f = s.f;
-        stored(projected(self.steps(sigma, s.alpha), f, u, vt), s)
+        stored(projected(self.steps(sigma, s.scalars.alpha), f, u, vt), s)
     }
 
     // The update of one particle: untouched, or F, sigma and alpha are new, or the state comes back as it was with a
@@ -230,19 +233,19 @@ impl NaccPlasticity {
     pub fn update_particle(self, u: [[f64; 3]; 3], vt: [[f64; 3]; 3], s: State) -> Updated
         ensures { λ r. ⌜ r ≡ naccUpdate self u vt s ⌝ }
     {
-        if self.parameters_finite() & law::inputs_finite(u, vt, s) {
+        if self.parameters_finite() & plasticity::inputs_finite(u, vt, s) {
             if self.moduli_finite() {
                 self.run(u, vt, s)
             } else {
-                law::refuse(3, s)
+                plasticity::refuse(answers::NO_NUMBER, s)
             }
         } else {
-            law::refuse(1, s)
+            plasticity::refuse(answers::NOT_FINITE, s)
         }
     }
 
     // The same of a record that is known to be finite: its 36 floats are not tested again.
-    pub fn update_finite(self, u: [[f64; 3]; 3], vt: [[f64; 3]; 3], s: State) -> Updated
+    pub fn update_tested(self, u: [[f64; 3]; 3], vt: [[f64; 3]; 3], s: State) -> Updated
         requires { ⌜ inputsFinite u vt s ≡ true ⌝ }
         ensures { λ r. ⌜ r ≡ naccUpdate self u vt s ⌝ }
     {
@@ -250,10 +253,10 @@ impl NaccPlasticity {
             if self.moduli_finite() {
                 self.run(u, vt, s)
             } else {
-                law::refuse(3, s)
+                plasticity::refuse(answers::NO_NUMBER, s)
             }
         } else {
-            law::refuse(1, s)
+            plasticity::refuse(answers::NOT_FINITE, s)
         }
     }
 }

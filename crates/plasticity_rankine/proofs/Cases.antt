@@ -2,7 +2,7 @@
 use mathlib.Core.Path.{_≡_, refl}
 use mathlib.Core.List.{List, [], _∷_}
 use lib.Ieee.{Float, binary64, ofBits, add, sub, mul, div, neg, le, eq}
-use Rattle.numbers.specs.Rules.{isNumber}
+use Rattle.numbers.specs.Floats.{isNumber}
 use Rattle.tensor.specs.Matrix.{zero, one, three, sumOf}
 use Rattle.plasticity_rankine.specs.declared.RankinePlasticity.{RankinePlasticity}
 use Rattle.plasticity_rankine.specs.Sorting.{orderOf}

@@ -4,7 +4,8 @@ use mathlib.Core.List.{List}
 use Prim.Native.Nat.{ℕ}
 use lib.Ieee as Ieee
 use lib.Ieee.{Float, binary64, ofBits}
-use Rattle.numbers.specs.Rules.{finite, isNumber}
+use Rattle.answers.specs.Refusals.{noNumber}
+use Rattle.numbers.specs.Floats.{finite, isNumber}
 use Rattle.tensor.specs.Matrix.{add, sub, mul, div, zero, sumOf}
 use Rattle.tensor.specs.Finite.{rowFinite}
 use Rattle.tensor.specs.Answer.{zeroRow}
@@ -44,7 +45,7 @@ backAll p s = div s (add (mul two (p .mu)) (mul thrice (p .lambda)))
 
 -- a test of x <= s: a NaN compares false and would be lost, so it is refused by 3 first
 abbrev pub tested : Float → Float → Branch → Branch → Branch
-tested x s holds fails = cond (isNumber x) (cond (Ieee.le x s) holds fails) (Refused 3)
+tested x s holds fails = cond (isNumber x) (cond (Ieee.le x s) holds fails) (Refused noNumber)
 
 -- the branch, with the two numbers last compared
 unfoldable pub lastChoice : RankinePlasticity → Float → Float → Branch

@@ -4,20 +4,21 @@ use mathlib.Core.List.{List}
 use Prim.Native.Nat.{ℕ}
 use lib.ListN.{getD}
 use lib.Ieee.{Float, nan}
-use Rattle.numbers.specs.Rules.{finite, isNumber, minOf}
-use Rattle.numbers.specs.Range.{onPath}
-use Rattle.numbers.specs.declared.Elementary.{Elementary}
-use Rattle.numbers.specs.declared.Elementary.the-variants as elementary
+use Rattle.answers.specs.Refusals.{notFinite, noNumber}
+use Rattle.numbers.specs.Floats.{finite, isNumber, minOf}
+use Rattle.answers.specs.Range.{onPath}
+use Rattle.answers.specs.declared.Answer.{Answer}
+use Rattle.answers.specs.declared.Answer.the-variants as answers
 use Rattle.logarithm.specs.Ln.{lnRanged}
 use Rattle.exponential.specs.Exp.{expRanged}
 use Rattle.physics.specs.Physics.{lambdaOf, shearModulusOf}
 use Rattle.physics.specs.Norm.{normOf}
 use Rattle.tensor.specs.Matrix.{add, sub, mul, one, three, rowSubOf, recomposeOf, rowsOf}
 use Rattle.tensor.specs.Finite.{rowFinite, matFinite}
-use Rattle.law.specs.State.{inputsFinite, refused}
-use Rattle.law.specs.declared.Outcome.the-variants as outcome
-use Rattle.law.specs.declared.State.{State}
-use Rattle.law.specs.declared.Updated.{Updated}
+use Rattle.plasticity.specs.State.{inputsFinite, refused}
+use Rattle.plasticity.specs.declared.Outcome.the-variants as outcome
+use Rattle.plasticity.specs.declared.State.{State}
+use Rattle.plasticity.specs.declared.Updated.{Updated}
 use Rattle.plasticity_rankine.specs.declared.Branch.{Branch}
 use Rattle.plasticity_rankine.specs.declared.Branch.the-variants as branch
 use Rattle.plasticity_rankine.specs.declared.Made.{Made}
@@ -30,16 +31,16 @@ use Rattle.plasticity_rankine.specs.declared.Triple.the-variants.{Values
 use Rattle.plasticity_rankine.specs.Projection.{projectedOf, parametersFinite, moduliFinite}
 
 -- three answers in index order: the first refusal is handed on
-abbrev pub joinedOf : Elementary → Elementary → Elementary → Triple
-joinedOf (elementary.Value x) (elementary.Value y) (elementary.Value z) = Values x y z
-joinedOf (elementary.Value x) (elementary.Value y) (elementary.Refused n) = Refused n
-joinedOf (elementary.Value x) (elementary.Refused n) c = Refused n
-joinedOf (elementary.Refused n) b c = Refused n
+abbrev pub joinedOf : Answer → Answer → Answer → Triple
+joinedOf (answers.Value x) (answers.Value y) (answers.Value z) = Values x y z
+joinedOf (answers.Value x) (answers.Value y) (answers.Refused n) = Refused n
+joinedOf (answers.Value x) (answers.Refused n) c = Refused n
+joinedOf (answers.Refused n) b c = Refused n
 
-abbrev lnAt : List Float → ℕ → Elementary
+abbrev lnAt : List Float → ℕ → Answer
 lnAt v i = onPath (getD v i nan) (lnRanged (getD v i nan))
 
-abbrev expAt : List Float → ℕ → Elementary
+abbrev expAt : List Float → ℕ → Answer
 expAt v i = onPath (getD v i nan) (expRanged (getD v i nan))
 
 unfoldable pub logsOf : List Float → Triple
@@ -53,15 +54,15 @@ unfoldable pub softStrengthOf : RankinePlasticity → Float → Float
 softStrengthOf p h = sub (p .«tensile_strength») (sub h one)
 
 -- hardening grows by rate times the norm, then is capped at the strength; the minimum would hide a NaN, so it is refused by 3 first
-abbrev pub grownOf : RankinePlasticity → Float → Elementary → Elementary
-grownOf p h (elementary.Value norm) =
+abbrev pub grownOf : RankinePlasticity → Float → Answer → Answer
+grownOf p h (answers.Value norm) =
     cond (isNumber (add h (mul (p .«softening_rate») norm)))
-    (elementary.Value (minOf (add h (mul (p .«softening_rate») norm)) (p .«tensile_strength»)))
-    (elementary.Refused 3)
-grownOf p h (elementary.Refused n) = elementary.Refused n
+    (answers.Value (minOf (add h (mul (p .«softening_rate») norm)) (p .«tensile_strength»)))
+    (answers.Refused noNumber)
+grownOf p h (answers.Refused n) = answers.Refused n
 
 -- by the norm of the change
-unfoldable pub hardeningOf : RankinePlasticity → Float → List Float → List Float → Elementary
+unfoldable pub hardeningOf : RankinePlasticity → Float → List Float → List Float → Answer
 hardeningOf p h old new = grownOf p h (normOf (rowSubOf old new))
 
 -- F, sigma and the plastic hardening are new
@@ -70,12 +71,14 @@ stateOf f sigma h s =
     record {
       f = rowsOf f;
       sigma = sigma;
-      phase = s .phase;
-      «plastic_determinant» = s .«plastic_determinant»;
-      «plastic_hardening» = h;
-      «elastic_hardening» = s .«elastic_hardening»;
-      «log_gain» = s .«log_gain»;
-      alpha = s .alpha;
+      scalars = record {
+        phase = s .scalars .phase;
+        «plastic_determinant» = s .scalars .«plastic_determinant»;
+        «plastic_hardening» = h;
+        «elastic_hardening» = s .scalars .«elastic_hardening»;
+        «log_gain» = s .scalars .«log_gain»;
+        alpha = s .scalars .alpha;
+      };
     }
 
 -- stored with the plastic hardening as the amount, where all results are finite (section 6, number 3)
@@ -83,17 +86,17 @@ abbrev pub rankineStore : List (List Float) → List Float → Float → State �
 rankineStore f sigma h s =
     cond (matFinite f && rowFinite sigma && finite h)
     (record { state = stateOf f sigma h s; outcome = outcome.Stored h })
-    (refused 3 s)
+    (refused noNumber s)
 
 -- once the hardening and the exponentials of the new strains have answered
-abbrev pub rankineFinish : Elementary → Triple → List (List Float) → List (List Float) → State → Updated
-rankineFinish (elementary.Value h) (Values x y z) u vt s = rankineStore (recomposeOf u (three x y z) vt) (three x y z) h s
-rankineFinish (elementary.Value h) (Refused n) u vt s = refused n s
-rankineFinish (elementary.Refused n) t u vt s = refused n s
+abbrev pub rankineFinish : Answer → Triple → List (List Float) → List (List Float) → State → Updated
+rankineFinish (answers.Value h) (Values x y z) u vt s = rankineStore (recomposeOf u (three x y z) vt) (three x y z) h s
+rankineFinish (answers.Value h) (Refused n) u vt s = refused n s
+rankineFinish (answers.Refused n) t u vt s = refused n s
 
 -- strains that moved
 unfoldable pub rankineMoved : RankinePlasticity → List Float → List Float → List (List Float) → List (List Float) → State → Updated
-rankineMoved p old new u vt s = rankineFinish (hardeningOf p (s .«plastic_hardening») old new) (expsOf new) u vt s
+rankineMoved p old new u vt s = rankineFinish (hardeningOf p (s .scalars .«plastic_hardening») old new) (expsOf new) u vt s
 
 -- the state as it came, nothing capped
 abbrev pub untouchedOf : State → Updated
@@ -112,7 +115,7 @@ rankineProjected q p e u vt s = rankineBranch (q .branch) p e (q .strains) u vt 
 -- once the logarithms have answered
 unfoldable pub rankineLogged : Triple → RankinePlasticity → List (List Float) → List (List Float) → State → Updated
 rankineLogged (Values x y z) p u vt s =
-    rankineProjected (projectedOf p (three x y z) (softStrengthOf p (s .«plastic_hardening»))) p (three x y z) u vt s
+    rankineProjected (projectedOf p (three x y z) (softStrengthOf p (s .scalars .«plastic_hardening»))) p (three x y z) u vt s
 rankineLogged (Refused n) p u vt s = refused n s
 
 abbrev pub rankineRun : RankinePlasticity → List (List Float) → List (List Float) → State → Updated
@@ -121,7 +124,7 @@ rankineRun p u vt s = rankineLogged (logsOf (s .sigma)) p u vt s
 -- 1 comes first, then the moduli by 3
 unfoldable pub rankineUpdate : RankinePlasticity → List (List Float) → List (List Float) → State → Updated
 rankineUpdate p u vt s =
-    cond (parametersFinite p && inputsFinite u vt s) (cond (moduliFinite p) (rankineRun p u vt s) (refused 3 s)) (refused 1 s)
+    cond (parametersFinite p && inputsFinite u vt s) (cond (moduliFinite p) (rankineRun p u vt s) (refused noNumber s)) (refused notFinite s)
 
 -- ---- the law of the arguments of `new`
 abbrev pub argumentsOf : Float → Float → Float → Float → RankineArguments
@@ -147,8 +150,8 @@ argumentsFinite a = elasticFinite a && finite (a .«tensile_strength») && finit
 unfoldable pub madeOf : RankineArguments → Made
 madeOf a =
     cond (elasticFinite a && parametersFinite (lawOf a))
-    (cond (moduliFinite (lawOf a)) (made.Law (lawOf a)) (made.Refused 3))
-    (made.Refused 1)
+    (cond (moduliFinite (lawOf a)) (made.Law (lawOf a)) (made.Refused noNumber))
+    (made.Refused notFinite)
 
 unfoldable pub argumentsUpdate : RankineArguments → List (List Float) → List (List Float) → State → Updated
-argumentsUpdate a u vt s = cond (elasticFinite a) (rankineUpdate (lawOf a) u vt s) (refused 1 s)
+argumentsUpdate a u vt s = cond (elasticFinite a) (rankineUpdate (lawOf a) u vt s) (refused notFinite s)

@@ -1,11 +1,11 @@
 use crate::Made;
 use crate::RankineArguments;
 use crate::RankinePlasticity;
-use law::State;
-use law::Updated;
+use plasticity::State;
+use plasticity::Updated;
 ghost use mathlib.Core.Path.{_≡_};
 ghost use mathlib.Core.Bool.{true};
-ghost use Rattle.law.specs.State.{inputsFinite};
+ghost use Rattle.plasticity.specs.State.{inputsFinite};
 ghost use Rattle.plasticity_rankine.specs.Rankine.{argumentsOf, lawOf, elasticFinite, argumentsFinite, madeOf, argumentsUpdate};
 
 impl RankineArguments {
@@ -45,10 +45,10 @@ impl RankineArguments {
             if p.moduli_finite() {
                 Made::Law(p)
             } else {
-                Made::Refused(3)
+                Made::Refused(answers::NO_NUMBER)
             }
         } else {
-            Made::Refused(1)
+            Made::Refused(answers::NOT_FINITE)
         }
     }
 
@@ -59,19 +59,19 @@ impl RankineArguments {
         if self.elastic_finite() {
             self.law().update_particle(u, vt, s)
         } else {
-            law::refuse(1, s)
+            plasticity::refuse(answers::NOT_FINITE, s)
         }
     }
 
     // The same of a record that is known to be finite.
-    pub fn update_finite(self, u: [[f64; 3]; 3], vt: [[f64; 3]; 3], s: State) -> Updated
+    pub fn update_tested(self, u: [[f64; 3]; 3], vt: [[f64; 3]; 3], s: State) -> Updated
         requires { ⌜ inputsFinite u vt s ≡ true ⌝ }
         ensures { λ r. ⌜ r ≡ argumentsUpdate self u vt s ⌝ }
     {
         if self.elastic_finite() {
-            self.law().update_finite(u, vt, s)
+            self.law().update_tested(u, vt, s)
         } else {
-            law::refuse(1, s)
+            plasticity::refuse(answers::NOT_FINITE, s)
         }
     }
 }

@@ -68,7 +68,7 @@ impl RankinePlasticity {
                 Branch::All(x, s)
             }
         } else {
-            Branch::Refused(3)
+            Branch::Refused(answers::NO_NUMBER)
         }
     }
 
@@ -84,7 +84,7 @@ impl RankinePlasticity {
                 self.choose_last(s, r.low)
             }
         } else {
-            Branch::Refused(3)
+            Branch::Refused(answers::NO_NUMBER)
         }
     }
 
@@ -100,7 +100,7 @@ impl RankinePlasticity {
                 self.choose_next(s, sum, r)
             }
         } else {
-            Branch::Refused(3)
+            Branch::Refused(answers::NO_NUMBER)
         }
     }
 

@@ -1,26 +1,27 @@
 // The steps of an update beside the projection, each with its refusal.
 use crate::RankinePlasticity;
 use crate::Triple;
-use law::Outcome;
-use law::State;
-use law::Updated;
-use numbers::Elementary;
+use answers::Answer;
+use plasticity::Outcome;
+use plasticity::Scalars;
+use plasticity::State;
+use plasticity::Updated;
 ghost use mathlib.Core.Path.{_≡_};
 ghost use Rattle.plasticity_rankine.specs.Rankine.{joinedOf, logsOf, expsOf, softStrengthOf, grownOf, hardeningOf, stateOf, rankineStore, rankineFinish};
 
 // Three answers in index order: the first refusal is handed on.
-fn joined(a: Elementary, b: Elementary, c: Elementary) -> Triple
+fn joined(a: Answer, b: Answer, c: Answer) -> Triple
     ensures { λ r. ⌜ r ≡ joinedOf a b c ⌝ }
 {
     match a {
-        Elementary::Value(x) => match b {
-            Elementary::Value(y) => match c {
-                Elementary::Value(z) => Triple::Values(x, y, z),
-                Elementary::Refused(n) => Triple::Refused(n),
+        Answer::Value(x) => match b {
+            Answer::Value(y) => match c {
+                Answer::Value(z) => Triple::Values(x, y, z),
+                Answer::Refused(n) => Triple::Refused(n),
             },
-            Elementary::Refused(n) => Triple::Refused(n),
+            Answer::Refused(n) => Triple::Refused(n),
         },
-        Elementary::Refused(n) => Triple::Refused(n),
+        Answer::Refused(n) => Triple::Refused(n),
     }
 }
 
@@ -53,24 +54,24 @@ impl RankinePlasticity {
     }
 
     // The minimum would hide a NaN: it is refused before.
-    fn grown(self, h: f64, norm: Elementary) -> Elementary
+    fn grown(self, h: f64, norm: Answer) -> Answer
         ensures { λ r. ⌜ r ≡ grownOf self h norm ⌝ }
     {
         match norm {
-            Elementary::Value(x) => {
+            Answer::Value(x) => {
                 let y = h + self.softening_rate * x;
                 if numbers::is_number(y) {
-                    Elementary::Value(numbers::min(y, self.tensile_strength))
+                    Answer::Value(numbers::min(y, self.tensile_strength))
                 } else {
-                    Elementary::Refused(3)
+                    Answer::Refused(answers::NO_NUMBER)
                 }
             }
-            Elementary::Refused(n) => Elementary::Refused(n),
+            Answer::Refused(n) => Answer::Refused(n),
         }
     }
 
     // The new hardening, of the strains before and after.
-    pub(crate) fn hardening(self, h: f64, old: [f64; 3], new: [f64; 3]) -> Elementary
+    pub(crate) fn hardening(self, h: f64, old: [f64; 3], new: [f64; 3]) -> Answer
         ensures { λ r. ⌜ r ≡ hardeningOf self h old new ⌝ }
     {
         self.grown(h, physics::norm_on_path(tensor::row_sub(old, new)))
@@ -83,12 +84,14 @@ fn state_of(f: [[f64; 3]; 3], sigma: [f64; 3], h: f64, s: State) -> State
     State {
         f: tensor::to_rows(f),
         sigma,
-        phase: s.phase,
-        plastic_determinant: s.plastic_determinant,
-        plastic_hardening: h,
-        elastic_hardening: s.elastic_hardening,
-        log_gain: s.log_gain,
-        alpha: s.alpha,
+        scalars: Scalars {
+            phase: s.scalars.phase,
+            plastic_determinant: s.scalars.plastic_determinant,
+            plastic_hardening: h,
+            elastic_hardening: s.scalars.elastic_hardening,
+            log_gain: s.scalars.log_gain,
+            alpha: s.scalars.alpha,
+        },
     }
 }
 
@@ -102,22 +105,22 @@ fn store(f: [[f64; 3]; 3], sigma: [f64; 3], h: f64, s: State) -> Updated
             outcome: Outcome::Stored(h),
         }
     } else {
-        law::refuse(3, s)
+        plasticity::refuse(answers::NO_NUMBER, s)
     }
 }
 
 // Once the hardening and the exponentials have answered.
-pub fn finish(h: Elementary, t: Triple, u: [[f64; 3]; 3], vt: [[f64; 3]; 3], s: State) -> Updated
+pub fn finish(h: Answer, t: Triple, u: [[f64; 3]; 3], vt: [[f64; 3]; 3], s: State) -> Updated
     ensures { λ r. ⌜ r ≡ rankineFinish h t u vt s ⌝ }
 {
     match h {
-        Elementary::Value(x) => match t {
+        Answer::Value(x) => match t {
             Triple::Values(a, b, c) => {
                 let sigma = [a, b, c];
                 store(tensor::recompose(u, sigma, vt), sigma, x, s)
             }
-            Triple::Refused(n) => law::refuse(n, s),
+            Triple::Refused(n) => plasticity::refuse(n, s),
         },
-        Elementary::Refused(n) => law::refuse(n, s),
+        Answer::Refused(n) => plasticity::refuse(n, s),
     }
 }

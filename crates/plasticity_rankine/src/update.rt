@@ -2,12 +2,12 @@ use crate::Branch;
 use crate::RankinePlasticity;
 use crate::Triple;
 use crate::steps;
-use law::Outcome;
-use law::State;
-use law::Updated;
+use plasticity::Outcome;
+use plasticity::State;
+use plasticity::Updated;
 ghost use mathlib.Core.Path.{_≡_};
 ghost use mathlib.Core.Bool.{true};
-ghost use Rattle.law.specs.State.{inputsFinite};
+ghost use Rattle.plasticity.specs.State.{inputsFinite};
 ghost use Rattle.plasticity_rankine.specs.Rankine.{untouchedOf, rankineMoved, rankineBranch, rankineLogged, rankineRun, rankineUpdate};
 
 fn untouched(s: State) -> Updated
@@ -31,7 +31,7 @@ impl RankinePlasticity {
     ) -> Updated
         ensures { λ r. ⌜ r ≡ rankineMoved self old new u vt s ⌝ }
     {
-        let h = self.hardening(s.plastic_hardening, old, new);
+        let h = self.hardening(s.scalars.plastic_hardening, old, new);
         steps::finish(h, steps::exps(new), u, vt, s)
     }
 
@@ -51,7 +51,7 @@ impl RankinePlasticity {
             Branch::One(_, _) => self.moved(old, new, u, vt, s),
             Branch::Two(_, _) => self.moved(old, new, u, vt, s),
             Branch::All(_, _) => self.moved(old, new, u, vt, s),
-            Branch::Refused(n) => law::refuse(n, s),
+            Branch::Refused(n) => plasticity::refuse(n, s),
         }
     }
 
@@ -62,12 +62,12 @@ impl RankinePlasticity {
         match t {
             Triple::Values(x, y, z) => {
                 let e = [x, y, z];
-                let q = self.projected(e, self.soft_strength(s.plastic_hardening));
+                let q = self.projected(e, self.soft_strength(s.scalars.plastic_hardening));
                 let new = q.strains;
                 let b = q.branch;
                 self.branch(b, e, new, u, vt, s)
             }
-            Triple::Refused(n) => law::refuse(n, s),
+            Triple::Refused(n) => plasticity::refuse(n, s),
         }
     }
 
@@ -84,19 +84,19 @@ impl RankinePlasticity {
     pub fn update_particle(self, u: [[f64; 3]; 3], vt: [[f64; 3]; 3], s: State) -> Updated
         ensures { λ r. ⌜ r ≡ rankineUpdate self u vt s ⌝ }
     {
-        if self.parameters_finite() & law::inputs_finite(u, vt, s) {
+        if self.parameters_finite() & plasticity::inputs_finite(u, vt, s) {
             if self.moduli_finite() {
                 self.run(u, vt, s)
             } else {
-                law::refuse(3, s)
+                plasticity::refuse(answers::NO_NUMBER, s)
             }
         } else {
-            law::refuse(1, s)
+            plasticity::refuse(answers::NOT_FINITE, s)
         }
     }
 
     // The same of a record that is known to be finite: its 36 floats are not tested again.
-    pub fn update_finite(self, u: [[f64; 3]; 3], vt: [[f64; 3]; 3], s: State) -> Updated
+    pub fn update_tested(self, u: [[f64; 3]; 3], vt: [[f64; 3]; 3], s: State) -> Updated
         requires { ⌜ inputsFinite u vt s ≡ true ⌝ }
         ensures { λ r. ⌜ r ≡ rankineUpdate self u vt s ⌝ }
     {
@@ -104,10 +104,10 @@ impl RankinePlasticity {
             if self.moduli_finite() {
                 self.run(u, vt, s)
             } else {
-                law::refuse(3, s)
+                plasticity::refuse(answers::NO_NUMBER, s)
             }
         } else {
-            law::refuse(1, s)
+            plasticity::refuse(answers::NOT_FINITE, s)
         }
     }
 }

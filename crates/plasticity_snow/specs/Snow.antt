@@ -3,17 +3,18 @@ use mathlib.Core.Bool.{Bool, cond, _&&_}
 use mathlib.Core.List.{List, map}
 use Prim.Native.Nat.{ℕ}
 use lib.Ieee.{Float, binary64, ofBits}
-use Rattle.numbers.specs.Rules.{finite, maxOf, minOf}
-use Rattle.numbers.specs.Range.{onPath}
-use Rattle.numbers.specs.declared.Elementary.{Elementary}
-use Rattle.numbers.specs.declared.Elementary.the-variants as elementary
+use Rattle.answers.specs.Refusals.{notFinite, noNumber}
+use Rattle.numbers.specs.Floats.{finite, maxOf, minOf}
+use Rattle.answers.specs.Range.{onPath}
+use Rattle.answers.specs.declared.Answer.{Answer}
+use Rattle.answers.specs.declared.Answer.the-variants as answers
 use Rattle.exponential.specs.Exp.{expRanged}
 use Rattle.tensor.specs.Matrix.{add, sub, mul, div, productOf, recomposeOf, rowsOf}
 use Rattle.tensor.specs.Finite.{rowFinite, matFinite}
-use Rattle.law.specs.State.{inputsFinite, refused}
-use Rattle.law.specs.declared.Outcome.the-variants.{Stored}
-use Rattle.law.specs.declared.State.{State}
-use Rattle.law.specs.declared.Updated.{Updated}
+use Rattle.plasticity.specs.State.{inputsFinite, refused}
+use Rattle.plasticity.specs.declared.Outcome.the-variants.{Stored}
+use Rattle.plasticity.specs.declared.State.{State}
+use Rattle.plasticity.specs.declared.Updated.{Updated}
 use Rattle.plasticity_snow.specs.declared.SnowPlasticity.{SnowPlasticity}
 
 abbrev pub one : Float
@@ -52,12 +53,14 @@ stateOf f sigma d h s =
     record {
       f = rowsOf f;
       sigma = sigma;
-      phase = s .phase;
-      «plastic_determinant» = d;
-      «plastic_hardening» = s .«plastic_hardening»;
-      «elastic_hardening» = h;
-      «log_gain» = s .«log_gain»;
-      alpha = s .alpha;
+      scalars = record {
+        phase = s .scalars .phase;
+        «plastic_determinant» = d;
+        «plastic_hardening» = s .scalars .«plastic_hardening»;
+        «elastic_hardening» = h;
+        «log_gain» = s .scalars .«log_gain»;
+        alpha = s .scalars .alpha;
+      };
     }
 
 -- stored with the elastic hardening as the amount, where all results are finite (section 6, number 3)
@@ -65,22 +68,22 @@ abbrev pub snowStore : List (List Float) → List Float → Float → Float → 
 snowStore f sigma d h s =
     cond (matFinite f && rowFinite sigma && finite d && finite h)
     (record { state = stateOf f sigma d h s; outcome = Stored h })
-    (refused 3 s)
+    (refused noNumber s)
 
 -- once the exponential has answered
-abbrev pub snowHardened : Elementary → List (List Float) → List Float → List (List Float) → Float → State → Updated
-snowHardened (elementary.Value h) u new vt d s = snowStore (recomposeOf u new vt) new d h s
-snowHardened (elementary.Refused n) u new vt d s = refused n s
+abbrev pub snowHardened : Answer → List (List Float) → List Float → List (List Float) → Float → State → Updated
+snowHardened (answers.Value h) u new vt d s = snowStore (recomposeOf u new vt) new d h s
+snowHardened (answers.Refused n) u new vt d s = refused n s
 
 -- the steps. A NaN in a product or the quotient travels to the exponential's argument, which refuses it by 3
 unfoldable pub snowRun : SnowPlasticity → List (List Float) → List (List Float) → State → Updated
 snowRun p u vt s =
     let new = clampedOf p (s .sigma) in
-    let d = determinantOf (s .«plastic_determinant») (s .sigma) new in
+    let d = determinantOf (s .scalars .«plastic_determinant») (s .sigma) new in
     let x = exponentOf p d in
     snowHardened (onPath x (expRanged x)) u new vt d s
 
 -- 1 comes first
 unfoldable pub snowUpdate : SnowPlasticity → List (List Float) → List (List Float) → State → Updated
 unfolding snowRun
-snowUpdate p u vt s = cond (parametersFinite p && inputsFinite u vt s) (snowRun p u vt s) (refused 1 s)
+snowUpdate p u vt s = cond (parametersFinite p && inputsFinite u vt s) (snowRun p u vt s) (refused notFinite s)

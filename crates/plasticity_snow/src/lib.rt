@@ -1,11 +1,12 @@
 // Snow: each singular value is clamped (plasticity_snow.rs; document 01, section 5).
-use law::Outcome;
-use law::State;
-use law::Updated;
-use numbers::Elementary;
+use answers::Answer;
+use plasticity::Outcome;
+use plasticity::Scalars;
+use plasticity::State;
+use plasticity::Updated;
 ghost use mathlib.Core.Path.{_≡_};
 ghost use mathlib.Core.Bool.{true};
-ghost use Rattle.law.specs.State.{inputsFinite, refused};
+ghost use Rattle.plasticity.specs.State.{inputsFinite, refused};
 ghost use Rattle.plasticity_snow.specs.Snow.{defaults, clampOf, clampedOf, determinantOf, exponentOf, parametersFinite, stateOf, snowStore, snowRun, snowUpdate};
 
 pub struct SnowPlasticity {
@@ -73,13 +74,13 @@ impl SnowPlasticity {
     {
         let sigma = s.sigma;
         let new = self.project_deformation_gradient(sigma);
-        let d = determinant(s.plastic_determinant, sigma, new);
+        let d = determinant(s.scalars.plastic_determinant, sigma, new);
         let h = exponential::exp_on_path(self.exponent(d));
         match h {
-            Elementary::Value(hardening) => {
+            Answer::Value(hardening) => {
                 store(tensor::recompose(u, new, vt), new, d, hardening, s)
             }
-            Elementary::Refused(n) => law::refuse(n, s),
+            Answer::Refused(n) => plasticity::refuse(n, s),
         }
     }
 
@@ -88,22 +89,22 @@ impl SnowPlasticity {
     pub fn update_particle(self, u: [[f64; 3]; 3], vt: [[f64; 3]; 3], s: State) -> Updated
         ensures { λ r. ⌜ r ≡ snowUpdate self u vt s ⌝ }
     {
-        if self.parameters_finite() & law::inputs_finite(u, vt, s) {
+        if self.parameters_finite() & plasticity::inputs_finite(u, vt, s) {
             self.run(u, vt, s)
         } else {
-            law::refuse(1, s)
+            plasticity::refuse(answers::NOT_FINITE, s)
         }
     }
 
     // The same of a record that is known to be finite: its 36 floats are not tested again.
-    pub fn update_finite(self, u: [[f64; 3]; 3], vt: [[f64; 3]; 3], s: State) -> Updated
+    pub fn update_tested(self, u: [[f64; 3]; 3], vt: [[f64; 3]; 3], s: State) -> Updated
         requires { ⌜ inputsFinite u vt s ≡ true ⌝ }
         ensures { λ r. ⌜ r ≡ snowUpdate self u vt s ⌝ }
     {
         if self.parameters_finite() {
             self.run(u, vt, s)
         } else {
-            law::refuse(1, s)
+            plasticity::refuse(answers::NOT_FINITE, s)
         }
     }
 }
@@ -121,12 +122,14 @@ fn state_of(f: [[f64; 3]; 3], sigma: [f64; 3], d: f64, hardening: f64, s: State)
     State {
         f: tensor::to_rows(f),
         sigma,
-        phase: s.phase,
-        plastic_determinant: d,
-        plastic_hardening: s.plastic_hardening,
-        elastic_hardening: hardening,
-        log_gain: s.log_gain,
-        alpha: s.alpha,
+        scalars: Scalars {
+            phase: s.scalars.phase,
+            plastic_determinant: d,
+            plastic_hardening: s.scalars.plastic_hardening,
+            elastic_hardening: hardening,
+            log_gain: s.scalars.log_gain,
+            alpha: s.scalars.alpha,
+        },
     }
 }
 
@@ -144,6 +147,6 @@ fn store(f: [[f64; 3]; 3], sigma: [f64; 3], d: f64, hardening: f64, s: State) ->
             outcome: Outcome::Stored(hardening),
         }
     } else {
-        law::refuse(3, s)
+        plasticity::refuse(answers::NO_NUMBER, s)
     }
 }

@@ -6,8 +6,8 @@ use lib.Ieee as Ieee
 use lib.Ieee.{Float, binary64, ofBits, toBits, round, size}
 use Rattle.exact.specs.Units.{mag, L}
 use Rattle.exact.specs.RootOf.{sqrtOf, floorRoot, rootIn}
-use Rattle.numbers.specs.Rules.{isNumber}
-use Rattle.numbers.specs.declared.Elementary.the-variants.{Value}
+use Rattle.numbers.specs.Floats.{isNumber}
+use Rattle.answers.specs.declared.Answer.the-variants.{Value}
 use Rattle.fixed_point.specs.ToFloat.{toFloatOf}
 use Rattle.exponential.specs.Worked.{expOf, expBits, packOf, partOf, tailOf}
 use Rattle.sine.specs.Sine.{sinOf, differenceOf, plusOf, minusOf, eighthOf, nested, stepOf}

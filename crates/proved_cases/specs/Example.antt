@@ -3,10 +3,10 @@ use mathlib.Core.Path.{_≡_, refl}
 use lib.Ieee as Ieee
 use lib.Ieee.{binary64, ofBits}
 use Rattle.exact.specs.Units.{mag, L}
-use Rattle.numbers.specs.Rules.{finite, isNumber}
+use Rattle.numbers.specs.Floats.{finite, isNumber}
 use Rattle.exponential.specs.Worked.{expOf, expBits, packOf, partOf, tailOf}
 use Rattle.tensor.specs.Matrix.{one, sumOf, productOf, dotOf, scaledRowOf}
-use Rattle.law.specs.declared.Outcome.the-variants.{Stored}
+use Rattle.plasticity.specs.declared.Outcome.the-variants.{Stored}
 use Rattle.plasticity_snow.specs.Snow.{defaults, snowUpdate, snowRun}
 use Rattle.proved_cases.specs.Table.{identity, rested}
 

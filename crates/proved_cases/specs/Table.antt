@@ -5,13 +5,13 @@ use mathlib.Core.Path.{_≡_}
 use Prim.Native.Nat.{ℕ}
 use lib.Ieee as Ieee
 use lib.Ieee.{Float, nan, binary64, ofBits}
-use Rattle.numbers.specs.Rules.{finite}
-use Rattle.numbers.specs.Answer.{answeredOf, given}
-use Rattle.numbers.specs.declared.Elementary.{Elementary}
-use Rattle.numbers.specs.declared.Elementary.the-variants.{Value}
+use Rattle.numbers.specs.Floats.{finite}
+use Rattle.answers.specs.Answer.{answeredOf, given}
+use Rattle.answers.specs.declared.Answer.{Answer}
+use Rattle.answers.specs.declared.Answer.the-variants.{Value}
 use Rattle.tensor.specs.Matrix.{add, sub, zero, one, three, rowsOf}
-use Rattle.law.specs.declared.Outcome.the-variants.{Stored}
-use Rattle.law.specs.declared.State.{State}
+use Rattle.plasticity.specs.declared.Outcome.the-variants.{Stored}
+use Rattle.plasticity.specs.declared.State.{State}
 use Rattle.plasticity_snow.specs.Snow.{defaults, clampOf}
 use Rattle.plasticity_snow.proofs.Cases as snow
 use Rattle.physics.specs.Physics.{invExactOf}
@@ -45,7 +45,7 @@ five = ofBits binary64 0x4014_0000_0000_0000
 abbrev nine : Float
 nine = ofBits binary64 0x4022_0000_0000_0000
 
-abbrev pressureAt : ℕ → Float → Elementary
+abbrev pressureAt : ℕ → Float → Answer
 pressureAt gamma density =
     pressureOf (record { pressure0 = ofBits binary64 0x4024_0000_0000_0000; gamma = gamma; viscosity = zero; «max_neg_pressure» = one }) one one density
 
@@ -61,12 +61,14 @@ rested =
     record {
       f = rowsOf identity;
       sigma = three one one one;
-      phase = one;
-      «plastic_determinant» = one;
-      «plastic_hardening» = one;
-      «elastic_hardening» = one;
-      «log_gain» = zero;
-      alpha = zero;
+      scalars = record {
+        phase = one;
+        «plastic_determinant» = one;
+        «plastic_hardening» = one;
+        «elastic_hardening» = one;
+        «log_gain» = zero;
+        alpha = zero;
+      };
     }
 
 pub record Twelve : Type 0 where

@@ -8,11 +8,11 @@ use lib.Dec.{T, ltb, eqb}
 use borrow.Author.Tests.{ltb-true, ltb-false, eq-eqb, ne-eqb}
 use lib.Ieee.{Float, nan, inf, fin, isNan, binary64, ofBits, nanBits}
 use lib.Ieee.Bits.{nanBits-is}
-use Rattle.numbers.specs.Rules.{finite}
+use Rattle.numbers.specs.Floats.{finite}
 use Rattle.numbers.proofs.Laws.{and-both, finite-bits}
 use Rattle.tensor.specs.Finite.{rowFinite, matFinite, rowsFinite}
-use Rattle.law.specs.State.{scalarsFinite, stateFinite}
-use Rattle.record.specs.Layout.{fl, rowAt, matAt, rowsAt, uAt, vtAt, stateAt, recordFinite}
+use Rattle.plasticity.specs.State.{scalarsFinite, stateFinite}
+use Rattle.record.specs.Layout.{layout, place, placeF, placeSigma, floatAt, rowAt, matAt, rowsAt, uAt, vtAt, stateAt, recordFinite}
 
 below-ones : (e : ℕ) → e < 2048 → ltb e 2047 ≡ not (eqb e 2047)
 below-ones e h = go (ltb e 2047) refl
@@ -40,9 +40,13 @@ three-parts a b c q =
     let u = and-both a b (t .0) in
     (u .0, u .1, t .1)
 
+-- whether part k of a record, a scalar, is finite
+abbrev Scalar : List ℕ → ℕ → Bool
+Scalar r k = finite (floatAt r (place layout k))
+
 module _ (r : List ℕ) where
-  pub row-parts : (at : ℕ) → rowFinite (rowAt r at) ≡ true → (finite (fl r at) ≡ true) × (finite (fl r (at + 1)) ≡ true) × (finite (fl r (at + 2)) ≡ true)
-  row-parts at q = three-parts (finite (fl r at)) (finite (fl r (at + 1))) (finite (fl r (at + 2))) q
+  pub row-parts : (at : ℕ) → rowFinite (rowAt r at) ≡ true → (finite (floatAt r at) ≡ true) × (finite (floatAt r (at + 1)) ≡ true) × (finite (floatAt r (at + 2)) ≡ true)
+  row-parts at q = three-parts (finite (floatAt r at)) (finite (floatAt r (at + 1))) (finite (floatAt r (at + 2))) q
 
   pub mat-parts : (at : ℕ) → matFinite (matAt r at) ≡ true
       → (rowFinite (rowAt r at) ≡ true) × (rowFinite (rowAt r (at + 3)) ≡ true) × (rowFinite (rowAt r (at + 6)) ≡ true)
@@ -51,16 +55,12 @@ module _ (r : List ℕ) where
   pub record-parts : recordFinite r ≡ true → (matFinite (uAt r) ≡ true) × (matFinite (vtAt r) ≡ true) × (stateFinite (stateAt r) ≡ true)
   record-parts q = three-parts (matFinite (uAt r)) (matFinite (vtAt r)) (stateFinite (stateAt r)) q
 
-  pub state-parts : recordFinite r ≡ true → (rowsFinite (rowsAt r 0) ≡ true) × (rowFinite (rowAt r 18) ≡ true) × (scalarsFinite (stateAt r) ≡ true)
-  state-parts q = three-parts (rowsFinite (rowsAt r 0)) (rowFinite (rowAt r 18)) (scalarsFinite (stateAt r)) (record-parts q .2)
+  pub state-parts : recordFinite r ≡ true → (rowsFinite (rowsAt r placeF) ≡ true) × (rowFinite (rowAt r placeSigma) ≡ true) × (scalarsFinite (stateAt r .scalars) ≡ true)
+  state-parts q = three-parts (rowsFinite (rowsAt r placeF)) (rowFinite (rowAt r placeSigma)) (scalarsFinite (stateAt r .scalars)) (record-parts q .2)
 
-  pub first-scalars : recordFinite r ≡ true → (finite (fl r 30) ≡ true) × (finite (fl r 31) ≡ true) × (finite (fl r 32) ≡ true)
-  first-scalars q =
-      let t = three-parts (finite (fl r 30) && finite (fl r 31) && finite (fl r 32) && finite (fl r 33)) (finite (fl r 34)) (finite (fl r 35)) (state-parts q .2) in
-      three-parts (finite (fl r 30)) (finite (fl r 31)) (finite (fl r 32))
-      (and-both (finite (fl r 30) && finite (fl r 31) && finite (fl r 32)) (finite (fl r 33)) (t .0) .0)
-
-  pub last-scalars : recordFinite r ≡ true → (finite (fl r 33) ≡ true) × (finite (fl r 34) ≡ true) × (finite (fl r 35) ≡ true)
-  last-scalars q =
-      let t = three-parts (finite (fl r 30) && finite (fl r 31) && finite (fl r 32) && finite (fl r 33)) (finite (fl r 34)) (finite (fl r 35)) (state-parts q .2) in
-      (and-both (finite (fl r 30) && finite (fl r 31) && finite (fl r 32)) (finite (fl r 33)) (t .0) .1, t .1, t .2)
+  pub scalars-parts : recordFinite r ≡ true
+      → ((Scalar r 4 ≡ true) × (Scalar r 5 ≡ true) × (Scalar r 6 ≡ true)) × ((Scalar r 7 ≡ true) × (Scalar r 8 ≡ true) × (Scalar r 9 ≡ true))
+  scalars-parts q =
+      let t = three-parts (Scalar r 4 && Scalar r 5 && Scalar r 6 && Scalar r 7) (Scalar r 8) (Scalar r 9) (state-parts q .2) in
+      let u = and-both (Scalar r 4 && Scalar r 5 && Scalar r 6) (Scalar r 7) (t .0) in
+      (three-parts (Scalar r 4) (Scalar r 5) (Scalar r 6) (u .0), (u .1, t .1, t .2))

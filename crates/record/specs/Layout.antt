@@ -2,24 +2,72 @@
 -- elastic hardening, log gain and alpha, each float as its bits. All offsets stand here.
 use mathlib.Core.Bool.{Bool}
 use mathlib.Core.List.{List, [], _∷_}
-use Prim.Native.Nat.{ℕ, _+_}
+use Prim.Native.Nat.{ℕ, zero, suc, _+_, _*_}
 use lib.ListN.{getD, set}
 use lib.Ieee as Ieee
 use lib.Ieee.{Float, nan, binary64}
 use Rattle.tensor.specs.Matrix.{three}
 use Rattle.tensor.specs.declared.Rows.{Rows}
-use Rattle.law.specs.State.{inputsFinite}
-use Rattle.law.specs.declared.State.{State}
+use Rattle.plasticity.specs.State.{inputsFinite}
+use Rattle.plasticity.specs.declared.State.{State}
+
+-- how many floats each part has over d axes, in the record's order
+abbrev pub widths : ℕ → List ℕ
+widths d = d * d ∷ d * d ∷ d ∷ d * d ∷ 1 ∷ 1 ∷ 1 ∷ 1 ∷ 1 ∷ 1 ∷ []
+
+-- where part k of a layout begins, after those before it
+abbrev pub place : List ℕ → ℕ → ℕ
+place [] k = 0
+place (w ∷ ws) zero = 0
+place (w ∷ ws) (suc k) = w + place ws k
+
+-- and how many floats the parts have together
+abbrev pub whole : List ℕ → ℕ
+whole [] = 0
+whole (w ∷ ws) = w + whole ws
+
+abbrev pub layout : List ℕ
+layout = widths 3
 
 abbrev pub floats : ℕ
-floats = 36
+floats = whole layout
+
+abbrev pub placeF : ℕ
+placeF = place layout 0
+
+abbrev pub placeU : ℕ
+placeU = place layout 1
+
+abbrev pub placeSigma : ℕ
+placeSigma = place layout 2
+
+abbrev pub placeVT : ℕ
+placeVT = place layout 3
+
+abbrev pub placePhase : ℕ
+placePhase = place layout 4
+
+abbrev pub placePlasticDeterminant : ℕ
+placePlasticDeterminant = place layout 5
+
+abbrev pub placePlasticHardening : ℕ
+placePlasticHardening = place layout 6
+
+abbrev pub placeElasticHardening : ℕ
+placeElasticHardening = place layout 7
+
+abbrev pub placeLogGain : ℕ
+placeLogGain = place layout 8
+
+abbrev pub placeAlpha : ℕ
+placeAlpha = place layout 9
 
 -- the number at a place of a record
-abbrev pub fl : List ℕ → ℕ → Float
-fl r i = Ieee.ofBits binary64 (getD r i 0)
+abbrev pub floatAt : List ℕ → ℕ → Float
+floatAt r i = Ieee.ofBits binary64 (getD r i 0)
 
 abbrev pub rowAt : List ℕ → ℕ → List Float
-rowAt r at = three (fl r at) (fl r (at + 1)) (fl r (at + 2))
+rowAt r at = three (floatAt r at) (floatAt r (at + 1)) (floatAt r (at + 2))
 
 abbrev pub matAt : List ℕ → ℕ → List (List Float)
 matAt r at = three (rowAt r at) (rowAt r (at + 3)) (rowAt r (at + 6))
@@ -28,22 +76,24 @@ abbrev pub rowsAt : List ℕ → ℕ → Rows
 rowsAt r at = record { r0 = rowAt r at; r1 = rowAt r (at + 3); r2 = rowAt r (at + 6) }
 
 abbrev pub uAt : List ℕ → List (List Float)
-uAt r = matAt r 9
+uAt r = matAt r placeU
 
 abbrev pub vtAt : List ℕ → List (List Float)
-vtAt r = matAt r 21
+vtAt r = matAt r placeVT
 
 abbrev pub stateAt : List ℕ → State
 stateAt r =
     record {
-      f = rowsAt r 0;
-      sigma = rowAt r 18;
-      phase = fl r 30;
-      «plastic_determinant» = fl r 31;
-      «plastic_hardening» = fl r 32;
-      «elastic_hardening» = fl r 33;
-      «log_gain» = fl r 34;
-      alpha = fl r 35;
+      f = rowsAt r placeF;
+      sigma = rowAt r placeSigma;
+      scalars = record {
+        phase = floatAt r placePhase;
+        «plastic_determinant» = floatAt r placePlasticDeterminant;
+        «plastic_hardening» = floatAt r placePlasticHardening;
+        «elastic_hardening» = floatAt r placeElasticHardening;
+        «log_gain» = floatAt r placeLogGain;
+        alpha = floatAt r placeAlpha;
+      };
     }
 
 -- no float of the record is a NaN or an infinity
@@ -62,23 +112,23 @@ putRows r at m = putRow (putRow (putRow r at (m .r0)) (at + 3) (m .r1)) (at + 6)
 
 -- an update that stores writes F and sigma
 abbrev pub putShape : List ℕ → State → List ℕ
-putShape r s = putRow (putRows r 0 (s .f)) 18 (s .sigma)
+putShape r s = putRow (putRows r placeF (s .f)) placeSigma (s .sigma)
 
 -- and of the six scalars those that its law names; phase is a verdict's
 abbrev pub putPhase : List ℕ → Float → List ℕ
-putPhase r x = set r 30 (bits x)
+putPhase r x = set r placePhase (bits x)
 
 abbrev pub putPlasticDeterminant : List ℕ → Float → List ℕ
-putPlasticDeterminant r x = set r 31 (bits x)
+putPlasticDeterminant r x = set r placePlasticDeterminant (bits x)
 
 abbrev pub putPlasticHardening : List ℕ → Float → List ℕ
-putPlasticHardening r x = set r 32 (bits x)
+putPlasticHardening r x = set r placePlasticHardening (bits x)
 
 abbrev pub putElasticHardening : List ℕ → Float → List ℕ
-putElasticHardening r x = set r 33 (bits x)
+putElasticHardening r x = set r placeElasticHardening (bits x)
 
 abbrev pub putLogGain : List ℕ → Float → List ℕ
-putLogGain r x = set r 34 (bits x)
+putLogGain r x = set r placeLogGain (bits x)
 
 abbrev pub putAlpha : List ℕ → Float → List ℕ
-putAlpha r x = set r 35 (bits x)
+putAlpha r x = set r placeAlpha (bits x)

@@ -1,5 +1,6 @@
-// A record of finite floats: one test of its 36 patterns, then each is read with no test of its own.
-use law::State;
+// A record of finite floats: one test of its patterns, then each is read with no test of its own.
+use plasticity::Scalars;
+use plasticity::State;
 use tensor::Rows;
 ghost use mathlib.Core.Path.{_≡_};
 ghost use mathlib.Core.Bool.{true};
@@ -7,9 +8,9 @@ ghost use Prim.Native.Nat.{_+_, _≤_};
 ghost use lib.ListN.{length};
 ghost use lib.Ieee as Ieee;
 ghost use lib.Ieee.{binary64};
-ghost use Rattle.numbers.specs.Rules.{finite};
+ghost use Rattle.numbers.specs.Floats.{finite};
 ghost use Rattle.tensor.specs.Finite.{rowFinite, matFinite, rowsFinite};
-ghost use Rattle.law.specs.State.{scalarsFinite};
+ghost use Rattle.plasticity.specs.State.{scalarsFinite};
 ghost use Rattle.record.specs.Layout.{floats, rowAt, matAt, rowsAt, uAt, vtAt, stateAt, recordFinite};
 
 // Whether a pattern is a finite float's: its exponent is not all ones.
@@ -35,7 +36,7 @@ fn mat_finite(r: &[u64], at: usize) -> bool
 
 fn scalars_finite(r: &[u64]) -> bool
     requires { ⌜ length (now r) ≡ floats ⌝ }
-    ensures { λ b. ⌜ b ≡ scalarsFinite (stateAt (now (r .entry))) ⌝ }
+    ensures { λ b. ⌜ b ≡ scalarsFinite (stateAt (now (r .entry)) .scalars) ⌝ }
 {
     word_finite(r[crate::PHASE])
         & word_finite(r[crate::PLASTIC_DETERMINANT])
@@ -109,11 +110,13 @@ pub fn read_state(r: &[u64]) -> State
     State {
         f: read_rows(r, crate::F),
         sigma: read_row(r, crate::SIGMA),
-        phase: read_word(r[crate::PHASE]),
-        plastic_determinant: read_word(r[crate::PLASTIC_DETERMINANT]),
-        plastic_hardening: read_word(r[crate::PLASTIC_HARDENING]),
-        elastic_hardening: read_word(r[crate::ELASTIC_HARDENING]),
-        log_gain: read_word(r[crate::LOG_GAIN]),
-        alpha: read_word(r[crate::ALPHA]),
+        scalars: Scalars {
+            phase: read_word(r[crate::PHASE]),
+            plastic_determinant: read_word(r[crate::PLASTIC_DETERMINANT]),
+            plastic_hardening: read_word(r[crate::PLASTIC_HARDENING]),
+            elastic_hardening: read_word(r[crate::ELASTIC_HARDENING]),
+            log_gain: read_word(r[crate::LOG_GAIN]),
+            alpha: read_word(r[crate::ALPHA]),
+        },
     }
 }

@@ -1,39 +1,46 @@
-// A record: 36 floats as bits in a lent list (document 01, section 7). The layout stands here alone.
+// A record: its floats as bits in a lent list (document 01, section 7). The layout stands here alone.
 mod finite;
+mod total;
 
 pub use finite::all_finite;
 pub use finite::read_state;
 pub use finite::read_u;
 pub use finite::read_vt;
 use tensor::Rows;
+pub use total::float;
+pub use total::word;
 ghost use mathlib.Core.Path.{_≡_};
 ghost use Prim.Native.Nat.{_+_, _≤_};
 ghost use lib.ListN.{length, set};
 ghost use Rattle.record.specs.Layout.{bits, putRow, putRows};
 
-// How many floats a record has.
-pub const FLOATS: usize = 36;
+// Where each part begins: F, U, sigma and V^T by rows, then six scalars. Each begins where the one before it ends.
+const ROW: usize = 3;
 
-// Where each part begins: F, U, sigma and V^T by rows, then six scalars.
+const MATRIX: usize = 3 * ROW;
+
 pub const F: usize = 0;
 
-pub const U: usize = 9;
+pub const U: usize = F + MATRIX;
 
-pub const SIGMA: usize = 18;
+pub const SIGMA: usize = U + MATRIX;
 
-pub const VT: usize = 21;
+pub const VT: usize = SIGMA + ROW;
 
-pub const PHASE: usize = 30;
+pub const PHASE: usize = VT + MATRIX;
 
-pub const PLASTIC_DETERMINANT: usize = 31;
+pub const PLASTIC_DETERMINANT: usize = PHASE + 1;
 
-pub const PLASTIC_HARDENING: usize = 32;
+pub const PLASTIC_HARDENING: usize = PLASTIC_DETERMINANT + 1;
 
-pub const ELASTIC_HARDENING: usize = 33;
+pub const ELASTIC_HARDENING: usize = PLASTIC_HARDENING + 1;
 
-pub const LOG_GAIN: usize = 34;
+pub const LOG_GAIN: usize = ELASTIC_HARDENING + 1;
 
-pub const ALPHA: usize = 35;
+pub const ALPHA: usize = LOG_GAIN + 1;
+
+// How many floats a record has.
+pub const FLOATS: usize = ALPHA + 1;
 
 pub fn write_row(r: &mut [u64], at: usize, v: [f64; 3])
     requires { ⌜ at + 3 ≤ length (now r) ⌝ }

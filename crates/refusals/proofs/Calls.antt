@@ -8,12 +8,12 @@ use Prim.Native.Nat.{ℕ, zero, suc, _<_}
 use native.Mathlib.Omega.{arith}
 use lib.Ieee as Ieee
 use lib.Ieee.{Float}
-use Rattle.numbers.specs.Rules.{finite, minOf}
-use Rattle.numbers.specs.Range.{onPath}
-use Rattle.numbers.specs.Answer.{answeredOf, given, finiteAnswerOf}
+use Rattle.numbers.specs.Floats.{finite, minOf}
+use Rattle.answers.specs.Range.{onPath}
+use Rattle.answers.specs.Answer.{answeredOf, given, finiteAnswerOf}
 use Rattle.numbers.specs.Power.{powiOf}
-use Rattle.numbers.specs.declared.Elementary.{Elementary}
-use Rattle.numbers.specs.declared.Elementary.the-variants as elementary
+use Rattle.answers.specs.declared.Answer.{Answer}
+use Rattle.answers.specs.declared.Answer.the-variants as answers
 use Rattle.exact.specs.RootOf.{sqrtOf}
 use Rattle.exponential.specs.Worked.{expOf}
 use Rattle.logarithm.specs.Worked.{lnOf}
@@ -30,9 +30,10 @@ use Rattle.tensor.specs.Decomposed.{tensorFinite, refusedTensor, answeredTensor
 use Rattle.tensor.specs.declared.DecomposedTensor.{DecomposedTensor}
 use Rattle.tensor.specs.declared.MatrixAnswer.{MatrixAnswer}
 use Rattle.physics.specs.Physics.{two}
-use Rattle.physics.specs.Quadratic.{pairOf, givenPair, discriminantOf, rootsOf, solveQuadraticOf}
-use Rattle.physics.specs.declared.Pair.{Pair}
-use Rattle.physics.specs.declared.Pair.the-variants as pair
+use Rattle.answers.specs.Answer.{pairOf, givenPair}
+use Rattle.physics.specs.Quadratic.{discriminantOf, rootsOf, solveQuadraticOf}
+use Rattle.answers.specs.declared.Pair.{Pair}
+use Rattle.answers.specs.declared.Pair.the-variants as pair
 use Rattle.plasticity_drucker_prager.specs.declared.DruckerPragerPlasticity.{DruckerPragerPlasticity}
 use Rattle.plasticity_drucker_prager.specs.Law as drucker-prager
 use Rattle.plasticity_drucker_prager.specs.Alpha.{decayOf, angleOf, slopeOf, rootedOf, sinedOf, angledOf, alphaOnPath, returnedNumber, alphaOf}
@@ -60,9 +61,9 @@ use Rattle.refusals.proofs.Walk.{exp-met, ln-met, sin-met, root-met, in
 use Rattle.refusals.proofs.Gate.{Gated, gated, gate-numbers, transfer, told}
 
 -- ---- the number that an answer is refused by
-abbrev refusalE : Elementary → Option ℕ
-refusalE (elementary.Value x) = none
-refusalE (elementary.Refused n) = some n
+abbrev refusalE : Answer → Option ℕ
+refusalE (answers.Value x) = none
+refusalE (answers.Refused n) = some n
 
 abbrev refusalP : Pair → Option ℕ
 refusalP (pair.Values x y) = none
@@ -80,9 +81,9 @@ beside (suc n) = some (suc n)
 abbrev refusalM : MatrixAnswer → Option ℕ
 refusalM a = beside (a .refusal)
 
-as-number : (e : Elementary) (n : ℕ) → refusalE e ≡ some n → e ≡ elementary.Refused n
-as-number (elementary.Value x) n q = absurd (nothing n q)
-as-number (elementary.Refused m) n q = ap elementary.Refused (differ q)
+as-number : (e : Answer) (n : ℕ) → refusalE e ≡ some n → e ≡ answers.Refused n
+as-number (answers.Value x) n q = absurd (nothing n q)
+as-number (answers.Refused m) n q = ap answers.Refused (differ q)
 
 as-pair : (e : Pair) (n : ℕ) → refusalP e ≡ some n → e ≡ pair.Refused n
 as-pair (pair.Values x y) n q = absurd (nothing n q)
@@ -102,8 +103,8 @@ gives-beside : {ok : Bool} {path : List Met} (m : ℕ) → Gated ok path (beside
 gives-beside m g = transfer (λ n. as-matrix m n) (gate-numbers g (λ q. q, λ q. q))
 
 module _ (ok : Bool) {path : List Met} where
-  given-gives : (e : Elementary) → refusalE e ≡ firstOf path → Gives (given ok e) ok path
-  given-gives e q = told refusalE elementary.Refused (λ n. refl) as-number (given ok e) (gated refusalE ok e (elementary.Refused 1) q refl)
+  given-gives : (e : Answer) → refusalE e ≡ firstOf path → Gives (given ok e) ok path
+  given-gives e q = told refusalE answers.Refused (λ n. refl) as-number (given ok e) (gated refusalE ok e (answers.Refused 1) q refl)
 
   given-gives-matrix : (a : MatrixAnswer) → refusalM a ≡ firstOf path → GivesMatrix (givenMatrix ok a) ok path
   given-gives-matrix a q = gives-beside (givenMatrix ok a .refusal) (gated refusalM ok a (refusedMatrix 1) q refl)
@@ -111,7 +112,7 @@ module _ (ok : Bool) {path : List Met} where
 -- ---- a result
 number-result : (x : Float) → refusalE (answeredOf x) ≡ firstOf (all-finite (finite x) ∷ [])
 unfolding firstOf
-number-result x = finite-met refusalE (finite x) (elementary.Value x) (elementary.Refused 3) [] refl refl
+number-result x = finite-met refusalE (finite x) (answers.Value x) (answers.Refused 3) [] refl refl
 
 matrix-result : (m : List (List Float)) → refusalM (answered m) ≡ firstOf (all-finite (matFinite m) ∷ [])
 unfolding answered firstOf
@@ -141,12 +142,12 @@ alpha-gives p q =
     let third = div drucker-prager.two drucker-prager.dim in
     let alpha = slopeOf (sqrtOf third) (sinOf x) in
     let end = all-finite (finite alpha) ∷ [] in
-    let F : Elementary → Option ℕ = λ e. refusalE (returnedNumber e) in
+    let F : Answer → Option ℕ = λ e. refusalE (returnedNumber e) in
     given-gives (drucker-prager.parametersFinite p && finite q) (returnedNumber (alphaOnPath p q))
     (exp-met (λ e. F (angledOf p q e)) (λ n. refl) (decayOf p q) (sin x ∷ root third ∷ number alpha ∷ end)
     (sin-met (λ e. F (sinedOf e)) (λ n. refl) x (root third ∷ number alpha ∷ end)
     (root-met (λ e. F (rootedOf e (sinOf x))) (λ n. refl) third (number alpha ∷ end)
-    (number-met F alpha (elementary.Value alpha) (elementary.Refused 3) end (number-result alpha) refl))))
+    (number-met F alpha (answers.Value alpha) (answers.Refused 3) end (number-result alpha) refl))))
 
 judged : (over : Bool) → refusalV (cond over verdict.Yes verdict.No) ≡ none
 judged true = refl
@@ -213,7 +214,7 @@ module _ (p : NeoHookeanElasticity) (h : Float) (f : List (List Float)) where
       let r = neo-energy.energySum c j deviatoric (neo-energy.volumetricEnergy k (powiOf j 2) (lnOf j)) in
       let end = all-finite (finite r) ∷ [] in
       given-gives (neo-hookean.lawFinite p && finite phase && finite h && matFinite f) (neo-energy.energySteps p c h j k f)
-      (number-met refusalE k (neo-energy.energyPowered (onPath j (invCbrtRanged j)) p c h j k f) (elementary.Refused 3) (thirdPower j ∷ ln j ∷ end)
+      (number-met refusalE k (neo-energy.energyPowered (onPath j (invCbrtRanged j)) p c h j k f) (answers.Refused 3) (thirdPower j ∷ ln j ∷ end)
       (inv-cbrt-met (λ e. refusalE (neo-energy.energyPowered e p c h j k f)) (λ n. refl) j (ln j ∷ end)
       (ln-met (λ e. refusalE (neo-energy.energyLogged e c j k deviatoric)) (λ n. refl) j end (number-result r))) refl)
 
@@ -229,10 +230,10 @@ module _ (p : NeoHookeanElasticity) (h : Float) (f : List (List Float)) where
       let r = cond (Ieee.lt j one) (mul deviatoric (neo-hookean.phaseCoeffOf phase)) (mul (add deviatoric volumetric) phase) in
       let end = all-finite (finite r) ∷ [] in
       given-gives (neo-hookean.lawFinite p && finite phase && finite h && matFinite f) (neo-energy.posSteps p phase h j k b)
-      (matrix-met refusalE k (matNumber b) (neo-energy.posPowered (onPath j (invCbrtSquaredRanged j)) p phase h j k b) (elementary.Refused 3) (thirdPower j ∷ ln j ∷ number volumetric ∷ end)
+      (matrix-met refusalE k (matNumber b) (neo-energy.posPowered (onPath j (invCbrtSquaredRanged j)) p phase h j k b) (answers.Refused 3) (thirdPower j ∷ ln j ∷ number volumetric ∷ end)
       (inv-cbrt-squared-met (λ e. refusalE (neo-energy.posPowered e p phase h j k b)) (λ n. refl) j (ln j ∷ number volumetric ∷ end)
       (ln-met (λ e. refusalE (neo-energy.posLogged e phase j k deviatoric)) (λ n. refl) j (number volumetric ∷ end)
-      (number-met refusalE volumetric (answeredOf r) (elementary.Refused 3) end (number-result r) refl))) refl)
+      (number-met refusalE volumetric (answeredOf r) (answers.Refused 3) end (number-result r) refl))) refl)
 
 -- ---- corotated
 module _ (p : CorotatedLinearElasticity) where
@@ -260,18 +261,18 @@ module _ (p : CorotatedLinearElasticity) where
       let spherical = corotated-energy.sphericalEnergy p j h in
       let r = cond (Ieee.lt j one) deviatoric (add deviatoric spherical) in
       given-gives (corotated.lawFinite p && matFinite f && rowFinite s && finite h) (corotated-energy.posEnergyOf j deviatoric spherical)
-      (number-met refusalE spherical (answeredOf r) (elementary.Refused 3) (all-finite (finite r) ∷ []) (number-result r) refl)
+      (number-met refusalE spherical (answeredOf r) (answers.Refused 3) (all-finite (finite r) ∷ []) (number-result r) refl)
 
 -- ---- Monaghan
 module _ (law : MonaghanSphEos) (mass volume density : Float) where
   -- F is what is made of the pressure
-  pressed-met : (F : Elementary → Option ℕ) → F (elementary.Refused 3) ≡ some 3 → (ms : List Met)
-      → F (elementary.Value (bounded law mass volume density)) ≡ firstOf ms → F (monaghan.workedPressure law mass volume density) ≡ firstOf (pressed law mass volume density ms)
+  pressed-met : (F : Answer → Option ℕ) → F (answers.Refused 3) ≡ some 3 → (ms : List Met)
+      → F (answers.Value (bounded law mass volume density)) ≡ firstOf ms → F (monaghan.workedPressure law mass volume density) ≡ firstOf (pressed law mass volume density ms)
   unfolding monaghan.workedPressure
   pressed-met F on ms e =
       let y = unbounded law mass volume density in
-      number-met F (monaghan.ratioOf mass volume density) (monaghan.boundedOf law y) (elementary.Refused 3) (number y ∷ ms)
-      (number-met F y (elementary.Value (bounded law mass volume density)) (elementary.Refused 3) ms e on) on
+      number-met F (monaghan.ratioOf mass volume density) (monaghan.boundedOf law y) (answers.Refused 3) (number y ∷ ms)
+      (number-met F y (answers.Value (bounded law mass volume density)) (answers.Refused 3) ms e on) on
 
   pressure-gives : Gives (monaghan.pressureOf law mass volume density) (monaghan.inputsFinite law mass volume density)
       (pressed law mass volume density (all-finite (finite (bounded law mass volume density)) ∷ []))

@@ -6,10 +6,10 @@ use mathlib.Core.Option.{Option, some}
 use Prim.Native.Nat.{ℕ, suc}
 use lib.Ieee as Ieee
 use lib.Ieee.{Float}
-use Rattle.numbers.specs.Rules.{finite}
-use Rattle.numbers.specs.Range.{onPath}
-use Rattle.numbers.specs.declared.Elementary.{Elementary}
-use Rattle.numbers.specs.declared.Elementary.the-variants as elementary
+use Rattle.numbers.specs.Floats.{finite}
+use Rattle.answers.specs.Range.{onPath}
+use Rattle.answers.specs.declared.Answer.{Answer}
+use Rattle.answers.specs.declared.Answer.the-variants as answers
 use Rattle.exact.specs.RootOf.{sqrtOf}
 use Rattle.exponential.specs.Worked.{expOf}
 use Rattle.exponential.specs.Exp.{expRanged}
@@ -19,9 +19,9 @@ use Rattle.sine.specs.Sine.{sinOf}
 use Rattle.square_root.specs.Sqrt.{sqrtRanged}
 use Rattle.tensor.specs.Matrix.{add, sub, div, zero, one, three, productOf, dotOf, recomposeOf}
 use Rattle.tensor.specs.Finite.{rowFinite, matFinite}
-use Rattle.law.specs.State.{refused}
-use Rattle.law.specs.declared.Outcome.the-variants.{Stored}
-use Rattle.law.specs.declared.State.{State}
+use Rattle.plasticity.specs.State.{refused}
+use Rattle.plasticity.specs.declared.Outcome.the-variants.{Stored}
+use Rattle.plasticity.specs.declared.State.{State}
 use Rattle.plasticity_drucker_prager.specs.declared.Branch.{Branch}
 use Rattle.plasticity_drucker_prager.specs.declared.Branch.the-variants as branch
 use Rattle.plasticity_drucker_prager.specs.declared.DruckerPragerPlasticity.{DruckerPragerPlasticity}
@@ -37,13 +37,13 @@ use Rattle.refusals.specs.DruckerPragerPath.{normOf, movedPath, Moved, t
 use Rattle.refusals.proofs.First.{firstOf, refusalOf}
 use Rattle.refusals.proofs.Walk.{exp-met, ln-met, sin-met, root-met, number-met, finite-met, either-met}
 
-abbrev rootAt : List Float → Elementary
+abbrev rootAt : List Float → Answer
 rootAt e = onPath (dotOf e e) (sqrtRanged (dotOf e e))
 
-abbrev lnAt : List Float → ℕ → Elementary
+abbrev lnAt : List Float → ℕ → Answer
 lnAt v i = onPath (at v i) (lnRanged (at v i))
 
-abbrev expAt : List Float → ℕ → Elementary
+abbrev expAt : List Float → ℕ → Answer
 expAt v i = onPath (at v i) (expRanged (at v i))
 
 -- ---- the projection. P is what is made of it: a refusal is handed on, a new sigma meets `moved`, the old one `inside`
@@ -67,8 +67,8 @@ module _ (p : DruckerPragerPlasticity) (sigma : List Float) (P : Projected → O
   surface-met gamma y norm back =
       let b = branch.Surface gamma y norm in
       let rest = moved (expsOf back) gamma in
-      let x0 = elementary.Value (expOf (at back 0)) in
-      let x1 = elementary.Value (expOf (at back 1)) in
+      let x0 = answers.Value (expOf (at back 0)) in
+      let x1 = answers.Value (expOf (at back 1)) in
       number-met (λ t. P (surfaceOf b gamma t)) (dotOf back back) (joinedOf (expAt back 0) (expAt back 1) (expAt back 2)) (triple.Refused 3) (exps back rest)
       (exp-met (λ a. P (surfaceOf b gamma (joinedOf a (expAt back 1) (expAt back 2)))) (c .on) (at back 0) (exp (at back 1) ∷ exp (at back 2) ∷ rest)
       (exp-met (λ a. P (surfaceOf b gamma (joinedOf x0 a (expAt back 2)))) (c .on) (at back 1) (exp (at back 2) ∷ rest)
@@ -113,8 +113,8 @@ module _ (p : DruckerPragerPlasticity) (sigma : List Float) (P : Projected → O
   pub projected-met : (gain alpha : Float) → P (projectedOf p sigma gain alpha) ≡ firstOf (projectedPath p sigma gain alpha inside moved)
   unfolding projectedOf loggedOf logsOf joinedOf projectedPath
   projected-met gain alpha =
-      let x0 = elementary.Value (lnOf (at sigma 0)) in
-      let x1 = elementary.Value (lnOf (at sigma 1)) in
+      let x0 = answers.Value (lnOf (at sigma 0)) in
+      let x1 = answers.Value (lnOf (at sigma 1)) in
       let e = strainOf (lnsOf sigma) gain in
       let rest = strainedPath p e alpha inside moved in
       ln-met (λ a. P (loggedOf p (joinedOf a (lnAt sigma 1) (lnAt sigma 2)) sigma gain alpha)) (c .on) (at sigma 0) (ln (at sigma 1) ∷ ln (at sigma 2) ∷ rest)
@@ -128,16 +128,16 @@ module _ (p : DruckerPragerPlasticity) (u vt : List (List Float)) (s : State) wh
   moved-met sigma dq =
       let prev = productOf (s .sigma) in
       let new = correctedOf p prev (productOf sigma) in
-      let d = determinantOf (s .«plastic_determinant») prev new in
+      let d = determinantOf (s .scalars .«plastic_determinant») prev new in
       let f = recomposeOf u sigma vt in
-      let h = add (s .«plastic_hardening») dq in
-      let gain = add (s .«log_gain») (sub (lnOf prev) (lnOf new)) in
+      let h = add (s .scalars .«plastic_hardening») dq in
+      let gain = add (s .scalars .«log_gain») (sub (lnOf prev) (lnOf new)) in
       let ok = matFinite f && rowFinite sigma && finite d && finite h && finite gain in
       let end = all-finite ok ∷ [] in
       let b = onPath new (lnRanged new) in
       number-met (λ v. refusalOf (v .outcome)) d (gainedOf (differenceOf (onPath prev (lnRanged prev)) b) u sigma vt d dq s) (refused 3 s) (ln prev ∷ ln new ∷ end)
       (ln-met (λ a. refusalOf (gainedOf (differenceOf a b) u sigma vt d dq s .outcome)) (λ n. refl) prev (ln new ∷ end)
-      (ln-met (λ a. refusalOf (gainedOf (differenceOf (elementary.Value (lnOf prev)) a) u sigma vt d dq s .outcome)) (λ n. refl) new end
+      (ln-met (λ a. refusalOf (gainedOf (differenceOf (answers.Value (lnOf prev)) a) u sigma vt d dq s .outcome)) (λ n. refl) new end
       (finite-met (λ v. refusalOf (v .outcome)) ok (record { state = stateOf f sigma d h gain s; outcome = Stored dq }) (refused 3 s) [] refl refl)))
       refl
 
@@ -159,25 +159,25 @@ module _ (p : DruckerPragerPlasticity) (u vt : List (List Float)) (s : State) wh
       }
 
   -- alpha, then the projection
-  abbrev A : Elementary → Option ℕ
+  abbrev A : Answer → Option ℕ
   A a = refusalOf (slopedOf p a u vt s .outcome)
 
-  sloped-met : A (alphaOnPath p (s .«plastic_hardening»)) ≡ firstOf (slopedPath p u vt s)
+  sloped-met : A (alphaOnPath p (s .scalars .«plastic_hardening»)) ≡ firstOf (slopedPath p u vt s)
   unfolding alphaOnPath angledOf sinedOf rootedOf slopedOf branchOf slopedPath
   sloped-met =
-      let q = s .«plastic_hardening» in
+      let q = s .scalars .«plastic_hardening» in
       let c = expOf (decayOf p q) in
       let x = angleOf p q c in
       let r = sqrtOf (div two dim) in
       let alpha = slopeOf r (sinOf x) in
-      let rest = projectedPath p (s .sigma) (s .«log_gain») alpha [] moves in
+      let rest = projectedPath p (s .sigma) (s .scalars .«log_gain») alpha [] moves in
       exp-met (λ a. A (angledOf p q a)) (λ n. refl) (decayOf p q) (sin x ∷ root (div two dim) ∷ number alpha ∷ rest)
       (sin-met (λ a. A (sinedOf a)) (λ n. refl) x (root (div two dim) ∷ number alpha ∷ rest)
       (root-met (λ a. A (rootedOf a (sinOf x))) (λ n. refl) (div two dim) (number alpha ∷ rest)
-      (number-met A alpha (elementary.Value alpha) (elementary.Refused 3) rest (projected-met p (s .sigma) U [] moves consumes (s .«log_gain») alpha) refl)))
+      (number-met A alpha (answers.Value alpha) (answers.Refused 3) rest (projected-met p (s .sigma) U [] moves consumes (s .scalars .«log_gain») alpha) refl)))
 
   pub drucker-met : refusalOf (druckerRun p u vt s .outcome) ≡ firstOf (druckerPath p u vt s)
   unfolding druckerRun druckerPath firstOf
   drucker-met =
-      either-met (λ v. refusalOf (v .outcome)) (staysOf p (s .phase)) (untouchedOf s) (slopedOf p (alphaOnPath p (s .«plastic_hardening»)) u vt s)
+      either-met (λ v. refusalOf (v .outcome)) (staysOf p (s .scalars .phase)) (untouchedOf s) (slopedOf p (alphaOnPath p (s .scalars .«plastic_hardening»)) u vt s)
       [] (slopedPath p u vt s) refl sloped-met

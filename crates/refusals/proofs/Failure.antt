@@ -7,20 +7,21 @@ use mathlib.Core.Option.{Option}
 use Prim.Native.Nat.{ℕ, zero, suc}
 use lib.ListN.{getD, set}
 use lib.Ieee.{binary64, ofBits, toBits}
-use Rattle.numbers.specs.Rules.{finite}
+use Rattle.numbers.specs.Floats.{finite}
 use Rattle.numbers.proofs.Laws.{and-both}
 use Rattle.tensor.specs.Matrix as matrix
 use Rattle.tensor.specs.Finite.{rowFinite}
-use Rattle.law.specs.State.{inputsFinite}
-use Rattle.record.specs.Layout.{fl, uAt, vtAt, stateAt, bits, putPhase}
+use Rattle.plasticity.specs.State.{inputsFinite}
+use Rattle.record.specs.Layout.{floatAt, uAt, vtAt, stateAt, bits, putPhase}
 use Rattle.failure_maximum_stress.specs.declared.MaximumStressFailure.{MaximumStressFailure}
 use Rattle.failure_maximum_stress.specs.declared.Verdict.{Verdict}
 use Rattle.failure_maximum_stress.specs.declared.Verdict.the-variants.{No, Yes, Refused}
 use Rattle.failure_maximum_stress.specs.Failure.{limitsFinite, exceedsOf, verdictOf}
 use Rattle.elasticity_corotated_linear.specs.declared.CorotatedLinearElasticity.{CorotatedLinearElasticity}
 use Rattle.elasticity_corotated_linear.specs.Law.{lawFinite}
-use Rattle.particles.specs.declared.choice.Model.{Model}
-use Rattle.particles.specs.Model.{modelFinite, recordLaw}
+use Rattle.model.specs.declared.Model.{Model}
+use Rattle.model.specs.Model.{modelFinite}
+use Rattle.particles.specs.Plain.{recordLaw}
 use Rattle.particles.specs.Judged.{verdictOn, judgedInputs, judgedOf, judgedAt, failedLaw, byVerdict, failureLaw}
 use Rattle.refusals.specs.Path.{Met, all-finite}
 use Rattle.refusals.specs.Refusals.{FailureInput, RecordNotFinite, pathOf, stressesOf, failurePath, Refuses}
@@ -50,7 +51,7 @@ phased r t = ⊎-elim (λ q. q) (λ q. absurd (never (places (putPhase r matrix.
     never : RecordNotFinite (putPhase r matrix.zero) → ⊥
     never (k, h, q) =
         let same : (n : ℕ) → getD (putPhase r matrix.zero) k 0 ≡ n → finite (ofBits binary64 n) ≡ true → ⊥ =
-        λ n e f. no-both (finite (fl (putPhase r matrix.zero) k)) (ap (λ (x : ℕ). finite (ofBits binary64 x)) e ∙ f) q in
+        λ n e f. no-both (finite (floatAt (putPhase r matrix.zero) k)) (ap (λ (x : ℕ). finite (ofBits binary64 x)) e ∙ f) q in
         ⊎-elim (λ e. same (bits matrix.zero) e zero-finite) (λ e. same (getD r k 0) e (inputs-hold r t k h)) (written r 30 (bits matrix.zero) k)
 
 -- ---- the law

@@ -6,10 +6,10 @@ use mathlib.Core.List.{List, [], _∷_}
 use mathlib.Core.Option.{Option, some, none}
 use Prim.Native.Nat.{ℕ, _≤_}
 use native.Mathlib.Omega.{arith}
-use Rattle.numbers.specs.Rules.{isNumber}
-use Rattle.numbers.specs.Range.{inRange}
-use Rattle.law.specs.declared.Outcome.{Outcome}
-use Rattle.law.specs.declared.Outcome.the-variants.{Untouched, Stored, Refused}
+use Rattle.numbers.specs.Floats.{isNumber}
+use Rattle.answers.specs.Range.{inRange}
+use Rattle.plasticity.specs.declared.Outcome.{Outcome}
+use Rattle.plasticity.specs.declared.Outcome.the-variants.{Untouched, Stored, Refused}
 use Rattle.refusals.specs.Path.{Met, argument, number, all-numbers, all-finite, Outside, Arises, Stops, Clear}
 
 unfoldable pub firstOf : List Met → Option ℕ

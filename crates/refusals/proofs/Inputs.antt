@@ -8,18 +8,18 @@ use native.Mathlib.Omega.{arith}
 use lib.Dec.{ltb}
 use borrow.Author.Tests.{ltb-true, ltb-false}
 use lib.Ieee.{Float}
-use Rattle.numbers.specs.Rules.{finite}
+use Rattle.numbers.specs.Floats.{finite}
 use Rattle.numbers.proofs.Laws.{and-both}
 use Rattle.tensor.specs.Finite.{rowFinite, matFinite, rowsFinite}
-use Rattle.law.specs.State.{scalarsFinite, stateFinite, inputsFinite}
-use Rattle.record.specs.Layout.{floats, fl, rowAt, matAt, rowsAt, uAt, vtAt, stateAt}
+use Rattle.plasticity.specs.State.{scalarsFinite, stateFinite, inputsFinite}
+use Rattle.record.specs.Layout.{floats, floatAt, rowAt, matAt, rowsAt, uAt, vtAt, stateAt}
 use Rattle.failure_maximum_stress.specs.declared.MaximumStressFailure.{MaximumStressFailure}
 use Rattle.failure_maximum_stress.specs.Failure.{limitsFinite}
 use Rattle.elasticity_corotated_linear.specs.declared.CorotatedLinearElasticity.{CorotatedLinearElasticity}
 use Rattle.elasticity_corotated_linear.specs.Law.{lawFinite}
-use Rattle.particles.specs.declared.choice.Model.{Model}
-use Rattle.particles.specs.declared.choice.Model.the-variants.{Snow, Rankine, DruckerPrager, Nacc}
-use Rattle.particles.specs.Model.{modelFinite}
+use Rattle.model.specs.declared.Model.{Model}
+use Rattle.model.specs.declared.Model.the-variants.{Snow, Rankine, DruckerPrager, Nacc}
+use Rattle.model.specs.Model.{modelFinite}
 use Rattle.refusals.specs.Refusals.{NotFinite, SomeNotFinite, parametersOf, failureOf, RecordNotFinite, Input}
 
 -- ---- a test that fails fails in a part
@@ -75,13 +75,13 @@ below : (k c : ℕ) → (k < c) ⊎ (c ≤ k)
 below k c = ⊎-elim (λ e. inl (ltb-true k c e)) (λ e. inr (ltb-false k c e)) (decide (ltb k c))
 
 module _ (r : List ℕ) where
-  place : (k : ℕ) → k < floats → NotFinite (fl r k) → RecordNotFinite r
+  place : (k : ℕ) → k < floats → NotFinite (floatAt r k) → RecordNotFinite r
   place k h q = (k, h, q)
 
   row-fails : (at : ℕ) → at + 2 < floats → rowFinite (rowAt r at) ≡ false → RecordNotFinite r
   row-fails at h q =
-      ⊎-elim (λ e. ⊎-elim (λ u. place at (omega arith) u) (λ u. place (at + 1) (omega arith) u) (one-fails (finite (fl r at)) (finite (fl r (at + 1))) e))
-      (λ u. place (at + 2) h u) (one-fails (finite (fl r at) && finite (fl r (at + 1))) (finite (fl r (at + 2))) q)
+      ⊎-elim (λ e. ⊎-elim (λ u. place at (omega arith) u) (λ u. place (at + 1) (omega arith) u) (one-fails (finite (floatAt r at)) (finite (floatAt r (at + 1))) e))
+      (λ u. place (at + 2) h u) (one-fails (finite (floatAt r at) && finite (floatAt r (at + 1))) (finite (floatAt r (at + 2))) q)
 
   mat-fails : (at : ℕ) → at + 8 < floats → matFinite (matAt r at) ≡ false → RecordNotFinite r
   mat-fails at h q =
@@ -91,9 +91,9 @@ module _ (r : List ℕ) where
       (λ u. row-fails (at + 6) (omega arith) u) (one-fails (a && b) (rowFinite (rowAt r (at + 6))) q)
 
   scalars : List Float
-  scalars = fl r 30 ∷ fl r 31 ∷ fl r 32 ∷ fl r 33 ∷ fl r 34 ∷ fl r 35 ∷ []
+  scalars = floatAt r 30 ∷ floatAt r 31 ∷ floatAt r 32 ∷ floatAt r 33 ∷ floatAt r 34 ∷ floatAt r 35 ∷ []
 
-  scalars-fail : scalarsFinite (stateAt r) ≡ false → RecordNotFinite r
+  scalars-fail : scalarsFinite (stateAt r .scalars) ≡ false → RecordNotFinite r
   unfolding left scalars
   scalars-fail q = go (some scalars .0 q)
     where
@@ -113,18 +113,18 @@ module _ (r : List ℕ) where
       let f = rowsFinite (rowsAt r 0) in
       let s = rowFinite (rowAt r 18) in
       ⊎-elim (λ e. ⊎-elim (mat-fails 9 (omega arith)) (mat-fails 21 (omega arith)) (one-fails u vt e))
-      (λ e. ⊎-elim (λ g. ⊎-elim (mat-fails 0 (omega arith)) (row-fails 18 (omega arith)) (one-fails f s g)) scalars-fail (one-fails (f && s) (scalarsFinite (stateAt r)) e))
+      (λ e. ⊎-elim (λ g. ⊎-elim (mat-fails 0 (omega arith)) (row-fails 18 (omega arith)) (one-fails f s g)) scalars-fail (one-fails (f && s) (scalarsFinite (stateAt r .scalars)) e))
       (one-fails (u && vt) (stateFinite (stateAt r)) q)
 
   -- ---- and the other way: where the test holds every place is finite
   Holds : ℕ → Type 0
-  Holds k = finite (fl r k) ≡ true
+  Holds k = finite (floatAt r k) ≡ true
 
   row-holds : (at : ℕ) → rowFinite (rowAt r at) ≡ true → (k : ℕ) → at ≤ k → k < at + 3 → Holds k
   unfolding Holds
   row-holds at q k h g =
-      let e = and-both (finite (fl r at) && finite (fl r (at + 1))) (finite (fl r (at + 2))) q in
-      let d = and-both (finite (fl r at)) (finite (fl r (at + 1))) (e .0) in
+      let e = and-both (finite (floatAt r at) && finite (floatAt r (at + 1))) (finite (floatAt r (at + 2))) q in
+      let d = and-both (finite (floatAt r at)) (finite (floatAt r (at + 1))) (e .0) in
       ⊎-elim (λ b. subst Holds (omega arith) (d .0))
       (λ b. ⊎-elim (λ c. subst Holds (omega arith) (d .1)) (λ c. subst Holds (omega arith) (e .1)) (below k (at + 2)))
       (below k (at + 1))
@@ -139,26 +139,26 @@ module _ (r : List ℕ) where
       (λ b. ⊎-elim (λ c. row-holds (at + 3) (d .1) k b (omega arith)) (λ c. row-holds (at + 6) (e .1) k c (omega arith)) (below k (at + 6)))
       (below k (at + 3))
 
-  scalars-hold : scalarsFinite (stateAt r) ≡ true → (k : ℕ) → 30 ≤ k → k < floats → Holds k
+  scalars-hold : scalarsFinite (stateAt r .scalars) ≡ true → (k : ℕ) → 30 ≤ k → k < floats → Holds k
   unfolding Holds
   scalars-hold q k h g =
       let a = rowFinite (rowAt r 30) in
-      let f = and-both (a && finite (fl r 33) && finite (fl r 34)) (finite (fl r 35)) q in
-      let e = and-both (a && finite (fl r 33)) (finite (fl r 34)) (f .0) in
-      let d = and-both a (finite (fl r 33)) (e .0) in
+      let f = and-both (a && finite (floatAt r 33) && finite (floatAt r 34)) (finite (floatAt r 35)) q in
+      let e = and-both (a && finite (floatAt r 33)) (finite (floatAt r 34)) (f .0) in
+      let d = and-both a (finite (floatAt r 33)) (e .0) in
       ⊎-elim (λ b. row-holds 30 (d .0) k h b)
       (λ b. ⊎-elim (λ c. subst Holds (omega arith) (d .1))
       (λ c. ⊎-elim (λ i. subst Holds (omega arith) (e .1)) (λ i. subst Holds (omega arith) (f .1)) (below k 35)) (below k 34))
       (below k 33)
 
-  pub inputs-hold : inputsFinite (uAt r) (vtAt r) (stateAt r) ≡ true → (k : ℕ) → k < floats → finite (fl r k) ≡ true
+  pub inputs-hold : inputsFinite (uAt r) (vtAt r) (stateAt r) ≡ true → (k : ℕ) → k < floats → finite (floatAt r k) ≡ true
   unfolding Holds
   inputs-hold q k h =
       let f = rowsFinite (rowsAt r 0) in
       let s = rowFinite (rowAt r 18) in
       let e = and-both (matFinite (uAt r) && matFinite (vtAt r)) (stateFinite (stateAt r)) q in
       let m = and-both (matFinite (uAt r)) (matFinite (vtAt r)) (e .0) in
-      let n = and-both (f && s) (scalarsFinite (stateAt r)) (e .1) in
+      let n = and-both (f && s) (scalarsFinite (stateAt r .scalars)) (e .1) in
       let t = and-both f s (n .0) in
       ⊎-elim (λ b. mat-holds 0 (t .0) k (omega arith) b)
       (λ b. ⊎-elim (λ c. mat-holds 9 (m .0) k b c)
@@ -171,7 +171,7 @@ module _ (r : List ℕ) where
     where
       back : RecordNotFinite r → inputsFinite (uAt r) (vtAt r) (stateAt r) ≡ false
       back (k, h, q) =
-          ⊎-elim (λ t. absurd (no-both (finite (fl r k)) (inputs-hold t k h) q)) (λ f. f) (decide (inputsFinite (uAt r) (vtAt r) (stateAt r)))
+          ⊎-elim (λ t. absurd (no-both (finite (floatAt r k)) (inputs-hold t k h) q)) (λ f. f) (decide (inputsFinite (uAt r) (vtAt r) (stateAt r)))
 
 -- ---- all inputs of a record
 pub inputs : (m : Model) (r : List ℕ) → (modelFinite m && inputsFinite (uAt r) (vtAt r) (stateAt r) ≡ false) ↔ Input m r

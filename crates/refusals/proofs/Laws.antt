@@ -5,19 +5,19 @@ use mathlib.Core.List.{List, [], _∷_}
 use mathlib.Core.Option.{Option, some, none}
 use Prim.Native.Nat.{ℕ, suc}
 use lib.Ieee.{Float, ofBits}
-use Rattle.numbers.specs.Rules.{finite}
-use Rattle.numbers.specs.declared.Elementary.{Elementary}
-use Rattle.numbers.specs.declared.Elementary.the-variants as elementary
+use Rattle.numbers.specs.Floats.{finite}
+use Rattle.answers.specs.declared.Answer.{Answer}
+use Rattle.answers.specs.declared.Answer.the-variants as answers
 use Rattle.exact.specs.RootOf.{sqrtOf}
 use Rattle.sine.specs.Sine.{sinOf}
 use Rattle.tensor.specs.Matrix.{div, zero, rowsOf}
 use Rattle.tensor.specs.Finite.{rowFinite}
 use Rattle.tensor.specs.declared.Rows.{Rows}
 use Rattle.physics.specs.Physics.{lameOf, lambdaOf, shearModulusOf}
-use Rattle.physics.specs.Quadratic.{pairOf}
-use Rattle.physics.specs.declared.Pair.{Pair}
-use Rattle.physics.specs.declared.Pair.the-variants as pair
-use Rattle.law.specs.declared.State.{State}
+use Rattle.answers.specs.Answer.{pairOf}
+use Rattle.answers.specs.declared.Pair.{Pair}
+use Rattle.answers.specs.declared.Pair.the-variants as pair
+use Rattle.plasticity.specs.declared.State.{State}
 use Rattle.plasticity_rankine.specs.declared.Branch as rankine-branch-type
 use Rattle.plasticity_rankine.specs.declared.Branch.the-variants as rankine-branch
 use Rattle.plasticity_rankine.specs.declared.Made as rankine-made-type
@@ -196,13 +196,13 @@ module _ (a : NaccArguments) where
       let m = nacc-law.frictionOf (sqrtOf third) (sinOf x) in
       let end = all-finite (finite m) ∷ [] in
       let F : nacc-made-type.Made → Option ℕ = λ y. nacc-made-number (nacc-law.angledOf y) in
-      let G : Elementary → Option ℕ = λ e. nacc-made-number (nacc-law.framedOf q e) in
+      let G : Answer → Option ℕ = λ e. nacc-made-number (nacc-law.framedOf q e) in
       told nacc-made-number nacc-made.Refused (λ n. refl) nacc-made-back (nacc-law.angledOf (nacc-law.madeOf a))
       (gated F tested (cond (nacc-law.moduliFinite q) (nacc-made.Law q) (nacc-made.Refused 3)) (nacc-made.Refused 1)
       (finite-met F (nacc-law.moduliFinite q) (nacc-made.Law q) (nacc-made.Refused 3) (sin x ∷ root third ∷ end)
       (sin-met (λ e. G (nacc-law.frictionSined e)) (λ n. refl) x (root third ∷ end)
       (root-met (λ e. G (nacc-law.frictionRooted e (sinOf x))) (λ n. refl) third end
-      (finite-met G (finite m) (elementary.Value m) (elementary.Refused 3) [] refl refl))) refl) refl)
+      (finite-met G (finite m) (answers.Value m) (answers.Refused 3) [] refl refl))) refl) refl)
 
 -- ---- a projection
 abbrev rankine-branch-number : rankine-branch-type.Branch → Option ℕ

@@ -6,11 +6,11 @@ use mathlib.Core.Option.{Option}
 use Prim.Native.Nat.{ℕ}
 use lib.Ieee as Ieee
 use lib.Ieee.{Float}
-use Rattle.numbers.specs.Rules.{finite}
-use Rattle.numbers.specs.Range.{onPath}
-use Rattle.numbers.specs.declared.Elementary.{Elementary}
-use Rattle.numbers.specs.declared.Elementary.the-variants as elementary
-use Rattle.physics.specs.declared.Pair.{Pair}
+use Rattle.numbers.specs.Floats.{finite}
+use Rattle.answers.specs.Range.{onPath}
+use Rattle.answers.specs.declared.Answer.{Answer}
+use Rattle.answers.specs.declared.Answer.the-variants as answers
+use Rattle.answers.specs.declared.Pair.{Pair}
 use Rattle.exact.specs.RootOf.{sqrtOf}
 use Rattle.exponential.specs.Sinh.{sinhOf}
 use Rattle.logarithm.specs.Worked.{lnOf}
@@ -19,7 +19,7 @@ use Rattle.square_root.specs.Sqrt.{sqrtRanged}
 use Rattle.thirds.specs.Thirds.{cbrtOf, cbrtSquaredOf, invCbrtSquaredOf, cbrtSquaredRanged}
 use Rattle.tensor.specs.Matrix.{add, sub, mul, div, zero, three, productOf, dotOf, recomposeOf, rowsOf}
 use Rattle.tensor.specs.Finite.{rowFinite, matFinite}
-use Rattle.law.specs.declared.State.{State}
+use Rattle.plasticity.specs.declared.State.{State}
 use Rattle.plasticity_nacc.specs.declared.Branch.{Branch}
 use Rattle.plasticity_nacc.specs.declared.Branch.the-variants as branch
 use Rattle.plasticity_nacc.specs.declared.NaccPlasticity.{NaccPlasticity}
@@ -46,7 +46,7 @@ data Works : Branch → Type 0 where
   lower : {x y : Float} → Works (branch.Lower x y)
   onto : {x y : Float} → Works (branch.Surface x y)
 
-abbrev rootAt : Float → Elementary
+abbrev rootAt : Float → Answer
 rootAt x = onPath x (sqrtRanged x)
 
 module _ (p : NaccPlasticity) (u vt : List (List Float)) (st : State) where
@@ -85,8 +85,8 @@ module _ (p : NaccPlasticity) (u vt : List (List Float)) (st : State) where
       let rest = cond (p .«hardening_enabled») (ln ratio ∷ grown) kept in
       root-met (λ e. S (rootedOf p b e j alpha)) (λ n. refl) square (thirdPower x ∷ rest)
       (cbrt-met (λ e. S (filledOf b e (tipAlpha p alpha ratio))) (λ n. refl) x rest
-      (either-met (λ e. S (filledOf b (elementary.Value c) e)) (p .«hardening_enabled») (raisedOf alpha (onPath ratio (lnRanged ratio))) (elementary.Value alpha) (ln ratio ∷ grown) kept
-      (ln-met (λ e. S (filledOf b (elementary.Value c) (raisedOf alpha e))) (λ n. refl) ratio grown (results-met w sigma (add alpha (lnOf ratio))))
+      (either-met (λ e. S (filledOf b (answers.Value c) e)) (p .«hardening_enabled») (raisedOf alpha (onPath ratio (lnRanged ratio))) (answers.Value alpha) (ln ratio ∷ grown) kept
+      (ln-met (λ e. S (filledOf b (answers.Value c) (raisedOf alpha e))) (λ n. refl) ratio grown (results-met w sigma (add alpha (lnOf ratio))))
       (results-met w sigma alpha)))
 
   -- ---- the surface
@@ -95,8 +95,8 @@ module _ (p : NaccPlasticity) (u vt : List (List Float)) (st : State) where
         → S (landedOf b (surface.rootsOf e) alpha) ≡ firstOf (number (dotOf e e) ∷ root (at e 0) ∷ root (at e 1) ∷ root (at e 2) ∷ resultsPath p u vt (rootsOf e) alpha)
     unfolding surface.rootsOf joinedOf landedOf storedOf projectedOf
     landed-met e alpha =
-        let x0 = elementary.Value (sqrtOf (at e 0)) in
-        let x1 = elementary.Value (sqrtOf (at e 1)) in
+        let x0 = answers.Value (sqrtOf (at e 0)) in
+        let x1 = answers.Value (sqrtOf (at e 1)) in
         let end = resultsPath p u vt (rootsOf e) alpha in
         number-met (λ x. S (landedOf b x alpha)) (dotOf e e) (joinedOf (rootAt (at e 0)) (rootAt (at e 1)) (rootAt (at e 2))) (triple.Refused 3) (root (at e 0) ∷ root (at e 1) ∷ root (at e 2) ∷ end)
         (root-met (λ x. S (landedOf b (joinedOf x (rootAt (at e 1)) (rootAt (at e 2))) alpha)) (λ n. refl) (at e 0) (root (at e 1) ∷ root (at e 2) ∷ end)
@@ -113,19 +113,19 @@ module _ (p : NaccPlasticity) (u vt : List (List Float)) (st : State) where
         let e = spreadOf k (t .s) norm (t .mean) in
         let end = number (dotOf e e) ∷ root (at e 0) ∷ root (at e 1) ∷ root (at e 2) ∷ resultsPath p u vt (rootsOf e) alpha in
         root-met (λ x. S (scaledOf b (timesOf x (overMu p (onPath j (cbrtSquaredRanged j)))) t alpha)) (λ n. refl) ratio (thirdPower j ∷ number k ∷ root (t .squares) ∷ end)
-        (cbrt-squared-met (λ x. S (scaledOf b (timesOf (elementary.Value (sqrtOf ratio)) (overMu p x)) t alpha)) (λ n. refl) j (number k ∷ root (t .squares) ∷ end)
+        (cbrt-squared-met (λ x. S (scaledOf b (timesOf (answers.Value (sqrtOf ratio)) (overMu p x)) t alpha)) (λ n. refl) j (number k ∷ root (t .squares) ∷ end)
         (number-met S k (normedOf b k (rootAt (t .squares)) t alpha) (refusedStep 3) (root (t .squares) ∷ end)
         (root-met (λ x. S (normedOf b k x t alpha)) (λ n. refl) (t .squares) end (landed-met e alpha)) refl))
 
     -- what is made of the new alpha
-    abbrev E : Elementary → Option ℕ
+    abbrev E : Answer → Option ℕ
     E x = S (alphaedOf p b x t)
 
-    value-met : (alpha : Float) → E (elementary.Value alpha) ≡ firstOf (scaledPath p u vt t alpha)
+    value-met : (alpha : Float) → E (answers.Value alpha) ≡ firstOf (scaledPath p u vt t alpha)
     unfolding alphaedOf
     value-met alpha = scaled-met alpha
 
-    volume-met : (x alpha : Float) → E (grownOf (volumeOf p (elementary.Value x)) (t .j) alpha) ≡ firstOf (volumePath p u vt x t alpha)
+    volume-met : (x alpha : Float) → E (grownOf (volumeOf p (answers.Value x)) (t .j) alpha) ≡ firstOf (volumePath p u vt x t alpha)
     unfolding alphaedOf volumeOf grownOf raisedOf storedOf projectedOf volumePath
     volume-met x alpha =
         let square = sizeOf (volumeSquare p x) in
@@ -134,14 +134,14 @@ module _ (p : NaccPlasticity) (u vt : List (List Float)) (st : State) where
         let grown = scaledPath p u vt t (add alpha (lnOf ratio)) in
         let kept = scaledPath p u vt t alpha in
         root-met (λ e. E (grownOf e (t .j) alpha)) (λ n. refl) square (cond (Ieee.lt small v) (ln ratio ∷ grown) kept)
-        (either-met E (Ieee.lt small v) (raisedOf alpha (onPath ratio (lnRanged ratio))) (elementary.Value alpha) (ln ratio ∷ grown) kept
+        (either-met E (Ieee.lt small v) (raisedOf alpha (onPath ratio (lnRanged ratio))) (answers.Value alpha) (ln ratio ∷ grown) kept
         (ln-met (λ e. E (raisedOf alpha e)) (λ n. refl) ratio grown (value-met (add alpha (lnOf ratio)))) (value-met alpha))
 
     -- what is made of the crossing pressure
-    abbrev C : Float → Elementary → Option ℕ
+    abbrev C : Float → Answer → Option ℕ
     C alpha x = E (grownOf (volumeOf p x) (t .j) alpha)
 
-    either-value : (q : Bool) (x y alpha : Float) → C alpha (cond q (elementary.Value x) (elementary.Value y)) ≡ C alpha (elementary.Value (cond q x y))
+    either-value : (q : Bool) (x y alpha : Float) → C alpha (cond q (answers.Value x) (answers.Value y)) ≡ C alpha (answers.Value (cond q x y))
     either-value true x y alpha = refl
     either-value false x y alpha = refl
 
@@ -157,14 +157,14 @@ module _ (p : NaccPlasticity) (u vt : List (List Float)) (st : State) where
         let right = Ieee.lt zero side in
         let rest = volumePath p u vt (cond right p1 p2) t alpha in
         root-met (λ x. C alpha (crossedOf x a b d0 centre (t .p))) (λ n. refl) r (number p1 ∷ number p2 ∷ number side ∷ rest)
-        (three-met (C alpha) p1 p2 side (cond right (elementary.Value p1) (elementary.Value p2)) (elementary.Refused 3) rest
+        (three-met (C alpha) p1 p2 side (cond right (answers.Value p1) (answers.Value p2)) (answers.Refused 3) rest
         (either-value right p1 p2 alpha ∙ volume-met (cond right p1 p2) alpha) refl)
 
     -- what is made of the direction
     abbrev D : Float → Float → Pair → Option ℕ
     D centre alpha d = E (directedOf p d centre t alpha)
 
-    aimed-met : (x q centre alpha : Float) → D centre alpha (aimedOf x (elementary.Value q)) ≡ firstOf (aimedPath p u vt x q centre t alpha)
+    aimed-met : (x q centre alpha : Float) → D centre alpha (aimedOf x (answers.Value q)) ≡ firstOf (aimedPath p u vt x q centre t alpha)
     unfolding aimedOf normalisedOf directedOf alphaedOf storedOf projectedOf aimedPath
     aimed-met x q centre alpha =
         let y = sub zero q in
@@ -181,10 +181,10 @@ module _ (p : NaccPlasticity) (u vt : List (List Float)) (st : State) where
         let r = sqrtOf halfDim in
         let rest = aimedPath p u vt x (mul r (sqrtOf (t .squares))) centre t alpha in
         let step = number centre ∷ root halfDim ∷ root (t .squares) ∷ rest in
-        either-met E (hardens p t) (hardeningStep p t alpha) (elementary.Value alpha) step (scaledPath p u vt t alpha)
-        (number-met E centre (directedOf p (directionOf t centre) centre t alpha) (elementary.Refused 3) (root halfDim ∷ root (t .squares) ∷ rest)
+        either-met E (hardens p t) (hardeningStep p t alpha) (answers.Value alpha) step (scaledPath p u vt t alpha)
+        (number-met E centre (directedOf p (directionOf t centre) centre t alpha) (answers.Refused 3) (root halfDim ∷ root (t .squares) ∷ rest)
         (root-met (λ e. D centre alpha (aimedOf x (timesOf e (rootAt (t .squares))))) (λ n. refl) halfDim (root (t .squares) ∷ rest)
-        (root-met (λ e. D centre alpha (aimedOf x (timesOf (elementary.Value r) e))) (λ n. refl) (t .squares) rest
+        (root-met (λ e. D centre alpha (aimedOf x (timesOf (answers.Value r) e))) (λ n. refl) (t .squares) rest
         (aimed-met x (mul r (sqrtOf (t .squares))) centre alpha))) refl) (value-met alpha)
 
     surface-met : (alpha : Float) → S (surfaceOf p b t alpha) ≡ firstOf (surfacePath p u vt t alpha)
@@ -217,12 +217,12 @@ module _ (p : NaccPlasticity) (u vt : List (List Float)) (st : State) where
   unfolding naccRun stepsOf pressedOf poweredOf p0OnPath p0Of storedOf projectedOf naccPath
   nacc-met =
       let sigma = st .sigma in
-      let alpha = st .alpha in
+      let alpha = st .scalars .alpha in
       let x = softeningOf p alpha in
       let p0 = p0From p (sinhOf x) in
       let j = productOf sigma in
       let t = trialOf p (invCbrtSquaredOf j) p0 j sigma in
       let rest = triedPath p u vt t alpha in
       sinh-met (λ e. S (pressedOf p (p0Of p e) sigma alpha)) (λ n. refl) x (number p0 ∷ thirdPower j ∷ rest)
-      (number-met (λ e. S (pressedOf p e sigma alpha)) p0 (elementary.Value p0) (elementary.Refused 3) (thirdPower j ∷ rest)
+      (number-met (λ e. S (pressedOf p e sigma alpha)) p0 (answers.Value p0) (answers.Refused 3) (thirdPower j ∷ rest)
       (inv-cbrt-squared-met (λ e. S (poweredOf p e p0 j sigma alpha)) (λ n. refl) j rest (tried-met t sigma alpha)) refl)

@@ -6,13 +6,10 @@ use mathlib.Core.List.{List, [], _∷_, _++_}
 use Prim.Native.Nat.{ℕ, zero, suc, _+_, _*_, _/_, _<_}
 use native.Mathlib.Nat.{eq-or-lt-of-le}
 use native.Mathlib.Omega.{arith}
-use borrow.Author.Tests.{eq-eqb, eqb-true}
-use lib.Dec.{eqb}
 use lib.ListN.{length, getD, List·getD-append}
 use lib.Seq.{getD-append-add}
-use Rattle.law.specs.declared.Outcome.{Outcome}
-use Rattle.law.specs.declared.Outcome.the-variants.{Untouched, Stored, Refused}
-use Rattle.numbers.proofs.Laws.{and-both}
+use Rattle.plasticity.specs.declared.Outcome.{Outcome}
+use Rattle.plasticity.specs.declared.Outcome.the-variants.{Untouched, Stored, Refused}
 use Rattle.record.specs.Layout.{floats}
 use Rattle.particles.specs.declared.list.Counts.{Counts}
 use Rattle.particles.specs.declared.list.Passed.the-variants as pass
@@ -20,33 +17,13 @@ use Rattle.particles.specs.declared.failure.FailureCounts.{FailureCounts}
 use Rattle.particles.specs.declared.failure.PassedWithFailure.the-variants as failure-pass
 use Rattle.particles.specs.Pass.{Worked, codeOf, valueOf, recordAt, answers, wellSized, passAnswers}
 use Rattle.particles.proofs.PassLaws.{answers-length}
+use Rattle.sheet_run.proofs.Parts.{taken, sized, quotient, well}
 use Rattle.refusals.specs.Path.{Met}
 use Rattle.refusals.specs.Refusals.{Refuses, Answers, Sized, Eight, Pass}
 use Rattle.refusals.proofs.Gate.{transfer}
 use Rattle.refusals.proofs.Inputs.{no-both, decide}
 
--- ---- the lengths
-module _ (xs out : List ℕ) where
-  pub sized : wellSized xs out ≡ true → Sized xs out (length xs / floats)
-  sized q =
-      let e = and-both (eqb (length xs / floats * floats) (length xs)) (eqb (length xs / floats * 2) (length out)) q in
-      (sym (eqb-true (length xs / floats * floats) (length xs) (e .0)), sym (eqb-true (length xs / floats * 2) (length out) (e .1)))
-
-  pub quotient : (k : ℕ) → length xs ≡ k * floats → length xs / floats ≡ k
-  quotient k e = omega arith
-
-  pub well : (k : ℕ) → Sized xs out k → wellSized xs out ≡ true
-  well k s =
-      let q = quotient k (s .0) in
-      let a = eq-eqb (length xs / floats * floats) (length xs) (omega arith) in
-      let b = eq-eqb (length xs / floats * 2) (length out) (omega arith) in
-      rw (a, b)
-
 -- ---- 8
-pub taken : {P : Type 0} (b : Bool) (X Y : P) → b ≡ true → cond b X Y ≡ X
-taken true X Y q = refl
-taken false X Y q = absurd (no-both false q refl)
-
 pub left-out : {P : Type 0} (b : Bool) (X Y : P) → b ≡ false → cond b X Y ≡ Y
 left-out true X Y q = absurd (no-both true refl q)
 left-out false X Y q = refl

@@ -6,19 +6,19 @@ use mathlib.Core.Option.{Option, some}
 use Prim.Native.Nat.{ℕ}
 use lib.Ieee as Ieee
 use lib.Ieee.{Float}
-use Rattle.numbers.specs.Rules.{finite, minOf}
-use Rattle.numbers.specs.Range.{onPath}
-use Rattle.numbers.specs.declared.Elementary.{Elementary}
-use Rattle.numbers.specs.declared.Elementary.the-variants as elementary
+use Rattle.numbers.specs.Floats.{finite, minOf}
+use Rattle.answers.specs.Range.{onPath}
+use Rattle.answers.specs.declared.Answer.{Answer}
+use Rattle.answers.specs.declared.Answer.the-variants as answers
 use Rattle.exponential.specs.Worked.{expOf}
 use Rattle.exponential.specs.Exp.{expRanged}
 use Rattle.logarithm.specs.Worked.{lnOf}
 use Rattle.logarithm.specs.Ln.{lnRanged}
 use Rattle.tensor.specs.Matrix.{recomposeOf}
 use Rattle.tensor.specs.Finite.{rowFinite, matFinite}
-use Rattle.law.specs.State.{refused}
-use Rattle.law.specs.declared.Outcome.the-variants.{Stored}
-use Rattle.law.specs.declared.State.{State}
+use Rattle.plasticity.specs.State.{refused}
+use Rattle.plasticity.specs.declared.Outcome.the-variants.{Stored}
+use Rattle.plasticity.specs.declared.State.{State}
 use Rattle.plasticity_rankine.specs.declared.Branch.{Branch}
 use Rattle.plasticity_rankine.specs.declared.Branch.the-variants as branch
 use Rattle.plasticity_rankine.specs.declared.RankinePlasticity.{RankinePlasticity}
@@ -49,10 +49,10 @@ tests-met p F ms stays one two all on t S r =
     (number-met F c last (branch.Refused 3) ms (same-met F (Ieee.le c t) (branch.Two c t) (branch.All c t) ms (two c t) (all c t)) on)) on)) on
 
 module _ (p : RankinePlasticity) (u vt : List (List Float)) (s : State) where
-  abbrev lnAt : List Float → ℕ → Elementary
+  abbrev lnAt : List Float → ℕ → Answer
   lnAt v i = onPath (at v i) (lnRanged (at v i))
 
-  abbrev expAt : List Float → ℕ → Elementary
+  abbrev expAt : List Float → ℕ → Answer
   expAt v i = onPath (at v i) (expRanged (at v i))
 
   moved-met : (old new : List Float) → refusalOf (rankineMoved p old new u vt s .outcome) ≡ firstOf (movedPath p old new u vt s)
@@ -62,17 +62,17 @@ module _ (p : RankinePlasticity) (u vt : List (List Float)) (s : State) where
       let h = minOf y (p .«tensile_strength») in
       let f = recomposeOf u (expsOf new) vt in
       let ok = matFinite f && rowFinite (expsOf new) && finite h in
-      let x0 = elementary.Value (expOf (at new 0)) in
-      let x1 = elementary.Value (expOf (at new 1)) in
+      let x0 = answers.Value (expOf (at new 0)) in
+      let x1 = answers.Value (expOf (at new 1)) in
       let end = all-finite ok ∷ [] in
-      root-met (λ e. refusalOf (rankineFinish (grownOf p (s .«plastic_hardening») e) (rankine.expsOf new) u vt s .outcome)) (λ n. refl)
+      root-met (λ e. refusalOf (rankineFinish (grownOf p (s .scalars .«plastic_hardening») e) (rankine.expsOf new) u vt s .outcome)) (λ n. refl)
       (squaresOf old new) (number y ∷ exps new end)
-      (number-met (λ e. refusalOf (rankineFinish e (rankine.expsOf new) u vt s .outcome)) y (elementary.Value h) (elementary.Refused 3) (exps new end)
-      (exp-met (λ e. refusalOf (rankineFinish (elementary.Value h) (joinedOf e (expAt new 1) (expAt new 2)) u vt s .outcome)) (λ n. refl) (at new 0)
+      (number-met (λ e. refusalOf (rankineFinish e (rankine.expsOf new) u vt s .outcome)) y (answers.Value h) (answers.Refused 3) (exps new end)
+      (exp-met (λ e. refusalOf (rankineFinish (answers.Value h) (joinedOf e (expAt new 1) (expAt new 2)) u vt s .outcome)) (λ n. refl) (at new 0)
       (exp (at new 1) ∷ exp (at new 2) ∷ end)
-      (exp-met (λ e. refusalOf (rankineFinish (elementary.Value h) (joinedOf x0 e (expAt new 2)) u vt s .outcome)) (λ n. refl) (at new 1)
+      (exp-met (λ e. refusalOf (rankineFinish (answers.Value h) (joinedOf x0 e (expAt new 2)) u vt s .outcome)) (λ n. refl) (at new 1)
       (exp (at new 2) ∷ end)
-      (exp-met (λ e. refusalOf (rankineFinish (elementary.Value h) (joinedOf x0 x1 e) u vt s .outcome)) (λ n. refl) (at new 2) end
+      (exp-met (λ e. refusalOf (rankineFinish (answers.Value h) (joinedOf x0 x1 e) u vt s .outcome)) (λ n. refl) (at new 2) end
       (finite-met (λ v. refusalOf (v .outcome)) ok (record { state = stateOf f (expsOf new) h s; outcome = Stored h }) (refused 3 s) [] refl refl))))
       refl)
 
@@ -88,10 +88,10 @@ module _ (p : RankinePlasticity) (u vt : List (List Float)) (s : State) where
   rankine-met =
       let v = s .sigma in
       let e = lnsOf v in
-      let soft = softStrengthOf p (s .«plastic_hardening») in
+      let soft = softStrengthOf p (s .scalars .«plastic_hardening») in
       let new = projectedOf p e soft .strains in
-      let x0 = elementary.Value (lnOf (at v 0)) in
-      let x1 = elementary.Value (lnOf (at v 1)) in
+      let x0 = answers.Value (lnOf (at v 0)) in
+      let x1 = answers.Value (lnOf (at v 1)) in
       let rest = testsPath p soft _ _ (movedPath p e new u vt s) in
       ln-met (λ a. refusalOf (rankineLogged (joinedOf a (lnAt v 1) (lnAt v 2)) p u vt s .outcome)) (λ n. refl) (at v 0) (ln (at v 1) ∷ ln (at v 2) ∷ rest)
       (ln-met (λ a. refusalOf (rankineLogged (joinedOf x0 a (lnAt v 2)) p u vt s .outcome)) (λ n. refl) (at v 1) (ln (at v 2) ∷ rest)

@@ -3,13 +3,13 @@ use mathlib.Core.Path.{_≡_, refl}
 use mathlib.Core.Bool.{_&&_}
 use mathlib.Core.List.{List, [], _∷_}
 use lib.Ieee.{Float}
-use Rattle.numbers.specs.Rules.{finite}
+use Rattle.numbers.specs.Floats.{finite}
 use Rattle.exponential.specs.Worked.{expOf}
 use Rattle.tensor.specs.Matrix.{recomposeOf}
 use Rattle.tensor.specs.Finite.{rowFinite, matFinite}
-use Rattle.law.specs.State.{refused}
-use Rattle.law.specs.declared.Outcome.the-variants.{Stored}
-use Rattle.law.specs.declared.State.{State}
+use Rattle.plasticity.specs.State.{refused}
+use Rattle.plasticity.specs.declared.Outcome.the-variants.{Stored}
+use Rattle.plasticity.specs.declared.State.{State}
 use Rattle.plasticity_snow.specs.declared.SnowPlasticity.{SnowPlasticity}
 use Rattle.plasticity_snow.specs.Snow.{clampedOf, determinantOf, exponentOf, stateOf, snowHardened, snowRun}
 use Rattle.refusals.specs.Path.{all-finite}
@@ -21,7 +21,7 @@ pub snow-met : (p : SnowPlasticity) (u vt : List (List Float)) (s : State) → r
 unfolding snowRun snowPath firstOf
 snow-met p u vt s =
     let new = clampedOf p (s .sigma) in
-    let d = determinantOf (s .«plastic_determinant») (s .sigma) new in
+    let d = determinantOf (s .scalars .«plastic_determinant») (s .sigma) new in
     let x = exponentOf p d in
     let f = recomposeOf u new vt in
     let h = expOf x in

@@ -6,21 +6,21 @@ use Prim.Native.Nat.{ℕ, _/_, _≤_}
 use native.Mathlib.Omega.{arith}
 use lib.ListN.{length}
 use lib.Ieee.{Float}
-use Rattle.numbers.specs.Rules.{finite}
-use Rattle.numbers.specs.Range.{inRange}
-use Rattle.numbers.specs.declared.Elementary.{Elementary}
-use Rattle.numbers.specs.declared.Elementary.the-variants.{Value, Refused}
+use Rattle.numbers.specs.Floats.{finite}
+use Rattle.answers.specs.Range.{inRange}
+use Rattle.answers.specs.declared.Answer.{Answer}
+use Rattle.answers.specs.declared.Answer.the-variants.{Value, Refused}
 use Rattle.record.specs.Layout.{floats}
-use Rattle.particles.specs.Model.{recordLaw}
-use Rattle.particles.specs.Judged.{failureLaw, failedAt}
-use Rattle.particles.specs.Pass.{counts, failures, withFailures}
+use Rattle.particles.specs.Plain.{recordLaw}
+use Rattle.particles.specs.Judged.{failureLaw}
+use Rattle.particles.specs.Pass.{counts, threeOf}
 use Rattle.refusals.specs.Refusals.{Input, FailureInput, pathOf, failurePath, Bare, Section6}
 use Rattle.refusals.proofs.Updates.{law-refuses}
 use Rattle.refusals.proofs.Failure.{failure-refuses}
 use Rattle.refusals.proofs.Passes.{pass-eight, failure-eight, pass-refuses}
 
 -- ---- a call that gives one number
-abbrev tested : Bool → Bool → Float → Elementary
+abbrev tested : Bool → Bool → Float → Answer
 tested a b v = cond a (cond b (Value v) (Refused 2)) (Refused 1)
 
 differ : {x y : ℕ} → Refused x ≡ Refused y → x ≡ y
@@ -57,11 +57,11 @@ section-6 =
       law = law-refuses;
       failure-law = failure-refuses;
       the-pass = λ m xs out.
-          pass-refuses (recordLaw m) (Input m) (pathOf m) _ xs out (law-refuses m) (pass-eight (counts (recordLaw m) xs (length xs / floats)) xs out);
+          pass-refuses (recordLaw m) (Input m) (pathOf m) _ xs out (law-refuses m) (pass-eight (threeOf (counts (recordLaw m) xs (length xs / floats))) xs out);
       the-pass-with-failure = λ m l e xs out.
           let law = failureLaw m l e in
           let k = length xs / floats in
           pass-refuses law (FailureInput m l e) (failurePath m l e) _ xs out (failure-refuses m l e)
-          (failure-eight (withFailures (counts law xs k) (failures (failedAt m l e) xs k)) xs out);
+          (failure-eight (counts law xs k) xs out);
       call = bare-refuses;
     }

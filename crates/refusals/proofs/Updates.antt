@@ -6,11 +6,11 @@ use mathlib.Core.List.{List, _∷_}
 use mathlib.Core.Option.{Option}
 use Prim.Native.Nat.{ℕ}
 use lib.Ieee.{Float}
-use Rattle.numbers.specs.Rules.{finite}
-use Rattle.law.specs.declared.Outcome.{Outcome}
-use Rattle.law.specs.declared.State.{State}
-use Rattle.law.specs.declared.Updated.{Updated}
-use Rattle.law.specs.State.{inputsFinite, refused}
+use Rattle.numbers.specs.Floats.{finite}
+use Rattle.plasticity.specs.declared.Outcome.{Outcome}
+use Rattle.plasticity.specs.declared.State.{State}
+use Rattle.plasticity.specs.declared.Updated.{Updated}
+use Rattle.plasticity.specs.State.{inputsFinite, refused}
 use Rattle.record.specs.Layout.{uAt, vtAt, stateAt}
 use Rattle.plasticity_snow.specs.Snow as snow
 use Rattle.plasticity_rankine.specs.declared.RankinePlasticity.{RankinePlasticity}
@@ -21,9 +21,10 @@ use Rattle.plasticity_drucker_prager.specs.DruckerPrager as drucker-prager
 use Rattle.plasticity_nacc.specs.declared.NaccPlasticity.{NaccPlasticity}
 use Rattle.plasticity_nacc.specs.Law as nacc-law
 use Rattle.plasticity_nacc.specs.Nacc as nacc
-use Rattle.particles.specs.declared.choice.Model.{Model}
-use Rattle.particles.specs.declared.choice.Model.the-variants.{Snow, Rankine, DruckerPrager, Nacc}
-use Rattle.particles.specs.Model.{modelFinite, modelUpdate, updatedAt, recordLaw}
+use Rattle.model.specs.declared.Model.{Model}
+use Rattle.model.specs.declared.Model.the-variants.{Snow, Rankine, DruckerPrager, Nacc}
+use Rattle.model.specs.Model.{modelFinite, modelUpdate}
+use Rattle.particles.specs.Plain.{updatedAt, recordLaw}
 use Rattle.refusals.specs.Path.{Met, all-finite}
 use Rattle.refusals.specs.RankinePath.{rankinePath}
 use Rattle.refusals.specs.NaccPath.{naccPath}

@@ -5,10 +5,10 @@ use mathlib.Core.List.{List, _∷_}
 use mathlib.Core.Option.{Option, some}
 use Prim.Native.Nat.{ℕ, suc}
 use lib.Ieee.{Float}
-use Rattle.numbers.specs.Rules.{isNumber}
-use Rattle.numbers.specs.Range.{inRange, ranged, onPath}
-use Rattle.numbers.specs.declared.Elementary.{Elementary}
-use Rattle.numbers.specs.declared.Elementary.the-variants.{Value, Refused}
+use Rattle.numbers.specs.Floats.{isNumber}
+use Rattle.answers.specs.Range.{inRange, ranged, onPath}
+use Rattle.answers.specs.declared.Answer.{Answer}
+use Rattle.answers.specs.declared.Answer.the-variants.{Value, Refused}
 use Rattle.exponential.specs.Worked as exponential
 use Rattle.exponential.specs.Exp.{expRanged}
 use Rattle.exponential.specs.Sinh.{sinhRanged, sinhOf}
@@ -22,7 +22,7 @@ use Rattle.refusals.specs.Path.{Met, argument, number, all-numbers, all-
 use Rattle.refusals.proofs.First.{firstOf}
 
 -- F is what the law makes of an answer: a refusal is handed on, and with the value v it meets ms
-module _ (F : Elementary → Option ℕ) (on : (n : ℕ) → F (Refused (suc n)) ≡ some (suc n)) where
+module _ (F : Answer → Option ℕ) (on : (n : ℕ) → F (Refused (suc n)) ≡ some (suc n)) where
   asked : (a b : Bool) (v : Float) (o : Option ℕ) → F (Value v) ≡ o → F (cond a (cond b (Value v) (Refused 2)) (Refused 3)) ≡ cond a (cond b o (some 2)) (some 3)
   asked true true v o e = e
   asked true false v o e = on 1

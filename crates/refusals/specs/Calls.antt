@@ -6,11 +6,11 @@ use mathlib.Core.List.{List, [], _∷_}
 use Prim.Native.Nat.{_<_}
 use lib.Ieee as Ieee
 use lib.Ieee.{Float}
-use Rattle.numbers.specs.Rules.{finite, maxOf, minOf}
-use Rattle.numbers.specs.Answer.{answeredOf, given}
+use Rattle.numbers.specs.Floats.{finite, maxOf, minOf}
+use Rattle.answers.specs.Answer.{answeredOf, given}
 use Rattle.numbers.specs.Power.{powiOf}
-use Rattle.numbers.specs.declared.Elementary.{Elementary}
-use Rattle.numbers.specs.declared.Elementary.the-variants as elementary
+use Rattle.answers.specs.declared.Answer.{Answer}
+use Rattle.answers.specs.declared.Answer.the-variants as answers
 use Rattle.exact.specs.RootOf.{sqrtOf}
 use Rattle.exponential.specs.Worked.{expOf}
 use Rattle.logarithm.specs.Worked.{lnOf}
@@ -25,9 +25,10 @@ use Rattle.tensor.specs.Decomposed.{tensorFinite, answeredTensor, givenTensor}
 use Rattle.tensor.specs.declared.DecomposedTensor.{DecomposedTensor}
 use Rattle.tensor.specs.declared.MatrixAnswer.{MatrixAnswer}
 use Rattle.physics.specs.Physics.{two}
-use Rattle.physics.specs.Quadratic.{pairOf, givenPair, discriminantOf, solveQuadraticOf}
-use Rattle.physics.specs.declared.Pair.{Pair}
-use Rattle.physics.specs.declared.Pair.the-variants as pair
+use Rattle.answers.specs.Answer.{pairOf, givenPair}
+use Rattle.physics.specs.Quadratic.{discriminantOf, solveQuadraticOf}
+use Rattle.answers.specs.declared.Pair.{Pair}
+use Rattle.answers.specs.declared.Pair.the-variants as pair
 use Rattle.plasticity_drucker_prager.specs.declared.DruckerPragerPlasticity.{DruckerPragerPlasticity}
 use Rattle.plasticity_drucker_prager.specs.Law as drucker-prager
 use Rattle.plasticity_drucker_prager.specs.Alpha.{decayOf, angleOf, slopeOf, alphaOf}
@@ -49,8 +50,8 @@ use Rattle.eos_monaghan_sph.specs.Timestep as monaghan-timestep
 use Rattle.refusals.specs.Path.{Met, number, all-numbers, all-finite, exp, ln, sin, root, thirdPower}
 use Rattle.refusals.specs.Refusals.{Numbers}
 
-abbrev pub Gives : Elementary → Bool → List Met → Type 0
-Gives e ok path = Numbers (λ n. e ≡ elementary.Refused n) (ok ≡ false) path
+abbrev pub Gives : Answer → Bool → List Met → Type 0
+Gives e ok path = Numbers (λ n. e ≡ answers.Refused n) (ok ≡ false) path
 
 abbrev pub GivesPair : Pair → Bool → List Met → Type 0
 GivesPair e ok path = Numbers (λ n. e ≡ pair.Refused n) (ok ≡ false) path

@@ -4,14 +4,14 @@ use mathlib.Core.Bool.{cond, _&&_}
 use mathlib.Core.List.{List, [], _∷_}
 use lib.Ieee as Ieee
 use lib.Ieee.{Float}
-use Rattle.numbers.specs.Rules.{finite}
+use Rattle.numbers.specs.Floats.{finite}
 use Rattle.exact.specs.RootOf.{sqrtOf}
 use Rattle.exponential.specs.Worked.{expOf}
 use Rattle.logarithm.specs.Worked.{lnOf}
 use Rattle.sine.specs.Sine.{sinOf}
 use Rattle.tensor.specs.Matrix.{add, sub, div, zero, one, three, sumOf, productOf, dotOf, recomposeOf}
 use Rattle.tensor.specs.Finite.{rowFinite, matFinite}
-use Rattle.law.specs.declared.State.{State}
+use Rattle.plasticity.specs.declared.State.{State}
 use Rattle.plasticity_drucker_prager.specs.declared.DruckerPragerPlasticity.{DruckerPragerPlasticity}
 use Rattle.plasticity_drucker_prager.specs.Law.{two, dim}
 use Rattle.plasticity_drucker_prager.specs.Alpha.{decayOf, angleOf, slopeOf}
@@ -27,10 +27,10 @@ unfoldable pub movedPath : DruckerPragerPlasticity → List Float → Float → 
 movedPath p sigma dq u vt s =
     let prev = productOf (s .sigma) in
     let new = correctedOf p prev (productOf sigma) in
-    let d = determinantOf (s .«plastic_determinant») prev new in
-    let gain = add (s .«log_gain») (sub (lnOf prev) (lnOf new)) in
+    let d = determinantOf (s .scalars .«plastic_determinant») prev new in
+    let gain = add (s .scalars .«log_gain») (sub (lnOf prev) (lnOf new)) in
     number d ∷ ln prev ∷ ln new
-    ∷ all-finite (matFinite (recomposeOf u sigma vt) && rowFinite sigma && finite d && finite (add (s .«plastic_hardening») dq) && finite gain) ∷ []
+    ∷ all-finite (matFinite (recomposeOf u sigma vt) && rowFinite sigma && finite d && finite (add (s .scalars .«plastic_hardening») dq) && finite gain) ∷ []
 
 -- ---- the projection: `moved` follows where sigma is new, `inside` where it is as it came
 abbrev pub Moved : Type 0
@@ -63,12 +63,12 @@ projectedPath p sigma gain alpha inside moved = lns sigma (strainedPath p (strai
 -- ---- the update
 unfoldable pub slopedPath : DruckerPragerPlasticity → List (List Float) → List (List Float) → State → List Met
 slopedPath p u vt s =
-    let q = s .«plastic_hardening» in
+    let q = s .scalars .«plastic_hardening» in
     let x = angleOf p q (expOf (decayOf p q)) in
     let alpha = slopeOf (sqrtOf (div two dim)) (sinOf x) in
     exp (decayOf p q) ∷ sin x ∷ root (div two dim) ∷ number alpha
-    ∷ projectedPath p (s .sigma) (s .«log_gain») alpha [] (λ sigma dq. movedPath p sigma dq u vt s)
+    ∷ projectedPath p (s .sigma) (s .scalars .«log_gain») alpha [] (λ sigma dq. movedPath p sigma dq u vt s)
 
 -- "If only active when failed and phase isn't 0.0: untouched."
 unfoldable pub druckerPath : DruckerPragerPlasticity → List (List Float) → List (List Float) → State → List Met
-druckerPath p u vt s = cond (staysOf p (s .phase)) [] (slopedPath p u vt s)
+druckerPath p u vt s = cond (staysOf p (s .scalars .phase)) [] (slopedPath p u vt s)

@@ -4,14 +4,14 @@ use mathlib.Core.Bool.{false, _&&_}
 use mathlib.Core.List.{List, [], _∷_}
 use Prim.Native.Nat.{ℕ}
 use lib.Ieee.{Float}
-use Rattle.numbers.specs.Rules.{finite}
+use Rattle.numbers.specs.Floats.{finite}
 use Rattle.exact.specs.RootOf.{sqrtOf}
 use Rattle.sine.specs.Sine.{sinOf}
 use Rattle.tensor.specs.Matrix.{div, zero, rowsOf}
 use Rattle.tensor.specs.Finite.{rowFinite}
 use Rattle.physics.specs.Physics.{lambdaOf, shearModulusOf}
-use Rattle.law.specs.State.{inputsFinite}
-use Rattle.law.specs.declared.State.{State}
+use Rattle.plasticity.specs.State.{inputsFinite}
+use Rattle.plasticity.specs.declared.State.{State}
 use Rattle.plasticity_rankine.specs.declared.Branch.the-variants as rankine-branch
 use Rattle.plasticity_rankine.specs.declared.Made.the-variants as rankine-made
 use Rattle.plasticity_rankine.specs.declared.RankineArguments.{RankineArguments}
@@ -37,8 +37,8 @@ use Rattle.elasticity_corotated_linear.specs.declared.Made.the-variants as coro
 use Rattle.elasticity_corotated_linear.specs.Law as corotated
 use Rattle.eos_monaghan_sph.specs.declared.Made.the-variants as monaghan-made
 use Rattle.eos_monaghan_sph.specs.Pressure as monaghan
-use Rattle.particles.specs.declared.choice.Model.{Model}
-use Rattle.particles.specs.Model.{modelFinite, modelUpdate}
+use Rattle.model.specs.declared.Model.{Model}
+use Rattle.model.specs.Model.{modelFinite, modelUpdate}
 use Rattle.refusals.specs.Path.{Met, all-finite, sin, root}
 use Rattle.refusals.specs.RankinePath.{projectionPath, rankinePath}
 use Rattle.refusals.specs.DruckerPragerPath.{projectedPath}
@@ -71,12 +71,14 @@ projectedState f sigma alpha =
     record {
       f = rowsOf f;
       sigma = sigma;
-      phase = zero;
-      «plastic_determinant» = zero;
-      «plastic_hardening» = zero;
-      «elastic_hardening» = zero;
-      «log_gain» = zero;
-      alpha = alpha;
+      scalars = record {
+        phase = zero;
+        «plastic_determinant» = zero;
+        «plastic_hardening» = zero;
+        «elastic_hardening» = zero;
+        «log_gain» = zero;
+        alpha = alpha;
+      };
     }
 
 pub record Laws : Type 0 where

@@ -3,14 +3,14 @@ use mathlib.Core.Bool.{cond, _&&_}
 use mathlib.Core.List.{List, [], _∷_}
 use lib.Ieee as Ieee
 use lib.Ieee.{Float}
-use Rattle.numbers.specs.Rules.{finite}
+use Rattle.numbers.specs.Floats.{finite}
 use Rattle.exact.specs.RootOf.{sqrtOf}
 use Rattle.exponential.specs.Sinh.{sinhOf}
 use Rattle.logarithm.specs.Worked.{lnOf}
 use Rattle.thirds.specs.Thirds.{cbrtOf, cbrtSquaredOf, invCbrtSquaredOf}
 use Rattle.tensor.specs.Matrix.{add, sub, mul, div, zero, three, productOf, dotOf, recomposeOf}
 use Rattle.tensor.specs.Finite.{rowFinite, matFinite}
-use Rattle.law.specs.declared.State.{State}
+use Rattle.plasticity.specs.declared.State.{State}
 use Rattle.plasticity_nacc.specs.declared.NaccPlasticity.{NaccPlasticity}
 use Rattle.plasticity_nacc.specs.declared.Trial.{Trial}
 use Rattle.plasticity_nacc.specs.Law.{small}
@@ -89,7 +89,7 @@ module _ (p : NaccPlasticity) (u vt : List (List Float)) where
 
   unfoldable pub naccPath : State → List Met
   naccPath s =
-      let x = softeningOf p (s .alpha) in
+      let x = softeningOf p (s .scalars .alpha) in
       let p0 = p0From p (sinhOf x) in
       let j = productOf (s .sigma) in
-      sinh x ∷ number p0 ∷ thirdPower j ∷ triedPath (trialOf p (invCbrtSquaredOf j) p0 j (s .sigma)) (s .alpha)
+      sinh x ∷ number p0 ∷ thirdPower j ∷ triedPath (trialOf p (invCbrtSquaredOf j) p0 j (s .sigma)) (s .scalars .alpha)

@@ -7,8 +7,8 @@ use mathlib.Core.List.{List, [], _∷_}
 use Prim.Native.Nat.{ℕ}
 use lib.ListN.{getD}
 use lib.Ieee.{Float, nan}
-use Rattle.numbers.specs.Rules.{isNumber}
-use Rattle.numbers.specs.Range.{inRange}
+use Rattle.numbers.specs.Floats.{isNumber}
+use Rattle.answers.specs.Range.{inRange}
 use Rattle.exponential.specs.Worked as exponential
 use Rattle.exponential.specs.Worked.{expOf}
 use Rattle.logarithm.specs.Worked as logarithm

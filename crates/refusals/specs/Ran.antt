@@ -5,13 +5,14 @@ use mathlib.Core.Logic.{_↔_}
 use mathlib.Core.List.{List}
 use Prim.Native.Nat.{ℕ, _<_}
 use lib.ListN.{length}
-use Rattle.particles.specs.declared.choice.Model.{Model}
+use Rattle.model.specs.declared.Model.{Model}
 use Rattle.particles.specs.Pass.{recordAt}
 use Rattle.sheet.specs.declared.Header.{Header}
 use Rattle.sheet.specs.Sheet.{readOf, roomOf}
 use Rattle.sheet.specs.Spelling.{Below}
 use Rattle.sheet.specs.Refused.{ReasonWithRoom}
-use Rattle.run.specs.Run.{modelOf, recordsIn, ranOf, ranAnswers}
+use Rattle.model.specs.Fields.{modelOf}
+use Rattle.sheet_run.specs.Run.{recordsIn, ranOf, ranAnswers}
 use Rattle.refusals.specs.Refusals.{Input, pathOf, Answers, Sized}
 
 module _ (s xs out : List ℕ) where

@@ -3,11 +3,11 @@ use mathlib.Core.Bool.{cond, _&&_}
 use mathlib.Core.List.{List, [], _∷_}
 use lib.Ieee as Ieee
 use lib.Ieee.{Float}
-use Rattle.numbers.specs.Rules.{finite, minOf}
+use Rattle.numbers.specs.Floats.{finite, minOf}
 use Rattle.exact.specs.RootOf.{sqrtOf}
 use Rattle.tensor.specs.Matrix.{add, mul, sumOf, dotOf, rowSubOf, recomposeOf}
 use Rattle.tensor.specs.Finite.{rowFinite, matFinite}
-use Rattle.law.specs.declared.State.{State}
+use Rattle.plasticity.specs.declared.State.{State}
 use Rattle.plasticity_rankine.specs.declared.RankinePlasticity.{RankinePlasticity}
 use Rattle.plasticity_rankine.specs.declared.Sorted.{Sorted}
 use Rattle.plasticity_rankine.specs.Sorting.{orderOf, arrangeOf}
@@ -21,7 +21,7 @@ squaresOf old new = dotOf (rowSubOf old new) (rowSubOf old new)
 
 -- the hardening before its cap
 abbrev pub grown : RankinePlasticity → List Float → List Float → State → Float
-grown p old new s = add (s .«plastic_hardening») (mul (p .«softening_rate») (sqrtOf (squaresOf old new)))
+grown p old new s = add (s .scalars .«plastic_hardening») (mul (p .«softening_rate») (sqrtOf (squaresOf old new)))
 
 -- strains that moved
 unfoldable pub movedPath : RankinePlasticity → List Float → List Float → List (List Float) → List (List Float) → State → List Met
@@ -43,5 +43,5 @@ projectionPath p e s moved = testsPath p s (sumOf e) (arrangeOf (orderOf e) e) m
 unfoldable pub rankinePath : RankinePlasticity → List (List Float) → List (List Float) → State → List Met
 rankinePath p u vt s =
     let e = lnsOf (s .sigma) in
-    let soft = softStrengthOf p (s .«plastic_hardening») in
+    let soft = softStrengthOf p (s .scalars .«plastic_hardening») in
     lns (s .sigma) (projectionPath p e soft (movedPath p e (projectedOf p e soft .strains) u vt s))

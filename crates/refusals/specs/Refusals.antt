@@ -8,27 +8,27 @@ use mathlib.Core.List.{List, [], _∷_}
 use Prim.Native.Nat.{ℕ, _+_, _*_, _≤_, _<_}
 use lib.ListN.{length, getD}
 use lib.Ieee.{Float}
-use Rattle.numbers.specs.Rules.{finite}
-use Rattle.numbers.specs.Range.{inRange, ranged, bare}
-use Rattle.numbers.specs.declared.Elementary.the-variants as elementary
-use Rattle.law.specs.declared.Outcome.{Outcome}
-use Rattle.law.specs.declared.Outcome.the-variants.{Refused}
-use Rattle.law.specs.declared.State.{State}
+use Rattle.numbers.specs.Floats.{finite}
+use Rattle.answers.specs.Range.{inRange, ranged, bare}
+use Rattle.answers.specs.declared.Answer.the-variants as answers
+use Rattle.plasticity.specs.declared.Outcome.{Outcome}
+use Rattle.plasticity.specs.declared.Outcome.the-variants.{Refused}
+use Rattle.plasticity.specs.declared.State.{State}
 use Rattle.tensor.specs.Matrix.{zero}
 use Rattle.tensor.specs.Finite.{rowFinite}
-use Rattle.record.specs.Layout.{floats, fl, uAt, vtAt, stateAt, putPhase}
+use Rattle.record.specs.Layout.{floats, floatAt, uAt, vtAt, stateAt, putPhase}
 use Rattle.plasticity_rankine.specs.Projection as rankine-projection
 use Rattle.plasticity_rankine.specs.Rankine as rankine
 use Rattle.plasticity_nacc.specs.Law as nacc
 use Rattle.failure_maximum_stress.specs.Failure.{exceedsOf}
 use Rattle.failure_maximum_stress.specs.declared.MaximumStressFailure.{MaximumStressFailure}
 use Rattle.elasticity_corotated_linear.specs.declared.CorotatedLinearElasticity.{CorotatedLinearElasticity}
-use Rattle.particles.specs.declared.choice.Model.{Model}
-use Rattle.particles.specs.declared.choice.Model.the-variants.{Snow, Rankine, DruckerPrager, Nacc}
+use Rattle.model.specs.declared.Model.{Model}
+use Rattle.model.specs.declared.Model.the-variants.{Snow, Rankine, DruckerPrager, Nacc}
 use Rattle.particles.specs.declared.list.Passed.the-variants as pass
 use Rattle.particles.specs.declared.failure.PassedWithFailure.the-variants as failure-pass
-use Rattle.particles.specs.Model.{recordLaw}
-use Rattle.particles.specs.Judged.{failureLaw, failedAt}
+use Rattle.particles.specs.Plain.{recordLaw}
+use Rattle.particles.specs.Judged.{failureLaw}
 use Rattle.particles.specs.Pass.{Worked, recordAt, passed, passAnswers, passedWithFailure}
 use Rattle.particles.specs.Principal.{principalOf}
 use Rattle.refusals.specs.Path.{Met, all-finite, Outside, Arises, Stops, Clear}
@@ -58,7 +58,7 @@ failureOf l e = l .«max_principal_stress» ∷ l .«max_shear_stress» ∷ e .�
 
 -- one of the record's 36
 abbrev pub RecordNotFinite : List ℕ → Type 0
-RecordNotFinite r = (k : ℕ) × (k < floats) × NotFinite (fl r k)
+RecordNotFinite r = (k : ℕ) × (k < floats) × NotFinite (floatAt r k)
 
 -- "parameters and limits count as inputs of each record"
 abbrev pub Input : Model → List ℕ → Type 0
@@ -79,7 +79,7 @@ pathOf m r = modelPath m (uAt r) (vtAt r) (stateAt r)
 
 -- the principal stresses, then the law's path with phase 0.0 on a yes
 abbrev pub stressesOf : CorotatedLinearElasticity → List ℕ → List Float
-stressesOf e r = principalOf e (stateAt r .phase) (stateAt r .«elastic_hardening») (stateAt r .sigma)
+stressesOf e r = principalOf e (stateAt r .scalars .phase) (stateAt r .scalars .«elastic_hardening») (stateAt r .sigma)
 
 abbrev pub failurePath : Model → MaximumStressFailure → CorotatedLinearElasticity → List ℕ → List Met
 failurePath m l e r =
@@ -116,9 +116,9 @@ pub record Pass (law : List ℕ → Worked) (bad : List ℕ → Type 0) (path : 
 
 -- ---- 1 and 2 of a call that gives one number: "an argument outside section 3's range"
 pub record Bare (low high x v : Float) : Type 0 where
-  pub one : (bare x (ranged low high x v) ≡ elementary.Refused 1) ↔ NotFinite x
-  pub two : (bare x (ranged low high x v) ≡ elementary.Refused 2) ↔ ((finite x ≡ true) × (inRange low high x ≡ false))
-  pub only : (n : ℕ) → bare x (ranged low high x v) ≡ elementary.Refused n → (1 ≤ n) × (n ≤ 2)
+  pub one : (bare x (ranged low high x v) ≡ answers.Refused 1) ↔ NotFinite x
+  pub two : (bare x (ranged low high x v) ≡ answers.Refused 2) ↔ ((finite x ≡ true) × (inRange low high x ≡ false))
+  pub only : (n : ℕ) → bare x (ranged low high x v) ≡ answers.Refused n → (1 ≤ n) × (n ≤ 2)
 
 -- ---- the table
 pub record Section6 : Type 0 where
@@ -127,5 +127,5 @@ pub record Section6 : Type 0 where
       → Refuses (failureLaw m l e r .outcome) (FailureInput m l e r) (failurePath m l e r)
   pub the-pass : (m : Model) (xs out : List ℕ) → Pass (recordLaw m) (Input m) (pathOf m) (λ n. passed (recordLaw m) xs out ≡ pass.Refused n) xs out
   pub the-pass-with-failure : (m : Model) (l : MaximumStressFailure) (e : CorotatedLinearElasticity) (xs out : List ℕ)
-      → Pass (failureLaw m l e) (FailureInput m l e) (failurePath m l e) (λ n. passedWithFailure (failureLaw m l e) (failedAt m l e) xs out ≡ failure-pass.Refused n) xs out
+      → Pass (failureLaw m l e) (FailureInput m l e) (failurePath m l e) (λ n. passedWithFailure (failureLaw m l e) xs out ≡ failure-pass.Refused n) xs out
   pub call : (low high x v : Float) → Bare low high x v

@@ -4,7 +4,6 @@ pub mod Remainder
 pub mod Powers
 pub mod Bounds
 pub mod Tested
-pub mod Alternate
 pub mod Sine
 pub mod SinNear
 pub mod SinSure

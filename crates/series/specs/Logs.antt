@@ -6,7 +6,7 @@ use Prim.Native.Nat.{ℕ, suc, _+_, _-_, _*_, _^_, _≤_, _<_}
 use native.Mathlib.Nat.{mul-le-mul, mul-le-mul-right, mul-pos, sub-add-cancel, le-refl, le-trans}
 use native.Mathlib.Omega.{arith}
 use lib.Dec.{T, leb, leb→le}
-use Rattle.exact.specs.Table.{both, both-left, both-right}
+use Rattle.exact.specs.Both.{both, both-left, both-right}
 use Rattle.series.specs.Exponential.{num, den, den-pos}
 use Rattle.series.specs.Remainder.{Above, Under, Cap, above}
 use Rattle.series.specs.Powers.{pow1, pow2, pow3}

@@ -3,7 +3,12 @@ use mathlib.Core.Path.{_≡_, ap, _∙_, subst}
 use Prim.Native.Nat.{ℕ, zero, suc, _+_, _-_, _*_, _≤_, _<_}
 use native.Mathlib.Nat.{le-trans, mul-pos, mul-le-mul, mul-le-mul-right, zero-lt-suc, sub-add-cancel}
 use native.Mathlib.Omega.{arith}
-use Rattle.series.specs.Alternate.{even}
+
+-- 1 at an even number, else 0
+unfoldable pub even : ℕ → ℕ
+even zero = 1
+even (suc zero) = 0
+even (suc (suc n)) = even n
 
 -- the n-th term is odd p n / den q n, that is p ^ (2 n + 1) / (2 n + 1)! q ^ (2 n + 1)
 unfoldable pub odd : ℕ → ℕ → ℕ

@@ -4,8 +4,7 @@ use mathlib.Core.Path.{_≡_, refl, _∙_, subst}
 use Prim.Native.Nat.{ℕ, zero, suc, _+_, _*_, _<_}
 use native.Mathlib.Nat.{mul-pos, zero-lt-suc}
 use native.Mathlib.Omega.{arith}
-use Rattle.series.specs.Alternate.{even}
-use Rattle.series.specs.Sine.{odd, ratio, den, added, taken, ratio-pos}
+use Rattle.series.specs.Sine.{odd, ratio, den, added, taken, ratio-pos, even}
 
 -- den q (k + 2 d) / den q k
 unfoldable pub span : ℕ → ℕ → ℕ → ℕ

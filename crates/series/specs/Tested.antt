@@ -7,7 +7,7 @@ use native.Mathlib.Numerals.{add-one}
 use lib.Dec.{T, leb, ltb, leb→le, ltb→lt}
 use Rattle.series.specs.Exponential.{num, den}
 use Rattle.series.specs.Remainder.{Above, Under, Within, Cap, above}
-use Rattle.exact.specs.Table.{both}
+use Rattle.exact.specs.Both.{both}
 
 -- x / y ≤ exp (p / q) ≤ (x + 1) / y by n terms, and x below l
 abbrev over : (q n y p x : ℕ) → Bool

@@ -7,8 +7,8 @@ use native.Mathlib.Omega.{arith}
 use lib.ListN.{length, take, drop, length-take, take-append-drop}
 use lib.Dec.{ltb, leb, eqb}
 use borrow.Author.Tests.{ltb-true, ltb-false, leb-true, leb-false, eqb-false}
-use Rattle.record.specs.Layout.{floats}
-use Rattle.sheet.specs.Sheet.{wordOf, wordsOf, one, allowed, kindsOf}
+use Rattle.model.specs.Kinds.{last, one, allowed, kindsOf}
+use Rattle.sheet.specs.Sheet.{most, sheetFloats, wordOf, wordsOf}
 use Rattle.sheet.specs.Spelling.{spellNumber, spellBytes, spellWords, spell, Below, Fits}
 use Rattle.sheet.specs.Refused.{Good, AtCount, AtParameter, AtNumber, at-model, at-count, Reason, no-number, half-number, short-parameter, short-records, not-shortest, third-group, unknown-model, other-flag, count-over, bytes-after}
 use Rattle.sheet.proofs.Steps.{words-length}
@@ -80,25 +80,25 @@ module _ (s : List ℕ) where
       (λ u. stop [] flag flags [] (spellBytes 8 w ++ drop 8 l) refl tt e (not-allowed flag w (drop 8 l) k u)))
 
   -- records
-  module _ (count : ℕ) (l : List ℕ) (b : Below 256 l) (few : count ≤ 200) (p : AtCount s (spellNumber count ++ l)) where
+  module _ (count : ℕ) (l : List ℕ) (b : Below 256 l) (few : count ≤ most) (p : AtCount s (spellNumber count ++ l)) where
     front : List ℕ
-    front = take (count * floats * 8) l
+    front = take (count * sheetFloats * 8) l
 
     words : List ℕ
-    words = wordsOf (count * floats) front
+    words = wordsOf (count * sheetFloats) front
 
     sheet : List ℕ
     sheet = spell (p .model) (p .parameters) count words
 
-    module _ (h : count * floats * 8 ≤ length l) where
-      front-length : length front ≡ count * floats * 8
+    module _ (h : count * sheetFloats * 8 ≤ length l) where
+      front-length : length front ≡ count * sheetFloats * 8
       unfolding front
       front-length = simp length-take (omega arith)
 
       sheet-good : Good sheet
       unfolding sheet words front
       sheet-good =
-          let c = below-take 256 (count * floats * 8) l b in
+          let c = below-take 256 (count * sheetFloats * 8) l b in
           record {
             model = p .model;
             parameters = p .parameters;
@@ -108,17 +108,17 @@ module _ (s : List ℕ) where
               known = p .known;
               fits = p .fits;
               few = few;
-              whole = words-length (count * floats) front;
-              bits = words-below (count * floats) front c front-length;
+              whole = words-length (count * sheetFloats) front;
+              bits = words-below (count * sheetFloats) front c front-length;
             };
             spelled = refl;
           }
 
-      sheet-front : s ≡ sheet ++ drop (count * floats * 8) l
+      sheet-front : s ≡ sheet ++ drop (count * sheetFloats * 8) l
       unfolding sheet words spell front
       sheet-front =
-          let c = below-take 256 (count * floats * 8) l b in
-          p .spelled ∙ rw (words-spelled (count * floats) front c front-length) (simp (append-assoc, take-append-drop))
+          let c = below-take 256 (count * sheetFloats * 8) l b in
+          p .spelled ∙ rw (words-spelled (count * sheetFloats) front c front-length) (simp (append-assoc, take-append-drop))
 
       told-rest : (r : List ℕ) → s ≡ sheet ++ r → Told s
       told-rest [] e = let f = e ∙ append-nil sheet in good (subst Good (sym f) sheet-good)
@@ -126,18 +126,18 @@ module _ (s : List ℕ) where
 
     told-records : Told s
     told-records =
-        by-test (ltb (length l) (count * floats * 8))
-        (λ t. bad (short-records count l few (ltb-true (length l) (count * floats * 8) t) p))
-        (λ t. let h = ltb-false (length l) (count * floats * 8) t in told-rest h (drop (count * floats * 8) l) (sheet-front h))
+        by-test (ltb (length l) (count * sheetFloats * 8))
+        (λ t. bad (short-records count l few (ltb-true (length l) (count * sheetFloats * 8) t) p))
+        (λ t. let h = ltb-false (length l) (count * sheetFloats * 8) t in told-rest h (drop (count * sheetFloats * 8) l) (sheet-front h))
 
   told-count : (l : List ℕ) → Below 256 l → AtCount s l → Told s
   told-count l b p =
       told-number l b (at-count p) (λ count rest h e.
       let q : AtCount s (spellNumber count ++ rest) = subst (AtCount s) e p in
-      by-test (ltb 200 count) (λ t. bad (count-over count rest (ltb-true 200 count t) h q))
-      (λ t. told-records count rest (below-rest 256 (spellNumber count) rest (subst (Below 256) e b)) (ltb-false 200 count t) q))
+      by-test (ltb most count) (λ t. bad (count-over count rest (ltb-true most count t) h q))
+      (λ t. told-records count rest (below-rest 256 (spellNumber count) rest (subst (Below 256) e b)) (ltb-false most count t) q))
 
-  told-model : (model : ℕ) (l : List ℕ) → Below 256 l → model ≤ 3 → s ≡ spellNumber model ++ l → Told s
+  told-model : (model : ℕ) (l : List ℕ) → Below 256 l → model ≤ last → s ≡ spellNumber model ++ l → Told s
   told-model model l b h e =
       told-parameters (kindsOf model) l b
       (λ ws rest f d. told-count rest (below-rest 256 (spellWords ws) rest (subst (Below 256) d b)) (record {
@@ -161,5 +161,5 @@ module _ (s : List ℕ) where
 pub told : (s : List ℕ) → Below 256 s → Told s
 told s b =
     told-number s s b (at-model refl) (λ model l h e.
-    by-test (ltb 3 model) (λ t. bad (unknown-model model l (ltb-true 3 model t) h e))
-    (λ t. told-model s model l (below-rest 256 (spellNumber model) l (subst (Below 256) e b)) (ltb-false 3 model t) e))
+    by-test (ltb last model) (λ t. bad (unknown-model model l (ltb-true last model t) h e))
+    (λ t. told-model s model l (below-rest 256 (spellNumber model) l (subst (Below 256) e b)) (ltb-false last model t) e))

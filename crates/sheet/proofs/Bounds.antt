@@ -6,7 +6,8 @@ use Prim.Native.Nat.{ℕ, suc, _+_, _*_, _-_, _≤_, _<_}
 use native.Mathlib.Omega.{arith}
 use lib.ListN.{length, drop, length-drop}
 use lib.Dec.{eqb, ltb, leb}
-use Rattle.sheet.specs.Sheet.{numberAt, firstGroup, secondGroup, wordAt, allowed, checked, parameterAt, Fields, Got, Stopped, before, andThen, parametersAt, asParameters, refusedBy, afterCount, afterParameters}
+use Rattle.model.specs.Kinds.{allowed}
+use Rattle.sheet.specs.Sheet.{numberAt, firstGroup, secondGroup, wordAt, checked, parameterAt, Fields, Got, Stopped, before, andThen, parametersAt, asParameters, refusedBy, afterCount, afterParameters}
 use Rattle.sheet.specs.declared.Number.{Number}
 use Rattle.sheet.specs.declared.Number.the-variants.{Read as Number·Read, Refused as Number·Refused}
 use Rattle.sheet.specs.declared.Word.{Word}

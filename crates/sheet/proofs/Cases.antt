@@ -1,4 +1,4 @@
--- `numberAt`, `wordAt` and `kindsOf` case by case, each from the tests that lead to it.
+-- `numberAt` and `wordAt` case by case, each from the tests that lead to it.
 use mathlib.Core.Path.{_≡_, refl}
 use mathlib.Core.Bool.{true, false, cond}
 use mathlib.Core.List.{List, [], _∷_}
@@ -77,35 +77,3 @@ joined s at ab cd ef gh l r w h q₁ q₂ q₃ q₄ q₅ q₆ q₇ =
     (rw z at (next-byte s at 0 7 (omega arith))) (next-byte s at 1 6 (omega arith)) (next-byte s at 2 5 (omega arith)) (next-byte s at 3 4 (omega arith))
     (next-byte s at 4 3 (omega arith)) (next-byte s at 5 2 (omega arith)) (next-byte s at 6 1 (omega arith)) (next-byte s at 7 0 (omega arith))
     ab cd ef gh l r w q₁ q₂ q₃ q₄ q₅ q₆ q₇
-
--- a flag's place among Drucker-Prager's fields, and among NACC's arguments
-pub seventh : (i : ℕ) → eqb i 6 ≡ getD (false ∷ false ∷ false ∷ false ∷ false ∷ false ∷ true ∷ false ∷ []) i false
-seventh zero = refl
-seventh (suc zero) = refl
-seventh (suc (suc zero)) = refl
-seventh (suc (suc (suc zero))) = refl
-seventh (suc (suc (suc (suc zero)))) = refl
-seventh (suc (suc (suc (suc (suc zero))))) = refl
-seventh (suc (suc (suc (suc (suc (suc zero)))))) = refl
-seventh (suc (suc (suc (suc (suc (suc (suc zero))))))) = refl
-seventh (suc (suc (suc (suc (suc (suc (suc (suc i)))))))) = ne-eqb (suc (suc (suc (suc (suc (suc (suc (suc i)))))))) 6 (λ e. omega (arith, e))
-
-pub fourth : (i : ℕ) → eqb i 3 ≡ getD (false ∷ false ∷ false ∷ true ∷ false ∷ false ∷ []) i false
-fourth zero = refl
-fourth (suc zero) = refl
-fourth (suc (suc zero)) = refl
-fourth (suc (suc (suc zero))) = refl
-fourth (suc (suc (suc (suc zero)))) = refl
-fourth (suc (suc (suc (suc (suc zero))))) = refl
-fourth (suc (suc (suc (suc (suc (suc i)))))) = ne-eqb (suc (suc (suc (suc (suc (suc i)))))) 3 (λ e. omega (arith, e))
-
--- Snow and Rankine have none
-pub of-three : (i : ℕ) → false ≡ getD (false ∷ false ∷ false ∷ []) i false
-of-three zero = refl
-of-three (suc zero) = refl
-of-three (suc (suc zero)) = refl
-of-three (suc (suc (suc i))) = refl
-
-pub of-four : (i : ℕ) → false ≡ getD (false ∷ false ∷ false ∷ false ∷ []) i false
-of-four zero = refl
-of-four (suc i) = of-three i

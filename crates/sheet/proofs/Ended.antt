@@ -8,11 +8,11 @@ use Prim.Native.Nat.{ℕ, zero, suc, _+_, _*_, _/_, _%_, _≤_, _<_}
 use native.Mathlib.Omega.{arith}
 use lib.ListN.{length, replicate, length-append, length-replicate}
 use lib.Dec.{ltb}
-use Rattle.record.specs.Layout.{floats}
-use Rattle.sheet.specs.Sheet.{kindsOf, headerOf}
+use Rattle.model.specs.Kinds.{kindsOf}
+use Rattle.sheet.specs.Sheet.{most, sheetFloats, headerOf}
 use Rattle.sheet.specs.Spelling.{spellNumber, spellWords, Below}
 use Rattle.sheet.specs.Refused.{Good, AtCount, AtParameter, AtNumber, at-model, at-count, Reason, no-number, half-number, short-parameter, short-records, not-shortest, third-group, unknown-model, other-flag, count-over, bytes-after}
-use Rattle.sheet.proofs.Steps.{kinds-most}
+use Rattle.model.proofs.KindLaws.{kinds-most}
 use Rattle.sheet.proofs.Pieces.{fits-length, spelled-length}
 use Rattle.sheet.proofs.Refusals.{Later, later}
 use Rattle.sheet.proofs.Reasons.{good-exactly, refused-exactly}
@@ -53,10 +53,10 @@ at-length s l (at-model e) = let a = ap length e in omega arith
 at-length s l (at-count p) = count-length s l p
 
 -- a sheet that ends early is not long
-abbrev most : ℕ
-most = 66 + 2 + 200 * floats * 8
+abbrev longest : ℕ
+longest = 66 + 2 + most * sheetFloats * 8
 
-ended-length : (s : List ℕ) (n : ℕ) → n ≡ 4 → Reason s n → length s ≤ most
+ended-length : (s : List ℕ) (n : ℕ) → n ≡ 4 → Reason s n → length s ≤ longest
 ended-length s n e (no-number p) = let a = at-length s [] p in omega arith
 ended-length s n e (half-number low h p) = let a = at-length s (low ∷ []) p in omega arith
 ended-length s n e (short-parameter flag l h p) = let a = parameter-length s flag l p in omega arith
@@ -86,7 +86,7 @@ pub record Changes (s r : List ℕ) : Type 0 where
   pub other : headerOf (s ++ r) .refusal ≡ headerOf s .refusal → ⊥
 
 module _ (s : List ℕ) (b : Below 256 s) where
-  filled-up : (n : ℕ) → most < n → headerOf s .refusal ≡ 4 → Changes s (replicate n 0)
+  filled-up : (n : ℕ) → longest < n → headerOf s .refusal ≡ 4 → Changes s (replicate n 0)
   filled-up n h e =
       record {
         bytes = zeros-below n;
@@ -109,6 +109,6 @@ module _ (s : List ℕ) (b : Below 256 s) where
 
   pub ended-exactly : (headerOf s .refusal ≡ 4) ↔ ((Good s → ⊥) × ((r : List ℕ) × Changes s r))
   ended-exactly = (
-    λ e. (λ g. let z = good-exactly s b .1 g in omega arith, (replicate (suc most) 0, filled-up (suc most) (omega arith) e)),
+    λ e. (λ g. let z = good-exactly s b .1 g in omega arith, (replicate (suc longest) 0, filled-up (suc longest) (omega arith) e)),
     λ c. ended-by (c .1 .0) (c .1 .1) (c .0),
   )

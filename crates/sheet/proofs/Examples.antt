@@ -3,11 +3,11 @@ use mathlib.Core.Path.{_≡_, refl}
 use mathlib.Core.List.{List, [], _∷_, _++_}
 use Prim.Native.Nat.{ℕ, _*_}
 use lib.ListN.{replicate}
-use Rattle.record.specs.Layout.{floats}
-use Rattle.sheet.specs.Sheet.{numberAt, wordOf, wordAt, parameterAt, kindsOf, parametersAt, recordsEnd, headerOf}
+use Rattle.model.specs.Kinds.{lawOf, kindsOf}
+use Rattle.sheet.specs.Sheet.{sheetFloats, numberAt, wordOf, wordAt, parameterAt, parametersAt, recordsEnd, headerOf}
 
 refusalOf : List ℕ → ℕ
-unfolding headerOf recordsEnd numberAt wordOf wordAt parameterAt kindsOf parametersAt
+unfolding headerOf recordsEnd numberAt wordOf wordAt parameterAt lawOf kindsOf parametersAt
 refusalOf s = headerOf s .refusal
 
 -- Snow with its three parameters 0.0
@@ -59,6 +59,6 @@ two-hundred-and-one : refusalOf (snow ++ (0xc9 ∷ 1 ∷ [])) ≡ 7
 unfolding refusalOf snow
 two-hundred-and-one = refl
 
-one-particle : refusalOf (snow ++ (1 ∷ replicate (floats * 8) 0)) ≡ 0
+one-particle : refusalOf (snow ++ (1 ∷ replicate (sheetFloats * 8) 0)) ≡ 0
 unfolding refusalOf snow
 one-particle = refl

@@ -10,7 +10,8 @@ use lib.Seq.{drop-drop, take-at, drop-at}
 use lib.ListN.{take-append-drop}
 use lib.Dec.{ltb, leb, eqb}
 use borrow.Author.Tests.{ltb-true, ltb-false, eqb-false, lt-ltb, le-ltb, lt-leb, ne-eqb}
-use Rattle.sheet.specs.Sheet.{numberAt, firstGroup, secondGroup, wordOf, wordAt, wordsOf, allowed, checked, parameterAt, Fields, Got, Stopped, before, andThen, parametersAt}
+use Rattle.model.specs.Kinds.{allowed}
+use Rattle.sheet.specs.Sheet.{numberAt, firstGroup, secondGroup, wordOf, wordAt, wordsOf, checked, parameterAt, Fields, Got, Stopped, before, andThen, parametersAt}
 use Rattle.sheet.specs.Spelling.{spellNumber, spellBytes, spellWords, Below, Fits}
 use Rattle.sheet.proofs.Taken.{either}
 use Rattle.sheet.specs.declared.Number.the-variants.{Read as Number·Read, Refused as Number·Refused}

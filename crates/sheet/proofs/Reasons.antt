@@ -9,7 +9,8 @@ use lib.ListN.{length, drop, length-drop}
 use lib.Dec.{ltb, eqb}
 use borrow.Author.Tests.{ltb-true, eqb-true, eqb-false, lt-ltb, le-ltb, le-leb, eq-eqb, ne-eqb}
 use Rattle.record.specs.Layout.{floats}
-use Rattle.sheet.specs.Sheet.{numberAt, firstGroup, wordAt, one, parameterAt, kindsOf, Stopped, parametersAt, padded, refusedBy, recordsEnd, afterCount, afterParameters, headerOf, readOf}
+use Rattle.model.specs.Kinds.{last, one, kindsOf}
+use Rattle.sheet.specs.Sheet.{most, sheetFloats, numberAt, firstGroup, wordAt, parameterAt, Stopped, parametersAt, padded, refusedBy, recordsEnd, afterCount, afterParameters, headerOf, readOf}
 use Rattle.sheet.specs.Spelling.{spellNumber, spellBytes, spellWords, Below, Fits}
 use Rattle.sheet.specs.Refused.{Good, AtCount, AtParameter, AtNumber, at-model, at-count, Reason, no-number, half-number, short-parameter, short-records, not-shortest, third-group, unknown-model, other-flag, count-over, bytes-after, ReasonWithRoom, uneven-room, by-sheet, short-room}
 use Rattle.sheet.specs.declared.Number.the-variants.{Refused as Number·Refused}
@@ -31,13 +32,13 @@ module _ (s : List ℕ) where
     after-number : ℕ
     after-number = 0 + length (spellNumber model)
 
-    header-known : model ≤ 3 → headerOf s ≡ afterParameters s model (parametersAt (kindsOf model) s after-number)
+    header-known : model ≤ last → headerOf s ≡ afterParameters s model (parametersAt (kindsOf model) s after-number)
     unfolding headerOf after-number
-    header-known k = rw (number-read s 0 model l h e, le-ltb 3 model k)
+    header-known k = rw (number-read s 0 model l h e, le-ltb last model k)
 
-    header-unknown : 3 < model → headerOf s ≡ refusedBy 6
+    header-unknown : last < model → headerOf s ≡ refusedBy 6
     unfolding headerOf
-    header-unknown k = rw (number-read s 0 model l h e, lt-ltb 3 model k)
+    header-unknown k = rw (number-read s 0 model l h e, lt-ltb last model k)
 
     rest-stands : drop after-number s ≡ l
     unfolding after-number
@@ -105,7 +106,7 @@ module _ (s : List ℕ) where
     first : ℕ
     first = place (spellNumber count ++ l) p + length (spellNumber count)
 
-    header-records : headerOf s ≡ cond (ltb 200 count) (refusedBy 7) (recordsEnd s (p .model) (padded (p .parameters)) count first)
+    header-records : headerOf s ≡ cond (ltb most count) (refusedBy 7) (recordsEnd s (p .model) (padded (p .parameters)) count first)
     unfolding first
     header-records =
         header-count (spellNumber count ++ l) p ∙ rw (number-read s (place (spellNumber count ++ l) p) count l h (count-stands (spellNumber count ++ l) p))
@@ -116,12 +117,12 @@ module _ (s : List ℕ) where
         sym (length-drop first s)
         ∙ ap length (after s (place (spellNumber count ++ l) p) (spellNumber count) l (length (spellNumber count)) (count-stands (spellNumber count ++ l) p) refl)
 
-    over : 200 < count → headerOf s .refusal ≡ 7
-    over k = rw (header-records, lt-ltb 200 count k)
+    over : most < count → headerOf s .refusal ≡ 7
+    over k = rw (header-records, lt-ltb most count k)
 
-    short : count ≤ 200 → length l < count * floats * 8 → headerOf s .refusal ≡ 4
+    short : count ≤ most → length l < count * sheetFloats * 8 → headerOf s .refusal ≡ 4
     unfolding recordsEnd
-    short k m = rw (header-records, le-ltb 200 count k, records-left, lt-ltb (length l) (count * floats * 8) m)
+    short k m = rw (header-records, le-ltb most count k, records-left, lt-ltb (length l) (count * sheetFloats * 8) m)
 
   refused : (n : ℕ) → Reason s n → headerOf s .refusal ≡ n
   refused n (no-number p) = number-refused 4 [] (λ at. refl) p

@@ -9,8 +9,8 @@ use lib.ListN.{length, take, drop, length-append, length-drop, drop-of-length-le
 use lib.Seq.{drop-append-le, take-append-le}
 use lib.Dec.{ltb, leb}
 use borrow.Author.Tests.{leb-true, leb-false, ltb-false, lt-ltb, le-ltb}
-use Rattle.record.specs.Layout.{floats}
-use Rattle.sheet.specs.Sheet.{numberAt, firstGroup, secondGroup, wordOf, wordAt, checked, parameterAt, kindsOf, Fields, Got, Stopped, before, andThen, parametersAt, padded, refusedBy, recordsEnd, afterCount, afterParameters, afterModel, headerOf}
+use Rattle.model.specs.Kinds.{last, kindsOf}
+use Rattle.sheet.specs.Sheet.{most, sheetFloats, numberAt, firstGroup, secondGroup, wordOf, wordAt, checked, parameterAt, Fields, Got, Stopped, before, andThen, parametersAt, padded, refusedBy, recordsEnd, afterCount, afterParameters, afterModel, headerOf}
 use Rattle.sheet.specs.declared.Number.{Number}
 use Rattle.sheet.specs.declared.Number.the-variants.{Read as Number·Read, Refused as Number·Refused}
 use Rattle.sheet.specs.declared.Word.{Word}
@@ -87,28 +87,28 @@ module _ (s r : List ℕ) (more : 0 < length r) where
 
   later-end : (model : ℕ) (bits : List ℕ) (count at : ℕ) → at ≤ length s → Later (recordsEnd s model bits count at) (recordsEnd (s ++ r) model bits count at)
   unfolding recordsEnd
-  later-end model bits count at h = by-lengths (ltb (length s - at) (count * floats * 8)) (ltb (count * floats * 8) (length s - at)) refl refl
+  later-end model bits count at h = by-lengths (ltb (length s - at) (count * sheetFloats * 8)) (ltb (count * sheetFloats * 8) (length s - at)) refl refl
     where
       ok : Header
       ok = record { refusal = 0; model = model; parameters = bits; count = count; at = at }
 
-      longer : count * floats * 8 ≤ length s - at → cond (ltb (length (s ++ r) - at) (count * floats * 8)) (refusedBy 4) (cond (ltb (count * floats * 8) (length (s ++ r) - at)) (refusedBy 7) ok) ≡ refusedBy 7
+      longer : count * sheetFloats * 8 ≤ length s - at → cond (ltb (length (s ++ r) - at) (count * sheetFloats * 8)) (refusedBy 4) (cond (ltb (count * sheetFloats * 8) (length (s ++ r) - at)) (refusedBy 7) ok) ≡ refusedBy 7
       longer k =
           let n = length-append s r in
-          let m : count * floats * 8 < length (s ++ r) - at = omega arith in
-          let l : count * floats * 8 ≤ length (s ++ r) - at = omega arith in
-          rw (le-ltb (length (s ++ r) - at) (count * floats * 8) l, lt-ltb (count * floats * 8) (length (s ++ r) - at) m)
+          let m : count * sheetFloats * 8 < length (s ++ r) - at = omega arith in
+          let l : count * sheetFloats * 8 ≤ length (s ++ r) - at = omega arith in
+          rw (le-ltb (length (s ++ r) - at) (count * sheetFloats * 8) l, lt-ltb (count * sheetFloats * 8) (length (s ++ r) - at) m)
 
-      by-lengths : (b c : Bool) → ltb (length s - at) (count * floats * 8) ≡ b → ltb (count * floats * 8) (length s - at) ≡ c
-          → Later (cond b (refusedBy 4) (cond c (refusedBy 7) ok)) (cond (ltb (length (s ++ r) - at) (count * floats * 8)) (refusedBy 4) (cond (ltb (count * floats * 8) (length (s ++ r) - at)) (refusedBy 7) ok))
+      by-lengths : (b c : Bool) → ltb (length s - at) (count * sheetFloats * 8) ≡ b → ltb (count * sheetFloats * 8) (length s - at) ≡ c
+          → Later (cond b (refusedBy 4) (cond c (refusedBy 7) ok)) (cond (ltb (length (s ++ r) - at) (count * sheetFloats * 8)) (refusedBy 4) (cond (ltb (count * sheetFloats * 8) (length (s ++ r) - at)) (refusedBy 7) ok))
       by-lengths true c t u = inl refl
-      by-lengths false true t u = rw (longer (ltb-false (length s - at) (count * floats * 8) t)) (later-same 7 is-7)
-      by-lengths false false t u = rw (longer (ltb-false (length s - at) (count * floats * 8) t)) (inr (inl (refl, refl)))
+      by-lengths false true t u = rw (longer (ltb-false (length s - at) (count * sheetFloats * 8) t)) (later-same 7 is-7)
+      by-lengths false false t u = rw (longer (ltb-false (length s - at) (count * sheetFloats * 8) t)) (inr (inl (refl, refl)))
 
   later-count : (model : ℕ) (bits : List ℕ) (x y : Number) → (x ≡ Number·Refused 4) ⊎ (y ≡ x) → Ends (length s) x → Later (afterCount s model bits x) (afterCount (s ++ r) model bits y)
   later-count model bits x y (inl e) h = inl (rw e)
   later-count model bits (Number·Refused n) y (inr e) h = rw e (later-same n h)
-  later-count model bits (Number·Read count at) y (inr e) h = rw e (by-count (ltb 200 count))
+  later-count model bits (Number·Read count at) y (inr e) h = rw e (by-count (ltb most count))
     where
       by-count : (b : Bool) → Later (cond b (refusedBy 7) (recordsEnd s model bits count at)) (cond b (refusedBy 7) (recordsEnd (s ++ r) model bits count at))
       by-count true = later-same 7 is-7
@@ -122,7 +122,7 @@ module _ (s r : List ℕ) (more : 0 < length r) where
   later-model : (x y : Number) → (x ≡ Number·Refused 4) ⊎ (y ≡ x) → Ends (length s) x → Later (afterModel s x) (afterModel (s ++ r) y)
   later-model x y (inl e) h = inl (rw e)
   later-model (Number·Refused n) y (inr e) h = rw e (later-same n h)
-  later-model (Number·Read model at) y (inr e) h = rw e (by-model (ltb 3 model))
+  later-model (Number·Read model at) y (inr e) h = rw e (by-model (ltb last model))
     where
       by-model : (b : Bool) → Later (cond b (refusedBy 6) (afterParameters s model (parametersAt (kindsOf model) s at))) (cond b (refusedBy 6) (afterParameters (s ++ r) model (parametersAt (kindsOf model) (s ++ r) at)))
       by-model true = later-same 6 is-6

@@ -7,7 +7,7 @@ use lib.ListN.{length, drop}
 use lib.Seq.{drop-length}
 use borrow.Author.Tests.{lt-ltb, le-ltb, eq-eqb, ne-eqb}
 use Rattle.record.specs.Layout.{floats}
-use Rattle.sheet.specs.Sheet.{refusedBy, headerOf, wordsOf, fitted, readOf, roomOf, recordAt, placed, roomAt}
+use Rattle.sheet.specs.Sheet.{sheetFloats, refusedBy, headerOf, wordsOf, fitted, readOf, roomOf, recordAt, placed, roomAt}
 use Rattle.sheet.specs.declared.Place.{Place}
 use Rattle.sheet.specs.declared.Place.the-variants.{Next as Place·Next, Refused as Place·Refused}
 use Rattle.sheet.specs.declared.Header.{Header}
@@ -39,7 +39,7 @@ module _ (s room : List ℕ) where
       pub narrow : (r : Header) → r ≡ refusedBy 8 → length room < h .count * floats → (r ≡ readOf s (length room)) × (room ≡ roomOf s room)
       narrow r q l = refused-8 r q (rw (even, eq-eqb (h .refusal) 0 z, lt-ltb (length room) (h .count * floats) l))
 
-      pub good : (out : List ℕ) → h .count * floats ≤ length room → out ≡ wordsOf (h .count * floats) (drop (h .at) s) ++ drop (h .count * floats) room
+      pub good : (out : List ℕ) → h .count * floats ≤ length room → out ≡ wordsOf (h .count * sheetFloats) (drop (h .at) s) ++ drop (h .count * floats) room
           → (h ≡ readOf s (length room)) × (out ≡ roomOf s room)
       unfolding roomOf
       good out l q =
@@ -48,7 +48,7 @@ module _ (s room : List ℕ) where
 
 -- one record
 module _ (s : List ℕ) (at : ℕ) (room : List ℕ) where
-  settled : (p : Place) (out : List ℕ) → p ≡ recordAt s at (length room) → out ≡ placed p (wordsOf floats (drop at s)) room → (p ≡ recordAt s at (length room)) × (out ≡ roomAt s at room)
+  settled : (p : Place) (out : List ℕ) → p ≡ recordAt s at (length room) → out ≡ placed p (wordsOf sheetFloats (drop at s)) room → (p ≡ recordAt s at (length room)) × (out ≡ roomAt s at room)
   unfolding roomAt
   settled p out e f = (e, rw (← e) f)
 
@@ -59,14 +59,14 @@ module _ (s : List ℕ) (at : ℕ) (room : List ℕ) where
   module _ (m : length room ≡ floats) where
     pub record-short : length s - at < floats * 8 → (Place·Refused 4 ≡ recordAt s at (length room)) × (room ≡ roomAt s at room)
     unfolding recordAt
-    record-short l = settled (Place·Refused 4) room (rw (eq-eqb (length room) floats m, lt-ltb (length s - at) (floats * 8) l)) refl
+    record-short l = settled (Place·Refused 4) room (rw (eq-eqb (length room) floats m, lt-ltb (length s - at) (sheetFloats * 8) l)) refl
 
     pub record-late : length s < at → (Place·Refused 4 ≡ recordAt s at (length room)) × (room ≡ roomAt s at room)
     record-late l = record-short (omega arith)
 
-    pub record-read : (out : List ℕ) → floats * 8 ≤ length s - at → out ≡ wordsOf floats (drop at s) ++ drop floats room
+    pub record-read : (out : List ℕ) → floats * 8 ≤ length s - at → out ≡ wordsOf sheetFloats (drop at s) ++ drop floats room
         → (Place·Next (at + floats * 8) ≡ recordAt s at (length room)) × (out ≡ roomAt s at room)
     unfolding recordAt
     record-read out l e =
-        settled (Place·Next (at + floats * 8)) out (rw (eq-eqb (length room) floats m, le-ltb (length s - at) (floats * 8) l))
-        (e ∙ ap (λ (k : ℕ). wordsOf floats (drop at s) ++ drop k room) (sym m) ∙ ap (λ (t : List ℕ). wordsOf floats (drop at s) ++ t) (drop-length room) ∙ append-nil (wordsOf floats (drop at s)))
+        settled (Place·Next (at + floats * 8)) out (rw (eq-eqb (length room) floats m, le-ltb (length s - at) (sheetFloats * 8) l))
+        (e ∙ ap (λ (k : ℕ). wordsOf sheetFloats (drop at s) ++ drop k room) (sym m) ∙ ap (λ (t : List ℕ). wordsOf sheetFloats (drop at s) ++ t) (drop-length room) ∙ append-nil (wordsOf sheetFloats (drop at s)))

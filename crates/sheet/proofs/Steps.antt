@@ -8,7 +8,7 @@ use native.Mathlib.Numerals.{add-one}
 use lib.ListN.{length, getD, take, drop, set, replicate, length-append, length-drop, length-take, take-append-drop}
 use lib.Seq.{drop-cons, drop-drop, set-at, drop-length, take-suc-set, drop-set-lt}
 use lib.Dec.{eqb}
-use Rattle.sheet.specs.Sheet.{wordOf, wordsOf, parameterAt, kindsOf, Fields, Got, Stopped, before, andThen, parametersAt, padded, asParameters}
+use Rattle.sheet.specs.Sheet.{wordOf, wordsOf, parameterAt, Fields, Got, Stopped, before, andThen, parametersAt, padded, asParameters}
 use Rattle.sheet.specs.declared.Word.{Word}
 use Rattle.sheet.specs.declared.Word.the-variants.{Read as Word·Read, Refused as Word·Refused}
 
@@ -79,13 +79,3 @@ all-read K s at next i bits k h l z e =
     let p : padded (take i bits ++ []) ≡ bits =
     ap padded (append-nil (take i bits)) ∙ ap (λ (j : ℕ). take i bits ++ replicate (8 - j) 0) m ∙ ap (λ (t : List ℕ). take i bits ++ t) (sym z) ∙ take-append-drop i bits in
     sym (ap asParameters (e ∙ ap (λ (t : List Bool). prefixed (take i bits) (parametersAt t s next)) d) ∙ ap (λ (b : List ℕ). record { refusal = 0; bits = b; at = next }) p)
-
-pub kinds-most : (model : ℕ) → length (kindsOf model) ≤ 8
-unfolding kindsOf
-kinds-most model = by-tests (eqb model 0) (eqb model 1) (eqb model 2)
-  where
-    by-tests : (a b c : Bool) → length (cond a (false ∷ false ∷ false ∷ []) (cond b (false ∷ false ∷ false ∷ false ∷ []) (cond c (false ∷ false ∷ false ∷ false ∷ false ∷ false ∷ true ∷ false ∷ []) (false ∷ false ∷ false ∷ true ∷ false ∷ false ∷ [])))) ≤ 8
-    by-tests true b c = omega arith
-    by-tests false true c = omega arith
-    by-tests false false true = omega arith
-    by-tests false false false = omega arith

@@ -7,8 +7,8 @@ use native.Mathlib.Omega.{arith}
 use lib.ListN.{length}
 use lib.Dec.{ltb}
 use borrow.Author.Tests.{ltb-false}
-use Rattle.record.specs.Layout.{floats}
-use Rattle.sheet.specs.Sheet.{numberAt, kindsOf, Fields, Got, Stopped, parametersAt, padded, refusedBy, recordsEnd, afterCount, afterParameters, afterModel, headerOf}
+use Rattle.model.specs.Kinds.{last, kindsOf}
+use Rattle.sheet.specs.Sheet.{most, sheetFloats, numberAt, Fields, Got, Stopped, parametersAt, padded, refusedBy, recordsEnd, afterCount, afterParameters, afterModel, headerOf}
 use Rattle.sheet.specs.declared.Number.{Number}
 use Rattle.sheet.specs.declared.Number.the-variants.{Read as Number·Read, Refused as Number·Refused}
 use Rattle.sheet.specs.declared.Header.{Header}
@@ -22,11 +22,11 @@ pub record Taken (s : List ℕ) (h : Header) : Type 0 where
   pub count : ℕ
   pub at : ℕ
   pub is-model : numberAt s 0 ≡ Number·Read model after-model
-  pub known : model ≤ 3
+  pub known : model ≤ last
   pub are-words : parametersAt (kindsOf model) s after-model ≡ Got words after-words
   pub is-count : numberAt s after-words ≡ Number·Read count at
-  pub few : count ≤ 200
-  pub ends : at + count * floats * 8 ≡ length s
+  pub few : count ≤ most
+  pub ends : at + count * sheetFloats * 8 ≡ length s
   pub is : record { refusal = 0; model = model; parameters = padded words; count = count; at = at } ≡ h
 
 -- the two ways of a test
@@ -41,15 +41,15 @@ module _ (s : List ℕ) (h : Header) (z : h .refusal ≡ 0) where
   clash : {R : Type 0} (n : ℕ) → refusedBy n ≡ h → 0 < n → R
   clash n e p = let q : n ≡ 0 = refusal-0 n e in absurd (omega arith)
 
-  module _ (model after-model : ℕ) (is-model : numberAt s 0 ≡ Number·Read model after-model) (known : model ≤ 3) where
+  module _ (model after-model : ℕ) (is-model : numberAt s 0 ≡ Number·Read model after-model) (known : model ≤ last) where
     module _ (words : List ℕ) (after-words : ℕ) (are-words : parametersAt (kindsOf model) s after-model ≡ Got words after-words) where
-      from-end : (count at : ℕ) → numberAt s after-words ≡ Number·Read count at → count ≤ 200 → recordsEnd s model (padded words) count at ≡ h → Taken s h
+      from-end : (count at : ℕ) → numberAt s after-words ≡ Number·Read count at → count ≤ most → recordsEnd s model (padded words) count at ≡ h → Taken s h
       unfolding recordsEnd
       from-end count at is-count few e =
-          either (ltb (length s - at) (count * floats * 8)) _ _ _ e (λ t p. clash 4 p (omega arith)) (λ t p.
-          either (ltb (count * floats * 8) (length s - at)) _ _ _ p (λ u q. clash 7 q (omega arith)) (λ u q.
-          let a = ltb-false (length s - at) (count * floats * 8) t in
-          let b = ltb-false (count * floats * 8) (length s - at) u in
+          either (ltb (length s - at) (count * sheetFloats * 8)) _ _ _ e (λ t p. clash 4 p (omega arith)) (λ t p.
+          either (ltb (count * sheetFloats * 8) (length s - at)) _ _ _ p (λ u q. clash 7 q (omega arith)) (λ u q.
+          let a = ltb-false (length s - at) (count * sheetFloats * 8) t in
+          let b = ltb-false (count * sheetFloats * 8) (length s - at) u in
           let i = number-inside s after-words count at is-count in
           record {
             model = model;
@@ -70,7 +70,7 @@ module _ (s : List ℕ) (h : Header) (z : h .refusal ≡ 0) where
       from-count : (n : Number) → numberAt s after-words ≡ n → afterCount s model (padded words) n ≡ h → Taken s h
       from-count (Number·Refused n) e p = absurd (number-refused s after-words n e (refusal-0 n p))
       from-count (Number·Read count at) e p =
-          either (ltb 200 count) _ _ _ p (λ t q. clash 7 q (omega arith)) (λ t q. from-end count at e (ltb-false 200 count t) q)
+          either (ltb most count) _ _ _ p (λ t q. clash 7 q (omega arith)) (λ t q. from-end count at e (ltb-false most count t) q)
 
     from-words : (f : Fields) → parametersAt (kindsOf model) s after-model ≡ f → afterParameters s model f ≡ h → Taken s h
     from-words (Stopped n) e p = absurd (stopped-not-0 (kindsOf model) s after-model n e (refusal-0 n p))
@@ -79,21 +79,21 @@ module _ (s : List ℕ) (h : Header) (z : h .refusal ≡ 0) where
   from-model : (n : Number) → numberAt s 0 ≡ n → afterModel s n ≡ h → Taken s h
   from-model (Number·Refused n) e p = absurd (number-refused s 0 n e (refusal-0 n p))
   from-model (Number·Read model at) e p =
-      either (ltb 3 model) _ _ _ p (λ t q. clash 6 q (omega arith)) (λ t q.
-      from-words model at e (ltb-false 3 model t) (parametersAt (kindsOf model) s at) refl q)
+      either (ltb last model) _ _ _ p (λ t q. clash 6 q (omega arith)) (λ t q.
+      from-words model at e (ltb-false last model t) (parametersAt (kindsOf model) s at) refl q)
 
 pub taken : (s : List ℕ) → headerOf s .refusal ≡ 0 → Taken s (headerOf s)
 unfolding headerOf
 taken s z = from-model s (headerOf s) z (numberAt s 0) refl refl
 
 -- a header that was read has its records within the sheet
-pub few : (s : List ℕ) (h : Header) → h ≡ headerOf s → h .refusal ≡ 0 → h .count ≤ 200
+pub few : (s : List ℕ) (h : Header) → h ≡ headerOf s → h .refusal ≡ 0 → h .count ≤ most
 few s h e z =
     let t = taken s (ap (λ (x : Header). x .refusal) (sym e) ∙ z) in
     let c : t .count ≡ h .count = ap (λ (x : Header). x .count) (t .is ∙ sym e) in
     omega (arith, t .few)
 
-pub within : (s : List ℕ) (h : Header) → h ≡ headerOf s → h .refusal ≡ 0 → h .at + h .count * floats * 8 ≤ length s
+pub within : (s : List ℕ) (h : Header) → h ≡ headerOf s → h .refusal ≡ 0 → h .at + h .count * sheetFloats * 8 ≤ length s
 within s h e z =
     let t = taken s (ap (λ (x : Header). x .refusal) (sym e) ∙ z) in
     let c : t .count ≡ h .count = ap (λ (x : Header). x .count) (t .is ∙ sym e) in

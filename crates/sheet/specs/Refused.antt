@@ -6,7 +6,8 @@ use mathlib.Core.List.{List, [], _∷_, _++_}
 use Prim.Native.Nat.{ℕ, _*_, _%_, _^_, _≤_, _<_}
 use lib.ListN.{length}
 use Rattle.record.specs.Layout.{floats}
-use Rattle.sheet.specs.Sheet.{one, kindsOf}
+use Rattle.model.specs.Kinds.{last, one, kindsOf}
+use Rattle.sheet.specs.Sheet.{most, sheetFloats}
 use Rattle.sheet.specs.Spelling.{spellNumber, spellBytes, spellWords, spell, Fits, Writable}
 
 -- a sheet that can be written
@@ -22,7 +23,7 @@ pub record Good (s : List ℕ) : Type 0 where
 pub record AtCount (s l : List ℕ) : Type 0 where
   pub model : ℕ
   pub parameters : List ℕ
-  pub known : model ≤ 3
+  pub known : model ≤ last
   pub fits : Fits (kindsOf model) parameters
   pub spelled : s ≡ spellNumber model ++ (spellWords parameters ++ l)
 
@@ -32,7 +33,7 @@ pub record AtParameter (s : List ℕ) (flag : Bool) (l : List ℕ) : Type 0 wher
   pub parameters : List ℕ
   pub earlier : List Bool
   pub others : List Bool
-  pub known : model ≤ 3
+  pub known : model ≤ last
   pub kinds : kindsOf model ≡ earlier ++ (flag ∷ others)
   pub fits : Fits earlier parameters
   pub spelled : s ≡ spellNumber model ++ (spellWords parameters ++ l)
@@ -47,15 +48,15 @@ pub data Reason (s : List ℕ) : ℕ → Type 0 where
   no-number : AtNumber s [] → Reason s 4
   half-number : (low : ℕ) → 128 ≤ low → AtNumber s (low ∷ []) → Reason s 4
   short-parameter : (flag : Bool) (l : List ℕ) → length l < 8 → AtParameter s flag l → Reason s 4
-  short-records : (count : ℕ) (l : List ℕ) → count ≤ 200 → length l < count * floats * 8 → AtCount s (spellNumber count ++ l) → Reason s 4
+  short-records : (count : ℕ) (l : List ℕ) → count ≤ most → length l < count * sheetFloats * 8 → AtCount s (spellNumber count ++ l) → Reason s 4
   -- 5, a number is not shortest, its second group being zero, or has over two groups
   not-shortest : (low : ℕ) (l : List ℕ) → 128 ≤ low → AtNumber s (low ∷ 0 ∷ l) → Reason s 5
   third-group : (low high : ℕ) (l : List ℕ) → 128 ≤ low → 128 ≤ high → AtNumber s (low ∷ high ∷ l) → Reason s 5
   -- 6, an unknown model, or a flag other than 0.0 and 1.0
-  unknown-model : (model : ℕ) (l : List ℕ) → 3 < model → model < 2 ^ 14 → s ≡ spellNumber model ++ l → Reason s 6
+  unknown-model : (model : ℕ) (l : List ℕ) → last < model → model < 2 ^ 14 → s ≡ spellNumber model ++ l → Reason s 6
   other-flag : (w : ℕ) (l : List ℕ) → w < 2 ^ 64 → (w ≡ 0 → ⊥) → (w ≡ one → ⊥) → AtParameter s true (spellBytes 8 w ++ l) → Reason s 6
   -- 7, count over 200, or bytes after the last record
-  count-over : (count : ℕ) (l : List ℕ) → 200 < count → count < 2 ^ 14 → AtCount s (spellNumber count ++ l) → Reason s 7
+  count-over : (count : ℕ) (l : List ℕ) → most < count → count < 2 ^ 14 → AtCount s (spellNumber count ++ l) → Reason s 7
   bytes-after : (t l : List ℕ) → Good t → 0 < length l → s ≡ t ++ l → Reason s 7
 
 -- with a room for the records' words: its length comes first, and whether the records of a good sheet go in last

@@ -4,7 +4,9 @@ use mathlib.Core.List.{List, [], _∷_, _++_}
 use Prim.Native.Nat.{ℕ, zero, suc, _+_, _*_, _-_, _%_}
 use lib.ListN.{length, take, drop, replicate}
 use lib.Dec.{ltb, leb, eqb}
-use Rattle.record.specs.Layout.{floats}
+use Rattle.answers.specs.Refusals.{endsEarly, notShortest, unknown, tooMany, wrongLength}
+use Rattle.record.specs.Layout.{layout, whole, floats}
+use Rattle.model.specs.Kinds.{last, places, kindsOf, allowed}
 use Rattle.sheet.specs.declared.Number.{Number}
 use Rattle.sheet.specs.declared.Number.the-variants.{Read as Number·Read, Refused as Number·Refused}
 use Rattle.sheet.specs.declared.Word.{Word}
@@ -14,17 +16,24 @@ use Rattle.sheet.specs.declared.Place.the-variants.{Next as Place·Next,
 use Rattle.sheet.specs.declared.Parameters.{Parameters}
 use Rattle.sheet.specs.declared.Header.{Header}
 
+-- how many particles a sheet may have, and how many floats a record in it
+abbrev pub most : ℕ
+most = 200
+
+abbrev pub sheetFloats : ℕ
+sheetFloats = whole layout
+
 -- A number in groups of seven bits, low group first, the top bit of a byte set where more follows. 4 where a byte is wanted
 -- and there is none; 5 where a third group would follow, or the second group is zero.
 abbrev pub secondGroup : ℕ → List ℕ → ℕ → Number
-secondGroup low [] at = Number·Refused 4
+secondGroup low [] at = Number·Refused endsEarly
 secondGroup low (high ∷ rest) at =
-    cond (leb 128 high) (Number·Refused 5)
-    (cond (eqb high 0) (Number·Refused 5)
+    cond (leb 128 high) (Number·Refused notShortest)
+    (cond (eqb high 0) (Number·Refused notShortest)
     (Number·Read (low - 128 + high * 128) (at + 2)))
 
 abbrev pub firstGroup : List ℕ → ℕ → Number
-firstGroup [] at = Number·Refused 4
+firstGroup [] at = Number·Refused endsEarly
 firstGroup (low ∷ rest) at = cond (ltb low 128) (Number·Read low (at + 1)) (secondGroup low rest at)
 
 unfoldable pub numberAt : List ℕ → ℕ → Number
@@ -37,37 +46,19 @@ wordOf (b ∷ bs) = b + 256 * wordOf bs
 
 -- a float's bits: 8 bytes, or 4
 unfoldable pub wordAt : List ℕ → ℕ → Word
-wordAt s at = cond (ltb (length (drop at s)) 8) (Word·Refused 4) (Word·Read (wordOf (take 8 (drop at s))) (at + 8))
+wordAt s at = cond (ltb (length (drop at s)) 8) (Word·Refused endsEarly) (Word·Read (wordOf (take 8 (drop at s))) (at + 8))
 
 -- n floats, one after the other
 unfoldable pub wordsOf : ℕ → List ℕ → List ℕ
 wordsOf zero l = []
 wordsOf (suc n) l = wordOf (take 8 l) ∷ wordsOf n (drop 8 l)
 
--- the bits of 1.0
-abbrev pub one : ℕ
-one = 0x3ff0_0000_0000_0000
-
--- a float may have any bits, a flag those of 0.0 and of 1.0
-abbrev pub allowed : Bool → ℕ → Bool
-allowed false w = true
-allowed true w = eqb w 0 || eqb w one
-
 abbrev pub checked : Bool → Word → Word
 checked flag (Word·Refused n) = Word·Refused n
-checked flag (Word·Read w next) = cond (allowed flag w) (Word·Read w next) (Word·Refused 6)
+checked flag (Word·Read w next) = cond (allowed flag w) (Word·Read w next) (Word·Refused unknown)
 
 unfoldable pub parameterAt : Bool → List ℕ → ℕ → Word
 parameterAt flag s at = checked flag (wordAt s at)
-
--- Of each parameter whether it is a flag: Snow's 3 fields, Rankine's 4 arguments, Drucker-Prager's 8 fields with
--- only_active_when_failed, NACC's 6 arguments with hardening_enabled.
-unfoldable pub kindsOf : ℕ → List Bool
-kindsOf model =
-    cond (eqb model 0) (false ∷ false ∷ false ∷ [])
-    (cond (eqb model 1) (false ∷ false ∷ false ∷ false ∷ [])
-    (cond (eqb model 2) (false ∷ false ∷ false ∷ false ∷ false ∷ false ∷ true ∷ false ∷ [])
-    (false ∷ false ∷ false ∷ true ∷ false ∷ false ∷ [])))
 
 -- the parameters read and the place after them, or the refusal that stopped the reading
 pub data Fields : Type 0 where
@@ -86,9 +77,9 @@ unfoldable pub parametersAt : List Bool → List ℕ → ℕ → Fields
 parametersAt [] s at = Got [] at
 parametersAt (flag ∷ flags) s at = andThen (parameterAt flag s at) (λ next. parametersAt flags s next)
 
--- in eight places, 0 past the last
+-- in as many places as a model has parameters at most, 0 past the last
 abbrev pub padded : List ℕ → List ℕ
-padded ws = ws ++ replicate (8 - length ws) 0
+padded ws = ws ++ replicate (places - length ws) 0
 
 abbrev pub asParameters : Fields → Parameters
 asParameters (Got ws at) = record { refusal = 0; bits = padded ws; at = at }
@@ -100,13 +91,13 @@ refusedBy n = record { refusal = n; model = 0; parameters = padded []; count = 0
 -- The records end the sheet: 4 where some are missing, 7 where bytes follow the last.
 unfoldable pub recordsEnd : List ℕ → ℕ → List ℕ → ℕ → ℕ → Header
 recordsEnd s model bits count at =
-    cond (ltb (length s - at) (count * floats * 8)) (refusedBy 4)
-    (cond (ltb (count * floats * 8) (length s - at)) (refusedBy 7)
+    cond (ltb (length s - at) (count * sheetFloats * 8)) (refusedBy endsEarly)
+    (cond (ltb (count * sheetFloats * 8) (length s - at)) (refusedBy tooMany)
     (record { refusal = 0; model = model; parameters = bits; count = count; at = at }))
 
 abbrev pub afterCount : List ℕ → ℕ → List ℕ → Number → Header
 afterCount s model bits (Number·Refused n) = refusedBy n
-afterCount s model bits (Number·Read count at) = cond (ltb 200 count) (refusedBy 7) (recordsEnd s model bits count at)
+afterCount s model bits (Number·Read count at) = cond (ltb most count) (refusedBy tooMany) (recordsEnd s model bits count at)
 
 abbrev pub afterParameters : List ℕ → ℕ → Fields → Header
 afterParameters s model (Stopped n) = refusedBy n
@@ -115,7 +106,7 @@ afterParameters s model (Got ws at) = afterCount s model (padded ws) (numberAt s
 abbrev pub afterModel : List ℕ → Number → Header
 afterModel s (Number·Refused n) = refusedBy n
 afterModel s (Number·Read model at) =
-    cond (ltb 3 model) (refusedBy 6) (afterParameters s model (parametersAt (kindsOf model) s at))
+    cond (ltb last model) (refusedBy unknown) (afterParameters s model (parametersAt (kindsOf model) s at))
 
 -- model number, parameters, count, then the length that the records take
 unfoldable pub headerOf : List ℕ → Header
@@ -124,16 +115,16 @@ headerOf s = afterModel s (numberAt s 0)
 -- A room that is no whole number of records is refused by 8 before anything is read, and one that is too short for the count
 -- by 8 once the sheet itself is good.
 abbrev pub fitted : Header → ℕ → Header
-fitted h room = cond (eqb (h .refusal) 0) (cond (ltb room (h .count * floats)) (refusedBy 8) h) h
+fitted h room = cond (eqb (h .refusal) 0) (cond (ltb room (h .count * floats)) (refusedBy wrongLength) h) h
 
 unfoldable pub readOf : List ℕ → ℕ → Header
-readOf s room = cond (eqb (room % floats) 0) (fitted (headerOf s) room) (refusedBy 8)
+readOf s room = cond (eqb (room % floats) 0) (fitted (headerOf s) room) (refusedBy wrongLength)
 
 -- the room afterwards: the records' bits in front, where the sheet was read
 abbrev pub filled : List ℕ → List ℕ → Header → List ℕ
 filled s room h =
     cond (eqb (h .refusal) 0)
-    (wordsOf (h .count * floats) (drop (h .at) s) ++ drop (h .count * floats) room)
+    (wordsOf (h .count * sheetFloats) (drop (h .at) s) ++ drop (h .count * floats) room)
     room
 
 unfoldable pub roomOf : List ℕ → List ℕ → List ℕ
@@ -143,12 +134,12 @@ roomOf s room = filled s room (readOf s (length room))
 unfoldable pub recordAt : List ℕ → ℕ → ℕ → Place
 recordAt s at room =
     cond (eqb room floats)
-    (cond (ltb (length s - at) (floats * 8)) (Place·Refused 4) (Place·Next (at + floats * 8)))
-    (Place·Refused 8)
+    (cond (ltb (length s - at) (sheetFloats * 8)) (Place·Refused endsEarly) (Place·Next (at + sheetFloats * 8)))
+    (Place·Refused wrongLength)
 
 abbrev pub placed : Place → List ℕ → List ℕ → List ℕ
 placed (Place·Next n) new old = new
 placed (Place·Refused n) new old = old
 
 unfoldable pub roomAt : List ℕ → ℕ → List ℕ → List ℕ
-roomAt s at room = placed (recordAt s at (length room)) (wordsOf floats (drop at s)) room
+roomAt s at room = placed (recordAt s at (length room)) (wordsOf sheetFloats (drop at s)) room

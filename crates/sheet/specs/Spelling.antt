@@ -6,8 +6,8 @@ use mathlib.Core.List.{List, [], _∷_, _++_}
 use Prim.Native.Nat.{ℕ, zero, suc, _+_, _*_, _/_, _%_, _^_, _≤_, _<_}
 use lib.ListN.{length, take, drop}
 use lib.Dec.{ltb}
-use Rattle.record.specs.Layout.{floats}
-use Rattle.sheet.specs.Sheet.{allowed, kindsOf, wordsOf}
+use Rattle.model.specs.Kinds.{last, allowed, kindsOf}
+use Rattle.sheet.specs.Sheet.{most, sheetFloats, wordsOf}
 use Rattle.sheet.specs.declared.Header.{Header}
 
 -- one group of seven bits, or two with the low one first; the top bit of a byte says that more follows
@@ -41,10 +41,10 @@ Fits (flag ∷ flags) (w ∷ ws) = (w < 2 ^ 64) × (allowed flag w ≡ true) × 
 
 -- what a sheet can say
 pub record Writable (model : ℕ) (parameters : List ℕ) (count : ℕ) (words : List ℕ) : Type 0 where
-  pub known : model ≤ 3
+  pub known : model ≤ last
   pub fits : Fits (kindsOf model) parameters
-  pub few : count ≤ 200
-  pub whole : length words ≡ count * floats
+  pub few : count ≤ most
+  pub whole : length words ≡ count * sheetFloats
   pub bits : Below (2 ^ 64) words
 
 -- the parameters of a header, without the zeros past the last
@@ -53,4 +53,4 @@ parametersOf h = take (length (kindsOf (h .model))) (h .parameters)
 
 -- the records' words, as `read` delivers them
 abbrev pub recordsOf : List ℕ → Header → List ℕ
-recordsOf s h = wordsOf (h .count * floats) (drop (h .at) s)
+recordsOf s h = wordsOf (h .count * sheetFloats) (drop (h .at) s)

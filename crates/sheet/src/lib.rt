@@ -6,6 +6,7 @@ mod reading;
 mod words;
 
 pub use groups::number_at;
+use model::PARAMETERS;
 pub use reading::read;
 pub use reading::read_header;
 pub use reading::record_at;
@@ -32,7 +33,7 @@ pub enum Place {
 // The parameters' bits in declared order, 0 past the last, and the place after them; beside a refusal all zeros.
 struct Parameters {
     refusal: u8,
-    bits: [u64; 8],
+    bits: [u64; PARAMETERS],
     at: usize,
 }
 
@@ -41,24 +42,25 @@ struct Parameters {
 pub struct Header {
     pub refusal: u8,
     pub model: u64,
-    pub parameters: [u64; 8],
+    pub parameters: [u64; PARAMETERS],
     pub count: usize,
     pub at: usize,
 }
 
-// The refusals of document 01, section 6, that a sheet can meet.
-pub const ENDED: u8 = 4;
-
-pub const NOT_SHORTEST: u8 = 5;
-
-pub const UNKNOWN: u8 = 6;
-
-pub const COUNT: u8 = 7;
-
-pub const LENGTH: u8 = 8;
-
-// The bits of 1.0, a flag that is set.
-pub const SET: u64 = 0x3ff0_0000_0000_0000;
-
 // How many particles a sheet may have.
-pub const MOST: u64 = 200;
+pub const MOST: usize = 200;
+
+const MOST_COUNT: u64 = MOST as u64;
+
+// How many floats a sheet's record has, and how many bytes a float.
+pub const FLOATS: usize = record::FLOATS;
+
+pub const BYTES: usize = 8;
+
+// Rooms for the records and the answers of the most particles.
+pub const MOST_WORDS: usize = MOST * record::FLOATS;
+
+pub const MOST_ANSWERS: usize = MOST * 2;
+
+// The bytes of the longest sheet: the model in one group, its parameters, the count in two groups, the records.
+pub const LONGEST: usize = 1 + PARAMETERS * BYTES + 2 + MOST * FLOATS * BYTES;

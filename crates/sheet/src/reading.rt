@@ -1,20 +1,19 @@
 // What stands before the records, and the records themselves.
-use crate::COUNT;
-use crate::ENDED;
+use crate::BYTES;
+use crate::FLOATS;
 use crate::Header;
-use crate::LENGTH;
-use crate::MOST;
+use crate::MOST_COUNT;
 use crate::Number;
 use crate::Place;
-use crate::UNKNOWN;
 use crate::fields::parameters;
 use crate::groups::number_at;
 use crate::words::fill;
-use record::FLOATS;
+use model::PARAMETERS;
 ghost use mathlib.Core.Path.{_≡_};
 ghost use Prim.Native.Nat.{_≤_};
 ghost use lib.ListN.{length};
-ghost use Rattle.sheet.specs.Sheet.{numberAt, kindsOf, parametersAt, refusedBy, recordsEnd, afterCount, afterParameters, headerOf, readOf, roomOf, recordAt, roomAt};
+ghost use Rattle.model.specs.Kinds.{kindsOf};
+ghost use Rattle.sheet.specs.Sheet.{most, numberAt, parametersAt, refusedBy, recordsEnd, afterCount, afterParameters, headerOf, readOf, roomOf, recordAt, roomAt};
 
 fn refused(n: u8) -> Header
     ensures { λ r. ⌜ r ≡ refusedBy n ⌝ }
@@ -22,23 +21,29 @@ fn refused(n: u8) -> Header
     Header {
         refusal: n,
         model: 0,
-        parameters: [0u64; 8],
+        parameters: [0u64; PARAMETERS],
         count: 0,
         at: 0,
     }
 }
 
-fn records_end(s: &[u8], model: u64, parameters: [u64; 8], count: usize, at: usize) -> Header
-    requires { ⌜ (at ≤ length (now s)) × (count ≤ 200) ⌝ }
+fn records_end(
+    s: &[u8],
+    model: u64,
+    parameters: [u64; PARAMETERS],
+    count: usize,
+    at: usize,
+) -> Header
+    requires { ⌜ (at ≤ length (now s)) × (count ≤ most) ⌝ }
     ensures { λ r. ⌜ r ≡ recordsEnd (now (s .entry)) model parameters count at ⌝ }
 {
-    let wanted = count * FLOATS * 8;
+    let wanted = count * FLOATS * BYTES;
     let left = s.len() - at;
     if left < wanted {
-        return refused(ENDED);
+        return refused(answers::ENDS_EARLY);
     }
     if wanted < left {
-        return refused(COUNT);
+        return refused(answers::TOO_MANY);
     }
     Header {
         refusal: 0,
@@ -49,15 +54,15 @@ fn records_end(s: &[u8], model: u64, parameters: [u64; 8], count: usize, at: usi
     }
 }
 
-fn after_parameters(s: &[u8], model: u64, parameters: [u64; 8], at: usize) -> Header
+fn after_parameters(s: &[u8], model: u64, parameters: [u64; PARAMETERS], at: usize) -> Header
     ensures { λ r. ⌜ r ≡ afterCount (now (s .entry)) model parameters (numberAt (now (s .entry)) at) ⌝ }
 {
     let n = number_at(s, at);
     match n {
         Number::Refused(n) => refused(n),
         Number::Read(count, next) => {
-            if MOST < count {
-                return refused(COUNT);
+            if MOST_COUNT < count {
+                return refused(answers::TOO_MANY);
             }
             records_end(s, model, parameters, count as usize, next)
         }
@@ -82,8 +87,8 @@ pub fn read_header(s: &[u8]) -> Header
     match n {
         Number::Refused(n) => refused(n),
         Number::Read(model, at) => {
-            if 3 < model {
-                return refused(UNKNOWN);
+            if model::LAST < model {
+                return refused(answers::UNKNOWN);
             }
             after_model(s, model, at)
         }
@@ -95,16 +100,16 @@ pub fn read(s: &[u8], room: &mut [u64]) -> Header
     ensures header { λ r. ⌜ r ≡ readOf (now (s .entry)) (length (now (room .entry))) ⌝ }
     ensures room { λ r. ⌜ now (room .exit) ≡ roomOf (now (s .entry)) (now (room .entry)) ⌝ }
 {
-    if room.len() % FLOATS != 0 {
-        return refused(LENGTH);
+    if room.len() % record::FLOATS != 0 {
+        return refused(answers::LENGTH);
     }
     let h = read_header(s);
     if h.refusal != 0 {
         return h;
     }
-    let n = h.count * FLOATS;
+    let n = h.count * record::FLOATS;
     if room.len() < n {
-        return refused(LENGTH);
+        return refused(answers::LENGTH);
     }
     fill(s, h.at, n, room);
     h
@@ -114,15 +119,15 @@ pub fn read(s: &[u8], room: &mut [u64]) -> Header
 pub fn record_at(s: &[u8], at: usize, room: &mut [u64]) -> Place
     ensures { λ r. ⌜ (r ≡ recordAt (now (s .entry)) at (length (now (room .entry)))) × (now (room .exit) ≡ roomAt (now (s .entry)) at (now (room .entry))) ⌝ }
 {
-    if room.len() != FLOATS {
-        return Place::Refused(LENGTH);
+    if room.len() != record::FLOATS {
+        return Place::Refused(answers::LENGTH);
     }
     if s.len() < at {
-        return Place::Refused(ENDED);
+        return Place::Refused(answers::ENDS_EARLY);
     }
-    if s.len() - at < FLOATS * 8 {
-        return Place::Refused(ENDED);
+    if s.len() - at < FLOATS * BYTES {
+        return Place::Refused(answers::ENDS_EARLY);
     }
-    fill(s, at, FLOATS, room);
-    Place::Next(at + FLOATS * 8)
+    fill(s, at, record::FLOATS, room);
+    Place::Next(at + FLOATS * BYTES)
 }

@@ -1,5 +1,4 @@
 // A float's bits: 8 bytes, low byte first. They are joined in pairs, so that the types give the bounds.
-use crate::ENDED;
 use crate::Word;
 ghost use mathlib.Core.Path.{_≡_};
 ghost use mathlib.Core.List.{_++_};
@@ -41,10 +40,10 @@ pub fn word_at(s: &[u8], at: usize) -> Word
     ensures { λ r. ⌜ r ≡ wordAt (now (s .entry)) at ⌝ }
 {
     if s.len() < at {
-        return Word::Refused(ENDED);
+        return Word::Refused(answers::ENDS_EARLY);
     }
     if s.len() - at < 8 {
-        return Word::Refused(ENDED);
+        return Word::Refused(answers::ENDS_EARLY);
     }
     Word::Read(word(s, at), at + 8)
 }

@@ -11,12 +11,12 @@ use lib.Ieee as Ieee
 use lib.Ieee.{Float, binary64, ofBits, toBits, fits}
 use lib.Ieee.Scale.{finite}
 use Rattle.exact.specs.Units.{L, mag, sgn, Fin64}
+use Rattle.exact.specs.Patterns.{exponent-lt}
 use Rattle.exact.specs.Fields.{signAt, exponentAt, digitsAt, normal-units, small-units, of-own}
 use Rattle.exact.specs.Value.{val}
 use Rattle.exact.specs.Symmetric.{symmetric-finite, symmetric-mag}
-use Rattle.numbers.specs.Range.{inRange}
-use Rattle.numbers.proofs.Laws.{and-both}
-use Rattle.numbers.proofs.Exponents.{exponent-lt}
+use Rattle.answers.specs.Range.{inRange}
+use Rattle.answers.proofs.Values.{between}
 use Rattle.sine.specs.Sine.{eighthOf, eighthAt, low, high}
 use Rattle.sine.proofs.Laws.{half-lt, doubled, at-eight, below-eight}
 use Rattle.sine.proofs.Cuts.{Cut}
@@ -107,18 +107,15 @@ ends : Fin64 low × Fin64 high × (val low ≡ negℤ (pos (8 * 2 ^ 1074))) × (
 unfolding ofBits fits val mag L Ieee.neg
 ends = ((tt, tt), (tt, tt), refl, refl)
 
-true-T : (b : Bool) → b ≡ true → T b
-true-T b e = subst T (sym e) tt
-
 module _ (x : Float) (f : T (fits binary64 x)) (r : inRange low high x ≡ true) where
   abbrev n : ℕ
   n = toBits binary64 x
 
   at-least : T (Ieee.le low x)
-  at-least = true-T (Ieee.le low x) (and-both (Ieee.le low x) (Ieee.le x high) r .0)
+  at-least = between low high x r .0
 
   at-most : T (Ieee.le x high)
-  at-most = true-T (Ieee.le x high) (and-both (Ieee.le low x) (Ieee.le x high) r .1)
+  at-most = between low high x r .1
 
   finite-x : Fin64 x
   finite-x = symmetric-finite low high x (ends .0) (ends .1) f at-least at-most

@@ -13,7 +13,7 @@ use Rattle.exact.specs.Sums.{pl, mi}
 use Rattle.exact.specs.Fields.{signAt}
 use Rattle.fixed_point.specs.ToFloat.{toFloatOf, FloatOf}
 use Rattle.fixed_point.specs.FloatOfLaw.{float-of}
-use Rattle.numbers.specs.Range.{inRange}
+use Rattle.answers.specs.Range.{inRange}
 use Rattle.series.specs.Sine.{odd, ratio, den, added, taken}
 use Rattle.series.specs.SinNear.{SinNear}
 use Rattle.series.specs.SinSure.{Sure, sure}

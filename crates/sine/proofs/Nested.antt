@@ -7,7 +7,7 @@ use native.Mathlib.Nat.{le-refl, le-trans, add-le-add, mul-pos, mul-le-mul, mul-
 use native.Mathlib.Omega.{arith}
 use lib.Dec.{T, leb, leb→le}
 use lib.Pow.{pow-pos}
-use Rattle.exact.specs.Table.{both, both-left, both-right}
+use Rattle.exact.specs.Both.{both, both-left, both-right}
 use Rattle.series.specs.SineNest.{span, nest, span-pos}
 use Rattle.sine.specs.Sine.{stepOf, nested}
 use Rattle.sine.proofs.Cuts.{Cut, cut-same, cut-scale, cut-add, cut-mul}

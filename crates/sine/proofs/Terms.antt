@@ -5,8 +5,7 @@ use native.Mathlib.Nat.{le-trans, le-of-lt, lt-of-le-of-lt, mul-pos, mul-le-mul,
 use native.Mathlib.Omega.{arith}
 use native.Mathlib.Bridge.{le-by-compare, IsLe}
 use lib.Pow.{pow-pos}
-use Rattle.series.specs.Alternate.{even}
-use Rattle.series.specs.Sine.{ratio, den, added, taken}
+use Rattle.series.specs.Sine.{ratio, den, added, taken, even}
 use Rattle.series.specs.SineNest.{span, nest, span-pos, span-den, added-nest, taken-nest}
 use Rattle.sine.specs.Sine.{plusses, minuses, nested, square, plusOf, minusOf}
 use Rattle.sine.proofs.Cuts.{Cut, cut-same, cut-scale, cut-mul}

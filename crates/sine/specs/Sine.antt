@@ -6,8 +6,8 @@ use Prim.Native.Nat.{ℕ, _+_, _-_, _*_, _/_, _^_}
 use lib.Dec.{leb}
 use lib.Ieee.{Float, binary64, toBits, ofBits, neg}
 use Rattle.exact.specs.Fields.{signAt, exponentAt, digitsAt}
-use Rattle.numbers.specs.Range.{ranged}
-use Rattle.numbers.specs.declared.Elementary.{Elementary}
+use Rattle.answers.specs.Range.{ranged}
+use Rattle.answers.specs.declared.Answer.{Answer}
 use Rattle.fixed_point.specs.ToFloat.{toFloatOf}
 
 -- 8 ^ (2 k + 1) / (2 k + 1)! in units of 2 ^ -54, cut: k = 0, 2, .. 20, and k = 1, 3, .. 21
@@ -63,5 +63,5 @@ unfoldable pub sinOf : Float → Float
 sinOf x = sinAt (toBits binary64 x)
 
 -- within its range
-abbrev pub sinRanged : Float → Elementary
+abbrev pub sinRanged : Float → Answer
 sinRanged x = ranged low high x (sinOf x)

@@ -1,9 +1,11 @@
 // The sine of every number from -8 to 8, within 2^-45 (document 01, section 3), by its own series in whole numbers.
-use numbers::Elementary;
+use answers::Answer;
 ghost use mathlib.Core.Path.{_≡_};
 ghost use mathlib.Core.Bool.{true};
+ghost use lib.Ieee.{Float};
+ghost use Rattle.answers.specs.declared.Answer.the-variants.{Value};
 ghost use Prim.Native.Nat.{_+_, _^_, _≤_, _<_};
-ghost use Rattle.numbers.specs.Range.{inRange, bare, onPath};
+ghost use Rattle.answers.specs.Range.{inRange, bare, onPath};
 ghost use Rattle.series.specs.SinNear.{SinNear};
 ghost use Rattle.sine.specs.Sine.{stepOf, nested, plusses, minuses, eighthOf, plusOf, minusOf, differenceOf, low, high, sinOf, sinRanged};
 
@@ -84,7 +86,7 @@ fn at_eighth(v: u64, negative: bool) -> f64
 // The sine of a number in the range.
 fn sin_value(x: f64) -> f64
     requires { ⌜ inRange low high x ≡ true ⌝ }
-    ensures { λ r. ⌜ (r ≡ sinOf x) × SinNear x r ⌝ }
+    ensures { λ r. ⌜ r ≡ sinOf x ⌝ }
 {
     let b = numbers::bits_of(x);
     let e = b % 0x8000_0000_0000_0000 / 0x10_0000_0000_0000;
@@ -93,34 +95,26 @@ fn sin_value(x: f64) -> f64
 }
 
 // The sine within its range; outside it a refusal by 2.
-pub fn sin_ranged(x: f64) -> Elementary
+fn sin_ranged(x: f64) -> Answer
     ensures { λ r. ⌜ r ≡ sinRanged x ⌝ }
 {
-    if numbers::in_range(-8.0, 8.0, x) {
-        Elementary::Value(sin_value(x))
+    if answers::in_range(-8.0, 8.0, x) {
+        Answer::Value(sin_value(x))
     } else {
-        numbers::outside(-8.0, 8.0, x)
+        answers::outside(-8.0, 8.0, x)
     }
 }
 
-// A bare call: a NaN or an infinity is refused by 1 (document 01, section 6).
-pub fn sin(x: f64) -> Elementary
-    ensures { λ r. ⌜ r ≡ bare x (sinRanged x) ⌝ }
+// sin x, within 2^-45 of the exact value. A NaN or an infinity is refused by 1, a number outside the range by 2.
+pub fn sin(x: f64) -> Answer
+    ensures { λ r. ⌜ (r ≡ bare x (sinRanged x)) × ((v : Float) → r ≡ Value v → SinNear x v) ⌝ }
 {
-    if numbers::is_finite(x) {
-        sin_ranged(x)
-    } else {
-        Elementary::Refused(1)
-    }
+    answers::bare(x, sin_ranged(x))
 }
 
-// Inside a law: a NaN arose on the path, refusal 3.
-pub fn sin_on_path(x: f64) -> Elementary
+// sin x within a law: a NaN is refused by 3, an infinity and a number outside the range by 2.
+pub fn sin_on_path(x: f64) -> Answer
     ensures { λ r. ⌜ r ≡ onPath x (sinRanged x) ⌝ }
 {
-    if numbers::is_number(x) {
-        sin_ranged(x)
-    } else {
-        Elementary::Refused(3)
-    }
+    answers::on_path(x, sin_ranged(x))
 }

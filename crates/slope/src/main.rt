@@ -1,10 +1,9 @@
 // The program: reads a sheet on standard input and prints it with its answers (document 01, section 7).
-// A sheet has at most 57,667 bytes, so one byte more is read, and the reader refuses it by 7.
 use libc::STDIN_FILENO;
 use lines::Input;
 
 fn main() {
-    let mut room = [0u8; 57668];
+    let mut room = [0u8; lines::ROOM];
     let input = lines::read_whole(STDIN_FILENO, &mut room);
     match input {
         Input::Bytes(n) => {

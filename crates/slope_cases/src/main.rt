@@ -9,7 +9,7 @@ fn run_case(k: u8) -> bool {
     if file < 0 {
         return false;
     }
-    let mut room = [0u8; 57668];
+    let mut room = [0u8; lines::ROOM];
     let input = lines::read_whole(file, &mut room);
     libc::close(file);
     io::write_all(STDOUT_FILENO, b"-- ");

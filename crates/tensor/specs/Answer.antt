@@ -3,6 +3,7 @@ use mathlib.Core.Bool.{Bool, cond}
 use mathlib.Core.List.{List}
 use Prim.Native.Nat.{ℕ}
 use lib.Ieee.{Float}
+use Rattle.answers.specs.Refusals.{notFinite, noNumber}
 use Rattle.tensor.specs.Matrix.{zero, three, rowsOf}
 use Rattle.tensor.specs.Finite.{rowFinite, matFinite}
 use Rattle.tensor.specs.declared.Rows.{Rows}
@@ -23,14 +24,14 @@ refusedVector n = record { refusal = n; vector = zeroRow }
 
 -- the matrix where it is finite, else 3
 unfoldable pub answered : List (List Float) → MatrixAnswer
-answered m = cond (matFinite m) (record { refusal = 0; matrix = rowsOf m }) (refusedMatrix 3)
+answered m = cond (matFinite m) (record { refusal = 0; matrix = rowsOf m }) (refusedMatrix noNumber)
 
 unfoldable pub answeredVector : List Float → VectorAnswer
-answeredVector v = cond (rowFinite v) (record { refusal = 0; vector = v }) (refusedVector 3)
+answeredVector v = cond (rowFinite v) (record { refusal = 0; vector = v }) (refusedVector noNumber)
 
 -- the answer where the inputs are finite, else 1
 abbrev pub givenMatrix : Bool → MatrixAnswer → MatrixAnswer
-givenMatrix ok a = cond ok a (refusedMatrix 1)
+givenMatrix ok a = cond ok a (refusedMatrix notFinite)
 
 abbrev pub givenVector : Bool → VectorAnswer → VectorAnswer
-givenVector ok a = cond ok a (refusedVector 1)
+givenVector ok a = cond ok a (refusedVector notFinite)

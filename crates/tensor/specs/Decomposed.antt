@@ -4,7 +4,7 @@ use mathlib.Core.List.{List}
 use Prim.Native.Nat.{ℕ}
 use lib.Ieee.{Float, binary64, ofBits}
 use Rattle.tensor.specs.Matrix.{add, sub, div, zero, three, at, traceOf, rowsOf, ofRows, rowAddOf, rowScaleOf, matAddOf, identityTimesOf, matVecOf}
-use Rattle.numbers.specs.Rules.{finite}
+use Rattle.numbers.specs.Floats.{finite}
 use Rattle.tensor.specs.Finite.{rowsFinite}
 use Rattle.tensor.specs.Answer.{zeroRows}
 use Rattle.tensor.specs.declared.DecomposedTensor.{DecomposedTensor}

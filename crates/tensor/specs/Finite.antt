@@ -2,7 +2,7 @@
 use mathlib.Core.Bool.{Bool, _&&_}
 use mathlib.Core.List.{List}
 use lib.Ieee.{Float}
-use Rattle.numbers.specs.Rules.{finite}
+use Rattle.numbers.specs.Floats.{finite}
 use Rattle.tensor.specs.Axes.{allOf}
 use Rattle.tensor.specs.declared.Rows.{Rows}
 

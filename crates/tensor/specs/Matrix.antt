@@ -4,6 +4,7 @@ use Prim.Native.Nat.{ℕ, suc}
 use lib.ListN.{getD}
 use lib.Ieee as Ieee
 use lib.Ieee.{Float, nan, binary64, ofBits}
+pub use Rattle.numbers.specs.Constants.{zero, one}
 use Rattle.tensor.specs.Axes.{fromLeft, pairwise}
 use Rattle.tensor.specs.declared.Rows.{Rows}
 
@@ -18,12 +19,6 @@ mul a b = Ieee.mul binary64 a b
 
 abbrev pub div : Float → Float → Float
 div a b = Ieee.div binary64 a b
-
-abbrev pub zero : Float
-zero = ofBits binary64 0
-
-abbrev pub one : Float
-one = ofBits binary64 0x3ff0_0000_0000_0000
 
 abbrev pub three : {A : Type 0} → A → A → A → List A
 three a b c = a ∷ b ∷ c ∷ []

@@ -2,7 +2,7 @@
 use mathlib.Core.Bool.{Bool}
 use mathlib.Core.List.{List}
 use lib.Ieee.{Float}
-use Rattle.numbers.specs.Rules.{isNumber}
+use Rattle.numbers.specs.Floats.{isNumber}
 use Rattle.tensor.specs.Axes.{allOf}
 
 abbrev pub rowNumber : List Float → Bool

@@ -42,7 +42,7 @@ pub fn answered(m: [[f64; 3]; 3]) -> MatrixAnswer
             matrix: rows,
         }
     } else {
-        refused_matrix(3)
+        refused_matrix(answers::NO_NUMBER)
     }
 }
 
@@ -55,6 +55,6 @@ pub fn answered_vector(v: [f64; 3]) -> VectorAnswer
             vector: v,
         }
     } else {
-        refused_vector(3)
+        refused_vector(answers::NO_NUMBER)
     }
 }

@@ -61,7 +61,7 @@ impl DecomposedTensor {
         if tensor_finite(self) {
             answer::answered(plain::recompose(self))
         } else {
-            answer::refused_matrix(1)
+            answer::refused_matrix(answers::NOT_FINITE)
         }
     }
 
@@ -82,7 +82,7 @@ impl DecomposedTensor {
         if tensor_finite(self) & matrix::row_finite(v) {
             answer::answered_vector(plain::times(self, v))
         } else {
-            answer::refused_vector(1)
+            answer::refused_vector(answers::NOT_FINITE)
         }
     }
 }

@@ -6,11 +6,13 @@ ghost use Rattle.tensor.specs.Inverse.{cofactorRowOf, cofactorsOf, rowOv
 fn cofactor_row(a: [f64; 3], b: [f64; 3]) -> [f64; 3]
     ensures { λ r. ⌜ r ≡ cofactorRowOf a b ⌝ }
 {
-    [
-        a[1] * b[2] - a[2] * b[1],
-        a[2] * b[0] - a[0] * b[2],
-        a[0] * b[1] - a[1] * b[0],
-    ]
+    let a0 = a[0];
+    let a1 = a[1];
+    let a2 = a[2];
+    let b0 = b[0];
+    let b1 = b[1];
+    let b2 = b[2];
+    [a1 * b2 - a2 * b1, a2 * b0 - a0 * b2, a0 * b1 - a1 * b0]
 }
 
 pub fn cofactors(m: [[f64; 3]; 3]) -> [[f64; 3]; 3]

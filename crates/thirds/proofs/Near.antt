@@ -1,9 +1,8 @@
 -- The powers of a third are as near as document 01, section 3, asks (cbrt-near and the like), and exactly 1 at 1. Assumes nothing.
 use mathlib.Core.Path.{_≡_, refl, sym, ap, subst}
-use mathlib.Core.Bool.{Bool, true, false, cond}
+use mathlib.Core.Bool.{true, false}
 use Prim.Native.Nat.{ℕ, _*_, _^_, _≤_, _<_}
 use native.Mathlib.Nat.{lt-of-le-of-lt}
-use native.Mathlib.Omega.{arith}
 use lib.Dec.{T, lit≤, lit<}
 use lib.Ieee as Ieee
 use lib.Ieee.{Float, binary64, ofBits, toBits, fits}
@@ -12,11 +11,8 @@ use Rattle.exact.specs.OrderLe.{between-finite}
 use Rattle.exact.specs.Normal.{Normal, normal, above-positive, below-positive}
 use Rattle.series.specs.ThirdsNear.{CubeRootNear, CbrtNear, CbrtSquaredNear, InvCbrtNear, InvCbrtSquaredNear}
 use Rattle.numbers.specs.Power.{one}
-use Rattle.numbers.specs.Rules.{finite, isNumber}
-use Rattle.numbers.specs.Range.{inRange, ranged, bare, onPath}
-use Rattle.numbers.specs.declared.Elementary.{Elementary}
-use Rattle.numbers.specs.declared.Elementary.the-variants.{Value, Refused}
-use Rattle.numbers.proofs.Laws.{and-both}
+use Rattle.answers.specs.Range.{inRange}
+use Rattle.answers.proofs.Values.{between}
 use Rattle.thirds.specs.Root.{cubeOf, digitsFrom, rootBits}
 use Rattle.thirds.specs.Thirds.{low, high, cbrtOf, cbrtSquaredOf, invCbrtOf, invCbrtSquaredOf}
 use Rattle.thirds.proofs.Rooted.{root-near, root-between}
@@ -27,14 +23,11 @@ ends : Fin64 low × (sgn low ≡ false) × (mag low ≡ 2 ^ 1014) × Fin64 high 
 unfolding ofBits fits mag L
 ends = ((tt, tt), refl, refl, (tt, tt), refl, refl)
 
-true-T : (b : Bool) → b ≡ true → T b
-true-T b e = subst T (sym e) tt
-
 pub ranged-normal : (x : Float) → T (fits binary64 x) → inRange low high x ≡ true → Normal 963 1083 (toBits binary64 x) x
 ranged-normal x f r =
-    let b = and-both (Ieee.le low x) (Ieee.le x high) r in
-    let l = true-T (Ieee.le low x) (b .0) in
-    let h = true-T (Ieee.le x high) (b .1) in
+    let b = between low high x r in
+    let l = b .0 in
+    let h = b .1 in
     let F : Fin64 x = (between-finite low x high (ends .0 .0) (ends .3 .0) l h, f) in
     let A = above-positive low x (ends .0) F (ends .1) (subst (λ v. 0 < v) (sym (ends .2)) (lit< tt)) l in
     let B = below-positive x high F (ends .3) (A .0) (ends .4) h in
@@ -93,33 +86,3 @@ inv-cbrt-squared-one = ap (λ c. Ieee.div binary64 one c) cbrt-squared-one
 pub cbrt-eight : cbrtOf (ofBits binary64 0x4020_0000_0000_0000) ≡ ofBits binary64 0x4000_0000_0000_0000
 unfolding cbrtOf rootBits digitsFrom cubeOf ofBits toBits
 cbrt-eight = refl
-
--- ---- what a value's function ensures, from its equality with the definition
-pub worked : (x v w : Float) (Near : Float → Type 0) → fits binary64 x ≡ true → (T (fits binary64 x) → inRange low high x ≡ true → Near w) → v ≡ w → (v ≡ w) × (inRange low high x ≡ true → Near v)
-worked x v w Near f h e = (e, λ r. subst Near (sym e) (h (true-T (fits binary64 x) f) r))
-
--- ---- what a public call answers as a value is as near, whether bare or within a law
-value-of : (b : Bool) (v w : Float) (e : Elementary) → (e ≡ Value v → ⊥) → cond b (Value w) e ≡ Value v → (b ≡ true) × (w ≡ v)
-value-of true v w e n h = (refl, cc)
-value-of false v w e n h = absurd (n h)
-
-no-value : (k : ℕ) (v : Float) → Refused k ≡ Value v → ⊥
-no-value k v h = let z : _≡_ {A = ℕ} 0 1 = cc in omega arith
-
-module _ (x v w : Float) (Near : Float → Type 0) (near : inRange low high x ≡ true → Near w) where
-  ranged-answer : ranged low high x w ≡ Value v → Near v
-  ranged-answer h = let r = value-of (inRange low high x) v w (Refused 2) (no-value 2 v) h in subst Near (r .1) (near (r .0))
-
-  pub bare-answer : bare x (ranged low high x w) ≡ Value v → Near v
-  bare-answer h = go (finite x) h
-    where
-      go : (b : Bool) → cond b (ranged low high x w) (Refused 1) ≡ Value v → Near v
-      go true h = ranged-answer h
-      go false h = absurd (no-value 1 v h)
-
-  pub path-answer : onPath x (ranged low high x w) ≡ Value v → Near v
-  path-answer h = go (isNumber x) h
-    where
-      go : (b : Bool) → cond b (ranged low high x w) (Refused 3) ≡ Value v → Near v
-      go true h = ranged-answer h
-      go false h = absurd (no-value 3 v h)

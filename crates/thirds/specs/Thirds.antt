@@ -2,8 +2,8 @@
 use lib.Ieee as Ieee
 use lib.Ieee.{Float, binary64, ofBits, toBits}
 use Rattle.numbers.specs.Power.{one}
-use Rattle.numbers.specs.Range.{ranged}
-use Rattle.numbers.specs.declared.Elementary.{Elementary}
+use Rattle.answers.specs.Range.{ranged}
+use Rattle.answers.specs.declared.Answer.{Answer}
 use Rattle.thirds.specs.Root.{rootBits}
 
 -- from 2 ^ -60
@@ -27,14 +27,14 @@ unfoldable pub invCbrtSquaredOf : Float → Float
 invCbrtSquaredOf x = Ieee.div binary64 one (cbrtSquaredOf x)
 
 -- what each answers at a number: its value within the range, or the refusal
-abbrev pub cbrtRanged : Float → Elementary
+abbrev pub cbrtRanged : Float → Answer
 cbrtRanged x = ranged low high x (cbrtOf x)
 
-abbrev pub cbrtSquaredRanged : Float → Elementary
+abbrev pub cbrtSquaredRanged : Float → Answer
 cbrtSquaredRanged x = ranged low high x (cbrtSquaredOf x)
 
-abbrev pub invCbrtRanged : Float → Elementary
+abbrev pub invCbrtRanged : Float → Answer
 invCbrtRanged x = ranged low high x (invCbrtOf x)
 
-abbrev pub invCbrtSquaredRanged : Float → Elementary
+abbrev pub invCbrtSquaredRanged : Float → Answer
 invCbrtSquaredRanged x = ranged low high x (invCbrtSquaredOf x)

@@ -1,13 +1,8 @@
+-- `elasticity_neo_hookean::cauchy_green_strain` answers `cauchyGreenOf f`.
 use Rattle.elasticity_neo_hookean.specs.Law.{cauchyGreenOf}
 use borrow.Author.Needs.{needs}
 use Rattle.elasticity_neo_hookean.proofs.cauchy_green_strain.Statement.{statement}
 use Rattle.elasticity_neo_hookean.proofs.cauchy_green_strain.Tie as tie
-
-transpose-requires : tie.Need-transpose-requires
-transpose-requires c κs = search needs
-
-mat-mul-requires : tie.Need-mat-mul-requires
-mat-mul-requires c κs = search needs
 
 returns : tie.Need-returns
 unfolding cauchyGreenOf
@@ -15,4 +10,6 @@ returns c =
     simp (c .mat-mul .ensures, c .before .transpose .ensures)
 
 pub cauchy-green-strain-spec : {M : Type 1} → statement M
-cauchy-green-strain-spec = tie.close (tie.spec transpose-requires mat-mul-requires returns)
+cauchy-green-strain-spec =
+    tie.close
+    (tie.spec (λ c κs. search needs) (λ c κs. search needs) returns)

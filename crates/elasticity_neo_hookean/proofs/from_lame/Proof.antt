@@ -1,16 +1,8 @@
+-- `elasticity_neo_hookean::from_lame` answers `fromLame m`.
 use Rattle.elasticity_neo_hookean.specs.Law.{fromLame}
 use borrow.Author.Needs.{needs}
 use Rattle.elasticity_neo_hookean.proofs.from_lame.Statement.{statement}
 use Rattle.elasticity_neo_hookean.proofs.from_lame.Tie as tie
-
-is-finite-requires : tie.Need-is-finite-requires
-is-finite-requires c κs = search needs
-
-is-finite-requires-2 : tie.Need-is-finite-requires-2
-is-finite-requires-2 c κs = search needs
-
-law-requires : tie.Need-law-requires
-law-requires c κs = search needs
 
 returns : tie.Need-returns
 unfolding fromLame
@@ -26,4 +18,5 @@ returns-2 c =
 
 pub from-lame-spec : {M : Type 1} → statement M
 from-lame-spec =
-    tie.close (tie.spec is-finite-requires is-finite-requires-2 law-requires returns returns-2)
+    tie.close
+    (tie.spec (λ c κs. search needs) (λ c κs. search needs) (λ c κs. search needs) returns returns-2)

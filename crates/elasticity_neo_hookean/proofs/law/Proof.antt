@@ -1,3 +1,4 @@
+-- `elasticity_neo_hookean::law` answers `lawOf m`.
 use Rattle.elasticity_neo_hookean.specs.Law.{lawOf}
 use mathlib.Core.Path.{refl}
 use Rattle.elasticity_neo_hookean.proofs.law.Statement.{statement}
@@ -9,4 +10,6 @@ returns c =
     refl
 
 pub law-spec : {M : Type 1} → statement M
-law-spec = tie.close (tie.spec returns)
+law-spec =
+    tie.close
+    (tie.spec returns)

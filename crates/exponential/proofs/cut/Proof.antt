@@ -10,9 +10,6 @@ use Rattle.exponential.proofs.cut.Tie as tie
 float-to-bits-n : tie.Need-float-to-bits-n
 float-to-bits-n c = no-nan (c .args .x) (subst T (sym (c .good .0 .1)) tt) (c .pre)
 
-add-fixed : tie.Need-add-fixed
-add-fixed c = search needs
-
 fixed-requires : tie.Need-fixed-requires
 fixed-requires c κs = (omega arith, exponent-small (c .args .x) (subst T (sym (c .good .0 .1)) tt) (c .pre))
 
@@ -20,4 +17,6 @@ returns : tie.Need-returns
 returns c = c .fixed .ensures ∙ cut-is (c .before .args .x) (subst T (sym (c .before .good .0 .1)) tt) (c .before .pre)
 
 pub cut-spec : {M : Type 1} → statement M
-cut-spec = tie.close (tie.spec float-to-bits-n add-fixed fixed-requires returns)
+cut-spec =
+    tie.close
+    (tie.spec float-to-bits-n (λ c. search needs) fixed-requires returns)

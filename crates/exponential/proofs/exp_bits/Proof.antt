@@ -14,21 +14,6 @@ use Rattle.exponential.proofs.exp_bits.Tie as tie
 field-fits : (k : ℕ) → k ≤ 1010 → 1023 + k < 2 ^ 64
 field-fits k h = omega arith
 
-add-k : tie.Need-add-k
-add-k c = search needs
-
-mul-k : tie.Need-mul-k
-mul-k c = search needs
-
-add-k-2 : tie.Need-add-k-2
-add-k-2 c = search needs
-
-sub-pack : tie.Need-sub-pack
-sub-pack c = search needs
-
-times-requires : tie.Need-times-requires
-times-requires c κs = search needs
-
 sub-exp-part : tie.Need-sub-exp-part
 sub-exp-part c =
     let s = c .before .before in
@@ -47,14 +32,8 @@ pack-requires c κs =
     let e = c .exp-part .ensures ∙ ap (λ t. partOf (t - s .args .u)) (c .before .times .ensures) in
     (F .0, F .1, subst (λ (b : ℕ). b < 2 ^ 63) (sym e) (part-lt _ (B .rest)))
 
-mul-k-2 : tie.Need-mul-k-2
-mul-k-2 c = search needs
-
 add-pack : tie.Need-add-pack
 add-pack c = record { fits = field-fits (belowOf (c .before .args .u)) (below-facts (c .before .args .u) (c .before .pre) .few) }
-
-times-requires-2 : tie.Need-times-requires-2
-times-requires-2 c κs = search needs
 
 sub-exp-part-2 : tie.Need-sub-exp-part-2
 sub-exp-part-2 c =
@@ -91,20 +70,6 @@ returns-2 c =
 pub exp-bits-spec : {M : Type 1} → statement M
 exp-bits-spec =
     tie.close
-    (tie.spec
-    add-k
-    mul-k
-    add-k-2
-    sub-pack
-    times-requires
-    sub-exp-part
-    exp-part-requires
-    pack-requires
-    mul-k-2
-    add-pack
-    times-requires-2
-    sub-exp-part-2
-    exp-part-requires-2
-    pack-requires-2
-    returns
-    returns-2)
+    (tie.spec (λ c. search needs) (λ c. search needs) (λ c. search needs) (λ c. search needs) (λ c κs. search needs)
+    sub-exp-part exp-part-requires pack-requires (λ c. search needs) add-pack (λ c κs. search needs) sub-exp-part-2
+    exp-part-requires-2 pack-requires-2 returns returns-2)

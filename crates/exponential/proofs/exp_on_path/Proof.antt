@@ -1,20 +1,12 @@
--- `exponential::exp_on_path` meets its contract. Assumes nothing.
-use mathlib.Core.Path.{sym, _∙_}
+-- The answer is the function's, asked inside a law.
 use borrow.Author.Needs.{needs}
 use Rattle.exponential.proofs.exp_on_path.Statement.{statement}
 use Rattle.exponential.proofs.exp_on_path.Tie as tie
 
-is-number-requires : tie.Need-is-number-requires
-is-number-requires c κs = search needs
-
-exp-ranged-requires : tie.Need-exp-ranged-requires
-exp-ranged-requires c κs = search needs
-
 returns : tie.Need-returns
-returns c = rw (c .exp-ranged .ensures, sym (c .before .before .is-number .ensures) ∙ c .before .if1 .taken)
-
-returns-2 : tie.Need-returns-2
-returns-2 c = rw (sym (c .before .is-number .ensures) ∙ c .if1 .left)
+returns c = simp (c .on-path .ensures, c .before .exp-ranged .ensures)
 
 pub exp-on-path-spec : {M : Type 1} → statement M
-exp-on-path-spec = tie.close (tie.spec is-number-requires exp-ranged-requires returns returns-2)
+exp-on-path-spec =
+    tie.close
+    (tie.spec (λ c κs. search needs) (λ c κs. search needs) returns)

@@ -4,19 +4,11 @@ use mathlib.Core.Bool.{not}
 use Prim.Native.Nat.{ℕ, _*_, _^_, _≤_}
 use borrow.Author.Needs.{needs}
 use lib.Dec.{T}
-use lib.Ieee.{Float, binary64, ofBits, nanBits}
-use Rattle.series.specs.ExpNear.{ExpNear}
+use lib.Ieee.{binary64, ofBits, nanBits}
 use Rattle.exponential.specs.Worked.{expBits}
-use Rattle.exponential.proofs.Near.{exp-near}
 use Rattle.exponential.proofs.Unpacking.{cut-small, exp-is, exp-no-nan}
 use Rattle.exponential.proofs.exp_value.Statement.{statement}
 use Rattle.exponential.proofs.exp_value.Tie as tie
-
-negative-requires : tie.Need-negative-requires
-negative-requires c κs = search needs
-
-cut-requires : tie.Need-cut-requires
-cut-requires c κs = search needs
 
 exp-bits-requires : tie.Need-exp-bits-requires
 exp-bits-requires c κs =
@@ -34,10 +26,9 @@ returns c =
     let s = c .before .before .before in
     let f = subst T (sym (s .good .0 .1)) tt in
     let e = c .exp-bits .ensures ∙ ap₂ expBits (c .before .before .negative .ensures) (c .before .cut .ensures) in
-    let r = ap (ofBits binary64) e ∙ exp-is (s .args .x) f (s .pre) in
-    (r, subst (λ (v : Float). ExpNear (s .args .x) v) (sym r) (exp-near (s .args .x) f (s .pre)))
+    ap (ofBits binary64) e ∙ exp-is (s .args .x) f (s .pre)
 
 pub exp-value-spec : {M : Type 1} → statement M
 exp-value-spec =
     tie.close
-    (tie.spec negative-requires cut-requires exp-bits-requires float-from-bits-result returns)
+    (tie.spec (λ c κs. search needs) (λ c κs. search needs) exp-bits-requires float-from-bits-result returns)

@@ -12,4 +12,6 @@ returns : tie.Need-returns
 returns c = sign-is (c .args .x) (subst T (sym (c .good .0 .1)) tt) (c .pre)
 
 pub negative-spec : {M : Type 1} → statement M
-negative-spec = tie.close (tie.spec float-to-bits-result returns)
+negative-spec =
+    tie.close
+    (tie.spec float-to-bits-result returns)

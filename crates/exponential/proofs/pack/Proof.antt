@@ -13,24 +13,6 @@ picks : (e c c' : ℕ) (t : Bool) → c ≡ c' → ltb c (2 ^ 62) ≡ t
     → cond t ((e - 1) * 2 ^ 52 + c / 512) (e * 2 ^ 52 + c / 1024) ≡ cond (ltb c' (2 ^ 62)) ((e - 1) * 2 ^ 52 + c' / 512) (e * 2 ^ 52 + c' / 1024)
 picks e c c' t p q = rw (← p, q)
 
-raised-requires : tie.Need-raised-requires
-raised-requires c κs = search needs
-
-sub-result : tie.Need-sub-result
-sub-result c = search needs
-
-mul-result : tie.Need-mul-result
-mul-result c = search needs
-
-add-result : tie.Need-add-result
-add-result c = search needs
-
-mul-result-2 : tie.Need-mul-result-2
-mul-result-2 c = search needs
-
-add-result-2 : tie.Need-add-result-2
-add-result-2 c = search needs
-
 returns : tie.Need-returns
 unfolding packOf
 returns c = picks (c .before .before .args .e) (c .before .raised .result) (raisedOf (c .before .before .args .b)) true (c .before .raised .ensures) (lt-ltb _ _ (c .if1 .taken))
@@ -42,12 +24,5 @@ returns-2 c = picks (c .before .before .args .e) (c .before .raised .result) (ra
 pub pack-spec : {M : Type 1} → statement M
 pack-spec =
     tie.close
-    (tie.spec
-    raised-requires
-    sub-result
-    mul-result
-    add-result
-    mul-result-2
-    add-result-2
-    returns
-    returns-2)
+    (tie.spec (λ c κs. search needs) (λ c. search needs) (λ c. search needs) (λ c. search needs) (λ c. search needs)
+    (λ c. search needs) returns returns-2)

@@ -10,4 +10,6 @@ returns-2 : tie.Need-returns-2
 returns-2 c = simp (le-ltb _ _ (c .if1 .left))
 
 pub raised-spec : {M : Type 1} → statement M
-raised-spec = tie.close (tie.spec returns returns-2)
+raised-spec =
+    tie.close
+    (tie.spec returns returns-2)

@@ -8,17 +8,10 @@ use Rattle.exponential.proofs.times.Tie as tie
 add-fits : (k : ℕ) → k ≤ 1010 → k * 6243314768165359 + k * 897137782 / 2 ^ 32 < 2 ^ 64
 add-fits k h = omega arith
 
-mul-result : tie.Need-mul-result
-mul-result c = search needs
-
-mul-result-2 : tie.Need-mul-result-2
-mul-result-2 c = search needs
-
 add-result : tie.Need-add-result
 add-result c = record { fits = add-fits (c .args .k) (c .pre) }
 
-returns : tie.Need-returns
-returns c = search needs
-
 pub times-spec : {M : Type 1} → statement M
-times-spec = tie.close (tie.spec mul-result mul-result-2 add-result returns)
+times-spec =
+    tie.close
+    (tie.spec (λ c. search needs) (λ c. search needs) add-result (λ c. search needs))

@@ -1,24 +1,10 @@
+-- `failure_maximum_stress::largest` answers `largestOf s`.
 use borrow.Author.Needs.{needs}
 use lib.Ieee.{nan}
 use Rattle.tensor.specs.Axes.{of-one}
 use Rattle.failure_maximum_stress.specs.Failure.{largestOf}
 use Rattle.failure_maximum_stress.proofs.largest.Statement.{statement}
 use Rattle.failure_maximum_stress.proofs.largest.Tie as tie
-
-array-read-max : tie.Need-array-read-max
-array-read-max c = search needs
-
-array-read-max-2 : tie.Need-array-read-max-2
-array-read-max-2 c = search needs
-
-max-requires : tie.Need-max-requires
-max-requires c κs = search needs
-
-array-read-max-3 : tie.Need-array-read-max-3
-array-read-max-3 c = search needs
-
-max-requires-2 : tie.Need-max-requires-2
-max-requires-2 c κs = search needs
 
 returns : tie.Need-returns
 returns c =
@@ -28,4 +14,5 @@ returns c =
 pub largest-spec : {M : Type 1} → statement M
 largest-spec =
     tie.close
-    (tie.spec array-read-max array-read-max-2 max-requires array-read-max-3 max-requires-2 returns)
+    (tie.spec (λ c. search needs) (λ c. search needs) (λ c κs. search needs) (λ c. search needs)
+    (λ c κs. search needs) returns)

@@ -1,3 +1,4 @@
+-- `fixed_point::fixed` answers `m * 2 ^ e / 2 ^ 1022`.
 use mathlib.Core.Path.{_≡_}
 use Prim.Native.Nat.{ℕ, _+_, _-_, _≤_}
 use native.Mathlib.Omega.{arith}
@@ -5,15 +6,6 @@ use Rattle.exact.specs.Shift.{up, down, gone}
 use borrow.Author.Needs.{needs}
 use Rattle.fixed_point.proofs.fixed.Statement.{statement}
 use Rattle.fixed_point.proofs.fixed.Tie as tie
-
-shl-result : tie.Need-shl-result
-shl-result c = search needs
-
-sub-s : tie.Need-sub-s
-sub-s c = search needs
-
-shr-result : tie.Need-shr-result
-shr-result c = search needs
 
 returns : tie.Need-returns
 returns c = up (c .before .args .m) (c .before .args .e) (c .before .pre .0) (c .if1 .taken) (c .before .pre .1)
@@ -25,4 +17,6 @@ returns-3 : tie.Need-returns-3
 returns-3 c = gone (c .before .before .args .m) (c .before .before .args .e) (1022 - c .before .before .args .e) (c .before .before .pre .0) (omega arith) (omega arith)
 
 pub fixed-spec : {M : Type 1} → statement M
-fixed-spec = tie.close (tie.spec shl-result sub-s shr-result returns returns-2 returns-3)
+fixed-spec =
+    tie.close
+    (tie.spec (λ c. search needs) (λ c. search needs) (λ c. search needs) returns returns-2 returns-3)

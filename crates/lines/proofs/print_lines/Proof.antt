@@ -1,3 +1,4 @@
+-- `lines::print_lines` meets its contract.
 use mathlib.Core.Path.{_≡_}
 use Prim.Native.Nat.{_≤_, _-_}
 use native.Mathlib.Omega.{arith}
@@ -60,21 +61,6 @@ returns-3 c = search needs
 pub print-lines-spec : {M : Type 1} → statement M
 print-lines-spec =
     tie.close
-    (tie.spec
-    Inv-loop
-    μ-loop
-    loop-holds
-    returns
-    mul-print-line
-    mul-print-line-2
-    shared-slice-read-print-line
-    mul-print-line-3
-    add-print-line
-    mul-print-line-4
-    shared-slice-read-print-line-2
-    print-line-requires
-    returns-2
-    add-i
-    loop-less
-    loop-again
-    returns-3)
+    (tie.spec Inv-loop μ-loop loop-holds returns mul-print-line mul-print-line-2 shared-slice-read-print-line
+    mul-print-line-3 add-print-line mul-print-line-4 shared-slice-read-print-line-2 print-line-requires returns-2
+    add-i loop-less loop-again returns-3)

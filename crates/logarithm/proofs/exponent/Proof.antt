@@ -7,9 +7,6 @@ use Rattle.logarithm.specs.Worked.{exponentOf}
 use Rattle.logarithm.proofs.exponent.Statement.{statement}
 use Rattle.logarithm.proofs.exponent.Tie as tie
 
-add-result : tie.Need-add-result
-add-result c = search needs
-
 float-from-bits-result : tie.Need-float-from-bits-result
 float-from-bits-result c =
     let e = c .args .n / 2 ^ 52 in
@@ -21,4 +18,6 @@ unfolding exponentOf
 returns c = search needs
 
 pub exponent-spec : {M : Type 1} → statement M
-exponent-spec = tie.close (tie.spec add-result float-from-bits-result returns)
+exponent-spec =
+    tie.close
+    (tie.spec (λ c. search needs) float-from-bits-result returns)

@@ -13,12 +13,6 @@ use Rattle.logarithm.proofs.Parts.{part-near}
 use Rattle.logarithm.proofs.fraction.Statement.{statement}
 use Rattle.logarithm.proofs.fraction.Tie as tie
 
-log-part-requires : tie.Need-log-part-requires
-log-part-requires c κs = search needs
-
-add-result : tie.Need-add-result
-add-result c = search needs
-
 digits : (n : ℕ) → partOf (n % 2 ^ 52) / 32 < 2 ^ 52
 digits n = let a : n % 2 ^ 52 < 2 ^ 52 = omega arith in omega (arith, part-near (n % 2 ^ 52) a .small)
 
@@ -34,4 +28,6 @@ unfolding fractionOf
 returns c = ap (λ v. Ieee.sub binary64 (ofBits binary64 (0x3ff0_0000_0000_0000 + v / 32)) (ofBits binary64 0x3ff0_0000_0000_0000)) (c .log-part .ensures)
 
 pub fraction-spec : {M : Type 1} → statement M
-fraction-spec = tie.close (tie.spec log-part-requires add-result float-from-bits-result returns)
+fraction-spec =
+    tie.close
+    (tie.spec (λ c κs. search needs) (λ c. search needs) float-from-bits-result returns)

@@ -1,20 +1,23 @@
--- `logarithm::ln` meets its contract. Assumes nothing.
-use mathlib.Core.Path.{sym, _∙_}
+-- The answer is the function's, called by itself; a value lies within the distance.
+use mathlib.Core.Path.{sym, subst, ap, _∙_}
 use borrow.Author.Needs.{needs}
+use lib.Dec.{T}
+use Rattle.answers.specs.Range.{bare}
+use Rattle.answers.proofs.Values.{bare-near}
+use Rattle.series.specs.LogNear.{LogNear}
+use Rattle.logarithm.specs.Worked.{lnOf, low, high}
+use Rattle.logarithm.proofs.Laws.{ln-near}
 use Rattle.logarithm.proofs.ln.Statement.{statement}
 use Rattle.logarithm.proofs.ln.Tie as tie
 
-is-finite-requires : tie.Need-is-finite-requires
-is-finite-requires c κs = search needs
-
-ln-ranged-requires : tie.Need-ln-ranged-requires
-ln-ranged-requires c κs = search needs
-
 returns : tie.Need-returns
-returns c = rw (c .ln-ranged .ensures, sym (c .before .before .is-finite .ensures) ∙ c .before .if1 .taken)
-
-returns-2 : tie.Need-returns-2
-returns-2 c = rw (sym (c .before .is-finite .ensures) ∙ c .if1 .left)
+returns c =
+    let s = c .before .before in
+    let x = s .args .x in
+    let e = c .bare .ensures ∙ ap (bare x) (c .before .ln-ranged .ensures) in
+    (e, λ v h. bare-near low high x v (lnOf x) (LogNear x) (ln-near x (subst T (sym (s .good .0 .1)) tt)) (sym e ∙ h))
 
 pub ln-spec : {M : Type 1} → statement M
-ln-spec = tie.close (tie.spec is-finite-requires ln-ranged-requires returns returns-2)
+ln-spec =
+    tie.close
+    (tie.spec (λ c κs. search needs) (λ c κs. search needs) returns)

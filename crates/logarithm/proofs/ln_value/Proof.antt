@@ -6,26 +6,18 @@ use lib.Ieee.{Float, binary64}
 use borrow.Author.Needs.{needs}
 use Rattle.series.specs.LogNear.{LogNear}
 use Rattle.logarithm.specs.Worked.{lnOf, ln2}
-use Rattle.logarithm.proofs.Laws.{no-nan, ln-near}
+use Rattle.logarithm.proofs.Laws.{no-nan}
 use Rattle.logarithm.proofs.ln_value.Statement.{statement}
 use Rattle.logarithm.proofs.ln_value.Tie as tie
 
 float-to-bits-n : tie.Need-float-to-bits-n
 float-to-bits-n c = no-nan (c .args .x) (subst T (sym (c .good .0 .1)) tt) (c .pre)
 
-exponent-requires : tie.Need-exponent-requires
-exponent-requires c κs = search needs
-
-fraction-requires : tie.Need-fraction-requires
-fraction-requires c κs = search needs
-
 returns : tie.Need-returns
 unfolding lnOf
-returns c =
-    let s = c .before .before in
-    let x = s .args .x in
-    let e = ap₂ (λ k l. Ieee.add binary64 (Ieee.mul binary64 k ln2) l) (c .before .exponent .ensures) (c .fraction .ensures) in
-    (e, subst (λ (r : Float). LogNear x r) (sym e) (ln-near x (subst T (sym (s .good .0 .1)) tt) (s .pre)))
+returns c = ap₂ (λ k l. Ieee.add binary64 (Ieee.mul binary64 k ln2) l) (c .before .exponent .ensures) (c .fraction .ensures)
 
 pub ln-value-spec : {M : Type 1} → statement M
-ln-value-spec = tie.close (tie.spec float-to-bits-n exponent-requires fraction-requires returns)
+ln-value-spec =
+    tie.close
+    (tie.spec float-to-bits-n (λ c κs. search needs) (λ c κs. search needs) returns)

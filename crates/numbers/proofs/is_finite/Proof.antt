@@ -1,3 +1,4 @@
+-- `numbers::is_finite` answers `finite x`.
 use lib.Ieee.{div, ofBits, neg}
 use Rattle.numbers.proofs.Laws.{within}
 use Rattle.numbers.proofs.is_finite.Statement.{statement}
@@ -8,4 +9,6 @@ unfolding div ofBits neg
 returns c = within (c .args .x)
 
 pub is-finite-spec : {M : Type 1} → statement M
-is-finite-spec = tie.close (tie.spec returns)
+is-finite-spec =
+    tie.close
+    (tie.spec returns)

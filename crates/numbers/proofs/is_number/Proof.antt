@@ -1,3 +1,4 @@
+-- `numbers::is_number` answers `isNumber x`.
 use Rattle.numbers.proofs.Laws.{eq-self}
 use Rattle.numbers.proofs.is_number.Statement.{statement}
 use Rattle.numbers.proofs.is_number.Tie as tie
@@ -6,4 +7,6 @@ returns : tie.Need-returns
 returns c = eq-self (c .args .x)
 
 pub is-number-spec : {M : Type 1} → statement M
-is-number-spec = tie.close (tie.spec returns)
+is-number-spec =
+    tie.close
+    (tie.spec returns)

@@ -1,3 +1,4 @@
+-- `numbers::max` answers `maxOf a b`.
 use Rattle.numbers.proofs.Laws.{eq-self}
 use Rattle.numbers.proofs.max.Statement.{statement}
 use Rattle.numbers.proofs.max.Tie as tie
@@ -15,4 +16,6 @@ returns-4 : tie.Need-returns-4
 returns-4 c = simp (← eq-self, c .before .if1 .left, c .if3 .left)
 
 pub max-spec : {M : Type 1} → statement M
-max-spec = tie.close (tie.spec returns returns-2 returns-3 returns-4)
+max-spec =
+    tie.close
+    (tie.spec returns returns-2 returns-3 returns-4)

@@ -1,3 +1,4 @@
+-- `numbers::min` answers `minOf a b`.
 use Rattle.numbers.proofs.Laws.{eq-self}
 use Rattle.numbers.proofs.min.Statement.{statement}
 use Rattle.numbers.proofs.min.Tie as tie
@@ -15,4 +16,6 @@ returns-4 : tie.Need-returns-4
 returns-4 c = simp (← eq-self, c .before .if1 .left, c .if3 .left)
 
 pub min-spec : {M : Type 1} → statement M
-min-spec = tie.close (tie.spec returns returns-2 returns-3 returns-4)
+min-spec =
+    tie.close
+    (tie.spec returns returns-2 returns-3 returns-4)

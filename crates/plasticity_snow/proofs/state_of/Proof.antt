@@ -1,13 +1,13 @@
+-- `plasticity_snow::state_of` answers `stateOf f sigma d hardening s`.
 use borrow.Author.Needs.{needs}
 use Rattle.plasticity_snow.proofs.state_of.Statement.{statement}
 use Rattle.plasticity_snow.proofs.state_of.Tie as tie
-
-to-rows-requires : tie.Need-to-rows-requires
-to-rows-requires c κs = search needs
 
 returns : tie.Need-returns
 returns c =
     simp (c .to-rows .ensures)
 
 pub state-of-spec : {M : Type 1} → statement M
-state-of-spec = tie.close (tie.spec to-rows-requires returns)
+state-of-spec =
+    tie.close
+    (tie.spec (λ c κs. search needs) returns)

@@ -1,24 +1,7 @@
+-- `record::write_rows` meets its contract: what its calls ensure, on each path.
 use borrow.Author.Needs.{needs}
 use Rattle.record.proofs.write_rows.Statement.{statement}
 use Rattle.record.proofs.write_rows.Tie as tie
-
-write-row-requires : tie.Need-write-row-requires
-write-row-requires c κs = search needs
-
-add-write-row : tie.Need-add-write-row
-add-write-row c = search needs
-
-write-row-requires-2 : tie.Need-write-row-requires-2
-write-row-requires-2 c κs = search needs
-
-add-write-row-2 : tie.Need-add-write-row-2
-add-write-row-2 c = search needs
-
-write-row-requires-3 : tie.Need-write-row-requires-3
-write-row-requires-3 c κs = search needs
-
-same-length : tie.Need-same-length
-same-length c = search needs
 
 returns : tie.Need-returns
 returns c =
@@ -27,11 +10,5 @@ returns c =
 pub write-rows-spec : {M : Type 1} → statement M
 write-rows-spec =
     tie.close
-    (tie.spec
-    write-row-requires
-    add-write-row
-    write-row-requires-2
-    add-write-row-2
-    write-row-requires-3
-    same-length
-    returns)
+    (tie.spec (λ c κs. search needs) (λ c. search needs) (λ c κs. search needs) (λ c. search needs)
+    (λ c κs. search needs) (λ c. search needs) returns)

@@ -1,3 +1,4 @@
+-- `replay::first_difference` meets its contract.
 use Prim.Native.Nat.{_≤_, _-_}
 use lib.ListN.{length}
 use borrow.Author.Needs.{needs}
@@ -46,17 +47,5 @@ returns-3 c = search needs
 pub first-difference-spec : {M : Type 1} → statement M
 first-difference-spec =
     tie.close
-    (tie.spec
-    Inv-loop
-    μ-loop
-    loop-holds
-    returns
-    mul-if2
-    shared-slice-read-if2
-    mul-if2-2
-    shared-slice-read-if2-2
-    returns-2
-    add-i
-    loop-less
-    loop-again
-    returns-3)
+    (tie.spec Inv-loop μ-loop loop-holds returns mul-if2 shared-slice-read-if2 mul-if2-2 shared-slice-read-if2-2
+    returns-2 add-i loop-less loop-again returns-3)

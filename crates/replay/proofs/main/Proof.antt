@@ -1,3 +1,4 @@
+-- `replay::main` meets its contract.
 use Prim.Native.Nat.{_≤_, _-_}
 use borrow.Author.Needs.{needs}
 use Rattle.replay.proofs.main.Statement.{statement}
@@ -69,25 +70,6 @@ returns-2 c = search needs
 pub main-spec : {M : Type 1} → statement M
 main-spec =
     tie.close
-    (tie.spec
-    Inv-loop
-    μ-loop
-    slice-aggregate-open-read
-    open-read-requires
-    slice-aggregate-fail
-    fail-requires
-    returns
-    loop-holds
-    next-requires
-    same-requires
-    add-differ
-    add-n
-    loop-less
-    loop-again
-    slice-aggregate-say
-    say-requires
-    slice-aggregate-say-2
-    say-requires-2
-    slice-aggregate-write-all
-    write-all-requires
-    returns-2)
+    (tie.spec Inv-loop μ-loop slice-aggregate-open-read open-read-requires slice-aggregate-fail fail-requires
+    returns loop-holds next-requires same-requires add-differ add-n loop-less loop-again slice-aggregate-say
+    say-requires slice-aggregate-say-2 say-requires-2 slice-aggregate-write-all write-all-requires returns-2)

@@ -5,15 +5,6 @@ use borrow.Author.Needs.{needs}
 use Rattle.sine.proofs.difference.Statement.{statement}
 use Rattle.sine.proofs.difference.Tie as tie
 
-to-float-requires : tie.Need-to-float-requires
-to-float-requires c κs = search needs
-
-sub-to-float : tie.Need-sub-to-float
-sub-to-float c = search needs
-
-to-float-requires-2 : tie.Need-to-float-requires-2
-to-float-requires-2 c κs = search needs
-
 returns : tie.Need-returns
 returns c = c .to-float .ensures .is ∙ plus-difference (c .before .before .args .a) (c .before .before .args .c) (c .before .before .args .negative) (c .before .if1 .taken)
 
@@ -22,4 +13,5 @@ returns-2 c = c .to-float2 .ensures .is ∙ minus-difference (c .before .before 
 
 pub difference-spec : {M : Type 1} → statement M
 difference-spec =
-    tie.close (tie.spec to-float-requires sub-to-float to-float-requires-2 returns returns-2)
+    tie.close
+    (tie.spec (λ c κs. search needs) (λ c. search needs) (λ c κs. search needs) returns returns-2)

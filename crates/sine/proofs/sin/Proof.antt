@@ -1,23 +1,23 @@
--- `sine::sin` meets its contract. Assumes nothing.
+-- The answer is the function's, called by itself; a value lies within the distance.
+use mathlib.Core.Path.{sym, subst, ap, _∙_}
 use borrow.Author.Needs.{needs}
+use lib.Dec.{T}
+use Rattle.answers.specs.Range.{bare}
+use Rattle.answers.proofs.Values.{bare-near}
+use Rattle.series.specs.SinNear.{SinNear}
+use Rattle.sine.specs.Sine.{sinOf, low, high}
+use Rattle.sine.proofs.Near.{sin-near}
 use Rattle.sine.proofs.sin.Statement.{statement}
 use Rattle.sine.proofs.sin.Tie as tie
 
-is-finite-requires : tie.Need-is-finite-requires
-is-finite-requires c κs = search needs
-
-sin-ranged-requires : tie.Need-sin-ranged-requires
-sin-ranged-requires c κs = search needs
-
 returns : tie.Need-returns
 returns c =
-    let t0 = simp (c .before .before .is-finite .ensures) at (c .before .if1 .taken) in
-    simp (c .sin-ranged .ensures, t0)
-
-returns-2 : tie.Need-returns-2
-returns-2 c =
-    let t0 = simp (c .before .is-finite .ensures) at (c .if1 .left) in
-    simp t0
+    let s = c .before .before in
+    let x = s .args .x in
+    let e = c .bare .ensures ∙ ap (bare x) (c .before .sin-ranged .ensures) in
+    (e, λ v h. bare-near low high x v (sinOf x) (SinNear x) (sin-near x (subst T (sym (s .good .0 .1)) tt)) (sym e ∙ h))
 
 pub sin-spec : {M : Type 1} → statement M
-sin-spec = tie.close (tie.spec is-finite-requires sin-ranged-requires returns returns-2)
+sin-spec =
+    tie.close
+    (tie.spec (λ c κs. search needs) (λ c κs. search needs) returns)

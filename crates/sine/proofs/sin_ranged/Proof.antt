@@ -3,19 +3,13 @@ use borrow.Author.Needs.{needs}
 use Rattle.sine.proofs.sin_ranged.Statement.{statement}
 use Rattle.sine.proofs.sin_ranged.Tie as tie
 
-in-range-requires : tie.Need-in-range-requires
-in-range-requires c κs = search needs
-
 sin-value-requires : tie.Need-sin-value-requires
 sin-value-requires c κs = simp (c .before .in-range .ensures) at (c .if1 .taken)
-
-outside-requires : tie.Need-outside-requires
-outside-requires c κs = search needs
 
 returns : tie.Need-returns
 returns c =
     let t0 = simp (c .before .before .in-range .ensures) at (c .before .if1 .taken) in
-    simp (c .sin-value .ensures .0, t0)
+    simp (c .sin-value .ensures, t0)
 
 returns-2 : tie.Need-returns-2
 returns-2 c =
@@ -24,4 +18,5 @@ returns-2 c =
 
 pub sin-ranged-spec : {M : Type 1} → statement M
 sin-ranged-spec =
-    tie.close (tie.spec in-range-requires sin-value-requires outside-requires returns returns-2)
+    tie.close
+    (tie.spec (λ c κs. search needs) sin-value-requires (λ c κs. search needs) returns returns-2)

@@ -11,9 +11,6 @@ use Rattle.sine.proofs.step.Reads as reads
 use Rattle.sine.proofs.step.Lts as lts
 use Rattle.fixed_point.proofs.mulhi.Reads as mulhi-reads
 
-mulhi-requires : tie.Need-mulhi-requires
-mulhi-requires c κs = search needs
-
 stepped-at : (c : lts.After-mulhi (mulhi-reads.Asked, mulhi-reads.Learnt) reads.Pre reads.Post) → (c .before .args .c + c .mulhi .result ≡ stepOf (c .before .args .c) (c .before .args .h) (c .before .args .z)) × (c .before .args .c + c .mulhi .result ≤ c .before .args .c + c .before .args .h)
 stepped-at c = stepped (c .before .args .c) (c .before .args .h) (c .before .args .z) (c .mulhi .result) (c .mulhi .ensures) (c .before .fits .z .fits)
 
@@ -24,4 +21,6 @@ returns : tie.Need-returns
 returns c = stepped-at c
 
 pub step-spec : {M : Type 1} → statement M
-step-spec = tie.close (tie.spec mulhi-requires add-result returns)
+step-spec =
+    tie.close
+    (tie.spec (λ c κs. search needs) add-result returns)

@@ -3,12 +3,6 @@ use borrow.Author.Needs.{needs}
 use Rattle.thirds.proofs.answer.Statement.{statement}
 use Rattle.thirds.proofs.answer.Tie as tie
 
-in-range-requires : tie.Need-in-range-requires
-in-range-requires c κs = search needs
-
-outside-requires : tie.Need-outside-requires
-outside-requires c κs = search needs
-
 returns : tie.Need-returns
 returns c =
     let t0 = simp (c .before .in-range .ensures) at (c .if1 .taken) in
@@ -20,4 +14,6 @@ returns-2 c =
     simp (c .outside .ensures, t0)
 
 pub answer-spec : {M : Type 1} → statement M
-answer-spec = tie.close (tie.spec in-range-requires outside-requires returns returns-2)
+answer-spec =
+    tie.close
+    (tie.spec (λ c κs. search needs) (λ c κs. search needs) returns returns-2)

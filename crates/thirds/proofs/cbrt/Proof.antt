@@ -1,17 +1,23 @@
--- `thirds::cbrt` meets its contract. Assumes nothing.
+-- The answer is the function's, called by itself; a value lies within the distance.
+use mathlib.Core.Path.{sym, subst, ap, _∙_}
 use borrow.Author.Needs.{needs}
+use lib.Dec.{T}
+use Rattle.answers.specs.Range.{bare, ranged}
+use Rattle.answers.proofs.Values.{bare-near}
+use Rattle.series.specs.ThirdsNear.{CbrtNear}
+use Rattle.thirds.specs.Thirds.{cbrtOf, low, high}
+use Rattle.thirds.proofs.Near.{cbrt-near}
 use Rattle.thirds.proofs.cbrt.Statement.{statement}
 use Rattle.thirds.proofs.cbrt.Tie as tie
 
-cbrt-value-requires : tie.Need-cbrt-value-requires
-cbrt-value-requires c κs = search needs
-
-bare-answer-requires : tie.Need-bare-answer-requires
-bare-answer-requires c κs = search needs
-
 returns : tie.Need-returns
 returns c =
-    simp (c .bare-answer .ensures, c .before .cbrt-value .ensures .0)
+    let s = c .before .before .before in
+    let x = s .args .x in
+    let e = c .bare .ensures ∙ ap (bare x) ((c .before .answer .ensures ∙ ap (ranged low high x) (c .before .before .cbrt-value .ensures))) in
+    (e, λ v h. bare-near low high x v (cbrtOf x) (CbrtNear x) (cbrt-near x (subst T (sym (s .good .0 .1)) tt)) (sym e ∙ h))
 
 pub cbrt-spec : {M : Type 1} → statement M
-cbrt-spec = tie.close (tie.spec cbrt-value-requires bare-answer-requires returns)
+cbrt-spec =
+    tie.close
+    (tie.spec (λ c κs. search needs) (λ c κs. search needs) (λ c κs. search needs) returns)

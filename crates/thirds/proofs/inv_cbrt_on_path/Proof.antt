@@ -1,17 +1,12 @@
--- `thirds::inv_cbrt_on_path` meets its contract. Assumes nothing.
+-- The answer is the function's, asked inside a law.
 use borrow.Author.Needs.{needs}
 use Rattle.thirds.proofs.inv_cbrt_on_path.Statement.{statement}
 use Rattle.thirds.proofs.inv_cbrt_on_path.Tie as tie
 
-inv-cbrt-value-requires : tie.Need-inv-cbrt-value-requires
-inv-cbrt-value-requires c κs = search needs
-
-path-answer-requires : tie.Need-path-answer-requires
-path-answer-requires c κs = search needs
-
 returns : tie.Need-returns
-returns c =
-    simp (c .path-answer .ensures, c .before .inv-cbrt-value .ensures .0)
+returns c = simp (c .on-path .ensures, c .before .answer .ensures, c .before .before .inv-cbrt-value .ensures)
 
 pub inv-cbrt-on-path-spec : {M : Type 1} → statement M
-inv-cbrt-on-path-spec = tie.close (tie.spec inv-cbrt-value-requires path-answer-requires returns)
+inv-cbrt-on-path-spec =
+    tie.close
+    (tie.spec (λ c κs. search needs) (λ c κs. search needs) (λ c κs. search needs) returns)

@@ -1,24 +1,10 @@
+-- `elasticity_corotated_linear::CorotatedLinearElasticity::elastic_energy_density` answers `elasticEnergyDensity self sigma hardening`.
 use Rattle.elasticity_corotated_linear.specs.Energy.{elasticEnergyDensity}
 use borrow.Author.Needs.{needs}
 use Rattle.elasticity_corotated_linear.proofs.CorotatedLinearElasticity.elastic_energy_density.Statement.{
   statement,
 }
 use Rattle.elasticity_corotated_linear.proofs.CorotatedLinearElasticity.elastic_energy_density.Tie as tie
-
-law-finite-requires : tie.Need-law-finite-requires
-law-finite-requires c κs = search needs
-
-row-finite-requires : tie.Need-row-finite-requires
-row-finite-requires c κs = search needs
-
-is-finite-requires : tie.Need-is-finite-requires
-is-finite-requires c κs = search needs
-
-energy-requires : tie.Need-energy-requires
-energy-requires c κs = search needs
-
-answered-requires : tie.Need-answered-requires
-answered-requires c κs = search needs
 
 returns : tie.Need-returns
 unfolding elasticEnergyDensity
@@ -35,11 +21,5 @@ returns-2 c =
 pub elastic-energy-density-spec : {M : Type 1} → statement M
 elastic-energy-density-spec =
     tie.close
-    (tie.spec
-    law-finite-requires
-    row-finite-requires
-    is-finite-requires
-    energy-requires
-    answered-requires
-    returns
-    returns-2)
+    (tie.spec (λ c κs. search needs) (λ c κs. search needs) (λ c κs. search needs) (λ c κs. search needs)
+    (λ c κs. search needs) returns returns-2)

@@ -1,21 +1,10 @@
+-- `elasticity_corotated_linear::CorotatedLinearElasticity::kirchhoff_stress` answers `kirchhoffStress self phase hardening f u sigma vt`.
 use Rattle.elasticity_corotated_linear.specs.Stress.{kirchhoffStress}
 use borrow.Author.Needs.{needs}
 use Rattle.elasticity_corotated_linear.proofs.CorotatedLinearElasticity.kirchhoff_stress.Statement.{
   statement,
 }
 use Rattle.elasticity_corotated_linear.proofs.CorotatedLinearElasticity.kirchhoff_stress.Tie as tie
-
-stress-inputs-requires : tie.Need-stress-inputs-requires
-stress-inputs-requires c κs = search needs
-
-stress-requires : tie.Need-stress-requires
-stress-requires c κs = search needs
-
-answered-requires : tie.Need-answered-requires
-answered-requires c κs = search needs
-
-refused-matrix-requires : tie.Need-refused-matrix-requires
-refused-matrix-requires c κs = search needs
 
 returns : tie.Need-returns
 unfolding kirchhoffStress
@@ -32,10 +21,5 @@ returns-2 c =
 pub kirchhoff-stress-spec : {M : Type 1} → statement M
 kirchhoff-stress-spec =
     tie.close
-    (tie.spec
-    stress-inputs-requires
-    stress-requires
-    answered-requires
-    refused-matrix-requires
-    returns
+    (tie.spec (λ c κs. search needs) (λ c κs. search needs) (λ c κs. search needs) (λ c κs. search needs) returns
     returns-2)

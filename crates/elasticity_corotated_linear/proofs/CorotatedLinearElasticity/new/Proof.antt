@@ -1,21 +1,10 @@
+-- `elasticity_corotated_linear::CorotatedLinearElasticity::new` answers `newOf young poisson`.
 use Rattle.elasticity_corotated_linear.specs.Law.{newOf}
 use borrow.Author.Needs.{needs}
 use Rattle.elasticity_corotated_linear.proofs.CorotatedLinearElasticity.new.Statement.{
   statement,
 }
 use Rattle.elasticity_corotated_linear.proofs.CorotatedLinearElasticity.new.Tie as tie
-
-is-finite-requires : tie.Need-is-finite-requires
-is-finite-requires c κs = search needs
-
-is-finite-requires-2 : tie.Need-is-finite-requires-2
-is-finite-requires-2 c κs = search needs
-
-lame-lambda-mu-requires : tie.Need-lame-lambda-mu-requires
-lame-lambda-mu-requires c κs = search needs
-
-from-lame-requires : tie.Need-from-lame-requires
-from-lame-requires c κs = search needs
 
 returns : tie.Need-returns
 unfolding newOf
@@ -32,10 +21,5 @@ returns-2 c =
 pub new-spec : {M : Type 1} → statement M
 new-spec =
     tie.close
-    (tie.spec
-    is-finite-requires
-    is-finite-requires-2
-    lame-lambda-mu-requires
-    from-lame-requires
-    returns
+    (tie.spec (λ c κs. search needs) (λ c κs. search needs) (λ c κs. search needs) (λ c κs. search needs) returns
     returns-2)

@@ -1,39 +1,10 @@
+-- `elasticity_corotated_linear::CorotatedLinearElasticity::pos_energy` answers `posEnergy self f sigma hardening`.
 use Rattle.elasticity_corotated_linear.specs.Energy.{posEnergy}
 use borrow.Author.Needs.{needs}
 use Rattle.elasticity_corotated_linear.proofs.CorotatedLinearElasticity.pos_energy.Statement.{
   statement,
 }
 use Rattle.elasticity_corotated_linear.proofs.CorotatedLinearElasticity.pos_energy.Tie as tie
-
-law-finite-requires : tie.Need-law-finite-requires
-law-finite-requires c κs = search needs
-
-mat-finite-requires : tie.Need-mat-finite-requires
-mat-finite-requires c κs = search needs
-
-row-finite-requires : tie.Need-row-finite-requires
-row-finite-requires c κs = search needs
-
-is-finite-requires : tie.Need-is-finite-requires
-is-finite-requires c κs = search needs
-
-determinant-requires : tie.Need-determinant-requires
-determinant-requires c κs = search needs
-
-less-one-requires : tie.Need-less-one-requires
-less-one-requires c κs = search needs
-
-positive-requires : tie.Need-positive-requires
-positive-requires c κs = search needs
-
-deviatoric-energy-requires : tie.Need-deviatoric-energy-requires
-deviatoric-energy-requires c κs = search needs
-
-spherical-energy-requires : tie.Need-spherical-energy-requires
-spherical-energy-requires c κs = search needs
-
-pos-energy-requires : tie.Need-pos-energy-requires
-pos-energy-requires c κs = search needs
 
 returns : tie.Need-returns
 unfolding posEnergy
@@ -50,16 +21,6 @@ returns-2 c =
 pub pos-energy-spec : {M : Type 1} → statement M
 pos-energy-spec =
     tie.close
-    (tie.spec
-    law-finite-requires
-    mat-finite-requires
-    row-finite-requires
-    is-finite-requires
-    determinant-requires
-    less-one-requires
-    positive-requires
-    deviatoric-energy-requires
-    spherical-energy-requires
-    pos-energy-requires
-    returns
-    returns-2)
+    (tie.spec (λ c κs. search needs) (λ c κs. search needs) (λ c κs. search needs) (λ c κs. search needs)
+    (λ c κs. search needs) (λ c κs. search needs) (λ c κs. search needs) (λ c κs. search needs)
+    (λ c κs. search needs) (λ c κs. search needs) returns returns-2)

@@ -1,29 +1,9 @@
+-- `elasticity_corotated_linear::CorotatedLinearElasticity::stress_inputs` answers `stressInputs self phase hardening f u sigma vt`.
 use borrow.Author.Needs.{needs}
 use Rattle.elasticity_corotated_linear.proofs.CorotatedLinearElasticity.stress_inputs.Statement.{
   statement,
 }
 use Rattle.elasticity_corotated_linear.proofs.CorotatedLinearElasticity.stress_inputs.Tie as tie
-
-law-finite-requires : tie.Need-law-finite-requires
-law-finite-requires c κs = search needs
-
-is-finite-requires : tie.Need-is-finite-requires
-is-finite-requires c κs = search needs
-
-is-finite-requires-2 : tie.Need-is-finite-requires-2
-is-finite-requires-2 c κs = search needs
-
-mat-finite-requires : tie.Need-mat-finite-requires
-mat-finite-requires c κs = search needs
-
-mat-finite-requires-2 : tie.Need-mat-finite-requires-2
-mat-finite-requires-2 c κs = search needs
-
-row-finite-requires : tie.Need-row-finite-requires
-row-finite-requires c κs = search needs
-
-mat-finite-requires-3 : tie.Need-mat-finite-requires-3
-mat-finite-requires-3 c κs = search needs
 
 returns : tie.Need-returns
 returns c =
@@ -32,12 +12,5 @@ returns c =
 pub stress-inputs-spec : {M : Type 1} → statement M
 stress-inputs-spec =
     tie.close
-    (tie.spec
-    law-finite-requires
-    is-finite-requires
-    is-finite-requires-2
-    mat-finite-requires
-    mat-finite-requires-2
-    row-finite-requires
-    mat-finite-requires-3
-    returns)
+    (tie.spec (λ c κs. search needs) (λ c κs. search needs) (λ c κs. search needs) (λ c κs. search needs)
+    (λ c κs. search needs) (λ c κs. search needs) (λ c κs. search needs) returns)

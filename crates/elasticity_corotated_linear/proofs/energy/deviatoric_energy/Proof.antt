@@ -1,3 +1,4 @@
+-- `elasticity_corotated_linear::energy::deviatoric_energy` answers `deviatoricEnergy p e hardening`.
 use Rattle.elasticity_corotated_linear.specs.Energy.{deviatoricEnergy}
 use borrow.Author.Needs.{needs}
 use Rattle.elasticity_corotated_linear.proofs.energy.deviatoric_energy.Statement.{
@@ -5,13 +6,12 @@ use Rattle.elasticity_corotated_linear.proofs.energy.deviatoric_energy.
 }
 use Rattle.elasticity_corotated_linear.proofs.energy.deviatoric_energy.Tie as tie
 
-dot-requires : tie.Need-dot-requires
-dot-requires c κs = search needs
-
 returns : tie.Need-returns
 unfolding deviatoricEnergy
 returns c =
     simp (c .dot .ensures)
 
 pub deviatoric-energy-spec : {M : Type 1} → statement M
-deviatoric-energy-spec = tie.close (tie.spec dot-requires returns)
+deviatoric-energy-spec =
+    tie.close
+    (tie.spec (λ c κs. search needs) returns)

@@ -1,19 +1,8 @@
+-- `elasticity_corotated_linear::energy::energy` answers `energyOf p sigma hardening`.
 use Rattle.elasticity_corotated_linear.specs.Energy.{energyOf}
 use borrow.Author.Needs.{needs}
 use Rattle.elasticity_corotated_linear.proofs.energy.energy.Statement.{statement}
 use Rattle.elasticity_corotated_linear.proofs.energy.energy.Tie as tie
-
-product-requires : tie.Need-product-requires
-product-requires c κs = search needs
-
-less-one-requires : tie.Need-less-one-requires
-less-one-requires c κs = search needs
-
-squares-requires : tie.Need-squares-requires
-squares-requires c κs = search needs
-
-powi-requires : tie.Need-powi-requires
-powi-requires c κs = search needs
 
 returns : tie.Need-returns
 unfolding energyOf
@@ -22,4 +11,5 @@ returns c =
 
 pub energy-spec : {M : Type 1} → statement M
 energy-spec =
-    tie.close (tie.spec product-requires less-one-requires squares-requires powi-requires returns)
+    tie.close
+    (tie.spec (λ c κs. search needs) (λ c κs. search needs) (λ c κs. search needs) (λ c κs. search needs) returns)

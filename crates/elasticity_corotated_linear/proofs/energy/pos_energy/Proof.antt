@@ -1,16 +1,8 @@
+-- `elasticity_corotated_linear::energy::pos_energy` answers `posEnergyOf j dev sph`.
 use Rattle.elasticity_corotated_linear.specs.Energy.{posEnergyOf}
 use borrow.Author.Needs.{needs}
 use Rattle.elasticity_corotated_linear.proofs.energy.pos_energy.Statement.{statement}
 use Rattle.elasticity_corotated_linear.proofs.energy.pos_energy.Tie as tie
-
-is-number-requires : tie.Need-is-number-requires
-is-number-requires c κs = search needs
-
-answered-requires : tie.Need-answered-requires
-answered-requires c κs = search needs
-
-answered-requires-2 : tie.Need-answered-requires-2
-answered-requires-2 c κs = search needs
 
 returns : tie.Need-returns
 unfolding posEnergyOf
@@ -35,4 +27,4 @@ returns-3 c =
 pub pos-energy-spec : {M : Type 1} → statement M
 pos-energy-spec =
     tie.close
-    (tie.spec is-number-requires answered-requires answered-requires-2 returns returns-2 returns-3)
+    (tie.spec (λ c κs. search needs) (λ c κs. search needs) (λ c κs. search needs) returns returns-2 returns-3)

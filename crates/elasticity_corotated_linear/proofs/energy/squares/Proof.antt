@@ -1,3 +1,4 @@
+-- `elasticity_corotated_linear::energy::squares` answers `squaresOf e`.
 use Rattle.elasticity_corotated_linear.specs.Energy.{squaresOf}
 use borrow.Author.Needs.{needs}
 use Rattle.tensor.specs.Matrix.{sumOf}
@@ -5,24 +6,6 @@ use lib.Ieee.{nan}
 use Rattle.tensor.specs.Axes.{of-one}
 use Rattle.elasticity_corotated_linear.proofs.energy.squares.Statement.{statement}
 use Rattle.elasticity_corotated_linear.proofs.energy.squares.Tie as tie
-
-array-read-powi : tie.Need-array-read-powi
-array-read-powi c = search needs
-
-powi-requires : tie.Need-powi-requires
-powi-requires c κs = search needs
-
-array-read-powi-2 : tie.Need-array-read-powi-2
-array-read-powi-2 c = search needs
-
-powi-requires-2 : tie.Need-powi-requires-2
-powi-requires-2 c κs = search needs
-
-array-read-powi-3 : tie.Need-array-read-powi-3
-array-read-powi-3 c = search needs
-
-powi-requires-3 : tie.Need-powi-requires-3
-powi-requires-3 c κs = search needs
 
 returns : tie.Need-returns
 unfolding squaresOf sumOf
@@ -33,11 +16,5 @@ returns c =
 pub squares-spec : {M : Type 1} → statement M
 squares-spec =
     tie.close
-    (tie.spec
-    array-read-powi
-    powi-requires
-    array-read-powi-2
-    powi-requires-2
-    array-read-powi-3
-    powi-requires-3
-    returns)
+    (tie.spec (λ c. search needs) (λ c κs. search needs) (λ c. search needs) (λ c κs. search needs)
+    (λ c. search needs) (λ c κs. search needs) returns)

@@ -1,3 +1,4 @@
+-- `elasticity_corotated_linear::stress::phase_coeff` answers `phaseCoeff p phase`.
 use Rattle.elasticity_corotated_linear.specs.Stress.{phaseCoeff}
 use Rattle.elasticity_corotated_linear.proofs.stress.phase_coeff.Statement.{statement}
 use Rattle.elasticity_corotated_linear.proofs.stress.phase_coeff.Tie as tie
@@ -15,4 +16,6 @@ returns-2 c =
     simp (t0)
 
 pub phase-coeff-spec : {M : Type 1} → statement M
-phase-coeff-spec = tie.close (tie.spec returns returns-2)
+phase-coeff-spec =
+    tie.close
+    (tie.spec returns returns-2)

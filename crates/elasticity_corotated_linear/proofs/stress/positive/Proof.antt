@@ -1,27 +1,10 @@
+-- `elasticity_corotated_linear::stress::positive` answers `positiveOf e`.
 use borrow.Author.Needs.{needs}
 use lib.Ieee.{nan}
 use Rattle.tensor.specs.Axes.{of-one}
 use Rattle.elasticity_corotated_linear.specs.Stress.{positiveOf}
 use Rattle.elasticity_corotated_linear.proofs.stress.positive.Statement.{statement}
 use Rattle.elasticity_corotated_linear.proofs.stress.positive.Tie as tie
-
-array-read-max : tie.Need-array-read-max
-array-read-max c = search needs
-
-max-requires : tie.Need-max-requires
-max-requires c κs = search needs
-
-array-read-max-2 : tie.Need-array-read-max-2
-array-read-max-2 c = search needs
-
-max-requires-2 : tie.Need-max-requires-2
-max-requires-2 c κs = search needs
-
-array-read-max-3 : tie.Need-array-read-max-3
-array-read-max-3 c = search needs
-
-max-requires-3 : tie.Need-max-requires-3
-max-requires-3 c κs = search needs
 
 returns : tie.Need-returns
 unfolding positiveOf
@@ -32,11 +15,5 @@ returns c =
 pub positive-spec : {M : Type 1} → statement M
 positive-spec =
     tie.close
-    (tie.spec
-    array-read-max
-    max-requires
-    array-read-max-2
-    max-requires-2
-    array-read-max-3
-    max-requires-3
-    returns)
+    (tie.spec (λ c. search needs) (λ c κs. search needs) (λ c. search needs) (λ c κs. search needs)
+    (λ c. search needs) (λ c κs. search needs) returns)

@@ -1,10 +1,8 @@
+-- `elasticity_corotated_linear::stress::spherical_stress` answers `sphericalStress p hardening j`.
 use Rattle.elasticity_corotated_linear.specs.Stress.{sphericalStress}
 use borrow.Author.Needs.{needs}
 use Rattle.elasticity_corotated_linear.proofs.stress.spherical_stress.Statement.{statement}
 use Rattle.elasticity_corotated_linear.proofs.stress.spherical_stress.Tie as tie
-
-identity-times-requires : tie.Need-identity-times-requires
-identity-times-requires c κs = search needs
 
 returns : tie.Need-returns
 unfolding sphericalStress
@@ -12,4 +10,6 @@ returns c =
     simp (c .identity-times .ensures)
 
 pub spherical-stress-spec : {M : Type 1} → statement M
-spherical-stress-spec = tie.close (tie.spec identity-times-requires returns)
+spherical-stress-spec =
+    tie.close
+    (tie.spec (λ c κs. search needs) returns)

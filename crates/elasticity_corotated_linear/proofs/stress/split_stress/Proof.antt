@@ -1,31 +1,8 @@
+-- `elasticity_corotated_linear::stress::split_stress` answers `splitStress p phase hardening f u e vt`.
 use Rattle.elasticity_corotated_linear.specs.Stress.{splitStress}
 use borrow.Author.Needs.{needs}
 use Rattle.elasticity_corotated_linear.proofs.stress.split_stress.Statement.{statement}
 use Rattle.elasticity_corotated_linear.proofs.stress.split_stress.Tie as tie
-
-determinant-requires : tie.Need-determinant-requires
-determinant-requires c κs = search needs
-
-positive-requires : tie.Need-positive-requires
-positive-requires c κs = search needs
-
-deviatoric-stress-requires : tie.Need-deviatoric-stress-requires
-deviatoric-stress-requires c κs = search needs
-
-negative-requires : tie.Need-negative-requires
-negative-requires c κs = search needs
-
-deviatoric-stress-requires-2 : tie.Need-deviatoric-stress-requires-2
-deviatoric-stress-requires-2 c κs = search needs
-
-spherical-stress-requires : tie.Need-spherical-stress-requires
-spherical-stress-requires c κs = search needs
-
-phase-coeff-requires : tie.Need-phase-coeff-requires
-phase-coeff-requires c κs = search needs
-
-split-sum-requires : tie.Need-split-sum-requires
-split-sum-requires c κs = search needs
 
 returns : tie.Need-returns
 unfolding splitStress
@@ -35,13 +12,5 @@ returns c =
 pub split-stress-spec : {M : Type 1} → statement M
 split-stress-spec =
     tie.close
-    (tie.spec
-    determinant-requires
-    positive-requires
-    deviatoric-stress-requires
-    negative-requires
-    deviatoric-stress-requires-2
-    spherical-stress-requires
-    phase-coeff-requires
-    split-sum-requires
-    returns)
+    (tie.spec (λ c κs. search needs) (λ c κs. search needs) (λ c κs. search needs) (λ c κs. search needs)
+    (λ c κs. search needs) (λ c κs. search needs) (λ c κs. search needs) (λ c κs. search needs) returns)

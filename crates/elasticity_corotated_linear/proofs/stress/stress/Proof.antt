@@ -1,16 +1,8 @@
+-- `elasticity_corotated_linear::stress::stress` answers `stressOf p phase hardening f u sigma vt`.
 use Rattle.elasticity_corotated_linear.specs.Stress.{stressOf}
 use borrow.Author.Needs.{needs}
 use Rattle.elasticity_corotated_linear.proofs.stress.stress.Statement.{statement}
 use Rattle.elasticity_corotated_linear.proofs.stress.stress.Tie as tie
-
-less-one-requires : tie.Need-less-one-requires
-less-one-requires c κs = search needs
-
-unsplit-stress-requires : tie.Need-unsplit-stress-requires
-unsplit-stress-requires c κs = search needs
-
-split-stress-requires : tie.Need-split-stress-requires
-split-stress-requires c κs = search needs
 
 returns : tie.Need-returns
 unfolding stressOf
@@ -27,4 +19,4 @@ returns-2 c =
 pub stress-spec : {M : Type 1} → statement M
 stress-spec =
     tie.close
-    (tie.spec less-one-requires unsplit-stress-requires split-stress-requires returns returns-2)
+    (tie.spec (λ c κs. search needs) (λ c κs. search needs) (λ c κs. search needs) returns returns-2)

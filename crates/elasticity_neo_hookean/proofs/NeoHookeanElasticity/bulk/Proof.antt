@@ -1,3 +1,4 @@
+-- `elasticity_neo_hookean::NeoHookeanElasticity::bulk` answers `bulkOf self hardening`.
 use Rattle.elasticity_neo_hookean.specs.Law.{bulkOf}
 use mathlib.Core.Path.{refl}
 use Rattle.elasticity_neo_hookean.proofs.NeoHookeanElasticity.bulk.Statement.{statement}
@@ -9,4 +10,6 @@ returns c =
     refl
 
 pub bulk-spec : {M : Type 1} → statement M
-bulk-spec = tie.close (tie.spec returns)
+bulk-spec =
+    tie.close
+    (tie.spec returns)

@@ -1,33 +1,10 @@
+-- `elasticity_neo_hookean::NeoHookeanElasticity::elastic_energy_density` answers `elasticEnergyDensity self phase hardening f`.
 use Rattle.elasticity_neo_hookean.specs.Energy.{elasticEnergyDensity}
 use borrow.Author.Needs.{needs}
 use Rattle.elasticity_neo_hookean.proofs.NeoHookeanElasticity.elastic_energy_density.Statement.{
   statement,
 }
 use Rattle.elasticity_neo_hookean.proofs.NeoHookeanElasticity.elastic_energy_density.Tie as tie
-
-law-finite-requires : tie.Need-law-finite-requires
-law-finite-requires c κs = search needs
-
-is-finite-requires : tie.Need-is-finite-requires
-is-finite-requires c κs = search needs
-
-is-finite-requires-2 : tie.Need-is-finite-requires-2
-is-finite-requires-2 c κs = search needs
-
-mat-finite-requires : tie.Need-mat-finite-requires
-mat-finite-requires c κs = search needs
-
-kappa-requires : tie.Need-kappa-requires
-kappa-requires c κs = search needs
-
-determinant-requires : tie.Need-determinant-requires
-determinant-requires c κs = search needs
-
-phase-coeff-requires : tie.Need-phase-coeff-requires
-phase-coeff-requires c κs = search needs
-
-energy-steps-requires : tie.Need-energy-steps-requires
-energy-steps-requires c κs = search needs
 
 returns : tie.Need-returns
 unfolding elasticEnergyDensity
@@ -44,14 +21,5 @@ returns-2 c =
 pub elastic-energy-density-spec : {M : Type 1} → statement M
 elastic-energy-density-spec =
     tie.close
-    (tie.spec
-    law-finite-requires
-    is-finite-requires
-    is-finite-requires-2
-    mat-finite-requires
-    kappa-requires
-    determinant-requires
-    phase-coeff-requires
-    energy-steps-requires
-    returns
-    returns-2)
+    (tie.spec (λ c κs. search needs) (λ c κs. search needs) (λ c κs. search needs) (λ c κs. search needs)
+    (λ c κs. search needs) (λ c κs. search needs) (λ c κs. search needs) (λ c κs. search needs) returns returns-2)

@@ -1,18 +1,10 @@
+-- `elasticity_neo_hookean::NeoHookeanElasticity::phase_coeff` answers `phaseCoeff phase`.
 use Rattle.elasticity_neo_hookean.specs.Law.{phaseCoeff}
 use borrow.Author.Needs.{needs}
 use Rattle.elasticity_neo_hookean.proofs.NeoHookeanElasticity.phase_coeff.Statement.{
   statement,
 }
 use Rattle.elasticity_neo_hookean.proofs.NeoHookeanElasticity.phase_coeff.Tie as tie
-
-is-finite-requires : tie.Need-is-finite-requires
-is-finite-requires c κs = search needs
-
-phase-coeff-requires : tie.Need-phase-coeff-requires
-phase-coeff-requires c κs = search needs
-
-answered-requires : tie.Need-answered-requires
-answered-requires c κs = search needs
 
 returns : tie.Need-returns
 unfolding phaseCoeff
@@ -29,4 +21,4 @@ returns-2 c =
 pub phase-coeff-spec : {M : Type 1} → statement M
 phase-coeff-spec =
     tie.close
-    (tie.spec is-finite-requires phase-coeff-requires answered-requires returns returns-2)
+    (tie.spec (λ c κs. search needs) (λ c κs. search needs) (λ c κs. search needs) returns returns-2)

@@ -1,33 +1,10 @@
+-- `elasticity_neo_hookean::NeoHookeanElasticity::pos_energy` answers `posEnergy self phase hardening f`.
 use Rattle.elasticity_neo_hookean.specs.Energy.{posEnergy}
 use borrow.Author.Needs.{needs}
 use Rattle.elasticity_neo_hookean.proofs.NeoHookeanElasticity.pos_energy.Statement.{
   statement,
 }
 use Rattle.elasticity_neo_hookean.proofs.NeoHookeanElasticity.pos_energy.Tie as tie
-
-law-finite-requires : tie.Need-law-finite-requires
-law-finite-requires c κs = search needs
-
-is-finite-requires : tie.Need-is-finite-requires
-is-finite-requires c κs = search needs
-
-is-finite-requires-2 : tie.Need-is-finite-requires-2
-is-finite-requires-2 c κs = search needs
-
-mat-finite-requires : tie.Need-mat-finite-requires
-mat-finite-requires c κs = search needs
-
-determinant-requires : tie.Need-determinant-requires
-determinant-requires c κs = search needs
-
-bulk-requires : tie.Need-bulk-requires
-bulk-requires c κs = search needs
-
-cauchy-green-strain-requires : tie.Need-cauchy-green-strain-requires
-cauchy-green-strain-requires c κs = search needs
-
-pos-steps-requires : tie.Need-pos-steps-requires
-pos-steps-requires c κs = search needs
 
 returns : tie.Need-returns
 unfolding posEnergy
@@ -44,14 +21,5 @@ returns-2 c =
 pub pos-energy-spec : {M : Type 1} → statement M
 pos-energy-spec =
     tie.close
-    (tie.spec
-    law-finite-requires
-    is-finite-requires
-    is-finite-requires-2
-    mat-finite-requires
-    determinant-requires
-    bulk-requires
-    cauchy-green-strain-requires
-    pos-steps-requires
-    returns
-    returns-2)
+    (tie.spec (λ c κs. search needs) (λ c κs. search needs) (λ c κs. search needs) (λ c κs. search needs)
+    (λ c κs. search needs) (λ c κs. search needs) (λ c κs. search needs) (λ c κs. search needs) returns returns-2)

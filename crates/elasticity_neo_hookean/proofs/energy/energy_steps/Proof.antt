@@ -1,16 +1,8 @@
+-- `elasticity_neo_hookean::energy::energy_steps` answers `energySteps p c hardening j kappa f`.
 use Rattle.elasticity_neo_hookean.specs.Energy.{energySteps}
 use borrow.Author.Needs.{needs}
 use Rattle.elasticity_neo_hookean.proofs.energy.energy_steps.Statement.{statement}
 use Rattle.elasticity_neo_hookean.proofs.energy.energy_steps.Tie as tie
-
-is-number-requires : tie.Need-is-number-requires
-is-number-requires c κs = search needs
-
-inv-cbrt-on-path-requires : tie.Need-inv-cbrt-on-path-requires
-inv-cbrt-on-path-requires c κs = search needs
-
-energy-powered-requires : tie.Need-energy-powered-requires
-energy-powered-requires c κs = search needs
 
 returns : tie.Need-returns
 unfolding energySteps
@@ -27,9 +19,4 @@ returns-2 c =
 pub energy-steps-spec : {M : Type 1} → statement M
 energy-steps-spec =
     tie.close
-    (tie.spec
-    is-number-requires
-    inv-cbrt-on-path-requires
-    energy-powered-requires
-    returns
-    returns-2)
+    (tie.spec (λ c κs. search needs) (λ c κs. search needs) (λ c κs. search needs) returns returns-2)

@@ -1,3 +1,4 @@
+-- `elasticity_neo_hookean::energy::energy_sum` answers `energySum c j dev vol`.
 use Rattle.elasticity_neo_hookean.specs.Energy.{energySum}
 use Rattle.elasticity_neo_hookean.proofs.energy.energy_sum.Statement.{statement}
 use Rattle.elasticity_neo_hookean.proofs.energy.energy_sum.Tie as tie
@@ -15,4 +16,6 @@ returns-2 c =
     simp (t0)
 
 pub energy-sum-spec : {M : Type 1} → statement M
-energy-sum-spec = tie.close (tie.spec returns returns-2)
+energy-sum-spec =
+    tie.close
+    (tie.spec returns returns-2)

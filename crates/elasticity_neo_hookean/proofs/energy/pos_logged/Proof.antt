@@ -1,19 +1,8 @@
+-- `elasticity_neo_hookean::energy::pos_logged` answers `posLogged log phase j k dev`.
 use Rattle.elasticity_neo_hookean.specs.Energy.{posLogged}
 use borrow.Author.Needs.{needs}
 use Rattle.elasticity_neo_hookean.proofs.energy.pos_logged.Statement.{statement}
 use Rattle.elasticity_neo_hookean.proofs.energy.pos_logged.Tie as tie
-
-enum-known-log : tie.Need-enum-known-log
-enum-known-log c = search needs
-
-volumetric-energy-requires : tie.Need-volumetric-energy-requires
-volumetric-energy-requires c κs = search needs
-
-pos-sum-requires : tie.Need-pos-sum-requires
-pos-sum-requires c κs = search needs
-
-enum-known-log-2 : tie.Need-enum-known-log-2
-enum-known-log-2 c = search needs
 
 returns : tie.Need-returns
 unfolding posLogged
@@ -27,10 +16,5 @@ returns-2 c = simp (c .before .log2 .given .1)
 pub pos-logged-spec : {M : Type 1} → statement M
 pos-logged-spec =
     tie.close
-    (tie.spec
-    enum-known-log
-    volumetric-energy-requires
-    pos-sum-requires
-    enum-known-log-2
-    returns
+    (tie.spec (λ c. search needs) (λ c κs. search needs) (λ c κs. search needs) (λ c. search needs) returns
     returns-2)

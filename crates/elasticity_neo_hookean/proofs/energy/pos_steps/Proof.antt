@@ -1,19 +1,8 @@
+-- `elasticity_neo_hookean::energy::pos_steps` answers `posSteps p phase hardening j k b`.
 use Rattle.elasticity_neo_hookean.specs.Energy.{posSteps}
 use borrow.Author.Needs.{needs}
 use Rattle.elasticity_neo_hookean.proofs.energy.pos_steps.Statement.{statement}
 use Rattle.elasticity_neo_hookean.proofs.energy.pos_steps.Tie as tie
-
-is-number-requires : tie.Need-is-number-requires
-is-number-requires c κs = search needs
-
-mat-number-requires : tie.Need-mat-number-requires
-mat-number-requires c κs = search needs
-
-inv-cbrt-squared-on-path-requires : tie.Need-inv-cbrt-squared-on-path-requires
-inv-cbrt-squared-on-path-requires c κs = search needs
-
-pos-powered-requires : tie.Need-pos-powered-requires
-pos-powered-requires c κs = search needs
 
 returns : tie.Need-returns
 unfolding posSteps
@@ -30,10 +19,5 @@ returns-2 c =
 pub pos-steps-spec : {M : Type 1} → statement M
 pos-steps-spec =
     tie.close
-    (tie.spec
-    is-number-requires
-    mat-number-requires
-    inv-cbrt-squared-on-path-requires
-    pos-powered-requires
-    returns
+    (tie.spec (λ c κs. search needs) (λ c κs. search needs) (λ c κs. search needs) (λ c κs. search needs) returns
     returns-2)

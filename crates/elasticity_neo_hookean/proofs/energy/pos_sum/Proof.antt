@@ -1,19 +1,8 @@
+-- `elasticity_neo_hookean::energy::pos_sum` answers `posSum phase j dev vol`.
 use Rattle.elasticity_neo_hookean.specs.Energy.{posSum}
 use borrow.Author.Needs.{needs}
 use Rattle.elasticity_neo_hookean.proofs.energy.pos_sum.Statement.{statement}
 use Rattle.elasticity_neo_hookean.proofs.energy.pos_sum.Tie as tie
-
-is-number-requires : tie.Need-is-number-requires
-is-number-requires c κs = search needs
-
-phase-coeff-requires : tie.Need-phase-coeff-requires
-phase-coeff-requires c κs = search needs
-
-answered-requires : tie.Need-answered-requires
-answered-requires c κs = search needs
-
-answered-requires-2 : tie.Need-answered-requires-2
-answered-requires-2 c κs = search needs
 
 returns : tie.Need-returns
 unfolding posSum
@@ -38,11 +27,5 @@ returns-3 c =
 pub pos-sum-spec : {M : Type 1} → statement M
 pos-sum-spec =
     tie.close
-    (tie.spec
-    is-number-requires
-    phase-coeff-requires
-    answered-requires
-    answered-requires-2
-    returns
-    returns-2
-    returns-3)
+    (tie.spec (λ c κs. search needs) (λ c κs. search needs) (λ c κs. search needs) (λ c κs. search needs) returns
+    returns-2 returns-3)

@@ -1,3 +1,4 @@
+-- `elasticity_neo_hookean::plain::phase_coeff` answers `phaseCoeff phase`.
 use Rattle.elasticity_neo_hookean.specs.Law.{phaseCoeffOf}
 use mathlib.Core.Path.{refl}
 use Rattle.elasticity_neo_hookean.proofs.plain.phase_coeff.Statement.{statement}
@@ -9,4 +10,6 @@ returns c =
     refl
 
 pub phase-coeff-spec : {M : Type 1} → statement M
-phase-coeff-spec = tie.close (tie.spec returns)
+phase-coeff-spec =
+    tie.close
+    (tie.spec returns)

@@ -1,25 +1,8 @@
+-- `elasticity_neo_hookean::stress::fpk_steps` answers `fpkSteps p hardening j k g b`.
 use Rattle.elasticity_neo_hookean.specs.Stress.{fpkSteps}
 use borrow.Author.Needs.{needs}
 use Rattle.elasticity_neo_hookean.proofs.stress.fpk_steps.Statement.{statement}
 use Rattle.elasticity_neo_hookean.proofs.stress.fpk_steps.Tie as tie
-
-is-number-requires : tie.Need-is-number-requires
-is-number-requires c κs = search needs
-
-mat-number-requires : tie.Need-mat-number-requires
-mat-number-requires c κs = search needs
-
-mat-number-requires-2 : tie.Need-mat-number-requires-2
-mat-number-requires-2 c κs = search needs
-
-inv-cbrt-squared-on-path-requires : tie.Need-inv-cbrt-squared-on-path-requires
-inv-cbrt-squared-on-path-requires c κs = search needs
-
-fpk-powered-requires : tie.Need-fpk-powered-requires
-fpk-powered-requires c κs = search needs
-
-refused-matrix-requires : tie.Need-refused-matrix-requires
-refused-matrix-requires c κs = search needs
 
 returns : tie.Need-returns
 unfolding fpkSteps
@@ -36,12 +19,5 @@ returns-2 c =
 pub fpk-steps-spec : {M : Type 1} → statement M
 fpk-steps-spec =
     tie.close
-    (tie.spec
-    is-number-requires
-    mat-number-requires
-    mat-number-requires-2
-    inv-cbrt-squared-on-path-requires
-    fpk-powered-requires
-    refused-matrix-requires
-    returns
-    returns-2)
+    (tie.spec (λ c κs. search needs) (λ c κs. search needs) (λ c κs. search needs) (λ c κs. search needs)
+    (λ c κs. search needs) (λ c κs. search needs) returns returns-2)

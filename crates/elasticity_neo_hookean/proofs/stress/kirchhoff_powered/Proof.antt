@@ -1,28 +1,8 @@
+-- `elasticity_neo_hookean::stress::kirchhoff_powered` answers `kirchhoffPowered power p c hardening j k b`.
 use Rattle.elasticity_neo_hookean.specs.Stress.{kirchhoffPowered}
 use borrow.Author.Needs.{needs}
 use Rattle.elasticity_neo_hookean.proofs.stress.kirchhoff_powered.Statement.{statement}
 use Rattle.elasticity_neo_hookean.proofs.stress.kirchhoff_powered.Tie as tie
-
-enum-known-power : tie.Need-enum-known-power
-enum-known-power c = search needs
-
-shear-stress-requires : tie.Need-shear-stress-requires
-shear-stress-requires c κs = search needs
-
-volumetric-stress-requires : tie.Need-volumetric-stress-requires
-volumetric-stress-requires c κs = search needs
-
-split-sum-requires : tie.Need-split-sum-requires
-split-sum-requires c κs = search needs
-
-answered-requires : tie.Need-answered-requires
-answered-requires c κs = search needs
-
-enum-known-power-2 : tie.Need-enum-known-power-2
-enum-known-power-2 c = search needs
-
-refused-matrix-requires : tie.Need-refused-matrix-requires
-refused-matrix-requires c κs = search needs
 
 returns : tie.Need-returns
 unfolding kirchhoffPowered
@@ -36,13 +16,5 @@ returns-2 c = simp (c .refused-matrix .ensures, c .before .before .power2 .given
 pub kirchhoff-powered-spec : {M : Type 1} → statement M
 kirchhoff-powered-spec =
     tie.close
-    (tie.spec
-    enum-known-power
-    shear-stress-requires
-    volumetric-stress-requires
-    split-sum-requires
-    answered-requires
-    enum-known-power-2
-    refused-matrix-requires
-    returns
-    returns-2)
+    (tie.spec (λ c. search needs) (λ c κs. search needs) (λ c κs. search needs) (λ c κs. search needs)
+    (λ c κs. search needs) (λ c. search needs) (λ c κs. search needs) returns returns-2)

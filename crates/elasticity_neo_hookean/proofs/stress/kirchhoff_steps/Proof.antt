@@ -1,22 +1,8 @@
+-- `elasticity_neo_hookean::stress::kirchhoff_steps` answers `kirchhoffSteps p c hardening j k b`.
 use Rattle.elasticity_neo_hookean.specs.Stress.{kirchhoffSteps}
 use borrow.Author.Needs.{needs}
 use Rattle.elasticity_neo_hookean.proofs.stress.kirchhoff_steps.Statement.{statement}
 use Rattle.elasticity_neo_hookean.proofs.stress.kirchhoff_steps.Tie as tie
-
-is-number-requires : tie.Need-is-number-requires
-is-number-requires c κs = search needs
-
-mat-number-requires : tie.Need-mat-number-requires
-mat-number-requires c κs = search needs
-
-inv-cbrt-squared-on-path-requires : tie.Need-inv-cbrt-squared-on-path-requires
-inv-cbrt-squared-on-path-requires c κs = search needs
-
-kirchhoff-powered-requires : tie.Need-kirchhoff-powered-requires
-kirchhoff-powered-requires c κs = search needs
-
-refused-matrix-requires : tie.Need-refused-matrix-requires
-refused-matrix-requires c κs = search needs
 
 returns : tie.Need-returns
 unfolding kirchhoffSteps
@@ -33,11 +19,5 @@ returns-2 c =
 pub kirchhoff-steps-spec : {M : Type 1} → statement M
 kirchhoff-steps-spec =
     tie.close
-    (tie.spec
-    is-number-requires
-    mat-number-requires
-    inv-cbrt-squared-on-path-requires
-    kirchhoff-powered-requires
-    refused-matrix-requires
-    returns
-    returns-2)
+    (tie.spec (λ c κs. search needs) (λ c κs. search needs) (λ c κs. search needs) (λ c κs. search needs)
+    (λ c κs. search needs) returns returns-2)

@@ -1,25 +1,8 @@
+-- `eos_monaghan_sph::MonaghanSphEos::kirchhoff_stress` answers `kirchhoffStressOf self mass volume density det gradient`.
 use borrow.Author.Needs.{needs}
 use Rattle.eos_monaghan_sph.specs.Stress.{kirchhoffStressOf}
 use Rattle.eos_monaghan_sph.proofs.MonaghanSphEos.kirchhoff_stress.Statement.{statement}
 use Rattle.eos_monaghan_sph.proofs.MonaghanSphEos.kirchhoff_stress.Tie as tie
-
-inputs-finite-requires : tie.Need-inputs-finite-requires
-inputs-finite-requires c κs = search needs
-
-is-finite-requires : tie.Need-is-finite-requires
-is-finite-requires c κs = search needs
-
-mat-finite-requires : tie.Need-mat-finite-requires
-mat-finite-requires c κs = search needs
-
-worked-pressure-requires : tie.Need-worked-pressure-requires
-worked-pressure-requires c κs = search needs
-
-stress-from-requires : tie.Need-stress-from-requires
-stress-from-requires c κs = search needs
-
-refused-matrix-requires : tie.Need-refused-matrix-requires
-refused-matrix-requires c κs = search needs
 
 returns : tie.Need-returns
 unfolding kirchhoffStressOf
@@ -36,12 +19,5 @@ returns-2 c =
 pub kirchhoff-stress-spec : {M : Type 1} → statement M
 kirchhoff-stress-spec =
     tie.close
-    (tie.spec
-    inputs-finite-requires
-    is-finite-requires
-    mat-finite-requires
-    worked-pressure-requires
-    stress-from-requires
-    refused-matrix-requires
-    returns
-    returns-2)
+    (tie.spec (λ c κs. search needs) (λ c κs. search needs) (λ c κs. search needs) (λ c κs. search needs)
+    (λ c κs. search needs) (λ c κs. search needs) returns returns-2)

@@ -1,16 +1,8 @@
+-- `eos_monaghan_sph::MonaghanSphEos::pressure` answers `pressureOf self mass volume density`.
 use borrow.Author.Needs.{needs}
 use Rattle.eos_monaghan_sph.specs.Pressure.{pressureOf}
 use Rattle.eos_monaghan_sph.proofs.MonaghanSphEos.pressure.Statement.{statement}
 use Rattle.eos_monaghan_sph.proofs.MonaghanSphEos.pressure.Tie as tie
-
-inputs-finite-requires : tie.Need-inputs-finite-requires
-inputs-finite-requires c κs = search needs
-
-worked-pressure-requires : tie.Need-worked-pressure-requires
-worked-pressure-requires c κs = search needs
-
-finite-answer-requires : tie.Need-finite-answer-requires
-finite-answer-requires c κs = search needs
 
 returns : tie.Need-returns
 unfolding pressureOf
@@ -27,9 +19,4 @@ returns-2 c =
 pub pressure-spec : {M : Type 1} → statement M
 pressure-spec =
     tie.close
-    (tie.spec
-    inputs-finite-requires
-    worked-pressure-requires
-    finite-answer-requires
-    returns
-    returns-2)
+    (tie.spec (λ c κs. search needs) (λ c κs. search needs) (λ c κs. search needs) returns returns-2)

@@ -1,19 +1,8 @@
+-- `eos_monaghan_sph::MonaghanSphEos::stress` answers `stressOf self det p gradient`.
 use borrow.Author.Needs.{needs}
 use Rattle.eos_monaghan_sph.specs.Stress.{stressOf}
 use Rattle.eos_monaghan_sph.proofs.MonaghanSphEos.stress.Statement.{statement}
 use Rattle.eos_monaghan_sph.proofs.MonaghanSphEos.stress.Tie as tie
-
-pressure-part-requires : tie.Need-pressure-part-requires
-pressure-part-requires c κs = search needs
-
-pressure-part-requires-2 : tie.Need-pressure-part-requires-2
-pressure-part-requires-2 c κs = search needs
-
-viscous-part-requires : tie.Need-viscous-part-requires
-viscous-part-requires c κs = search needs
-
-mat-add-requires : tie.Need-mat-add-requires
-mat-add-requires c κs = search needs
 
 returns : tie.Need-returns
 unfolding stressOf
@@ -30,10 +19,5 @@ returns-2 c =
 pub stress-spec : {M : Type 1} → statement M
 stress-spec =
     tie.close
-    (tie.spec
-    pressure-part-requires
-    pressure-part-requires-2
-    viscous-part-requires
-    mat-add-requires
-    returns
+    (tie.spec (λ c κs. search needs) (λ c κs. search needs) (λ c κs. search needs) (λ c κs. search needs) returns
     returns-2)

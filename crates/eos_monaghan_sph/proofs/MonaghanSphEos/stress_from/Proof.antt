@@ -1,22 +1,8 @@
+-- `eos_monaghan_sph::MonaghanSphEos::stress_from` answers `stressFrom self det pressure gradient`.
 use borrow.Author.Needs.{needs}
 use Rattle.eos_monaghan_sph.specs.Stress.{stressFrom}
 use Rattle.eos_monaghan_sph.proofs.MonaghanSphEos.stress_from.Statement.{statement}
 use Rattle.eos_monaghan_sph.proofs.MonaghanSphEos.stress_from.Tie as tie
-
-enum-known-pressure : tie.Need-enum-known-pressure
-enum-known-pressure c = search needs
-
-stress-requires : tie.Need-stress-requires
-stress-requires c κs = search needs
-
-answered-requires : tie.Need-answered-requires
-answered-requires c κs = search needs
-
-enum-known-pressure-2 : tie.Need-enum-known-pressure-2
-enum-known-pressure-2 c = search needs
-
-refused-matrix-requires : tie.Need-refused-matrix-requires
-refused-matrix-requires c κs = search needs
 
 returns : tie.Need-returns
 unfolding stressFrom
@@ -31,11 +17,5 @@ returns-2 c =
 pub stress-from-spec : {M : Type 1} → statement M
 stress-from-spec =
     tie.close
-    (tie.spec
-    enum-known-pressure
-    stress-requires
-    answered-requires
-    enum-known-pressure-2
-    refused-matrix-requires
-    returns
-    returns-2)
+    (tie.spec (λ c. search needs) (λ c κs. search needs) (λ c κs. search needs) (λ c. search needs)
+    (λ c κs. search needs) returns returns-2)

@@ -1,16 +1,8 @@
+-- `eos_monaghan_sph::MonaghanSphEos::viscous_part` answers `viscousPartOf self det gradient`.
 use borrow.Author.Needs.{needs}
 use Rattle.eos_monaghan_sph.specs.Stress.{viscousPartOf}
 use Rattle.eos_monaghan_sph.proofs.MonaghanSphEos.viscous_part.Statement.{statement}
 use Rattle.eos_monaghan_sph.proofs.MonaghanSphEos.viscous_part.Tie as tie
-
-strain-rate-requires : tie.Need-strain-rate-requires
-strain-rate-requires c κs = search needs
-
-deviatoric-part-requires : tie.Need-deviatoric-part-requires
-deviatoric-part-requires c κs = search needs
-
-mat-scale-requires : tie.Need-mat-scale-requires
-mat-scale-requires c κs = search needs
 
 returns : tie.Need-returns
 unfolding viscousPartOf
@@ -19,4 +11,5 @@ returns c =
 
 pub viscous-part-spec : {M : Type 1} → statement M
 viscous-part-spec =
-    tie.close (tie.spec strain-rate-requires deviatoric-part-requires mat-scale-requires returns)
+    tie.close
+    (tie.spec (λ c κs. search needs) (λ c κs. search needs) (λ c κs. search needs) returns)

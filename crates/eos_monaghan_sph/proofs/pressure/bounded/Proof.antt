@@ -1,12 +1,7 @@
+-- `eos_monaghan_sph::pressure::bounded` answers `boundedOf law p`.
 use borrow.Author.Needs.{needs}
 use Rattle.eos_monaghan_sph.proofs.pressure.bounded.Statement.{statement}
 use Rattle.eos_monaghan_sph.proofs.pressure.bounded.Tie as tie
-
-is-number-requires : tie.Need-is-number-requires
-is-number-requires c κs = search needs
-
-max-requires : tie.Need-max-requires
-max-requires c κs = search needs
 
 returns : tie.Need-returns
 returns c =
@@ -19,4 +14,6 @@ returns-2 c =
     simp (t0)
 
 pub bounded-spec : {M : Type 1} → statement M
-bounded-spec = tie.close (tie.spec is-number-requires max-requires returns returns-2)
+bounded-spec =
+    tie.close
+    (tie.spec (λ c κs. search needs) (λ c κs. search needs) returns returns-2)

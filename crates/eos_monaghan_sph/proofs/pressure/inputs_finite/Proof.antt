@@ -1,24 +1,7 @@
+-- `eos_monaghan_sph::pressure::inputs_finite` answers `inputsFinite law mass volume density`.
 use borrow.Author.Needs.{needs}
 use Rattle.eos_monaghan_sph.proofs.pressure.inputs_finite.Statement.{statement}
 use Rattle.eos_monaghan_sph.proofs.pressure.inputs_finite.Tie as tie
-
-is-finite-requires : tie.Need-is-finite-requires
-is-finite-requires c κs = search needs
-
-is-finite-requires-2 : tie.Need-is-finite-requires-2
-is-finite-requires-2 c κs = search needs
-
-is-finite-requires-3 : tie.Need-is-finite-requires-3
-is-finite-requires-3 c κs = search needs
-
-is-finite-requires-4 : tie.Need-is-finite-requires-4
-is-finite-requires-4 c κs = search needs
-
-is-finite-requires-5 : tie.Need-is-finite-requires-5
-is-finite-requires-5 c κs = search needs
-
-is-finite-requires-6 : tie.Need-is-finite-requires-6
-is-finite-requires-6 c κs = search needs
 
 returns : tie.Need-returns
 returns c =
@@ -27,11 +10,5 @@ returns c =
 pub inputs-finite-spec : {M : Type 1} → statement M
 inputs-finite-spec =
     tie.close
-    (tie.spec
-    is-finite-requires
-    is-finite-requires-2
-    is-finite-requires-3
-    is-finite-requires-4
-    is-finite-requires-5
-    is-finite-requires-6
-    returns)
+    (tie.spec (λ c κs. search needs) (λ c κs. search needs) (λ c κs. search needs) (λ c κs. search needs)
+    (λ c κs. search needs) (λ c κs. search needs) returns)

@@ -1,10 +1,8 @@
+-- `eos_monaghan_sph::pressure::unbounded` answers `unboundedOf law ratio`.
 use borrow.Author.Needs.{needs}
 use Rattle.eos_monaghan_sph.specs.Pressure.{unboundedOf}
 use Rattle.eos_monaghan_sph.proofs.pressure.unbounded.Statement.{statement}
 use Rattle.eos_monaghan_sph.proofs.pressure.unbounded.Tie as tie
-
-powi-requires : tie.Need-powi-requires
-powi-requires c κs = search needs
 
 returns : tie.Need-returns
 unfolding unboundedOf
@@ -12,4 +10,6 @@ returns c =
     simp (c .before .powi .ensures)
 
 pub unbounded-spec : {M : Type 1} → statement M
-unbounded-spec = tie.close (tie.spec powi-requires returns)
+unbounded-spec =
+    tie.close
+    (tie.spec (λ c κs. search needs) returns)

@@ -1,19 +1,8 @@
+-- `eos_monaghan_sph::pressure::worked_pressure` answers `workedPressure law mass volume density`.
 use borrow.Author.Needs.{needs}
 use Rattle.eos_monaghan_sph.specs.Pressure.{workedPressure}
 use Rattle.eos_monaghan_sph.proofs.pressure.worked_pressure.Statement.{statement}
 use Rattle.eos_monaghan_sph.proofs.pressure.worked_pressure.Tie as tie
-
-ratio-requires : tie.Need-ratio-requires
-ratio-requires c κs = search needs
-
-is-number-requires : tie.Need-is-number-requires
-is-number-requires c κs = search needs
-
-unbounded-requires : tie.Need-unbounded-requires
-unbounded-requires c κs = search needs
-
-bounded-requires : tie.Need-bounded-requires
-bounded-requires c κs = search needs
 
 returns : tie.Need-returns
 unfolding workedPressure
@@ -30,10 +19,5 @@ returns-2 c =
 pub worked-pressure-spec : {M : Type 1} → statement M
 worked-pressure-spec =
     tie.close
-    (tie.spec
-    ratio-requires
-    is-number-requires
-    unbounded-requires
-    bounded-requires
-    returns
+    (tie.spec (λ c κs. search needs) (λ c κs. search needs) (λ c κs. search needs) (λ c κs. search needs) returns
     returns-2)

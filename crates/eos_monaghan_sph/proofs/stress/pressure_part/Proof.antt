@@ -1,10 +1,8 @@
+-- `eos_monaghan_sph::stress::pressure_part` answers `pressurePartOf p det`.
 use borrow.Author.Needs.{needs}
 use Rattle.eos_monaghan_sph.specs.Stress.{pressurePartOf}
 use Rattle.eos_monaghan_sph.proofs.stress.pressure_part.Statement.{statement}
 use Rattle.eos_monaghan_sph.proofs.stress.pressure_part.Tie as tie
-
-identity-times-requires : tie.Need-identity-times-requires
-identity-times-requires c κs = search needs
 
 returns : tie.Need-returns
 unfolding pressurePartOf
@@ -12,4 +10,6 @@ returns c =
     simp (c .identity-times .ensures)
 
 pub pressure-part-spec : {M : Type 1} → statement M
-pressure-part-spec = tie.close (tie.spec identity-times-requires returns)
+pressure-part-spec =
+    tie.close
+    (tie.spec (λ c κs. search needs) returns)

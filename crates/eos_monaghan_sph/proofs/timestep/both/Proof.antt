@@ -1,22 +1,8 @@
+-- `eos_monaghan_sph::timestep::both` answers `bothOf single cfl`.
 use borrow.Author.Needs.{needs}
 use Rattle.eos_monaghan_sph.specs.Timestep.{bothOf}
 use Rattle.eos_monaghan_sph.proofs.timestep.both.Statement.{statement}
 use Rattle.eos_monaghan_sph.proofs.timestep.both.Tie as tie
-
-enum-known-single : tie.Need-enum-known-single
-enum-known-single c = search needs
-
-smaller-requires : tie.Need-smaller-requires
-smaller-requires c κs = search needs
-
-enum-told : tie.Need-enum-told
-enum-told c = search needs
-
-finite-answer-requires : tie.Need-finite-answer-requires
-finite-answer-requires c κs = search needs
-
-enum-known-single-2 : tie.Need-enum-known-single-2
-enum-known-single-2 c = search needs
 
 returns : tie.Need-returns
 unfolding bothOf
@@ -36,12 +22,5 @@ returns-3 c =
 pub both-spec : {M : Type 1} → statement M
 both-spec =
     tie.close
-    (tie.spec
-    enum-known-single
-    smaller-requires
-    enum-told
-    finite-answer-requires
-    enum-known-single-2
-    returns
-    returns-2
-    returns-3)
+    (tie.spec (λ c. search needs) (λ c κs. search needs) (λ c. search needs) (λ c κs. search needs)
+    (λ c. search needs) returns returns-2 returns-3)

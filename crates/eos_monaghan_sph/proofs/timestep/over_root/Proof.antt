@@ -1,13 +1,8 @@
+-- `eos_monaghan_sph::timestep::over_root` answers `overRootOf width root`.
 use borrow.Author.Needs.{needs}
 use Rattle.eos_monaghan_sph.specs.Timestep.{overRootOf}
 use Rattle.eos_monaghan_sph.proofs.timestep.over_root.Statement.{statement}
 use Rattle.eos_monaghan_sph.proofs.timestep.over_root.Tie as tie
-
-enum-known-root : tie.Need-enum-known-root
-enum-known-root c = search needs
-
-enum-known-root-2 : tie.Need-enum-known-root-2
-enum-known-root-2 c = search needs
 
 returns : tie.Need-returns
 unfolding overRootOf
@@ -20,4 +15,6 @@ returns-2 c =
     simp (c .before .root2 .given .1)
 
 pub over-root-spec : {M : Type 1} → statement M
-over-root-spec = tie.close (tie.spec enum-known-root enum-known-root-2 returns returns-2)
+over-root-spec =
+    tie.close
+    (tie.spec (λ c. search needs) (λ c. search needs) returns returns-2)

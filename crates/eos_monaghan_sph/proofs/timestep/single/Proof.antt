@@ -1,16 +1,8 @@
+-- `eos_monaghan_sph::timestep::single` answers `singleOf lead argument`.
 use borrow.Author.Needs.{needs}
 use Rattle.eos_monaghan_sph.specs.Timestep.{singleOf}
 use Rattle.eos_monaghan_sph.proofs.timestep.single.Statement.{statement}
 use Rattle.eos_monaghan_sph.proofs.timestep.single.Tie as tie
-
-is-number-requires : tie.Need-is-number-requires
-is-number-requires c κs = search needs
-
-sqrt-on-path-requires : tie.Need-sqrt-on-path-requires
-sqrt-on-path-requires c κs = search needs
-
-stepped-requires : tie.Need-stepped-requires
-stepped-requires c κs = search needs
 
 returns : tie.Need-returns
 unfolding singleOf
@@ -35,10 +27,4 @@ returns-3 c =
 pub single-spec : {M : Type 1} → statement M
 single-spec =
     tie.close
-    (tie.spec
-    is-number-requires
-    sqrt-on-path-requires
-    stepped-requires
-    returns
-    returns-2
-    returns-3)
+    (tie.spec (λ c κs. search needs) (λ c κs. search needs) (λ c κs. search needs) returns returns-2 returns-3)

@@ -1,16 +1,8 @@
+-- `eos_monaghan_sph::timestep::stepped` answers `steppedOf lead root`.
 use borrow.Author.Needs.{needs}
 use Rattle.eos_monaghan_sph.specs.Timestep.{steppedOf}
 use Rattle.eos_monaghan_sph.proofs.timestep.stepped.Statement.{statement}
 use Rattle.eos_monaghan_sph.proofs.timestep.stepped.Tie as tie
-
-enum-known-root : tie.Need-enum-known-root
-enum-known-root c = search needs
-
-is-number-requires : tie.Need-is-number-requires
-is-number-requires c κs = search needs
-
-enum-known-root-2 : tie.Need-enum-known-root-2
-enum-known-root-2 c = search needs
 
 returns : tie.Need-returns
 unfolding steppedOf
@@ -32,4 +24,4 @@ returns-3 c =
 pub stepped-spec : {M : Type 1} → statement M
 stepped-spec =
     tie.close
-    (tie.spec enum-known-root is-number-requires enum-known-root-2 returns returns-2 returns-3)
+    (tie.spec (λ c. search needs) (λ c κs. search needs) (λ c. search needs) returns returns-2 returns-3)

@@ -8,12 +8,10 @@ use lib.Ieee.{binary64, ofBits, nanBits}
 use Rattle.exponential.specs.Worked.{expBits, cutOf}
 use Rattle.exponential.specs.Sinh.{growthOf}
 use Rattle.exponential.proofs.SinhClose.{grown}
-use Rattle.exponential.proofs.Unpacking.{cut-small, not-nan-bits}
+use Rattle.exact.specs.Patterns.{not-nan-bits}
+use Rattle.exponential.proofs.Unpacking.{cut-small}
 use Rattle.exponential.proofs.hyperbolic.growth.Statement.{statement}
 use Rattle.exponential.proofs.hyperbolic.growth.Tie as tie
-
-cut-requires : tie.Need-cut-requires
-cut-requires c κs = search needs
 
 exp-bits-requires : tie.Need-exp-bits-requires
 exp-bits-requires c κs =
@@ -33,4 +31,6 @@ unfolding growthOf
 returns c = ap (ofBits binary64) (c .exp-bits .ensures ∙ ap (expBits false) (c .before .cut .ensures))
 
 pub growth-spec : {M : Type 1} → statement M
-growth-spec = tie.close (tie.spec cut-requires exp-bits-requires float-from-bits-result returns)
+growth-spec =
+    tie.close
+    (tie.spec (λ c κs. search needs) exp-bits-requires float-from-bits-result returns)

@@ -7,26 +7,11 @@ use Rattle.exponential.proofs.Parts.{doubled}
 use Rattle.exponential.proofs.part.exp_part.Statement.{statement}
 use Rattle.exponential.proofs.part.exp_part.Tie as tie
 
-coarse-requires : tie.Need-coarse-requires
-coarse-requires c κs = search needs
-
-fine-requires : tie.Need-fine-requires
-fine-requires c κs = search needs
-
-tail-part-requires : tie.Need-tail-part-requires
-tail-part-requires c κs = search needs
-
-mulhi-requires : tie.Need-mulhi-requires
-mulhi-requires c κs = search needs
-
 mul-mulhi : tie.Need-mul-mulhi
 mul-mulhi c =
     let f = c .before .before .before in
     let e = c .mulhi .ensures ∙ ap₂ (λ x y. x * y / 2 ^ 64) (f .coarse .ensures) (c .before .before .fine .ensures) in
     record { fits = subst (λ (v : ℕ). v * 2 < 2 ^ 64) (sym e) (doubled (f .before .args .r) (f .before .pre)) }
-
-mulhi-requires-2 : tie.Need-mulhi-requires-2
-mulhi-requires-2 c κs = search needs
 
 returns : tie.Need-returns
 unfolding partOf
@@ -38,11 +23,5 @@ returns c =
 pub exp-part-spec : {M : Type 1} → statement M
 exp-part-spec =
     tie.close
-    (tie.spec
-    coarse-requires
-    fine-requires
-    tail-part-requires
-    mulhi-requires
-    mul-mulhi
-    mulhi-requires-2
-    returns)
+    (tie.spec (λ c κs. search needs) (λ c κs. search needs) (λ c κs. search needs) (λ c κs. search needs) mul-mulhi
+    (λ c κs. search needs) returns)

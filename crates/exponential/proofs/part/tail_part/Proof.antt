@@ -13,12 +13,6 @@ mul-g2 c = omega (arith, g2-le (c .args .h) (c .pre))
 mul-g3 : tie.Need-mul-g3
 mul-g3 c = omega (arith, g3-le (c .args .h) (c .pre))
 
-mul-result : tie.Need-mul-result
-mul-result c = search needs
-
-add-result : tie.Need-add-result
-add-result c = search needs
-
 add-result-2 : tie.Need-add-result-2
 add-result-2 c = omega (arith, g2-le (c .args .h) (c .pre))
 
@@ -31,4 +25,5 @@ returns c = refl
 
 pub tail-part-spec : {M : Type 1} → statement M
 tail-part-spec =
-    tie.close (tie.spec mul-g2 mul-g3 mul-result add-result add-result-2 add-result-3 returns)
+    tie.close
+    (tie.spec mul-g2 mul-g3 (λ c. search needs) (λ c. search needs) add-result-2 add-result-3 returns)

@@ -1,13 +1,8 @@
+-- `failure_maximum_stress::MaximumStressFailure::new` answers `limitsOf principal shear`.
 use borrow.Author.Needs.{needs}
 use Rattle.failure_maximum_stress.specs.Failure.{limitsOf}
 use Rattle.failure_maximum_stress.proofs.MaximumStressFailure.new.Statement.{statement}
 use Rattle.failure_maximum_stress.proofs.MaximumStressFailure.new.Tie as tie
-
-is-finite-requires : tie.Need-is-finite-requires
-is-finite-requires c κs = search needs
-
-is-finite-requires-2 : tie.Need-is-finite-requires-2
-is-finite-requires-2 c κs = search needs
 
 returns : tie.Need-returns
 unfolding limitsOf
@@ -22,4 +17,6 @@ returns-2 c =
     simp (t0)
 
 pub new-spec : {M : Type 1} → statement M
-new-spec = tie.close (tie.spec is-finite-requires is-finite-requires-2 returns returns-2)
+new-spec =
+    tie.close
+    (tie.spec (λ c κs. search needs) (λ c κs. search needs) returns returns-2)

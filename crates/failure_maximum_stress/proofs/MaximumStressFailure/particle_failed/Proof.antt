@@ -1,18 +1,10 @@
+-- `failure_maximum_stress::MaximumStressFailure::particle_failed` answers `verdictOf self stresses`.
 use borrow.Author.Needs.{needs}
 use Rattle.failure_maximum_stress.specs.Failure.{verdictOf}
 use Rattle.failure_maximum_stress.proofs.MaximumStressFailure.particle_failed.Statement.{
   statement,
 }
 use Rattle.failure_maximum_stress.proofs.MaximumStressFailure.particle_failed.Tie as tie
-
-limits-finite-requires : tie.Need-limits-finite-requires
-limits-finite-requires c κs = search needs
-
-row-finite-requires : tie.Need-row-finite-requires
-row-finite-requires c κs = search needs
-
-exceeds-requires : tie.Need-exceeds-requires
-exceeds-requires c κs = search needs
 
 returns : tie.Need-returns
 unfolding verdictOf
@@ -37,10 +29,4 @@ returns-3 c =
 pub particle-failed-spec : {M : Type 1} → statement M
 particle-failed-spec =
     tie.close
-    (tie.spec
-    limits-finite-requires
-    row-finite-requires
-    exceeds-requires
-    returns
-    returns-2
-    returns-3)
+    (tie.spec (λ c κs. search needs) (λ c κs. search needs) (λ c κs. search needs) returns returns-2 returns-3)

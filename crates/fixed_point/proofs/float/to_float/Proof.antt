@@ -25,29 +25,17 @@ whole c = mod-eq-of-lt (parts c .shift .high)
 returns : tie.Need-returns
 returns c = rw (c .if1 .taken) (at-zero (c .before .args .u) (c .before .args .negative))
 
-sub-pattern : tie.Need-sub-pattern
-sub-pattern c = search needs
-
 cast-pattern : tie.Need-cast-pattern
 cast-pattern c = let p = parts c in search needs
 
 sub-pattern-2 : tie.Need-sub-pattern-2
 sub-pattern-2 c = let p = parts c in search needs
 
-mul-pattern : tie.Need-mul-pattern
-mul-pattern c = search needs
-
 cast-pattern-2 : tie.Need-cast-pattern-2
 cast-pattern-2 c = let p = parts c in search needs
 
 shl-pattern : tie.Need-shl-pattern
 shl-pattern c = let p = parts c in search needs
-
-add-pattern : tie.Need-add-pattern
-add-pattern c = search needs
-
-add-result : tie.Need-add-result
-add-result c = search needs
 
 float-from-bits-result : tie.Need-float-from-bits-result
 float-from-bits-result c = rw (whole (c .before)) (not-nan-bits _ (parts (c .before) .minus .fine .0))
@@ -72,17 +60,5 @@ returns-3 c =
 pub to-float-spec : {M : Type 1} → statement M
 to-float-spec =
     tie.close
-    (tie.spec
-    returns
-    sub-pattern
-    cast-pattern
-    sub-pattern-2
-    mul-pattern
-    cast-pattern-2
-    shl-pattern
-    add-pattern
-    add-result
-    float-from-bits-result
-    float-from-bits-result-2
-    returns-2
-    returns-3)
+    (tie.spec returns (λ c. search needs) cast-pattern sub-pattern-2 (λ c. search needs) cast-pattern-2 shl-pattern
+    (λ c. search needs) (λ c. search needs) float-from-bits-result float-from-bits-result-2 returns-2 returns-3)

@@ -1,33 +1,10 @@
+-- `host::elasticity::pasoletu_corotated_elastic_energy_density` meets its contract.
 use borrow.Author.Needs.{needs}
 use Rattle.host.specs.Calls.{corotatedElasticEnergyDensity}
 use Rattle.host.proofs.elasticity.pasoletu_corotated_elastic_energy_density.Statement.{
   statement,
 }
 use Rattle.host.proofs.elasticity.pasoletu_corotated_elastic_energy_density.Tie as tie
-
-corotated-requires : tie.Need-corotated-requires
-corotated-requires c κs = search needs
-
-row-requires : tie.Need-row-requires
-row-requires c κs = search needs
-
-elastic-energy-density-requires : tie.Need-elastic-energy-density-requires
-elastic-energy-density-requires c κs = search needs
-
-word-requires : tie.Need-word-requires
-word-requires c κs = search needs
-
-flagged-requires : tie.Need-flagged-requires
-flagged-requires c κs = search needs
-
-sized-requires : tie.Need-sized-requires
-sized-requires c κs = search needs
-
-put-requires : tie.Need-put-requires
-put-requires c κs = search needs
-
-same-length : tie.Need-same-length
-same-length c = search needs
 
 returns : tie.Need-returns
 unfolding corotatedElasticEnergyDensity
@@ -44,13 +21,5 @@ returns c =
 pub pasoletu-corotated-elastic-energy-density-spec : {M : Type 1} → statement M
 pasoletu-corotated-elastic-energy-density-spec =
     tie.close
-    (tie.spec
-    corotated-requires
-    row-requires
-    elastic-energy-density-requires
-    word-requires
-    flagged-requires
-    sized-requires
-    put-requires
-    same-length
-    returns)
+    (tie.spec (λ c κs. search needs) (λ c κs. search needs) (λ c κs. search needs) (λ c κs. search needs)
+    (λ c κs. search needs) (λ c κs. search needs) (λ c κs. search needs) (λ c. search needs) returns)

@@ -1,34 +1,8 @@
+-- `host::elasticity::pasoletu_corotated_pos_energy` meets its contract.
 use borrow.Author.Needs.{needs}
 use Rattle.host.specs.Calls.{corotatedPosEnergy}
 use Rattle.host.proofs.elasticity.pasoletu_corotated_pos_energy.Statement.{statement}
 use Rattle.host.proofs.elasticity.pasoletu_corotated_pos_energy.Tie as tie
-
-corotated-requires : tie.Need-corotated-requires
-corotated-requires c κs = search needs
-
-matrix-requires : tie.Need-matrix-requires
-matrix-requires c κs = search needs
-
-row-requires : tie.Need-row-requires
-row-requires c κs = search needs
-
-pos-energy-requires : tie.Need-pos-energy-requires
-pos-energy-requires c κs = search needs
-
-word-requires : tie.Need-word-requires
-word-requires c κs = search needs
-
-flagged-requires : tie.Need-flagged-requires
-flagged-requires c κs = search needs
-
-sized-requires : tie.Need-sized-requires
-sized-requires c κs = search needs
-
-put-requires : tie.Need-put-requires
-put-requires c κs = search needs
-
-same-length : tie.Need-same-length
-same-length c = search needs
 
 returns : tie.Need-returns
 unfolding corotatedPosEnergy
@@ -46,14 +20,6 @@ returns c =
 pub pasoletu-corotated-pos-energy-spec : {M : Type 1} → statement M
 pasoletu-corotated-pos-energy-spec =
     tie.close
-    (tie.spec
-    corotated-requires
-    matrix-requires
-    row-requires
-    pos-energy-requires
-    word-requires
-    flagged-requires
-    sized-requires
-    put-requires
-    same-length
+    (tie.spec (λ c κs. search needs) (λ c κs. search needs) (λ c κs. search needs) (λ c κs. search needs)
+    (λ c κs. search needs) (λ c κs. search needs) (λ c κs. search needs) (λ c κs. search needs) (λ c. search needs)
     returns)

@@ -1,27 +1,10 @@
+-- `host::elasticity::pasoletu_neo_hookean_elastic_energy_density` meets its contract.
 use borrow.Author.Needs.{needs}
 use Rattle.host.specs.Calls.{neoHookeanElasticEnergyDensity}
 use Rattle.host.proofs.elasticity.pasoletu_neo_hookean_elastic_energy_density.Statement.{
   statement,
 }
 use Rattle.host.proofs.elasticity.pasoletu_neo_hookean_elastic_energy_density.Tie as tie
-
-neo-hookean-requires : tie.Need-neo-hookean-requires
-neo-hookean-requires c κs = search needs
-
-matrix-requires : tie.Need-matrix-requires
-matrix-requires c κs = search needs
-
-elastic-energy-density-requires : tie.Need-elastic-energy-density-requires
-elastic-energy-density-requires c κs = search needs
-
-sized-requires : tie.Need-sized-requires
-sized-requires c κs = search needs
-
-put-requires : tie.Need-put-requires
-put-requires c κs = search needs
-
-same-length : tie.Need-same-length
-same-length c = search needs
 
 returns : tie.Need-returns
 unfolding neoHookeanElasticEnergyDensity
@@ -36,11 +19,5 @@ returns c =
 pub pasoletu-neo-hookean-elastic-energy-density-spec : {M : Type 1} → statement M
 pasoletu-neo-hookean-elastic-energy-density-spec =
     tie.close
-    (tie.spec
-    neo-hookean-requires
-    matrix-requires
-    elastic-energy-density-requires
-    sized-requires
-    put-requires
-    same-length
-    returns)
+    (tie.spec (λ c κs. search needs) (λ c κs. search needs) (λ c κs. search needs) (λ c κs. search needs)
+    (λ c κs. search needs) (λ c. search needs) returns)

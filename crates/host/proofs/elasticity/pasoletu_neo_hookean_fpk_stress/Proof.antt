@@ -1,25 +1,8 @@
+-- `host::elasticity::pasoletu_neo_hookean_fpk_stress` meets its contract.
 use borrow.Author.Needs.{needs}
 use Rattle.host.specs.Calls.{neoHookeanFpkStress}
 use Rattle.host.proofs.elasticity.pasoletu_neo_hookean_fpk_stress.Statement.{statement}
 use Rattle.host.proofs.elasticity.pasoletu_neo_hookean_fpk_stress.Tie as tie
-
-neo-hookean-requires : tie.Need-neo-hookean-requires
-neo-hookean-requires c κs = search needs
-
-matrix-requires : tie.Need-matrix-requires
-matrix-requires c κs = search needs
-
-fpk-stress-requires : tie.Need-fpk-stress-requires
-fpk-stress-requires c κs = search needs
-
-sized-matrix-requires : tie.Need-sized-matrix-requires
-sized-matrix-requires c κs = search needs
-
-put-matrix-requires : tie.Need-put-matrix-requires
-put-matrix-requires c κs = search needs
-
-same-length : tie.Need-same-length
-same-length c = search needs
 
 returns : tie.Need-returns
 unfolding neoHookeanFpkStress
@@ -34,11 +17,5 @@ returns c =
 pub pasoletu-neo-hookean-fpk-stress-spec : {M : Type 1} → statement M
 pasoletu-neo-hookean-fpk-stress-spec =
     tie.close
-    (tie.spec
-    neo-hookean-requires
-    matrix-requires
-    fpk-stress-requires
-    sized-matrix-requires
-    put-matrix-requires
-    same-length
-    returns)
+    (tie.spec (λ c κs. search needs) (λ c κs. search needs) (λ c κs. search needs) (λ c κs. search needs)
+    (λ c κs. search needs) (λ c. search needs) returns)

@@ -1,25 +1,8 @@
+-- `host::elasticity::pasoletu_neo_hookean_pos_energy` meets its contract.
 use borrow.Author.Needs.{needs}
 use Rattle.host.specs.Calls.{neoHookeanPosEnergy}
 use Rattle.host.proofs.elasticity.pasoletu_neo_hookean_pos_energy.Statement.{statement}
 use Rattle.host.proofs.elasticity.pasoletu_neo_hookean_pos_energy.Tie as tie
-
-neo-hookean-requires : tie.Need-neo-hookean-requires
-neo-hookean-requires c κs = search needs
-
-matrix-requires : tie.Need-matrix-requires
-matrix-requires c κs = search needs
-
-pos-energy-requires : tie.Need-pos-energy-requires
-pos-energy-requires c κs = search needs
-
-sized-requires : tie.Need-sized-requires
-sized-requires c κs = search needs
-
-put-requires : tie.Need-put-requires
-put-requires c κs = search needs
-
-same-length : tie.Need-same-length
-same-length c = search needs
 
 returns : tie.Need-returns
 unfolding neoHookeanPosEnergy
@@ -34,11 +17,5 @@ returns c =
 pub pasoletu-neo-hookean-pos-energy-spec : {M : Type 1} → statement M
 pasoletu-neo-hookean-pos-energy-spec =
     tie.close
-    (tie.spec
-    neo-hookean-requires
-    matrix-requires
-    pos-energy-requires
-    sized-requires
-    put-requires
-    same-length
-    returns)
+    (tie.spec (λ c κs. search needs) (λ c κs. search needs) (λ c κs. search needs) (λ c κs. search needs)
+    (λ c κs. search needs) (λ c. search needs) returns)

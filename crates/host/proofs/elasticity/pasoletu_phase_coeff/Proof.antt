@@ -1,15 +1,7 @@
+-- `host::elasticity::pasoletu_phase_coeff` meets its contract.
 use borrow.Author.Needs.{needs}
 use Rattle.host.proofs.elasticity.pasoletu_phase_coeff.Statement.{statement}
 use Rattle.host.proofs.elasticity.pasoletu_phase_coeff.Tie as tie
-
-phase-coeff-requires : tie.Need-phase-coeff-requires
-phase-coeff-requires c κs = search needs
-
-put-requires : tie.Need-put-requires
-put-requires c κs = search needs
-
-same-length : tie.Need-same-length
-same-length c = search needs
 
 returns : tie.Need-returns
 returns c =
@@ -19,4 +11,5 @@ returns c =
 
 pub pasoletu-phase-coeff-spec : {M : Type 1} → statement M
 pasoletu-phase-coeff-spec =
-    tie.close (tie.spec phase-coeff-requires put-requires same-length returns)
+    tie.close
+    (tie.spec (λ c κs. search needs) (λ c κs. search needs) (λ c. search needs) returns)

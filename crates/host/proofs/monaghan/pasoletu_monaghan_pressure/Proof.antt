@@ -1,18 +1,7 @@
+-- `host::monaghan::pasoletu_monaghan_pressure` meets its contract.
 use borrow.Author.Needs.{needs}
 use Rattle.host.proofs.monaghan.pasoletu_monaghan_pressure.Statement.{statement}
 use Rattle.host.proofs.monaghan.pasoletu_monaghan_pressure.Tie as tie
-
-eos-requires : tie.Need-eos-requires
-eos-requires c κs = search needs
-
-pressure-requires : tie.Need-pressure-requires
-pressure-requires c κs = search needs
-
-put-requires : tie.Need-put-requires
-put-requires c κs = search needs
-
-same-length : tie.Need-same-length
-same-length c = search needs
 
 returns : tie.Need-returns
 returns c =
@@ -23,4 +12,5 @@ returns c =
 
 pub pasoletu-monaghan-pressure-spec : {M : Type 1} → statement M
 pasoletu-monaghan-pressure-spec =
-    tie.close (tie.spec eos-requires pressure-requires put-requires same-length returns)
+    tie.close
+    (tie.spec (λ c κs. search needs) (λ c κs. search needs) (λ c κs. search needs) (λ c. search needs) returns)

@@ -1,25 +1,8 @@
+-- `host::monaghan::pasoletu_monaghan_timestep_bound` meets its contract.
 use borrow.Author.Needs.{needs}
 use Rattle.host.specs.Calls.{monaghanTimestepBound}
 use Rattle.host.proofs.monaghan.pasoletu_monaghan_timestep_bound.Statement.{statement}
 use Rattle.host.proofs.monaghan.pasoletu_monaghan_timestep_bound.Tie as tie
-
-eos-requires : tie.Need-eos-requires
-eos-requires c κs = search needs
-
-row-requires : tie.Need-row-requires
-row-requires c κs = search needs
-
-timestep-bound-requires : tie.Need-timestep-bound-requires
-timestep-bound-requires c κs = search needs
-
-sized-requires : tie.Need-sized-requires
-sized-requires c κs = search needs
-
-put-requires : tie.Need-put-requires
-put-requires c κs = search needs
-
-same-length : tie.Need-same-length
-same-length c = search needs
 
 returns : tie.Need-returns
 unfolding monaghanTimestepBound
@@ -34,11 +17,5 @@ returns c =
 pub pasoletu-monaghan-timestep-bound-spec : {M : Type 1} → statement M
 pasoletu-monaghan-timestep-bound-spec =
     tie.close
-    (tie.spec
-    eos-requires
-    row-requires
-    timestep-bound-requires
-    sized-requires
-    put-requires
-    same-length
-    returns)
+    (tie.spec (λ c κs. search needs) (λ c κs. search needs) (λ c κs. search needs) (λ c κs. search needs)
+    (λ c κs. search needs) (λ c. search needs) returns)

@@ -1,15 +1,7 @@
+-- `host::physics_calls::pasoletu_bulk_modulus` meets its contract.
 use borrow.Author.Needs.{needs}
 use Rattle.host.proofs.physics_calls.pasoletu_bulk_modulus.Statement.{statement}
 use Rattle.host.proofs.physics_calls.pasoletu_bulk_modulus.Tie as tie
-
-bulk-modulus-requires : tie.Need-bulk-modulus-requires
-bulk-modulus-requires c κs = search needs
-
-put-requires : tie.Need-put-requires
-put-requires c κs = search needs
-
-same-length : tie.Need-same-length
-same-length c = search needs
 
 returns : tie.Need-returns
 returns c =
@@ -19,4 +11,5 @@ returns c =
 
 pub pasoletu-bulk-modulus-spec : {M : Type 1} → statement M
 pasoletu-bulk-modulus-spec =
-    tie.close (tie.spec bulk-modulus-requires put-requires same-length returns)
+    tie.close
+    (tie.spec (λ c κs. search needs) (λ c κs. search needs) (λ c. search needs) returns)

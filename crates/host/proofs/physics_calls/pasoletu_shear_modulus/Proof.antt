@@ -1,15 +1,7 @@
+-- `host::physics_calls::pasoletu_shear_modulus` meets its contract.
 use borrow.Author.Needs.{needs}
 use Rattle.host.proofs.physics_calls.pasoletu_shear_modulus.Statement.{statement}
 use Rattle.host.proofs.physics_calls.pasoletu_shear_modulus.Tie as tie
-
-shear-modulus-requires : tie.Need-shear-modulus-requires
-shear-modulus-requires c κs = search needs
-
-put-requires : tie.Need-put-requires
-put-requires c κs = search needs
-
-same-length : tie.Need-same-length
-same-length c = search needs
 
 returns : tie.Need-returns
 returns c =
@@ -19,4 +11,5 @@ returns c =
 
 pub pasoletu-shear-modulus-spec : {M : Type 1} → statement M
 pasoletu-shear-modulus-spec =
-    tie.close (tie.spec shear-modulus-requires put-requires same-length returns)
+    tie.close
+    (tie.spec (λ c κs. search needs) (λ c κs. search needs) (λ c. search needs) returns)

@@ -1,15 +1,7 @@
+-- `host::physics_calls::pasoletu_solve_quadratic` meets its contract.
 use borrow.Author.Needs.{needs}
 use Rattle.host.proofs.physics_calls.pasoletu_solve_quadratic.Statement.{statement}
 use Rattle.host.proofs.physics_calls.pasoletu_solve_quadratic.Tie as tie
-
-solve-quadratic-requires : tie.Need-solve-quadratic-requires
-solve-quadratic-requires c κs = search needs
-
-put-pair-requires : tie.Need-put-pair-requires
-put-pair-requires c κs = search needs
-
-same-length : tie.Need-same-length
-same-length c = search needs
 
 returns : tie.Need-returns
 returns c =
@@ -19,4 +11,5 @@ returns c =
 
 pub pasoletu-solve-quadratic-spec : {M : Type 1} → statement M
 pasoletu-solve-quadratic-spec =
-    tie.close (tie.spec solve-quadratic-requires put-pair-requires same-length returns)
+    tie.close
+    (tie.spec (λ c κs. search needs) (λ c κs. search needs) (λ c. search needs) returns)

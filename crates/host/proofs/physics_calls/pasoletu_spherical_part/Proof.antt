@@ -1,22 +1,8 @@
+-- `host::physics_calls::pasoletu_spherical_part` meets its contract.
 use borrow.Author.Needs.{needs}
 use Rattle.host.specs.Calls.{sphericalPart}
 use Rattle.host.proofs.physics_calls.pasoletu_spherical_part.Statement.{statement}
 use Rattle.host.proofs.physics_calls.pasoletu_spherical_part.Tie as tie
-
-matrix-requires : tie.Need-matrix-requires
-matrix-requires c κs = search needs
-
-spherical-part-requires : tie.Need-spherical-part-requires
-spherical-part-requires c κs = search needs
-
-sized-requires : tie.Need-sized-requires
-sized-requires c κs = search needs
-
-put-requires : tie.Need-put-requires
-put-requires c κs = search needs
-
-same-length : tie.Need-same-length
-same-length c = search needs
 
 returns : tie.Need-returns
 unfolding sphericalPart
@@ -30,10 +16,5 @@ returns c =
 pub pasoletu-spherical-part-spec : {M : Type 1} → statement M
 pasoletu-spherical-part-spec =
     tie.close
-    (tie.spec
-    matrix-requires
-    spherical-part-requires
-    sized-requires
-    put-requires
-    same-length
-    returns)
+    (tie.spec (λ c κs. search needs) (λ c κs. search needs) (λ c κs. search needs) (λ c κs. search needs)
+    (λ c. search needs) returns)

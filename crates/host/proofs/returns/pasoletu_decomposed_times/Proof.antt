@@ -1,25 +1,8 @@
+-- `host::returns::pasoletu_decomposed_times` meets its contract.
 use borrow.Author.Needs.{needs}
 use Rattle.host.specs.Calls.{decomposedTimes}
 use Rattle.host.proofs.returns.pasoletu_decomposed_times.Statement.{statement}
 use Rattle.host.proofs.returns.pasoletu_decomposed_times.Tie as tie
-
-decomposed-requires : tie.Need-decomposed-requires
-decomposed-requires c κs = search needs
-
-row-requires : tie.Need-row-requires
-row-requires c κs = search needs
-
-times-requires : tie.Need-times-requires
-times-requires c κs = search needs
-
-sized-vector-requires : tie.Need-sized-vector-requires
-sized-vector-requires c κs = search needs
-
-put-vector-requires : tie.Need-put-vector-requires
-put-vector-requires c κs = search needs
-
-same-length : tie.Need-same-length
-same-length c = search needs
 
 returns : tie.Need-returns
 unfolding decomposedTimes
@@ -34,11 +17,5 @@ returns c =
 pub pasoletu-decomposed-times-spec : {M : Type 1} → statement M
 pasoletu-decomposed-times-spec =
     tie.close
-    (tie.spec
-    decomposed-requires
-    row-requires
-    times-requires
-    sized-vector-requires
-    put-vector-requires
-    same-length
-    returns)
+    (tie.spec (λ c κs. search needs) (λ c κs. search needs) (λ c κs. search needs) (λ c κs. search needs)
+    (λ c κs. search needs) (λ c. search needs) returns)

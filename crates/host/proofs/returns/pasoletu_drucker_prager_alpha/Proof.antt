@@ -1,28 +1,8 @@
+-- `host::returns::pasoletu_drucker_prager_alpha` meets its contract.
 use borrow.Author.Needs.{needs}
 use Rattle.host.specs.Calls.{druckerPragerAlpha}
 use Rattle.host.proofs.returns.pasoletu_drucker_prager_alpha.Statement.{statement}
 use Rattle.host.proofs.returns.pasoletu_drucker_prager_alpha.Tie as tie
-
-drucker-prager-requires : tie.Need-drucker-prager-requires
-drucker-prager-requires c κs = search needs
-
-word-requires : tie.Need-word-requires
-word-requires c κs = search needs
-
-alpha-requires : tie.Need-alpha-requires
-alpha-requires c κs = search needs
-
-flagged-requires : tie.Need-flagged-requires
-flagged-requires c κs = search needs
-
-sized-requires : tie.Need-sized-requires
-sized-requires c κs = search needs
-
-put-requires : tie.Need-put-requires
-put-requires c κs = search needs
-
-same-length : tie.Need-same-length
-same-length c = search needs
 
 returns : tie.Need-returns
 unfolding druckerPragerAlpha
@@ -38,12 +18,5 @@ returns c =
 pub pasoletu-drucker-prager-alpha-spec : {M : Type 1} → statement M
 pasoletu-drucker-prager-alpha-spec =
     tie.close
-    (tie.spec
-    drucker-prager-requires
-    word-requires
-    alpha-requires
-    flagged-requires
-    sized-requires
-    put-requires
-    same-length
-    returns)
+    (tie.spec (λ c κs. search needs) (λ c κs. search needs) (λ c κs. search needs) (λ c κs. search needs)
+    (λ c κs. search needs) (λ c κs. search needs) (λ c. search needs) returns)

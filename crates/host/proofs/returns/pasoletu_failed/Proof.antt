@@ -1,22 +1,8 @@
+-- `host::returns::pasoletu_failed` meets its contract.
 use borrow.Author.Needs.{needs}
 use Rattle.host.specs.Calls.{failed}
 use Rattle.host.proofs.returns.pasoletu_failed.Statement.{statement}
 use Rattle.host.proofs.returns.pasoletu_failed.Tie as tie
-
-row-requires : tie.Need-row-requires
-row-requires c κs = search needs
-
-particle-failed-requires : tie.Need-particle-failed-requires
-particle-failed-requires c κs = search needs
-
-sized-verdict-requires : tie.Need-sized-verdict-requires
-sized-verdict-requires c κs = search needs
-
-put-verdict-requires : tie.Need-put-verdict-requires
-put-verdict-requires c κs = search needs
-
-same-length : tie.Need-same-length
-same-length c = search needs
 
 returns : tie.Need-returns
 unfolding failed
@@ -30,10 +16,5 @@ returns c =
 pub pasoletu-failed-spec : {M : Type 1} → statement M
 pasoletu-failed-spec =
     tie.close
-    (tie.spec
-    row-requires
-    particle-failed-requires
-    sized-verdict-requires
-    put-verdict-requires
-    same-length
-    returns)
+    (tie.spec (λ c κs. search needs) (λ c κs. search needs) (λ c κs. search needs) (λ c κs. search needs)
+    (λ c. search needs) returns)

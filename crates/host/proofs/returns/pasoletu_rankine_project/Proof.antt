@@ -1,25 +1,8 @@
+-- `host::returns::pasoletu_rankine_project` meets its contract.
 use borrow.Author.Needs.{needs}
 use Rattle.host.specs.Calls.{rankineProject}
 use Rattle.host.proofs.returns.pasoletu_rankine_project.Statement.{statement}
 use Rattle.host.proofs.returns.pasoletu_rankine_project.Tie as tie
-
-rankine-requires : tie.Need-rankine-requires
-rankine-requires c κs = search needs
-
-row-requires : tie.Need-row-requires
-row-requires c κs = search needs
-
-project-requires : tie.Need-project-requires
-project-requires c κs = search needs
-
-sized-vector-requires : tie.Need-sized-vector-requires
-sized-vector-requires c κs = search needs
-
-put-vector-requires : tie.Need-put-vector-requires
-put-vector-requires c κs = search needs
-
-same-length : tie.Need-same-length
-same-length c = search needs
 
 returns : tie.Need-returns
 unfolding rankineProject
@@ -34,11 +17,5 @@ returns c =
 pub pasoletu-rankine-project-spec : {M : Type 1} → statement M
 pasoletu-rankine-project-spec =
     tie.close
-    (tie.spec
-    rankine-requires
-    row-requires
-    project-requires
-    sized-vector-requires
-    put-vector-requires
-    same-length
-    returns)
+    (tie.spec (λ c κs. search needs) (λ c κs. search needs) (λ c κs. search needs) (λ c κs. search needs)
+    (λ c κs. search needs) (λ c. search needs) returns)

@@ -1,25 +1,8 @@
+-- `host::returns::pasoletu_snow_clamp` meets its contract.
 use borrow.Author.Needs.{needs}
 use Rattle.host.specs.Calls.{snowClamp}
 use Rattle.host.proofs.returns.pasoletu_snow_clamp.Statement.{statement}
 use Rattle.host.proofs.returns.pasoletu_snow_clamp.Tie as tie
-
-row-requires : tie.Need-row-requires
-row-requires c κs = search needs
-
-project-deformation-gradient-requires : tie.Need-project-deformation-gradient-requires
-project-deformation-gradient-requires c κs = search needs
-
-vector-requires : tie.Need-vector-requires
-vector-requires c κs = search needs
-
-sized-vector-requires : tie.Need-sized-vector-requires
-sized-vector-requires c κs = search needs
-
-put-vector-requires : tie.Need-put-vector-requires
-put-vector-requires c κs = search needs
-
-same-length : tie.Need-same-length
-same-length c = search needs
 
 returns : tie.Need-returns
 unfolding snowClamp
@@ -34,11 +17,5 @@ returns c =
 pub pasoletu-snow-clamp-spec : {M : Type 1} → statement M
 pasoletu-snow-clamp-spec =
     tie.close
-    (tie.spec
-    row-requires
-    project-deformation-gradient-requires
-    vector-requires
-    sized-vector-requires
-    put-vector-requires
-    same-length
-    returns)
+    (tie.spec (λ c κs. search needs) (λ c κs. search needs) (λ c κs. search needs) (λ c κs. search needs)
+    (λ c κs. search needs) (λ c. search needs) returns)

@@ -1,36 +1,7 @@
+-- `host::returns::strains` answers `strainsOf q`.
 use borrow.Author.Needs.{needs}
 use Rattle.host.proofs.returns.strains.Statement.{statement}
 use Rattle.host.proofs.returns.strains.Tie as tie
-
-enum-told : tie.Need-enum-told
-enum-told c = search needs
-
-vector-requires : tie.Need-vector-requires
-vector-requires c κs = search needs
-
-enum-told-2 : tie.Need-enum-told-2
-enum-told-2 c = search needs
-
-vector-requires-2 : tie.Need-vector-requires-2
-vector-requires-2 c κs = search needs
-
-enum-told-3 : tie.Need-enum-told-3
-enum-told-3 c = search needs
-
-vector-requires-3 : tie.Need-vector-requires-3
-vector-requires-3 c κs = search needs
-
-enum-told-4 : tie.Need-enum-told-4
-enum-told-4 c = search needs
-
-vector-requires-4 : tie.Need-vector-requires-4
-vector-requires-4 c κs = search needs
-
-enum-known-b : tie.Need-enum-known-b
-enum-known-b c = search needs
-
-refused-vector-requires : tie.Need-refused-vector-requires
-refused-vector-requires c κs = search needs
 
 returns : tie.Need-returns
 returns c =
@@ -55,19 +26,6 @@ returns-5 c =
 pub strains-spec : {M : Type 1} → statement M
 strains-spec =
     tie.close
-    (tie.spec
-    enum-told
-    vector-requires
-    enum-told-2
-    vector-requires-2
-    enum-told-3
-    vector-requires-3
-    enum-told-4
-    vector-requires-4
-    enum-known-b
-    refused-vector-requires
-    returns
-    returns-2
-    returns-3
-    returns-4
-    returns-5)
+    (tie.spec (λ c. search needs) (λ c κs. search needs) (λ c. search needs) (λ c κs. search needs)
+    (λ c. search needs) (λ c κs. search needs) (λ c. search needs) (λ c κs. search needs) (λ c. search needs)
+    (λ c κs. search needs) returns returns-2 returns-3 returns-4 returns-5)

@@ -1,3 +1,4 @@
+-- `host::sheets::pasoletu_read_sheet` meets its contract.
 use borrow.Author.Tests.{eq-eqb, ne-eqb}
 use borrow.Author.Needs.{needs}
 use Rattle.host.proofs.sheets.pasoletu_read_sheet.Statement.{statement}
@@ -7,18 +8,6 @@ returns : tie.Need-returns
 returns c =
     let e = ne-eqb _ _ (c .if1 .taken) in
     (simp e, (simp e, simp e))
-
-read-requires : tie.Need-read-requires
-read-requires c κs = search needs
-
-put-header-requires : tie.Need-put-header-requires
-put-header-requires c κs = search needs
-
-same-length : tie.Need-same-length
-same-length c = search needs
-
-same-length-2 : tie.Need-same-length-2
-same-length-2 c = search needs
 
 returns-2 : tie.Need-returns-2
 returns-2 c =
@@ -30,4 +19,5 @@ returns-2 c =
 pub pasoletu-read-sheet-spec : {M : Type 1} → statement M
 pasoletu-read-sheet-spec =
     tie.close
-    (tie.spec returns read-requires put-header-requires same-length same-length-2 returns-2)
+    (tie.spec returns (λ c κs. search needs) (λ c κs. search needs) (λ c. search needs) (λ c. search needs)
+    returns-2)

@@ -1,3 +1,4 @@
+-- `host::sheets::pasoletu_run_sheet` meets its contract.
 use borrow.Author.Tests.{eq-eqb, ne-eqb}
 use borrow.Author.Needs.{needs}
 use Rattle.host.proofs.sheets.pasoletu_run_sheet.Statement.{statement}
@@ -7,21 +8,6 @@ returns : tie.Need-returns
 returns c =
     let e = ne-eqb _ _ (c .if1 .taken) in
     (simp e, (simp e, (simp e, simp e)))
-
-run-sheet-requires : tie.Need-run-sheet-requires
-run-sheet-requires c κs = search needs
-
-put-ran-requires : tie.Need-put-ran-requires
-put-ran-requires c κs = search needs
-
-same-length : tie.Need-same-length
-same-length c = search needs
-
-same-length-2 : tie.Need-same-length-2
-same-length-2 c = search needs
-
-same-length-3 : tie.Need-same-length-3
-same-length-3 c = search needs
 
 returns-2 : tie.Need-returns-2
 returns-2 c =
@@ -33,11 +19,5 @@ returns-2 c =
 pub pasoletu-run-sheet-spec : {M : Type 1} → statement M
 pasoletu-run-sheet-spec =
     tie.close
-    (tie.spec
-    returns
-    run-sheet-requires
-    put-ran-requires
-    same-length
-    same-length-2
-    same-length-3
-    returns-2)
+    (tie.spec returns (λ c κs. search needs) (λ c κs. search needs) (λ c. search needs) (λ c. search needs)
+    (λ c. search needs) returns-2)

@@ -1,17 +1,9 @@
+-- `host::sheets::put_ran` meets its contract.
 use mathlib.Core.Path.{refl}
 use borrow.Author.Tests.{eq-eqb, ne-eqb}
 use borrow.Author.Needs.{needs}
 use Rattle.host.proofs.sheets.put_ran.Statement.{statement}
 use Rattle.host.proofs.sheets.put_ran.Tie as tie
-
-slice-aggregate-copy : tie.Need-slice-aggregate-copy
-slice-aggregate-copy c = search needs
-
-copy-requires : tie.Need-copy-requires
-copy-requires c κs = search needs
-
-same-length : tie.Need-same-length
-same-length c = search needs
 
 returns : tie.Need-returns
 returns c =
@@ -23,4 +15,5 @@ returns-2 c = (refl, simp (ne-eqb _ _ (c .if1 .left)))
 
 pub put-ran-spec : {M : Type 1} → statement M
 put-ran-spec =
-    tie.close (tie.spec slice-aggregate-copy copy-requires same-length returns returns-2)
+    tie.close
+    (tie.spec (λ c. search needs) (λ c κs. search needs) (λ c. search needs) returns returns-2)

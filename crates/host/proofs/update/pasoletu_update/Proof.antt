@@ -1,3 +1,4 @@
+-- `host::update::pasoletu_update` meets its contract.
 use mathlib.Core.Path.{sym, _∙_}
 use mathlib.Core.Bool.{_&&_}
 use lib.Dec.{eqb}
@@ -8,29 +9,11 @@ use borrow.Author.Needs.{needs}
 use Rattle.host.proofs.update.pasoletu_update.Statement.{statement}
 use Rattle.host.proofs.update.pasoletu_update.Tie as tie
 
-fit-requires : tie.Need-fit-requires
-fit-requires c κs = search needs
-
-known-requires : tie.Need-known-requires
-known-requires c κs = search needs
-
-model-given-requires : tie.Need-model-given-requires
-model-given-requires c κs = search needs
-
-update-record-requires : tie.Need-update-record-requires
-update-record-requires c κs = search needs
-
 put-outcome-requires : tie.Need-put-outcome-requires
 put-outcome-requires c κs =
     let d = c .before .before .before .before .before .before .before .before in
     let a = d .before .before .before .before .before .args in
     eqb-true _ _ (and-both (d .before .fit .result && eqb (length (a .r .now)) 36) (eqb (length (a .answer .now)) 2) (d .if1 .taken) .1)
-
-same-length : tie.Need-same-length
-same-length c = search needs
-
-same-length-2 : tie.Need-same-length-2
-same-length-2 c = search needs
 
 returns : tie.Need-returns
 returns c =
@@ -40,7 +23,7 @@ returns c =
     let q = and-both (d .before .fit .result) (eqb (length (a .r .now)) 36) (n .0) in
     let f = sym (d .before .fit .ensures) ∙ q .0 in
     let k = sym (c .before .before .before .before .before .before .before .before .before .before .known .ensures) ∙ c .before .before .before .before .before .before .before .before .before .if2 .taken in
-    let m = c .before .before .before .before .before .before .before .before .model-given .ensures in
+    let m = c .before .before .before .before .before .before .before .before .model-of .ensures in
     let e = c .before .before .before .before .before .before .update-record .ensures in
     let p = c .before .before .put-outcome .ensures in
     (simp (p .0, e .0, m, f, q .1, n .1, k), (simp (e .1, m, f, q .1, n .1, k), simp (p .1, e .0, m, f, q .1, n .1, k)))
@@ -60,14 +43,5 @@ returns-3 c =
 pub pasoletu-update-spec : {M : Type 1} → statement M
 pasoletu-update-spec =
     tie.close
-    (tie.spec
-    fit-requires
-    known-requires
-    model-given-requires
-    update-record-requires
-    put-outcome-requires
-    same-length
-    same-length-2
-    returns
-    returns-2
-    returns-3)
+    (tie.spec (λ c κs. search needs) (λ c κs. search needs) (λ c κs. search needs) (λ c κs. search needs)
+    put-outcome-requires (λ c. search needs) (λ c. search needs) returns returns-2 returns-3)

@@ -1,3 +1,4 @@
+-- `lines::whole::read_whole` meets its contract.
 use mathlib.Core.Path.{_≡_}
 use Prim.Native.Nat.{_≤_, _-_}
 use native.Mathlib.Omega.{arith}
@@ -75,26 +76,6 @@ returns-4 c = search needs
 pub read-whole-spec : {M : Type 1} → statement M
 read-whole-spec =
     tie.close
-    (tie.spec
-    Inv-loop
-    μ-loop
-    loop-holds
-    sub-read
-    part-read-start
-    part-read-end
-    read-requires
-    same-length
-    returns
-    same-length-2
-    returns-2
-    sub-count
-    part-count-start
-    part-count-end
-    count-requires
-    same-length-3
-    returns-3
-    add-at
-    loop-less
-    loop-again
-    same-length-4
-    returns-4)
+    (tie.spec Inv-loop μ-loop loop-holds sub-read part-read-start part-read-end read-requires same-length returns
+    same-length-2 returns-2 sub-count part-count-start part-count-end count-requires same-length-3 returns-3 add-at
+    loop-less loop-again same-length-4 returns-4)

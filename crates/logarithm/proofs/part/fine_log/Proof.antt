@@ -16,12 +16,6 @@ use Rattle.logarithm.proofs.part.short.Reads as short-reads
 at : (c : lts.Start (fine-reads.Asked, fine-reads.Learnt, short-reads.Asked, short-reads.Learnt) reads.Pre reads.Post) → Step 48 (2 ^ 16) (fineAt (c .args .y)) (c .args .y) (17 * 2 ^ 37)
 at c = fine-step (c .args .y) (c .pre .0) (c .pre .1)
 
-sub-j : tie.Need-sub-j
-sub-j c = search needs
-
-mul-j : tie.Need-mul-j
-mul-j c = search needs
-
 mul-z : tie.Need-mul-z
 mul-z c = record { fits = at c .fits }
 
@@ -49,4 +43,5 @@ returns c = ap₂ _+_ (c .before .fine .ensures) (c .short .ensures)
 pub fine-log-spec : {M : Type 1} → statement M
 fine-log-spec =
     tie.close
-    (tie.spec sub-j mul-j mul-z sub-z fine-requires sub-short short-requires add-result returns)
+    (tie.spec (λ c. search needs) (λ c. search needs) mul-z sub-z fine-requires sub-short short-requires add-result
+    returns)

@@ -19,20 +19,8 @@ below t h = omega arith
 entry : (c : lts.After-coarse (coarse-reads.Asked, coarse-reads.Learnt, middle-log-reads.Asked, middle-log-reads.Learnt) reads.Pre reads.Post) → Coarse (c .before .args .t / 2 ^ 46) (c .coarse .result)
 entry c = subst (λ (e : ℕ). Coarse (c .before .args .t / 2 ^ 46) e) (sym (c .coarse .ensures)) (coarse-entry (c .before .args .t / 2 ^ 46) (below (c .before .args .t) (c .before .pre)))
 
-coarse-requires : tie.Need-coarse-requires
-coarse-requires c κs = search needs
-
-add-y : tie.Need-add-y
-add-y c = search needs
-
-sub-y : tie.Need-sub-y
-sub-y c = search needs
-
 mul-y : tie.Need-mul-y
 mul-y c = record { fits = first (c .before .args .t) (c .coarse .result) (c .before .pre) (entry c) .fits }
-
-mul-result : tie.Need-mul-result
-mul-result c = search needs
 
 middle-log-requires : tie.Need-middle-log-requires
 middle-log-requires c κs = let f = first (c .before .args .t) (c .coarse .result) (c .before .pre) (entry c) in (f .low, f .high)
@@ -51,4 +39,5 @@ returns c =
 pub log-part-spec : {M : Type 1} → statement M
 log-part-spec =
     tie.close
-    (tie.spec coarse-requires add-y sub-y mul-y mul-result middle-log-requires add-result returns)
+    (tie.spec (λ c κs. search needs) (λ c. search needs) (λ c. search needs) mul-y (λ c. search needs)
+    middle-log-requires add-result returns)

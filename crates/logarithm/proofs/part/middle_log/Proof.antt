@@ -16,12 +16,6 @@ use Rattle.logarithm.proofs.part.fine_log.Reads as fine-log-reads
 at : (c : lts.Start (middle-reads.Asked, middle-reads.Learnt, fine-log-reads.Asked, fine-log-reads.Learnt) reads.Pre reads.Post) → Step 32 (2 ^ 11) (middleAt (c .args .y)) (c .args .y) (1537 * 2 ^ 36)
 at c = middle-step (c .args .y) (c .pre .0) (c .pre .1)
 
-sub-j : tie.Need-sub-j
-sub-j c = search needs
-
-mul-j : tie.Need-mul-j
-mul-j c = search needs
-
 mul-z : tie.Need-mul-z
 mul-z c = record { fits = at c .fits }
 
@@ -46,4 +40,5 @@ returns c = ap₂ _+_ (c .before .middle .ensures) (c .fine-log .ensures)
 pub middle-log-spec : {M : Type 1} → statement M
 middle-log-spec =
     tie.close
-    (tie.spec sub-j mul-j mul-z sub-z middle-requires fine-log-requires add-result returns)
+    (tie.spec (λ c. search needs) (λ c. search needs) mul-z sub-z middle-requires fine-log-requires add-result
+    returns)

@@ -10,8 +10,7 @@ mul-result c = record { fits = steps.short (c .args .h) (c .pre) .fits }
 sub-result : tie.Need-sub-result
 sub-result c = steps.short (c .args .h) (c .pre) .some
 
-returns : tie.Need-returns
-returns c = search needs
-
 pub short-spec : {M : Type 1} → statement M
-short-spec = tie.close (tie.spec mul-result sub-result returns)
+short-spec =
+    tie.close
+    (tie.spec mul-result sub-result (λ c. search needs))

@@ -1,3 +1,4 @@
+-- `numbers::bits::float_of` answers `Ieee.ofBits binary64 n`.
 use Rattle.numbers.proofs.Laws.{above-inf, not-above-inf, zero-over-zero}
 use mathlib.Core.Path.{sym, _∙_}
 use borrow.Author.Needs.{needs}
@@ -10,8 +11,7 @@ float-from-bits-result c = not-above-inf (c .before .args .n) (c .if1 .left)
 returns : tie.Need-returns
 returns c = zero-over-zero ∙ sym (above-inf (c .before .args .n) (c .if1 .taken))
 
-returns-2 : tie.Need-returns-2
-returns-2 c = search needs
-
 pub float-of-spec : {M : Type 1} → statement M
-float-of-spec = tie.close (tie.spec float-from-bits-result returns returns-2)
+float-of-spec =
+    tie.close
+    (tie.spec float-from-bits-result returns (λ c. search needs))

@@ -1,3 +1,4 @@
+-- `numbers::power::powi` answers `powiOf b g`.
 use Prim.Native.Nat.{_<_, _^_}
 use native.Mathlib.Omega.{arith}
 use borrow.Author.Tests.{lt-ltb, le-ltb}
@@ -5,12 +6,6 @@ use Rattle.numbers.specs.Power.{powiOf}
 use borrow.Author.Needs.{needs}
 use Rattle.numbers.proofs.power.powi.Statement.{statement}
 use Rattle.numbers.proofs.power.powi.Tie as tie
-
-magnitude-requires : tie.Need-magnitude-requires
-magnitude-requires c κs = search needs
-
-power-requires : tie.Need-power-requires
-power-requires c κs = search needs
 
 returns : tie.Need-returns
 unfolding powiOf
@@ -27,4 +22,6 @@ returns-2 c =
     simp (c .before .power .ensures 32 b, m .ensures, le-ltb _ _ (c .if1 .left))
 
 pub powi-spec : {M : Type 1} → statement M
-powi-spec = tie.close (tie.spec magnitude-requires power-requires returns returns-2)
+powi-spec =
+    tie.close
+    (tie.spec (λ c κs. search needs) (λ c κs. search needs) returns returns-2)

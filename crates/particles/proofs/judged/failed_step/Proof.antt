@@ -1,3 +1,4 @@
+-- `particles::judged::failed_step` meets its contract: what its calls ensure, on each path.
 use lib.ListN.{getD}
 use native.Mathlib.Omega.{arith}
 use Rattle.tensor.specs.Matrix.{zero}
@@ -7,27 +8,6 @@ use Rattle.particles.proofs.JudgedLaws.{written-length, back-length, re
 use borrow.Author.Needs.{needs}
 use Rattle.particles.proofs.judged.failed_step.Statement.{statement}
 use Rattle.particles.proofs.judged.failed_step.Tie as tie
-
-slice-read-phase : tie.Need-slice-read-phase
-slice-read-phase c = search needs
-
-bits-of-requires : tie.Need-bits-of-requires
-bits-of-requires c κs = search needs
-
-slice-write-r : tie.Need-slice-write-r
-slice-write-r c = search needs
-
-step-requires : tie.Need-step-requires
-step-requires c κs = search needs
-
-enum-told : tie.Need-enum-told
-enum-told c = search needs
-
-enum-told-2 : tie.Need-enum-told-2
-enum-told-2 c = search needs
-
-enum-told-3 : tie.Need-enum-told-3
-enum-told-3 c = search needs
 
 slice-write-r-2 : tie.Need-slice-write-r-2
 slice-write-r-2 c =
@@ -75,18 +55,6 @@ returns-3 c =
 pub failed-step-spec : {M : Type 1} → statement M
 failed-step-spec =
     tie.close
-    (tie.spec
-    slice-read-phase
-    bits-of-requires
-    slice-write-r
-    step-requires
-    enum-told
-    enum-told-2
-    enum-told-3
-    slice-write-r-2
-    same-length
-    returns
-    same-length-2
-    returns-2
-    same-length-3
-    returns-3)
+    (tie.spec (λ c. search needs) (λ c κs. search needs) (λ c. search needs) (λ c κs. search needs)
+    (λ c. search needs) (λ c. search needs) (λ c. search needs) slice-write-r-2 same-length returns same-length-2
+    returns-2 same-length-3 returns-3)

@@ -1,15 +1,7 @@
+-- `particles::judged::parameters_finite` meets its contract: what its calls ensure, on each path.
 use borrow.Author.Needs.{needs}
 use Rattle.particles.proofs.judged.parameters_finite.Statement.{statement}
 use Rattle.particles.proofs.judged.parameters_finite.Tie as tie
-
-model-finite-requires : tie.Need-model-finite-requires
-model-finite-requires c κs = search needs
-
-limits-finite-requires : tie.Need-limits-finite-requires
-limits-finite-requires c κs = search needs
-
-law-finite-requires : tie.Need-law-finite-requires
-law-finite-requires c κs = search needs
 
 returns : tie.Need-returns
 returns c =
@@ -18,8 +10,4 @@ returns c =
 pub parameters-finite-spec : {M : Type 1} → statement M
 parameters-finite-spec =
     tie.close
-    (tie.spec
-    model-finite-requires
-    limits-finite-requires
-    law-finite-requires
-    returns)
+    (tie.spec (λ c κs. search needs) (λ c κs. search needs) (λ c κs. search needs) returns)

@@ -1,24 +1,16 @@
+-- `particles::judged::step` meets its contract: what its calls ensure, on each path.
 use mathlib.Core.Path.{sym, _∙_}
 use borrow.Author.Needs.{needs}
 use Rattle.particles.proofs.NotFinite.{refused-failure}
 use Rattle.particles.proofs.judged.step.Statement.{statement}
 use Rattle.particles.proofs.judged.step.Tie as tie
 
-all-finite-requires : tie.Need-all-finite-requires
-all-finite-requires c κs = search needs
-
 finite-step-requires : tie.Need-finite-step-requires
 finite-step-requires c κs =
     (c .before .before .before .before .before .pre, sym (c .before .before .all-finite .ensures) ∙ c .before .if1 .taken)
 
-same-length : tie.Need-same-length
-same-length c = search needs
-
 returns : tie.Need-returns
 returns c = let e = c .before .before .finite-step .ensures in (e .0, e .1)
-
-same-length-2 : tie.Need-same-length-2
-same-length-2 c = search needs
 
 returns-2 : tie.Need-returns-2
 returns-2 c =
@@ -26,4 +18,6 @@ returns-2 c =
     refused-failure (s .args .m) (s .args .l) (s .args .e) (s .args .r .now) (sym (c .before .all-finite .ensures) ∙ c .if1 .left)
 
 pub step-spec : {M : Type 1} → statement M
-step-spec = tie.close (tie.spec all-finite-requires finite-step-requires same-length returns same-length-2 returns-2)
+step-spec =
+    tie.close
+    (tie.spec (λ c κs. search needs) finite-step-requires (λ c. search needs) returns (λ c. search needs) returns-2)

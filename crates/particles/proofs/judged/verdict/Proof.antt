@@ -1,19 +1,8 @@
+-- `particles::judged::verdict` meets its contract: what its calls ensure, on each path.
 use borrow.Author.Needs.{needs}
 use Rattle.particles.specs.Judged.{judgedOf, judgedAt}
 use Rattle.particles.proofs.judged.verdict.Statement.{statement}
 use Rattle.particles.proofs.judged.verdict.Tie as tie
-
-parameters-finite-requires : tie.Need-parameters-finite-requires
-parameters-finite-requires c κs = search needs
-
-read-state-requires : tie.Need-read-state-requires
-read-state-requires c κs = search needs
-
-stresses-requires : tie.Need-stresses-requires
-stresses-requires c κs = search needs
-
-verdict-on-requires : tie.Need-verdict-on-requires
-verdict-on-requires c κs = search needs
 
 returns : tie.Need-returns
 unfolding judgedAt judgedOf
@@ -30,10 +19,5 @@ returns-2 c =
 pub verdict-spec : {M : Type 1} → statement M
 verdict-spec =
     tie.close
-    (tie.spec
-    parameters-finite-requires
-    read-state-requires
-    stresses-requires
-    verdict-on-requires
-    returns
+    (tie.spec (λ c κs. search needs) (λ c κs. search needs) (λ c κs. search needs) (λ c κs. search needs) returns
     returns-2)

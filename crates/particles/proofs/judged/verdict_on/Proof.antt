@@ -1,12 +1,7 @@
+-- `particles::judged::verdict_on` meets its contract: what its calls ensure, on each path.
 use borrow.Author.Needs.{needs}
 use Rattle.particles.proofs.judged.verdict_on.Statement.{statement}
 use Rattle.particles.proofs.judged.verdict_on.Tie as tie
-
-row-finite-requires : tie.Need-row-finite-requires
-row-finite-requires c κs = search needs
-
-particle-failed-requires : tie.Need-particle-failed-requires
-particle-failed-requires c κs = search needs
 
 returns : tie.Need-returns
 returns c =
@@ -20,4 +15,5 @@ returns-2 c =
 
 pub verdict-on-spec : {M : Type 1} → statement M
 verdict-on-spec =
-    tie.close (tie.spec row-finite-requires particle-failed-requires returns returns-2)
+    tie.close
+    (tie.spec (λ c κs. search needs) (λ c κs. search needs) returns returns-2)

@@ -1,3 +1,4 @@
+-- `particles::list::pass_all` meets its contract: what its calls ensure, on each path.
 use borrow.Author.Needs.{needs}
 use native.Mathlib.Omega.{arith}
 use mathlib.Core.Path.{_≡_, refl, ap, _∙_}
@@ -5,18 +6,19 @@ use mathlib.Core.List.{List, _++_}
 use Prim.Native.Nat.{ℕ, _≤_, _<_, _*_, _-_}
 use lib.ListN.{drop}
 use Rattle.record.specs.Layout.{floats}
-use Rattle.particles.specs.Model.{recordLaw}
+use Rattle.particles.specs.Step.{stepLaw}
 use Rattle.particles.specs.Pass.{worked, answers, counts}
-use Rattle.particles.proofs.PassLaws.{record-keeps, worked-step, answers-step, counts-step, counts-most, records-length, record-same, answers-long, all-done}
+use Rattle.particles.proofs.JudgedLaws.{step-keeps}
+use Rattle.particles.proofs.PassLaws.{worked-step, answers-step, counts-step, counts-most, records-length, record-same, answers-long, all-done}
 use Rattle.particles.proofs.list.pass_all.Statement.{statement}
 use Rattle.particles.proofs.list.pass_all.Tie as tie
 
 abbrev Inv-loop : tie.InvT-loop
-Inv-loop m xs₀ out₀ n c₀ i₀ xs out c i =
-    (i ≤ n) × (c ≡ counts (recordLaw m) xs₀ i) × (xs ≡ worked (recordLaw m) xs₀ i ++ drop (i * floats) xs₀) × (out ≡ answers (recordLaw m) xs₀ i ++ drop (i * 2) out₀)
+Inv-loop s xs₀ out₀ n c₀ i₀ xs out c i =
+    (i ≤ n) × (c ≡ counts (stepLaw s) xs₀ i) × (xs ≡ worked (stepLaw s) xs₀ i ++ drop (i * floats) xs₀) × (out ≡ answers (stepLaw s) xs₀ i ++ drop (i * 2) out₀)
 
 abbrev μ-loop : tie.MeasureT-loop
-μ-loop m xs₀ out₀ n c₀ i₀ xs out c i = n - i
+μ-loop s xs₀ out₀ n c₀ i₀ xs out c i = n - i
 
 loop-holds : tie.Need-loop-holds Inv-loop μ-loop
 unfolding worked answers counts
@@ -28,15 +30,15 @@ one-requires c κs =
     let a = c .before .before .before .before .before .before .args in
     let t : l .i < a .n = c .before .before .loop-test .taken in
     let q = c .before .before .before .before .before .before .pre in
-    let e = records-length (recordLaw (a .m)) (record-keeps (a .m)) (a .xs .now) (l .i) (l .xs) (l .inv .2) (omega arith) in
-    let f = answers-long (recordLaw (a .m)) (a .xs .now) (a .out .now) (l .i) (l .out) (l .inv .3) (omega arith) in
+    let e = records-length (stepLaw (a .s)) (step-keeps (a .s)) (a .xs .now) (l .i) (l .xs) (l .inv .2) (omega arith) in
+    let f = answers-long (stepLaw (a .s)) (a .xs .now) (a .out .now) (l .i) (l .out) (l .inv .3) (omega arith) in
     (omega arith, omega arith)
 
 count-one-requires : tie.Need-count-one-requires Inv-loop μ-loop
 count-one-requires c κs =
     let l = c .before .before .before .before .before .before .before .before .loop in
     let s = c .before .before .before .before .before .before .before .before .before .before .before in
-    let m = counts-most (recordLaw (s .args .m)) (s .args .xs .now) (l .i) in
+    let m = counts-most (stepLaw (s .args .s)) (s .args .xs .now) (l .i) in
     let t = c .before .before .before .before .before .before .before .loop-test .taken in
     let g = s .good in
     let q = s .pre in
@@ -55,14 +57,16 @@ loop-again c =
     let l = c .before .before .before .before .before .before .before .before .before .loop in
     let s = c .before .before .before .before .before .before .before .before .before .before .before .before in
     let q = s .pre in
-    let law = recordLaw (s .args .m) in
-    let keeps = record-keeps (s .args .m) in
+    let law = stepLaw (s .args .s) in
+    let keeps = step-keeps (s .args .s) in
     let xs = s .args .xs .now in
-    let f = o .ensures .0 ∙ ap (λ (r : List ℕ). law r .outcome) (record-same law keeps xs (l .i) (l .xs) (l .inv .2) (omega arith)) in (
+    let same = record-same law keeps xs (l .i) (l .xs) (l .inv .2) (omega arith) in
+    let f = o .ensures .0 ∙ ap (λ (r : List ℕ). law r .outcome) same in
+    let g = o .ensures .1 .0 ∙ ap (λ (r : List ℕ). law r .failed) same in (
       omega arith,
-      c .count-one .ensures ∙ counts-step law xs (l .i) (l .c) (o .result) (l .inv .1) f,
-      o .ensures .1 .0 ∙ worked-step law keeps xs (l .i) (omega arith) (l .xs) (l .inv .2),
-      o .ensures .1 .1 ∙ answers-step law xs (l .i) (s .args .out .now) (omega arith) (l .out) (l .inv .3) (o .result) f,
+      c .count-one .ensures ∙ counts-step law xs (l .i) (l .c) (o .result .outcome) (o .result .failed) (l .inv .1) f g,
+      o .ensures .1 .1 .0 ∙ worked-step law keeps xs (l .i) (omega arith) (l .xs) (l .inv .2),
+      o .ensures .1 .1 .1 ∙ answers-step law xs (l .i) (s .args .out .now) (omega arith) (l .out) (l .inv .3) (o .result .outcome) f,
     )
 
 same-length : tie.Need-same-length Inv-loop μ-loop
@@ -70,14 +74,14 @@ same-length c =
     let l = c .before .loop in
     let a = c .before .before .before .before .args in
     let q = c .before .before .before .before .pre in
-    records-length (recordLaw (a .m)) (record-keeps (a .m)) (a .xs .now) (l .i) (l .xs) (l .inv .2) (omega arith)
+    records-length (stepLaw (a .s)) (step-keeps (a .s)) (a .xs .now) (l .i) (l .xs) (l .inv .2) (omega arith)
 
 same-length-2 : tie.Need-same-length-2 Inv-loop μ-loop
 same-length-2 c =
     let l = c .before .loop in
     let a = c .before .before .before .before .args in
     let q = c .before .before .before .before .pre in
-    answers-long (recordLaw (a .m)) (a .xs .now) (a .out .now) (l .i) (l .out) (l .inv .3) (omega arith)
+    answers-long (stepLaw (a .s)) (a .xs .now) (a .out .now) (l .i) (l .out) (l .inv .3) (omega arith)
 
 returns : tie.Need-returns Inv-loop μ-loop
 returns c =
@@ -92,15 +96,5 @@ returns c =
 pub pass-all-spec : {M : Type 1} → statement M
 pass-all-spec =
     tie.close
-    (tie.spec
-    Inv-loop
-    μ-loop
-    loop-holds
-    one-requires
-    count-one-requires
-    add-i
-    loop-less
-    loop-again
-    same-length
-    same-length-2
-    returns)
+    (tie.spec Inv-loop μ-loop loop-holds one-requires count-one-requires add-i loop-less loop-again same-length
+    same-length-2 returns)

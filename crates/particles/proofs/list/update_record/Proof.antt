@@ -1,13 +1,8 @@
+-- `particles::list::update_record` meets its contract: what its calls ensure, on each path.
 use borrow.Author.Tests.{eq-eqb, ne-eqb}
 use borrow.Author.Needs.{needs}
 use Rattle.particles.proofs.list.update_record.Statement.{statement}
 use Rattle.particles.proofs.list.update_record.Tie as tie
-
-step-requires : tie.Need-step-requires
-step-requires c κs = search needs
-
-same-length : tie.Need-same-length
-same-length c = search needs
 
 returns : tie.Need-returns
 returns c =
@@ -21,4 +16,6 @@ returns-2 c =
     (simp e, simp e)
 
 pub update-record-spec : {M : Type 1} → statement M
-update-record-spec = tie.close (tie.spec step-requires same-length returns returns-2)
+update-record-spec =
+    tie.close
+    (tie.spec (λ c κs. search needs) (λ c. search needs) returns returns-2)

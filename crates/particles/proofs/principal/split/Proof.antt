@@ -1,25 +1,8 @@
+-- `particles::principal::split` meets its contract: what its calls ensure, on each path.
 use Rattle.particles.specs.Principal.{splitOf}
 use borrow.Author.Needs.{needs}
 use Rattle.particles.proofs.principal.split.Statement.{statement}
 use Rattle.particles.proofs.principal.split.Tie as tie
-
-row-scale-requires : tie.Need-row-scale-requires
-row-scale-requires c κs = search needs
-
-row-add-requires : tie.Need-row-add-requires
-row-add-requires c κs = search needs
-
-row-add-requires-2 : tie.Need-row-add-requires-2
-row-add-requires-2 c κs = search needs
-
-row-add-requires-3 : tie.Need-row-add-requires-3
-row-add-requires-3 c κs = search needs
-
-row-scale-requires-2 : tie.Need-row-scale-requires-2
-row-scale-requires-2 c κs = search needs
-
-row-add-requires-4 : tie.Need-row-add-requires-4
-row-add-requires-4 c κs = search needs
 
 returns : tie.Need-returns
 unfolding splitOf
@@ -36,12 +19,5 @@ returns-2 c =
 pub split-spec : {M : Type 1} → statement M
 split-spec =
     tie.close
-    (tie.spec
-    row-scale-requires
-    row-add-requires
-    row-add-requires-2
-    row-add-requires-3
-    row-scale-requires-2
-    row-add-requires-4
-    returns
-    returns-2)
+    (tie.spec (λ c κs. search needs) (λ c κs. search needs) (λ c κs. search needs) (λ c κs. search needs)
+    (λ c κs. search needs) (λ c κs. search needs) returns returns-2)

@@ -1,13 +1,8 @@
+-- `particles::principal::stresses` meets its contract: what its calls ensure, on each path.
 use Rattle.particles.specs.Principal.{principalOf}
 use borrow.Author.Needs.{needs}
 use Rattle.particles.proofs.principal.stresses.Statement.{statement}
 use Rattle.particles.proofs.principal.stresses.Tie as tie
-
-unsplit-stresses-requires : tie.Need-unsplit-stresses-requires
-unsplit-stresses-requires c κs = search needs
-
-split-stresses-requires : tie.Need-split-stresses-requires
-split-stresses-requires c κs = search needs
 
 returns : tie.Need-returns
 unfolding principalOf
@@ -23,4 +18,5 @@ returns-2 c =
 
 pub stresses-spec : {M : Type 1} → statement M
 stresses-spec =
-    tie.close (tie.spec unsplit-stresses-requires split-stresses-requires returns returns-2)
+    tie.close
+    (tie.spec (λ c κs. search needs) (λ c κs. search needs) returns returns-2)

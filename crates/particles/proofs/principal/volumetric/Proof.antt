@@ -1,3 +1,4 @@
+-- `particles::principal::volumetric` meets its contract: what its calls ensure, on each path.
 use mathlib.Core.Path.{refl}
 use Rattle.particles.specs.Principal.{volumetricOf}
 use Rattle.particles.proofs.principal.volumetric.Statement.{statement}
@@ -8,4 +9,6 @@ unfolding volumetricOf
 returns c = refl
 
 pub volumetric-spec : {M : Type 1} → statement M
-volumetric-spec = tie.close (tie.spec returns)
+volumetric-spec =
+    tie.close
+    (tie.spec returns)

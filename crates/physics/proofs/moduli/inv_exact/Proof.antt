@@ -1,15 +1,7 @@
+-- `physics::moduli::inv_exact` answers `given (finite e) (answeredOf (invExactOf e))`.
 use borrow.Author.Needs.{needs}
 use Rattle.physics.proofs.moduli.inv_exact.Statement.{statement}
 use Rattle.physics.proofs.moduli.inv_exact.Tie as tie
-
-is-finite-requires : tie.Need-is-finite-requires
-is-finite-requires c κs = search needs
-
-inv-exact-requires : tie.Need-inv-exact-requires
-inv-exact-requires c κs = search needs
-
-answered-requires : tie.Need-answered-requires
-answered-requires c κs = search needs
 
 returns : tie.Need-returns
 returns c =
@@ -23,4 +15,5 @@ returns-2 c =
 
 pub inv-exact-spec : {M : Type 1} → statement M
 inv-exact-spec =
-    tie.close (tie.spec is-finite-requires inv-exact-requires answered-requires returns returns-2)
+    tie.close
+    (tie.spec (λ c κs. search needs) (λ c κs. search needs) (λ c κs. search needs) returns returns-2)

@@ -1,23 +1,12 @@
+-- `physics::moduli::lame_lambda_mu` meets its contract.
 use borrow.Author.Needs.{needs}
 use Rattle.physics.proofs.moduli.lame_lambda_mu.Statement.{statement}
 use Rattle.physics.proofs.moduli.lame_lambda_mu.Tie as tie
 
-is-finite-requires : tie.Need-is-finite-requires
-is-finite-requires c κs = search needs
-
-is-finite-requires-2 : tie.Need-is-finite-requires-2
-is-finite-requires-2 c κs = search needs
-
-lame-lambda-mu-requires : tie.Need-lame-lambda-mu-requires
-lame-lambda-mu-requires c κs = search needs
-
-pair-requires : tie.Need-pair-requires
-pair-requires c κs = search needs
-
 returns : tie.Need-returns
 returns c =
     let t0 = simp (c .before .before .before .is-finite2 .ensures, c .before .before .before .before .is-finite .ensures) at (c .before .before .if1 .taken) in
-    simp (c .pair .ensures, c .before .lame-lambda-mu .ensures, t0)
+    simp (c .answered-pair .ensures, c .before .lame-lambda-mu .ensures, t0)
 
 returns-2 : tie.Need-returns-2
 returns-2 c =
@@ -27,10 +16,5 @@ returns-2 c =
 pub lame-lambda-mu-spec : {M : Type 1} → statement M
 lame-lambda-mu-spec =
     tie.close
-    (tie.spec
-    is-finite-requires
-    is-finite-requires-2
-    lame-lambda-mu-requires
-    pair-requires
-    returns
+    (tie.spec (λ c κs. search needs) (λ c κs. search needs) (λ c κs. search needs) (λ c κs. search needs) returns
     returns-2)

@@ -1,18 +1,7 @@
+-- `physics::moduli::shear_modulus` answers `given (finite young && finite poisson) (answeredOf (shearModulusOf young poisson))`.
 use borrow.Author.Needs.{needs}
 use Rattle.physics.proofs.moduli.shear_modulus.Statement.{statement}
 use Rattle.physics.proofs.moduli.shear_modulus.Tie as tie
-
-is-finite-requires : tie.Need-is-finite-requires
-is-finite-requires c κs = search needs
-
-is-finite-requires-2 : tie.Need-is-finite-requires-2
-is-finite-requires-2 c κs = search needs
-
-shear-modulus-requires : tie.Need-shear-modulus-requires
-shear-modulus-requires c κs = search needs
-
-answered-requires : tie.Need-answered-requires
-answered-requires c κs = search needs
 
 returns : tie.Need-returns
 returns c =
@@ -27,10 +16,5 @@ returns-2 c =
 pub shear-modulus-spec : {M : Type 1} → statement M
 shear-modulus-spec =
     tie.close
-    (tie.spec
-    is-finite-requires
-    is-finite-requires-2
-    shear-modulus-requires
-    answered-requires
-    returns
+    (tie.spec (λ c κs. search needs) (λ c κs. search needs) (λ c κs. search needs) (λ c κs. search needs) returns
     returns-2)

@@ -1,18 +1,7 @@
+-- `physics::parts::deviatoric_part` answers `givenMatrix (matFinite m) (answered (deviatoricOf m))`.
 use borrow.Author.Needs.{needs}
 use Rattle.physics.proofs.parts.deviatoric_part.Statement.{statement}
 use Rattle.physics.proofs.parts.deviatoric_part.Tie as tie
-
-mat-finite-requires : tie.Need-mat-finite-requires
-mat-finite-requires c κs = search needs
-
-deviatoric-part-requires : tie.Need-deviatoric-part-requires
-deviatoric-part-requires c κs = search needs
-
-answered-requires : tie.Need-answered-requires
-answered-requires c κs = search needs
-
-refused-matrix-requires : tie.Need-refused-matrix-requires
-refused-matrix-requires c κs = search needs
 
 returns : tie.Need-returns
 returns c =
@@ -27,10 +16,5 @@ returns-2 c =
 pub deviatoric-part-spec : {M : Type 1} → statement M
 deviatoric-part-spec =
     tie.close
-    (tie.spec
-    mat-finite-requires
-    deviatoric-part-requires
-    answered-requires
-    refused-matrix-requires
-    returns
+    (tie.spec (λ c κs. search needs) (λ c κs. search needs) (λ c κs. search needs) (λ c κs. search needs) returns
     returns-2)

@@ -1,15 +1,7 @@
+-- `physics::parts::spherical_part` answers `given (matFinite m) (answeredOf (sphericalOf m))`.
 use borrow.Author.Needs.{needs}
 use Rattle.physics.proofs.parts.spherical_part.Statement.{statement}
 use Rattle.physics.proofs.parts.spherical_part.Tie as tie
-
-mat-finite-requires : tie.Need-mat-finite-requires
-mat-finite-requires c κs = search needs
-
-spherical-part-requires : tie.Need-spherical-part-requires
-spherical-part-requires c κs = search needs
-
-answered-requires : tie.Need-answered-requires
-answered-requires c κs = search needs
 
 returns : tie.Need-returns
 returns c =
@@ -24,4 +16,4 @@ returns-2 c =
 pub spherical-part-spec : {M : Type 1} → statement M
 spherical-part-spec =
     tie.close
-    (tie.spec mat-finite-requires spherical-part-requires answered-requires returns returns-2)
+    (tie.spec (λ c κs. search needs) (λ c κs. search needs) (λ c κs. search needs) returns returns-2)

@@ -1,18 +1,7 @@
+-- `physics::parts::spin_tensor` answers `givenMatrix (matFinite m) (answered (spinTensorOf m))`.
 use borrow.Author.Needs.{needs}
 use Rattle.physics.proofs.parts.spin_tensor.Statement.{statement}
 use Rattle.physics.proofs.parts.spin_tensor.Tie as tie
-
-mat-finite-requires : tie.Need-mat-finite-requires
-mat-finite-requires c κs = search needs
-
-spin-tensor-requires : tie.Need-spin-tensor-requires
-spin-tensor-requires c κs = search needs
-
-answered-requires : tie.Need-answered-requires
-answered-requires c κs = search needs
-
-refused-matrix-requires : tie.Need-refused-matrix-requires
-refused-matrix-requires c κs = search needs
 
 returns : tie.Need-returns
 returns c =
@@ -27,10 +16,5 @@ returns-2 c =
 pub spin-tensor-spec : {M : Type 1} → statement M
 spin-tensor-spec =
     tie.close
-    (tie.spec
-    mat-finite-requires
-    spin-tensor-requires
-    answered-requires
-    refused-matrix-requires
-    returns
+    (tie.spec (λ c κs. search needs) (λ c κs. search needs) (λ c κs. search needs) (λ c κs. search needs) returns
     returns-2)

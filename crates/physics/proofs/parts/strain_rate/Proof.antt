@@ -1,18 +1,7 @@
+-- `physics::parts::strain_rate` answers `givenMatrix (matFinite m) (answered (strainRateOf m))`.
 use borrow.Author.Needs.{needs}
 use Rattle.physics.proofs.parts.strain_rate.Statement.{statement}
 use Rattle.physics.proofs.parts.strain_rate.Tie as tie
-
-mat-finite-requires : tie.Need-mat-finite-requires
-mat-finite-requires c κs = search needs
-
-strain-rate-requires : tie.Need-strain-rate-requires
-strain-rate-requires c κs = search needs
-
-answered-requires : tie.Need-answered-requires
-answered-requires c κs = search needs
-
-refused-matrix-requires : tie.Need-refused-matrix-requires
-refused-matrix-requires c κs = search needs
 
 returns : tie.Need-returns
 returns c =
@@ -27,10 +16,5 @@ returns-2 c =
 pub strain-rate-spec : {M : Type 1} → statement M
 strain-rate-spec =
     tie.close
-    (tie.spec
-    mat-finite-requires
-    strain-rate-requires
-    answered-requires
-    refused-matrix-requires
-    returns
+    (tie.spec (λ c κs. search needs) (λ c κs. search needs) (λ c κs. search needs) (λ c κs. search needs) returns
     returns-2)

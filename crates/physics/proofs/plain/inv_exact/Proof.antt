@@ -1,3 +1,4 @@
+-- `physics::plain::inv_exact` answers `given (finite e) (answeredOf (invExactOf e))`.
 use Rattle.physics.specs.Physics.{invExactOf}
 use Rattle.physics.proofs.plain.inv_exact.Statement.{statement}
 use Rattle.physics.proofs.plain.inv_exact.Tie as tie
@@ -15,4 +16,6 @@ returns-2 c =
     simp (t0)
 
 pub inv-exact-spec : {M : Type 1} → statement M
-inv-exact-spec = tie.close (tie.spec returns returns-2)
+inv-exact-spec =
+    tie.close
+    (tie.spec returns returns-2)

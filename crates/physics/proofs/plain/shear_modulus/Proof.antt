@@ -1,3 +1,4 @@
+-- `physics::plain::shear_modulus` answers `given (finite young && finite poisson) (answeredOf (shearModulusOf young poisson))`.
 use mathlib.Core.Path.{refl}
 use Rattle.physics.specs.Physics.{shearModulusOf}
 use Rattle.physics.proofs.plain.shear_modulus.Statement.{statement}
@@ -8,4 +9,6 @@ unfolding shearModulusOf
 returns c = refl
 
 pub shear-modulus-spec : {M : Type 1} → statement M
-shear-modulus-spec = tie.close (tie.spec returns)
+shear-modulus-spec =
+    tie.close
+    (tie.spec returns)

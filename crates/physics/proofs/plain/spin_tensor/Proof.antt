@@ -1,16 +1,8 @@
+-- `physics::plain::spin_tensor` answers `givenMatrix (matFinite m) (answered (spinTensorOf m))`.
 use borrow.Author.Needs.{needs}
 use Rattle.physics.specs.Physics.{spinTensorOf}
 use Rattle.physics.proofs.plain.spin_tensor.Statement.{statement}
 use Rattle.physics.proofs.plain.spin_tensor.Tie as tie
-
-transpose-requires : tie.Need-transpose-requires
-transpose-requires c κs = search needs
-
-mat-sub-requires : tie.Need-mat-sub-requires
-mat-sub-requires c κs = search needs
-
-mat-scale-requires : tie.Need-mat-scale-requires
-mat-scale-requires c κs = search needs
 
 returns : tie.Need-returns
 unfolding spinTensorOf
@@ -19,4 +11,5 @@ returns c =
 
 pub spin-tensor-spec : {M : Type 1} → statement M
 spin-tensor-spec =
-    tie.close (tie.spec transpose-requires mat-sub-requires mat-scale-requires returns)
+    tie.close
+    (tie.spec (λ c κs. search needs) (λ c κs. search needs) (λ c κs. search needs) returns)

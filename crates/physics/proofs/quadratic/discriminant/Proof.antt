@@ -1,3 +1,4 @@
+-- `physics::quadratic::discriminant` answers `discriminantOf a b c`.
 use mathlib.Core.Path.{refl}
 use Rattle.physics.specs.Quadratic.{discriminantOf}
 use Rattle.physics.proofs.quadratic.discriminant.Statement.{statement}
@@ -8,4 +9,6 @@ unfolding discriminantOf
 returns c = refl
 
 pub discriminant-spec : {M : Type 1} → statement M
-discriminant-spec = tie.close (tie.spec returns)
+discriminant-spec =
+    tie.close
+    (tie.spec returns)

@@ -1,25 +1,8 @@
+-- `physics::quadratic::solve_quadratic` answers `solveQuadraticOf a b c`.
 use borrow.Author.Needs.{needs}
 use Rattle.physics.specs.Quadratic.{solveQuadraticOf}
 use Rattle.physics.proofs.quadratic.solve_quadratic.Statement.{statement}
 use Rattle.physics.proofs.quadratic.solve_quadratic.Tie as tie
-
-is-finite-requires : tie.Need-is-finite-requires
-is-finite-requires c κs = search needs
-
-is-finite-requires-2 : tie.Need-is-finite-requires-2
-is-finite-requires-2 c κs = search needs
-
-is-finite-requires-3 : tie.Need-is-finite-requires-3
-is-finite-requires-3 c κs = search needs
-
-discriminant-requires : tie.Need-discriminant-requires
-discriminant-requires c κs = search needs
-
-sqrt-on-path-requires : tie.Need-sqrt-on-path-requires
-sqrt-on-path-requires c κs = search needs
-
-roots-requires : tie.Need-roots-requires
-roots-requires c κs = search needs
 
 returns : tie.Need-returns
 unfolding solveQuadraticOf
@@ -36,12 +19,5 @@ returns-2 c =
 pub solve-quadratic-spec : {M : Type 1} → statement M
 solve-quadratic-spec =
     tie.close
-    (tie.spec
-    is-finite-requires
-    is-finite-requires-2
-    is-finite-requires-3
-    discriminant-requires
-    sqrt-on-path-requires
-    roots-requires
-    returns
-    returns-2)
+    (tie.spec (λ c κs. search needs) (λ c κs. search needs) (λ c κs. search needs) (λ c κs. search needs)
+    (λ c κs. search needs) (λ c κs. search needs) returns returns-2)

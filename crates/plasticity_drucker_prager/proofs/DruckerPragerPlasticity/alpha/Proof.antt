@@ -1,21 +1,10 @@
+-- `plasticity_drucker_prager::DruckerPragerPlasticity::alpha` answers `alphaOf self q`.
 use Rattle.plasticity_drucker_prager.specs.Alpha.{alphaOf}
 use borrow.Author.Needs.{needs}
 use Rattle.plasticity_drucker_prager.proofs.DruckerPragerPlasticity.alpha.Statement.{
   statement,
 }
 use Rattle.plasticity_drucker_prager.proofs.DruckerPragerPlasticity.alpha.Tie as tie
-
-parameters-finite-requires : tie.Need-parameters-finite-requires
-parameters-finite-requires c κs = search needs
-
-is-finite-requires : tie.Need-is-finite-requires
-is-finite-requires c κs = search needs
-
-alpha-on-path-requires : tie.Need-alpha-on-path-requires
-alpha-on-path-requires c κs = search needs
-
-returned-number-requires : tie.Need-returned-number-requires
-returned-number-requires c κs = search needs
 
 returns : tie.Need-returns
 unfolding alphaOf
@@ -32,10 +21,5 @@ returns-2 c =
 pub alpha-spec : {M : Type 1} → statement M
 alpha-spec =
     tie.close
-    (tie.spec
-    parameters-finite-requires
-    is-finite-requires
-    alpha-on-path-requires
-    returned-number-requires
-    returns
+    (tie.spec (λ c κs. search needs) (λ c κs. search needs) (λ c κs. search needs) (λ c κs. search needs) returns
     returns-2)

@@ -1,24 +1,10 @@
+-- `plasticity_drucker_prager::DruckerPragerPlasticity::angled` answers `angledOf self q exponential`.
 use Rattle.plasticity_drucker_prager.specs.Alpha.{angledOf}
 use borrow.Author.Needs.{needs}
 use Rattle.plasticity_drucker_prager.proofs.DruckerPragerPlasticity.angled.Statement.{
   statement,
 }
 use Rattle.plasticity_drucker_prager.proofs.DruckerPragerPlasticity.angled.Tie as tie
-
-enum-known-exponential : tie.Need-enum-known-exponential
-enum-known-exponential c = search needs
-
-angle-requires : tie.Need-angle-requires
-angle-requires c κs = search needs
-
-sin-on-path-requires : tie.Need-sin-on-path-requires
-sin-on-path-requires c κs = search needs
-
-sined-requires : tie.Need-sined-requires
-sined-requires c κs = search needs
-
-enum-known-exponential-2 : tie.Need-enum-known-exponential-2
-enum-known-exponential-2 c = search needs
 
 returns : tie.Need-returns
 unfolding angledOf
@@ -35,11 +21,5 @@ returns-2 c =
 pub angled-spec : {M : Type 1} → statement M
 angled-spec =
     tie.close
-    (tie.spec
-    enum-known-exponential
-    angle-requires
-    sin-on-path-requires
-    sined-requires
-    enum-known-exponential-2
-    returns
-    returns-2)
+    (tie.spec (λ c. search needs) (λ c κs. search needs) (λ c κs. search needs) (λ c κs. search needs)
+    (λ c. search needs) returns returns-2)

@@ -1,27 +1,10 @@
+-- `plasticity_drucker_prager::DruckerPragerPlasticity::choose` answers `choiceOf self trace d alpha`.
 use Rattle.plasticity_drucker_prager.specs.Projection.{choiceOf}
 use borrow.Author.Needs.{needs}
 use Rattle.plasticity_drucker_prager.proofs.DruckerPragerPlasticity.choose.Statement.{
   statement,
 }
 use Rattle.plasticity_drucker_prager.proofs.DruckerPragerPlasticity.choose.Tie as tie
-
-dot-requires : tie.Need-dot-requires
-dot-requires c κs = search needs
-
-is-number-requires : tie.Need-is-number-requires
-is-number-requires c κs = search needs
-
-all-zero-requires : tie.Need-all-zero-requires
-all-zero-requires c κs = search needs
-
-array-read-t16 : tie.Need-array-read-t16
-array-read-t16 c = search needs
-
-norm-on-path-requires : tie.Need-norm-on-path-requires
-norm-on-path-requires c κs = search needs
-
-choose-yield-requires : tie.Need-choose-yield-requires
-choose-yield-requires c κs = search needs
 
 returns : tie.Need-returns
 unfolding choiceOf
@@ -55,14 +38,5 @@ returns-4 c =
 pub choose-spec : {M : Type 1} → statement M
 choose-spec =
     tie.close
-    (tie.spec
-    dot-requires
-    is-number-requires
-    all-zero-requires
-    array-read-t16
-    norm-on-path-requires
-    choose-yield-requires
-    returns
-    returns-2
-    returns-3
-    returns-4)
+    (tie.spec (λ c κs. search needs) (λ c κs. search needs) (λ c κs. search needs) (λ c. search needs)
+    (λ c κs. search needs) (λ c κs. search needs) returns returns-2 returns-3 returns-4)

@@ -1,21 +1,10 @@
+-- `plasticity_drucker_prager::DruckerPragerPlasticity::choose_yield` answers `yieldChoice self norm trace alpha`.
 use Rattle.plasticity_drucker_prager.specs.Projection.{yieldChoice}
 use borrow.Author.Needs.{needs}
 use Rattle.plasticity_drucker_prager.proofs.DruckerPragerPlasticity.choose_yield.Statement.{
   statement,
 }
 use Rattle.plasticity_drucker_prager.proofs.DruckerPragerPlasticity.choose_yield.Tie as tie
-
-enum-known-norm : tie.Need-enum-known-norm
-enum-known-norm c = search needs
-
-gamma-requires : tie.Need-gamma-requires
-gamma-requires c κs = search needs
-
-is-number-requires : tie.Need-is-number-requires
-is-number-requires c κs = search needs
-
-enum-known-norm-2 : tie.Need-enum-known-norm-2
-enum-known-norm-2 c = search needs
 
 returns : tie.Need-returns
 unfolding yieldChoice
@@ -49,12 +38,5 @@ returns-4 c =
 pub choose-yield-spec : {M : Type 1} → statement M
 choose-yield-spec =
     tie.close
-    (tie.spec
-    enum-known-norm
-    gamma-requires
-    is-number-requires
-    enum-known-norm-2
-    returns
-    returns-2
-    returns-3
-    returns-4)
+    (tie.spec (λ c. search needs) (λ c κs. search needs) (λ c κs. search needs) (λ c. search needs) returns
+    returns-2 returns-3 returns-4)

@@ -1,3 +1,4 @@
+-- `plasticity_drucker_prager::DruckerPragerPlasticity::corrected` answers `correctedOf self prev new`.
 use Rattle.plasticity_drucker_prager.specs.DruckerPrager.{correctedOf}
 use Rattle.plasticity_drucker_prager.proofs.DruckerPragerPlasticity.corrected.Statement.{
   statement,
@@ -17,4 +18,6 @@ returns-2 c =
     simp (t0)
 
 pub corrected-spec : {M : Type 1} → statement M
-corrected-spec = tie.close (tie.spec returns returns-2)
+corrected-spec =
+    tie.close
+    (tie.spec returns returns-2)

@@ -1,3 +1,4 @@
+-- `plasticity_drucker_prager::DruckerPragerPlasticity::decay` answers `decayOf self q`.
 use mathlib.Core.Path.{refl}
 use Rattle.plasticity_drucker_prager.specs.Alpha.{decayOf}
 use Rattle.plasticity_drucker_prager.proofs.DruckerPragerPlasticity.decay.Statement.{
@@ -10,4 +11,6 @@ unfolding decayOf
 returns c = refl
 
 pub decay-spec : {M : Type 1} → statement M
-decay-spec = tie.close (tie.spec returns)
+decay-spec =
+    tie.close
+    (tie.spec returns)

@@ -1,3 +1,4 @@
+-- `plasticity_drucker_prager::DruckerPragerPlasticity::gamma` answers `gammaOf self norm trace alpha`.
 use mathlib.Core.Path.{refl}
 use Rattle.plasticity_drucker_prager.specs.Projection.{gammaOf}
 use Rattle.plasticity_drucker_prager.proofs.DruckerPragerPlasticity.gamma.Statement.{
@@ -10,4 +11,6 @@ unfolding gammaOf
 returns c = refl
 
 pub gamma-spec : {M : Type 1} → statement M
-gamma-spec = tie.close (tie.spec returns)
+gamma-spec =
+    tie.close
+    (tie.spec returns)

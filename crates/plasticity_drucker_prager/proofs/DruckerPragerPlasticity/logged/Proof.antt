@@ -1,24 +1,10 @@
+-- `plasticity_drucker_prager::DruckerPragerPlasticity::logged` answers `loggedOf self logs sigma gain alpha`.
 use Rattle.plasticity_drucker_prager.specs.Projection.{loggedOf}
 use borrow.Author.Needs.{needs}
 use Rattle.plasticity_drucker_prager.proofs.DruckerPragerPlasticity.logged.Statement.{
   statement,
 }
 use Rattle.plasticity_drucker_prager.proofs.DruckerPragerPlasticity.logged.Tie as tie
-
-enum-known-logs : tie.Need-enum-known-logs
-enum-known-logs c = search needs
-
-strain-requires : tie.Need-strain-requires
-strain-requires c κs = search needs
-
-strained-requires : tie.Need-strained-requires
-strained-requires c κs = search needs
-
-enum-known-logs-2 : tie.Need-enum-known-logs-2
-enum-known-logs-2 c = search needs
-
-refused-projection-requires : tie.Need-refused-projection-requires
-refused-projection-requires c κs = search needs
 
 returns : tie.Need-returns
 unfolding loggedOf
@@ -35,11 +21,5 @@ returns-2 c =
 pub logged-spec : {M : Type 1} → statement M
 logged-spec =
     tie.close
-    (tie.spec
-    enum-known-logs
-    strain-requires
-    strained-requires
-    enum-known-logs-2
-    refused-projection-requires
-    returns
-    returns-2)
+    (tie.spec (λ c. search needs) (λ c κs. search needs) (λ c κs. search needs) (λ c. search needs)
+    (λ c κs. search needs) returns returns-2)

@@ -1,39 +1,10 @@
+-- `plasticity_drucker_prager::DruckerPragerPlasticity::moved` answers `movedOf self sigma dq u vt s`.
 use Rattle.plasticity_drucker_prager.specs.DruckerPrager.{movedOf}
 use borrow.Author.Needs.{needs}
 use Rattle.plasticity_drucker_prager.proofs.DruckerPragerPlasticity.moved.Statement.{
   statement,
 }
 use Rattle.plasticity_drucker_prager.proofs.DruckerPragerPlasticity.moved.Tie as tie
-
-product-requires : tie.Need-product-requires
-product-requires c κs = search needs
-
-product-requires-2 : tie.Need-product-requires-2
-product-requires-2 c κs = search needs
-
-corrected-requires : tie.Need-corrected-requires
-corrected-requires c κs = search needs
-
-determinant-requires : tie.Need-determinant-requires
-determinant-requires c κs = search needs
-
-is-number-requires : tie.Need-is-number-requires
-is-number-requires c κs = search needs
-
-ln-on-path-requires : tie.Need-ln-on-path-requires
-ln-on-path-requires c κs = search needs
-
-ln-on-path-requires-2 : tie.Need-ln-on-path-requires-2
-ln-on-path-requires-2 c κs = search needs
-
-difference-requires : tie.Need-difference-requires
-difference-requires c κs = search needs
-
-gained-requires : tie.Need-gained-requires
-gained-requires c κs = search needs
-
-refuse-requires : tie.Need-refuse-requires
-refuse-requires c κs = search needs
 
 returns : tie.Need-returns
 unfolding movedOf
@@ -50,16 +21,6 @@ returns-2 c =
 pub moved-spec : {M : Type 1} → statement M
 moved-spec =
     tie.close
-    (tie.spec
-    product-requires
-    product-requires-2
-    corrected-requires
-    determinant-requires
-    is-number-requires
-    ln-on-path-requires
-    ln-on-path-requires-2
-    difference-requires
-    gained-requires
-    refuse-requires
-    returns
-    returns-2)
+    (tie.spec (λ c κs. search needs) (λ c κs. search needs) (λ c κs. search needs) (λ c κs. search needs)
+    (λ c κs. search needs) (λ c κs. search needs) (λ c κs. search needs) (λ c κs. search needs)
+    (λ c κs. search needs) (λ c κs. search needs) returns returns-2)

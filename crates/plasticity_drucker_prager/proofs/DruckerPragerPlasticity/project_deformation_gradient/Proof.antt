@@ -1,30 +1,10 @@
+-- `plasticity_drucker_prager::DruckerPragerPlasticity::project_deformation_gradient` answers `projectOf self «singular_values» «log_vol_gain» alpha`.
 use Rattle.plasticity_drucker_prager.specs.Projection.{projectOf}
 use borrow.Author.Needs.{needs}
 use Rattle.plasticity_drucker_prager.proofs.DruckerPragerPlasticity.project_deformation_gradient.Statement.{
   statement,
 }
 use Rattle.plasticity_drucker_prager.proofs.DruckerPragerPlasticity.project_deformation_gradient.Tie as tie
-
-parameters-finite-requires : tie.Need-parameters-finite-requires
-parameters-finite-requires c κs = search needs
-
-row-finite-requires : tie.Need-row-finite-requires
-row-finite-requires c κs = search needs
-
-is-finite-requires : tie.Need-is-finite-requires
-is-finite-requires c κs = search needs
-
-is-finite-requires-2 : tie.Need-is-finite-requires-2
-is-finite-requires-2 c κs = search needs
-
-projected-requires : tie.Need-projected-requires
-projected-requires c κs = search needs
-
-returned-projection-requires : tie.Need-returned-projection-requires
-returned-projection-requires c κs = search needs
-
-refused-projection-requires : tie.Need-refused-projection-requires
-refused-projection-requires c κs = search needs
 
 returns : tie.Need-returns
 unfolding projectOf
@@ -41,13 +21,5 @@ returns-2 c =
 pub project-deformation-gradient-spec : {M : Type 1} → statement M
 project-deformation-gradient-spec =
     tie.close
-    (tie.spec
-    parameters-finite-requires
-    row-finite-requires
-    is-finite-requires
-    is-finite-requires-2
-    projected-requires
-    returned-projection-requires
-    refused-projection-requires
-    returns
-    returns-2)
+    (tie.spec (λ c κs. search needs) (λ c κs. search needs) (λ c κs. search needs) (λ c κs. search needs)
+    (λ c κs. search needs) (λ c κs. search needs) (λ c κs. search needs) returns returns-2)

@@ -1,21 +1,10 @@
+-- `plasticity_drucker_prager::DruckerPragerPlasticity::run` answers `druckerRun self u vt s`.
 use Rattle.plasticity_drucker_prager.specs.DruckerPrager.{druckerRun}
 use borrow.Author.Needs.{needs}
 use Rattle.plasticity_drucker_prager.proofs.DruckerPragerPlasticity.run.Statement.{
   statement,
 }
 use Rattle.plasticity_drucker_prager.proofs.DruckerPragerPlasticity.run.Tie as tie
-
-stays-requires : tie.Need-stays-requires
-stays-requires c κs = search needs
-
-untouched-requires : tie.Need-untouched-requires
-untouched-requires c κs = search needs
-
-alpha-on-path-requires : tie.Need-alpha-on-path-requires
-alpha-on-path-requires c κs = search needs
-
-sloped-requires : tie.Need-sloped-requires
-sloped-requires c κs = search needs
 
 returns : tie.Need-returns
 unfolding druckerRun
@@ -32,10 +21,5 @@ returns-2 c =
 pub run-spec : {M : Type 1} → statement M
 run-spec =
     tie.close
-    (tie.spec
-    stays-requires
-    untouched-requires
-    alpha-on-path-requires
-    sloped-requires
-    returns
+    (tie.spec (λ c κs. search needs) (λ c κs. search needs) (λ c κs. search needs) (λ c κs. search needs) returns
     returns-2)

@@ -1,21 +1,10 @@
+-- `plasticity_drucker_prager::DruckerPragerPlasticity::strained` answers `strainedOf self sigma e alpha`.
 use Rattle.plasticity_drucker_prager.specs.Projection.{strainedOf}
 use borrow.Author.Needs.{needs}
 use Rattle.plasticity_drucker_prager.proofs.DruckerPragerPlasticity.strained.Statement.{
   statement,
 }
 use Rattle.plasticity_drucker_prager.proofs.DruckerPragerPlasticity.strained.Tie as tie
-
-sum-requires : tie.Need-sum-requires
-sum-requires c κs = search needs
-
-deviatoric-requires : tie.Need-deviatoric-requires
-deviatoric-requires c κs = search needs
-
-choose-requires : tie.Need-choose-requires
-choose-requires c κs = search needs
-
-returned-requires : tie.Need-returned-requires
-returned-requires c κs = search needs
 
 returns : tie.Need-returns
 unfolding strainedOf
@@ -24,4 +13,5 @@ returns c =
 
 pub strained-spec : {M : Type 1} → statement M
 strained-spec =
-    tie.close (tie.spec sum-requires deviatoric-requires choose-requires returned-requires returns)
+    tie.close
+    (tie.spec (λ c κs. search needs) (λ c κs. search needs) (λ c κs. search needs) (λ c κs. search needs) returns)

@@ -1,21 +1,10 @@
+-- `plasticity_drucker_prager::DruckerPragerPlasticity::update_particle` answers `druckerUpdate self u vt s`.
 use Rattle.plasticity_drucker_prager.specs.DruckerPrager.{druckerUpdate}
 use borrow.Author.Needs.{needs}
 use Rattle.plasticity_drucker_prager.proofs.DruckerPragerPlasticity.update_particle.Statement.{
   statement,
 }
 use Rattle.plasticity_drucker_prager.proofs.DruckerPragerPlasticity.update_particle.Tie as tie
-
-parameters-finite-requires : tie.Need-parameters-finite-requires
-parameters-finite-requires c κs = search needs
-
-inputs-finite-requires : tie.Need-inputs-finite-requires
-inputs-finite-requires c κs = search needs
-
-run-requires : tie.Need-run-requires
-run-requires c κs = search needs
-
-refuse-requires : tie.Need-refuse-requires
-refuse-requires c κs = search needs
 
 returns : tie.Need-returns
 unfolding druckerUpdate
@@ -32,10 +21,5 @@ returns-2 c =
 pub update-particle-spec : {M : Type 1} → statement M
 update-particle-spec =
     tie.close
-    (tie.spec
-    parameters-finite-requires
-    inputs-finite-requires
-    run-requires
-    refuse-requires
-    returns
+    (tie.spec (λ c κs. search needs) (λ c κs. search needs) (λ c κs. search needs) (λ c κs. search needs) returns
     returns-2)

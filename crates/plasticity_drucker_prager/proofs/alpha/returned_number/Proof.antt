@@ -1,16 +1,8 @@
+-- `plasticity_drucker_prager::alpha::returned_number` answers `returnedNumber x`.
 use Rattle.plasticity_drucker_prager.specs.Alpha.{returnedNumber}
 use borrow.Author.Needs.{needs}
 use Rattle.plasticity_drucker_prager.proofs.alpha.returned_number.Statement.{statement}
 use Rattle.plasticity_drucker_prager.proofs.alpha.returned_number.Tie as tie
-
-enum-known-x : tie.Need-enum-known-x
-enum-known-x c = search needs
-
-is-finite-requires : tie.Need-is-finite-requires
-is-finite-requires c κs = search needs
-
-enum-known-x-2 : tie.Need-enum-known-x-2
-enum-known-x-2 c = search needs
 
 returns : tie.Need-returns
 unfolding returnedNumber
@@ -34,4 +26,5 @@ returns-3 c =
 
 pub returned-number-spec : {M : Type 1} → statement M
 returned-number-spec =
-    tie.close (tie.spec enum-known-x is-finite-requires enum-known-x-2 returns returns-2 returns-3)
+    tie.close
+    (tie.spec (λ c. search needs) (λ c κs. search needs) (λ c. search needs) returns returns-2 returns-3)

@@ -1,19 +1,8 @@
+-- `plasticity_drucker_prager::alpha::rooted` answers `rootedOf root s`.
 use Rattle.plasticity_drucker_prager.specs.Alpha.{rootedOf}
 use borrow.Author.Needs.{needs}
 use Rattle.plasticity_drucker_prager.proofs.alpha.rooted.Statement.{statement}
 use Rattle.plasticity_drucker_prager.proofs.alpha.rooted.Tie as tie
-
-enum-known-root : tie.Need-enum-known-root
-enum-known-root c = search needs
-
-slope-requires : tie.Need-slope-requires
-slope-requires c κs = search needs
-
-is-number-requires : tie.Need-is-number-requires
-is-number-requires c κs = search needs
-
-enum-known-root-2 : tie.Need-enum-known-root-2
-enum-known-root-2 c = search needs
 
 returns : tie.Need-returns
 unfolding rootedOf
@@ -38,11 +27,5 @@ returns-3 c =
 pub rooted-spec : {M : Type 1} → statement M
 rooted-spec =
     tie.close
-    (tie.spec
-    enum-known-root
-    slope-requires
-    is-number-requires
-    enum-known-root-2
-    returns
-    returns-2
-    returns-3)
+    (tie.spec (λ c. search needs) (λ c κs. search needs) (λ c κs. search needs) (λ c. search needs) returns
+    returns-2 returns-3)

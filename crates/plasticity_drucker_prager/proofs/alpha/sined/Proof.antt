@@ -1,19 +1,8 @@
+-- `plasticity_drucker_prager::alpha::sined` answers `sinedOf sine`.
 use Rattle.plasticity_drucker_prager.specs.Alpha.{sinedOf}
 use borrow.Author.Needs.{needs}
 use Rattle.plasticity_drucker_prager.proofs.alpha.sined.Statement.{statement}
 use Rattle.plasticity_drucker_prager.proofs.alpha.sined.Tie as tie
-
-enum-known-sine : tie.Need-enum-known-sine
-enum-known-sine c = search needs
-
-sqrt-on-path-requires : tie.Need-sqrt-on-path-requires
-sqrt-on-path-requires c κs = search needs
-
-rooted-requires : tie.Need-rooted-requires
-rooted-requires c κs = search needs
-
-enum-known-sine-2 : tie.Need-enum-known-sine-2
-enum-known-sine-2 c = search needs
 
 returns : tie.Need-returns
 unfolding sinedOf
@@ -30,10 +19,5 @@ returns-2 c =
 pub sined-spec : {M : Type 1} → statement M
 sined-spec =
     tie.close
-    (tie.spec
-    enum-known-sine
-    sqrt-on-path-requires
-    rooted-requires
-    enum-known-sine-2
-    returns
+    (tie.spec (λ c. search needs) (λ c κs. search needs) (λ c κs. search needs) (λ c. search needs) returns
     returns-2)

@@ -1,3 +1,4 @@
+-- `plasticity_drucker_prager::alpha::slope` answers `slopeOf r s`.
 use mathlib.Core.Path.{refl}
 use Rattle.plasticity_drucker_prager.specs.Alpha.{slopeOf}
 use Rattle.plasticity_drucker_prager.proofs.alpha.slope.Statement.{statement}
@@ -8,4 +9,6 @@ unfolding slopeOf
 returns c = refl
 
 pub slope-spec : {M : Type 1} → statement M
-slope-spec = tie.close (tie.spec returns)
+slope-spec =
+    tie.close
+    (tie.spec returns)

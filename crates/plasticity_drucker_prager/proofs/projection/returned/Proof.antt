@@ -1,46 +1,8 @@
+-- `plasticity_drucker_prager::projection::returned` answers `returnedOf b sigma e d`.
 use Rattle.plasticity_drucker_prager.specs.Projection.{returnedOf}
 use borrow.Author.Needs.{needs}
 use Rattle.plasticity_drucker_prager.proofs.projection.returned.Statement.{statement}
 use Rattle.plasticity_drucker_prager.proofs.projection.returned.Tie as tie
-
-enum-known-b : tie.Need-enum-known-b
-enum-known-b c = search needs
-
-norm-on-path-requires : tie.Need-norm-on-path-requires
-norm-on-path-requires c κs = search needs
-
-tip-requires : tie.Need-tip-requires
-tip-requires c κs = search needs
-
-enum-known-b-2 : tie.Need-enum-known-b-2
-enum-known-b-2 c = search needs
-
-norm-on-path-requires-2 : tie.Need-norm-on-path-requires-2
-norm-on-path-requires-2 c κs = search needs
-
-tip-requires-2 : tie.Need-tip-requires-2
-tip-requires-2 c κs = search needs
-
-enum-known-b-3 : tie.Need-enum-known-b-3
-enum-known-b-3 c = search needs
-
-enum-known-b-4 : tie.Need-enum-known-b-4
-enum-known-b-4 c = search needs
-
-back-requires : tie.Need-back-requires
-back-requires c κs = search needs
-
-exps-requires : tie.Need-exps-requires
-exps-requires c κs = search needs
-
-surface-requires : tie.Need-surface-requires
-surface-requires c κs = search needs
-
-enum-known-b-5 : tie.Need-enum-known-b-5
-enum-known-b-5 c = search needs
-
-refused-projection-requires : tie.Need-refused-projection-requires
-refused-projection-requires c κs = search needs
 
 returns : tie.Need-returns
 unfolding returnedOf
@@ -75,22 +37,7 @@ returns-5 c =
 pub returned-spec : {M : Type 1} → statement M
 returned-spec =
     tie.close
-    (tie.spec
-    enum-known-b
-    norm-on-path-requires
-    tip-requires
-    enum-known-b-2
-    norm-on-path-requires-2
-    tip-requires-2
-    enum-known-b-3
-    enum-known-b-4
-    back-requires
-    exps-requires
-    surface-requires
-    enum-known-b-5
-    refused-projection-requires
-    returns
-    returns-2
-    returns-3
-    returns-4
-    returns-5)
+    (tie.spec (λ c. search needs) (λ c κs. search needs) (λ c κs. search needs) (λ c. search needs)
+    (λ c κs. search needs) (λ c κs. search needs) (λ c. search needs) (λ c. search needs) (λ c κs. search needs)
+    (λ c κs. search needs) (λ c κs. search needs) (λ c. search needs) (λ c κs. search needs) returns returns-2
+    returns-3 returns-4 returns-5)

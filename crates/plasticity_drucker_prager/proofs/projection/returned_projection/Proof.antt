@@ -1,18 +1,10 @@
+-- `plasticity_drucker_prager::projection::returned_projection` answers `returnedProjection q`.
 use Rattle.plasticity_drucker_prager.specs.Projection.{returnedProjection}
 use borrow.Author.Needs.{needs}
 use Rattle.plasticity_drucker_prager.proofs.projection.returned_projection.Statement.{
   statement,
 }
 use Rattle.plasticity_drucker_prager.proofs.projection.returned_projection.Tie as tie
-
-row-finite-requires : tie.Need-row-finite-requires
-row-finite-requires c κs = search needs
-
-is-finite-requires : tie.Need-is-finite-requires
-is-finite-requires c κs = search needs
-
-refused-projection-requires : tie.Need-refused-projection-requires
-refused-projection-requires c κs = search needs
 
 returns : tie.Need-returns
 unfolding returnedProjection
@@ -29,4 +21,4 @@ returns-2 c =
 pub returned-projection-spec : {M : Type 1} → statement M
 returned-projection-spec =
     tie.close
-    (tie.spec row-finite-requires is-finite-requires refused-projection-requires returns returns-2)
+    (tie.spec (λ c κs. search needs) (λ c κs. search needs) (λ c κs. search needs) returns returns-2)

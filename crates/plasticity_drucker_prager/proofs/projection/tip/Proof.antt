@@ -1,16 +1,8 @@
+-- `plasticity_drucker_prager::projection::tip` answers `tipOf b norm`.
 use Rattle.plasticity_drucker_prager.specs.Projection.{tipOf}
 use borrow.Author.Needs.{needs}
 use Rattle.plasticity_drucker_prager.proofs.projection.tip.Statement.{statement}
 use Rattle.plasticity_drucker_prager.proofs.projection.tip.Tie as tie
-
-enum-known-norm : tie.Need-enum-known-norm
-enum-known-norm c = search needs
-
-enum-known-norm-2 : tie.Need-enum-known-norm-2
-enum-known-norm-2 c = search needs
-
-refused-projection-requires : tie.Need-refused-projection-requires
-refused-projection-requires c κs = search needs
 
 returns : tie.Need-returns
 unfolding tipOf
@@ -27,4 +19,4 @@ returns-2 c =
 pub tip-spec : {M : Type 1} → statement M
 tip-spec =
     tie.close
-    (tie.spec enum-known-norm enum-known-norm-2 refused-projection-requires returns returns-2)
+    (tie.spec (λ c. search needs) (λ c. search needs) (λ c κs. search needs) returns returns-2)

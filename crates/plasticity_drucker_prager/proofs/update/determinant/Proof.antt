@@ -1,3 +1,4 @@
+-- `plasticity_drucker_prager::update::determinant` answers `determinantOf d prev new`.
 use mathlib.Core.Path.{refl}
 use Rattle.plasticity_drucker_prager.specs.DruckerPrager.{determinantOf}
 use Rattle.plasticity_drucker_prager.proofs.update.determinant.Statement.{statement}
@@ -8,4 +9,6 @@ unfolding determinantOf
 returns c = refl
 
 pub determinant-spec : {M : Type 1} → statement M
-determinant-spec = tie.close (tie.spec returns)
+determinant-spec =
+    tie.close
+    (tie.spec returns)

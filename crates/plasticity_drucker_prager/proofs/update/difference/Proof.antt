@@ -1,19 +1,8 @@
+-- `plasticity_drucker_prager::update::difference` answers `differenceOf prev new`.
 use Rattle.plasticity_drucker_prager.specs.DruckerPrager.{differenceOf}
 use borrow.Author.Needs.{needs}
 use Rattle.plasticity_drucker_prager.proofs.update.difference.Statement.{statement}
 use Rattle.plasticity_drucker_prager.proofs.update.difference.Tie as tie
-
-enum-known-prev : tie.Need-enum-known-prev
-enum-known-prev c = search needs
-
-enum-known-new : tie.Need-enum-known-new
-enum-known-new c = search needs
-
-enum-known-new-2 : tie.Need-enum-known-new-2
-enum-known-new-2 c = search needs
-
-enum-known-prev-2 : tie.Need-enum-known-prev-2
-enum-known-prev-2 c = search needs
 
 returns : tie.Need-returns
 unfolding differenceOf
@@ -38,11 +27,5 @@ returns-3 c =
 pub difference-spec : {M : Type 1} → statement M
 difference-spec =
     tie.close
-    (tie.spec
-    enum-known-prev
-    enum-known-new
-    enum-known-new-2
-    enum-known-prev-2
-    returns
-    returns-2
+    (tie.spec (λ c. search needs) (λ c. search needs) (λ c. search needs) (λ c. search needs) returns returns-2
     returns-3)

@@ -1,22 +1,8 @@
+-- `plasticity_drucker_prager::update::gained` answers `gainedOf difference u sigma vt d dq s`.
 use Rattle.plasticity_drucker_prager.specs.DruckerPrager.{gainedOf}
 use borrow.Author.Needs.{needs}
 use Rattle.plasticity_drucker_prager.proofs.update.gained.Statement.{statement}
 use Rattle.plasticity_drucker_prager.proofs.update.gained.Tie as tie
-
-enum-known-difference : tie.Need-enum-known-difference
-enum-known-difference c = search needs
-
-recompose-requires : tie.Need-recompose-requires
-recompose-requires c κs = search needs
-
-store-requires : tie.Need-store-requires
-store-requires c κs = search needs
-
-enum-known-difference-2 : tie.Need-enum-known-difference-2
-enum-known-difference-2 c = search needs
-
-refuse-requires : tie.Need-refuse-requires
-refuse-requires c κs = search needs
 
 returns : tie.Need-returns
 unfolding gainedOf
@@ -33,11 +19,5 @@ returns-2 c =
 pub gained-spec : {M : Type 1} → statement M
 gained-spec =
     tie.close
-    (tie.spec
-    enum-known-difference
-    recompose-requires
-    store-requires
-    enum-known-difference-2
-    refuse-requires
-    returns
-    returns-2)
+    (tie.spec (λ c. search needs) (λ c κs. search needs) (λ c κs. search needs) (λ c. search needs)
+    (λ c κs. search needs) returns returns-2)

@@ -1,28 +1,8 @@
+-- `plasticity_drucker_prager::update::store` answers `druckerStore f sigma d hardening gain dq s`.
 use Rattle.plasticity_drucker_prager.specs.DruckerPrager.{druckerStore}
 use borrow.Author.Needs.{needs}
 use Rattle.plasticity_drucker_prager.proofs.update.store.Statement.{statement}
 use Rattle.plasticity_drucker_prager.proofs.update.store.Tie as tie
-
-mat-finite-requires : tie.Need-mat-finite-requires
-mat-finite-requires c κs = search needs
-
-row-finite-requires : tie.Need-row-finite-requires
-row-finite-requires c κs = search needs
-
-is-finite-requires : tie.Need-is-finite-requires
-is-finite-requires c κs = search needs
-
-is-finite-requires-2 : tie.Need-is-finite-requires-2
-is-finite-requires-2 c κs = search needs
-
-is-finite-requires-3 : tie.Need-is-finite-requires-3
-is-finite-requires-3 c κs = search needs
-
-state-of-requires : tie.Need-state-of-requires
-state-of-requires c κs = search needs
-
-refuse-requires : tie.Need-refuse-requires
-refuse-requires c κs = search needs
 
 returns : tie.Need-returns
 unfolding druckerStore
@@ -39,13 +19,5 @@ returns-2 c =
 pub store-spec : {M : Type 1} → statement M
 store-spec =
     tie.close
-    (tie.spec
-    mat-finite-requires
-    row-finite-requires
-    is-finite-requires
-    is-finite-requires-2
-    is-finite-requires-3
-    state-of-requires
-    refuse-requires
-    returns
-    returns-2)
+    (tie.spec (λ c κs. search needs) (λ c κs. search needs) (λ c κs. search needs) (λ c κs. search needs)
+    (λ c κs. search needs) (λ c κs. search needs) (λ c κs. search needs) returns returns-2)

@@ -1,16 +1,8 @@
+-- `plasticity_nacc::NaccPlasticity::choose` answers `choiceOf self t`.
 use Rattle.plasticity_nacc.specs.Choice.{choiceOf}
 use borrow.Author.Needs.{needs}
 use Rattle.plasticity_nacc.proofs.NaccPlasticity.choose.Statement.{statement}
 use Rattle.plasticity_nacc.proofs.NaccPlasticity.choose.Tie as tie
-
-is-number-requires : tie.Need-is-number-requires
-is-number-requires c κs = search needs
-
-is-number-requires-2 : tie.Need-is-number-requires-2
-is-number-requires-2 c κs = search needs
-
-choose-lower-requires : tie.Need-choose-lower-requires
-choose-lower-requires c κs = search needs
 
 returns : tie.Need-returns
 unfolding choiceOf
@@ -35,10 +27,4 @@ returns-3 c =
 pub choose-spec : {M : Type 1} → statement M
 choose-spec =
     tie.close
-    (tie.spec
-    is-number-requires
-    is-number-requires-2
-    choose-lower-requires
-    returns
-    returns-2
-    returns-3)
+    (tie.spec (λ c κs. search needs) (λ c κs. search needs) (λ c κs. search needs) returns returns-2 returns-3)

@@ -1,16 +1,8 @@
+-- `plasticity_nacc::NaccPlasticity::choose_lower` answers `lowerChoice self t`.
 use Rattle.plasticity_nacc.specs.Choice.{lowerChoice}
 use borrow.Author.Needs.{needs}
 use Rattle.plasticity_nacc.proofs.NaccPlasticity.choose_lower.Statement.{statement}
 use Rattle.plasticity_nacc.proofs.NaccPlasticity.choose_lower.Tie as tie
-
-low-requires : tie.Need-low-requires
-low-requires c κs = search needs
-
-is-number-requires : tie.Need-is-number-requires
-is-number-requires c κs = search needs
-
-choose-yield-requires : tie.Need-choose-yield-requires
-choose-yield-requires c κs = search needs
 
 returns : tie.Need-returns
 unfolding lowerChoice
@@ -35,4 +27,4 @@ returns-3 c =
 pub choose-lower-spec : {M : Type 1} → statement M
 choose-lower-spec =
     tie.close
-    (tie.spec low-requires is-number-requires choose-yield-requires returns returns-2 returns-3)
+    (tie.spec (λ c κs. search needs) (λ c κs. search needs) (λ c κs. search needs) returns returns-2 returns-3)

@@ -1,13 +1,8 @@
+-- `plasticity_nacc::NaccPlasticity::choose_yield` answers `yieldChoice self t`.
 use Rattle.plasticity_nacc.specs.Choice.{yieldChoice}
 use borrow.Author.Needs.{needs}
 use Rattle.plasticity_nacc.proofs.NaccPlasticity.choose_yield.Statement.{statement}
 use Rattle.plasticity_nacc.proofs.NaccPlasticity.choose_yield.Tie as tie
-
-y-requires : tie.Need-y-requires
-y-requires c κs = search needs
-
-is-number-requires : tie.Need-is-number-requires
-is-number-requires c κs = search needs
 
 returns : tie.Need-returns
 unfolding yieldChoice
@@ -30,4 +25,6 @@ returns-3 c =
     simp (t0)
 
 pub choose-yield-spec : {M : Type 1} → statement M
-choose-yield-spec = tie.close (tie.spec y-requires is-number-requires returns returns-2 returns-3)
+choose-yield-spec =
+    tie.close
+    (tie.spec (λ c κs. search needs) (λ c κs. search needs) returns returns-2 returns-3)

@@ -1,13 +1,8 @@
+-- `plasticity_nacc::NaccPlasticity::hardened` answers `hardenedOf self t alpha`.
 use Rattle.plasticity_nacc.specs.Hardening.{hardenedOf}
 use borrow.Author.Needs.{needs}
 use Rattle.plasticity_nacc.proofs.NaccPlasticity.hardened.Statement.{statement}
 use Rattle.plasticity_nacc.proofs.NaccPlasticity.hardened.Tie as tie
-
-hardens-requires : tie.Need-hardens-requires
-hardens-requires c κs = search needs
-
-hardening-step-requires : tie.Need-hardening-step-requires
-hardening-step-requires c κs = search needs
 
 returns : tie.Need-returns
 unfolding hardenedOf
@@ -22,4 +17,6 @@ returns-2 c =
     simp (t0)
 
 pub hardened-spec : {M : Type 1} → statement M
-hardened-spec = tie.close (tie.spec hardens-requires hardening-step-requires returns returns-2)
+hardened-spec =
+    tie.close
+    (tie.spec (λ c κs. search needs) (λ c κs. search needs) returns returns-2)

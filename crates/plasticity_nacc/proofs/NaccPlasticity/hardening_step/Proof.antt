@@ -1,19 +1,8 @@
+-- `plasticity_nacc::NaccPlasticity::hardening_step` answers `hardeningStep self t alpha`.
 use Rattle.plasticity_nacc.specs.Hardening.{hardeningStep}
 use borrow.Author.Needs.{needs}
 use Rattle.plasticity_nacc.proofs.NaccPlasticity.hardening_step.Statement.{statement}
 use Rattle.plasticity_nacc.proofs.NaccPlasticity.hardening_step.Tie as tie
-
-centre-requires : tie.Need-centre-requires
-centre-requires c κs = search needs
-
-is-number-requires : tie.Need-is-number-requires
-is-number-requires c κs = search needs
-
-direction-requires : tie.Need-direction-requires
-direction-requires c κs = search needs
-
-directed-requires : tie.Need-directed-requires
-directed-requires c κs = search needs
 
 returns : tie.Need-returns
 unfolding hardeningStep
@@ -30,10 +19,5 @@ returns-2 c =
 pub hardening-step-spec : {M : Type 1} → statement M
 hardening-step-spec =
     tie.close
-    (tie.spec
-    centre-requires
-    is-number-requires
-    direction-requires
-    directed-requires
-    returns
+    (tie.spec (λ c κs. search needs) (λ c κs. search needs) (λ c κs. search needs) (λ c κs. search needs) returns
     returns-2)

@@ -1,3 +1,4 @@
+-- `plasticity_nacc::NaccPlasticity::low` answers `lowOf self p0`.
 use mathlib.Core.Path.{refl}
 use Rattle.plasticity_nacc.specs.Choice.{lowOf}
 use Rattle.plasticity_nacc.proofs.NaccPlasticity.low.Statement.{statement}
@@ -8,4 +9,6 @@ unfolding lowOf
 returns c = refl
 
 pub low-spec : {M : Type 1} → statement M
-low-spec = tie.close (tie.spec returns)
+low-spec =
+    tie.close
+    (tie.spec returns)

@@ -1,13 +1,8 @@
+-- `plasticity_nacc::NaccPlasticity::over_mu` answers `overMu self power`.
 use Rattle.plasticity_nacc.specs.Surface.{overMu}
 use borrow.Author.Needs.{needs}
 use Rattle.plasticity_nacc.proofs.NaccPlasticity.over_mu.Statement.{statement}
 use Rattle.plasticity_nacc.proofs.NaccPlasticity.over_mu.Tie as tie
-
-enum-known-power : tie.Need-enum-known-power
-enum-known-power c = search needs
-
-enum-known-power-2 : tie.Need-enum-known-power-2
-enum-known-power-2 c = search needs
 
 returns : tie.Need-returns
 unfolding overMu
@@ -22,4 +17,6 @@ returns-2 c =
     simp (t0)
 
 pub over-mu-spec : {M : Type 1} → statement M
-over-mu-spec = tie.close (tie.spec enum-known-power enum-known-power-2 returns returns-2)
+over-mu-spec =
+    tie.close
+    (tie.spec (λ c. search needs) (λ c. search needs) returns returns-2)

@@ -1,19 +1,8 @@
+-- `plasticity_nacc::NaccPlasticity::p0_of` answers `p0Of self sinh`.
 use Rattle.plasticity_nacc.specs.TrialState.{p0Of}
 use borrow.Author.Needs.{needs}
 use Rattle.plasticity_nacc.proofs.NaccPlasticity.p0_of.Statement.{statement}
 use Rattle.plasticity_nacc.proofs.NaccPlasticity.p0_of.Tie as tie
-
-enum-known-sinh : tie.Need-enum-known-sinh
-enum-known-sinh c = search needs
-
-p0-from-requires : tie.Need-p0-from-requires
-p0-from-requires c κs = search needs
-
-is-number-requires : tie.Need-is-number-requires
-is-number-requires c κs = search needs
-
-enum-known-sinh-2 : tie.Need-enum-known-sinh-2
-enum-known-sinh-2 c = search needs
 
 returns : tie.Need-returns
 unfolding p0Of
@@ -38,11 +27,5 @@ returns-3 c =
 pub p0-of-spec : {M : Type 1} → statement M
 p0-of-spec =
     tie.close
-    (tie.spec
-    enum-known-sinh
-    p0-from-requires
-    is-number-requires
-    enum-known-sinh-2
-    returns
-    returns-2
-    returns-3)
+    (tie.spec (λ c. search needs) (λ c κs. search needs) (λ c κs. search needs) (λ c. search needs) returns
+    returns-2 returns-3)

@@ -1,16 +1,8 @@
+-- `plasticity_nacc::NaccPlasticity::p0_on_path` answers `p0OnPath self alpha`.
 use Rattle.plasticity_nacc.specs.TrialState.{p0OnPath}
 use borrow.Author.Needs.{needs}
 use Rattle.plasticity_nacc.proofs.NaccPlasticity.p0_on_path.Statement.{statement}
 use Rattle.plasticity_nacc.proofs.NaccPlasticity.p0_on_path.Tie as tie
-
-softening-requires : tie.Need-softening-requires
-softening-requires c κs = search needs
-
-sinh-on-path-requires : tie.Need-sinh-on-path-requires
-sinh-on-path-requires c κs = search needs
-
-p0-of-requires : tie.Need-p0-of-requires
-p0-of-requires c κs = search needs
 
 returns : tie.Need-returns
 unfolding p0OnPath
@@ -19,4 +11,5 @@ returns c =
 
 pub p0-on-path-spec : {M : Type 1} → statement M
 p0-on-path-spec =
-    tie.close (tie.spec softening-requires sinh-on-path-requires p0-of-requires returns)
+    tie.close
+    (tie.spec (λ c κs. search needs) (λ c κs. search needs) (λ c κs. search needs) returns)

@@ -1,22 +1,8 @@
+-- `plasticity_nacc::NaccPlasticity::powered` answers `poweredOf self power p0 j sigma alpha`.
 use Rattle.plasticity_nacc.specs.Nacc.{poweredOf}
 use borrow.Author.Needs.{needs}
 use Rattle.plasticity_nacc.proofs.NaccPlasticity.powered.Statement.{statement}
 use Rattle.plasticity_nacc.proofs.NaccPlasticity.powered.Tie as tie
-
-enum-known-power : tie.Need-enum-known-power
-enum-known-power c = search needs
-
-trial-requires : tie.Need-trial-requires
-trial-requires c κs = search needs
-
-tried-requires : tie.Need-tried-requires
-tried-requires c κs = search needs
-
-enum-known-power-2 : tie.Need-enum-known-power-2
-enum-known-power-2 c = search needs
-
-refused-step-requires : tie.Need-refused-step-requires
-refused-step-requires c κs = search needs
 
 returns : tie.Need-returns
 unfolding poweredOf
@@ -33,11 +19,5 @@ returns-2 c =
 pub powered-spec : {M : Type 1} → statement M
 powered-spec =
     tie.close
-    (tie.spec
-    enum-known-power
-    trial-requires
-    tried-requires
-    enum-known-power-2
-    refused-step-requires
-    returns
-    returns-2)
+    (tie.spec (λ c. search needs) (λ c κs. search needs) (λ c κs. search needs) (λ c. search needs)
+    (λ c κs. search needs) returns returns-2)

@@ -1,25 +1,8 @@
+-- `plasticity_nacc::NaccPlasticity::pressed` answers `pressedOf self p0 sigma alpha`.
 use Rattle.plasticity_nacc.specs.Nacc.{pressedOf}
 use borrow.Author.Needs.{needs}
 use Rattle.plasticity_nacc.proofs.NaccPlasticity.pressed.Statement.{statement}
 use Rattle.plasticity_nacc.proofs.NaccPlasticity.pressed.Tie as tie
-
-enum-known-p0 : tie.Need-enum-known-p0
-enum-known-p0 c = search needs
-
-product-requires : tie.Need-product-requires
-product-requires c κs = search needs
-
-inv-cbrt-squared-on-path-requires : tie.Need-inv-cbrt-squared-on-path-requires
-inv-cbrt-squared-on-path-requires c κs = search needs
-
-powered-requires : tie.Need-powered-requires
-powered-requires c κs = search needs
-
-enum-known-p0-2 : tie.Need-enum-known-p0-2
-enum-known-p0-2 c = search needs
-
-refused-step-requires : tie.Need-refused-step-requires
-refused-step-requires c κs = search needs
 
 returns : tie.Need-returns
 unfolding pressedOf
@@ -36,12 +19,5 @@ returns-2 c =
 pub pressed-spec : {M : Type 1} → statement M
 pressed-spec =
     tie.close
-    (tie.spec
-    enum-known-p0
-    product-requires
-    inv-cbrt-squared-on-path-requires
-    powered-requires
-    enum-known-p0-2
-    refused-step-requires
-    returns
-    returns-2)
+    (tie.spec (λ c. search needs) (λ c κs. search needs) (λ c κs. search needs) (λ c κs. search needs)
+    (λ c. search needs) (λ c κs. search needs) returns returns-2)

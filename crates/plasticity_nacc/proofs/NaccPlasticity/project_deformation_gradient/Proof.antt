@@ -1,30 +1,10 @@
+-- `plasticity_nacc::NaccPlasticity::project_deformation_gradient` answers `projectOf self f u sigma vt alpha`.
 use Rattle.plasticity_nacc.specs.Nacc.{projectOf}
 use borrow.Author.Needs.{needs}
 use Rattle.plasticity_nacc.proofs.NaccPlasticity.project_deformation_gradient.Statement.{
   statement,
 }
 use Rattle.plasticity_nacc.proofs.NaccPlasticity.project_deformation_gradient.Tie as tie
-
-projection-inputs-requires : tie.Need-projection-inputs-requires
-projection-inputs-requires c κs = search needs
-
-moduli-finite-requires : tie.Need-moduli-finite-requires
-moduli-finite-requires c κs = search needs
-
-steps-requires : tie.Need-steps-requires
-steps-requires c κs = search needs
-
-to-rows-requires : tie.Need-to-rows-requires
-to-rows-requires c κs = search needs
-
-projected-requires : tie.Need-projected-requires
-projected-requires c κs = search needs
-
-refused-projection-requires : tie.Need-refused-projection-requires
-refused-projection-requires c κs = search needs
-
-refused-projection-requires-2 : tie.Need-refused-projection-requires-2
-refused-projection-requires-2 c κs = search needs
 
 returns : tie.Need-returns
 unfolding projectOf
@@ -49,14 +29,5 @@ returns-3 c =
 pub project-deformation-gradient-spec : {M : Type 1} → statement M
 project-deformation-gradient-spec =
     tie.close
-    (tie.spec
-    projection-inputs-requires
-    moduli-finite-requires
-    steps-requires
-    to-rows-requires
-    projected-requires
-    refused-projection-requires
-    refused-projection-requires-2
-    returns
-    returns-2
-    returns-3)
+    (tie.spec (λ c κs. search needs) (λ c κs. search needs) (λ c κs. search needs) (λ c κs. search needs)
+    (λ c κs. search needs) (λ c κs. search needs) (λ c κs. search needs) returns returns-2 returns-3)

@@ -1,3 +1,4 @@
+-- `plasticity_nacc::NaccPlasticity::quadratic` answers `quadraticOf self d0 d1`.
 use mathlib.Core.Path.{refl}
 use Rattle.plasticity_nacc.specs.Hardening.{quadraticOf}
 use Rattle.plasticity_nacc.proofs.NaccPlasticity.quadratic.Statement.{statement}
@@ -8,4 +9,6 @@ unfolding quadraticOf
 returns c = refl
 
 pub quadratic-spec : {M : Type 1} → statement M
-quadratic-spec = tie.close (tie.spec returns)
+quadratic-spec =
+    tie.close
+    (tie.spec returns)

@@ -1,25 +1,8 @@
+-- `plasticity_nacc::NaccPlasticity::rooted` answers `rootedOf self b root j alpha`.
 use Rattle.plasticity_nacc.specs.Tip.{rootedOf}
 use borrow.Author.Needs.{needs}
 use Rattle.plasticity_nacc.proofs.NaccPlasticity.rooted.Statement.{statement}
 use Rattle.plasticity_nacc.proofs.NaccPlasticity.rooted.Tie as tie
-
-enum-known-root : tie.Need-enum-known-root
-enum-known-root c = search needs
-
-cbrt-on-path-requires : tie.Need-cbrt-on-path-requires
-cbrt-on-path-requires c κs = search needs
-
-tip-alpha-requires : tie.Need-tip-alpha-requires
-tip-alpha-requires c κs = search needs
-
-filled-requires : tie.Need-filled-requires
-filled-requires c κs = search needs
-
-enum-known-root-2 : tie.Need-enum-known-root-2
-enum-known-root-2 c = search needs
-
-refused-step-requires : tie.Need-refused-step-requires
-refused-step-requires c κs = search needs
 
 returns : tie.Need-returns
 unfolding rootedOf
@@ -36,12 +19,5 @@ returns-2 c =
 pub rooted-spec : {M : Type 1} → statement M
 rooted-spec =
     tie.close
-    (tie.spec
-    enum-known-root
-    cbrt-on-path-requires
-    tip-alpha-requires
-    filled-requires
-    enum-known-root-2
-    refused-step-requires
-    returns
-    returns-2)
+    (tie.spec (λ c. search needs) (λ c κs. search needs) (λ c κs. search needs) (λ c κs. search needs)
+    (λ c. search needs) (λ c κs. search needs) returns returns-2)

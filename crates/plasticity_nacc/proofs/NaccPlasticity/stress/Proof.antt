@@ -1,18 +1,10 @@
+-- `plasticity_nacc::NaccPlasticity::stress` answers `stressOf self w q mean`.
 use Rattle.plasticity_nacc.specs.TrialState.{stressOf}
 use borrow.Author.Needs.{needs}
 use lib.Ieee.{nan}
 use Rattle.tensor.specs.Axes.{of-one}
 use Rattle.plasticity_nacc.proofs.NaccPlasticity.stress.Statement.{statement}
 use Rattle.plasticity_nacc.proofs.NaccPlasticity.stress.Tie as tie
-
-array-read-t9 : tie.Need-array-read-t9
-array-read-t9 c = search needs
-
-array-read-t15 : tie.Need-array-read-t15
-array-read-t15 c = search needs
-
-array-read-t21 : tie.Need-array-read-t21
-array-read-t21 c = search needs
 
 returns : tie.Need-returns
 unfolding stressOf
@@ -21,4 +13,6 @@ returns c =
     of-one (λ q. stressOf (a .self) (a .w) q (a .mean)) nan (a .t3) (search needs)
 
 pub stress-spec : {M : Type 1} → statement M
-stress-spec = tie.close (tie.spec array-read-t9 array-read-t15 array-read-t21 returns)
+stress-spec =
+    tie.close
+    (tie.spec (λ c. search needs) (λ c. search needs) (λ c. search needs) returns)

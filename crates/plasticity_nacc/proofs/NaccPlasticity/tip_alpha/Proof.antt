@@ -1,13 +1,8 @@
+-- `plasticity_nacc::NaccPlasticity::tip_alpha` answers `tipAlpha self alpha ratio`.
 use Rattle.plasticity_nacc.specs.Tip.{tipAlpha}
 use borrow.Author.Needs.{needs}
 use Rattle.plasticity_nacc.proofs.NaccPlasticity.tip_alpha.Statement.{statement}
 use Rattle.plasticity_nacc.proofs.NaccPlasticity.tip_alpha.Tie as tie
-
-ln-on-path-requires : tie.Need-ln-on-path-requires
-ln-on-path-requires c κs = search needs
-
-raised-requires : tie.Need-raised-requires
-raised-requires c κs = search needs
 
 returns : tie.Need-returns
 unfolding tipAlpha
@@ -22,4 +17,6 @@ returns-2 c =
     simp (t0)
 
 pub tip-alpha-spec : {M : Type 1} → statement M
-tip-alpha-spec = tie.close (tie.spec ln-on-path-requires raised-requires returns returns-2)
+tip-alpha-spec =
+    tie.close
+    (tie.spec (λ c κs. search needs) (λ c κs. search needs) returns returns-2)

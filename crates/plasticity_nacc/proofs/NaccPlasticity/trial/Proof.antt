@@ -1,22 +1,8 @@
+-- `plasticity_nacc::NaccPlasticity::trial` answers `trialOf self w p0 j sigma`.
 use Rattle.plasticity_nacc.specs.TrialState.{trialOf}
 use borrow.Author.Needs.{needs}
 use Rattle.plasticity_nacc.proofs.NaccPlasticity.trial.Statement.{statement}
 use Rattle.plasticity_nacc.proofs.NaccPlasticity.trial.Tie as tie
-
-squared-requires : tie.Need-squared-requires
-squared-requires c κs = search needs
-
-mean-requires : tie.Need-mean-requires
-mean-requires c κs = search needs
-
-stress-requires : tie.Need-stress-requires
-stress-requires c κs = search needs
-
-dot-requires : tie.Need-dot-requires
-dot-requires c κs = search needs
-
-pressure-requires : tie.Need-pressure-requires
-pressure-requires c κs = search needs
 
 returns : tie.Need-returns
 unfolding trialOf
@@ -26,10 +12,5 @@ returns c =
 pub trial-spec : {M : Type 1} → statement M
 trial-spec =
     tie.close
-    (tie.spec
-    squared-requires
-    mean-requires
-    stress-requires
-    dot-requires
-    pressure-requires
-    returns)
+    (tie.spec (λ c κs. search needs) (λ c κs. search needs) (λ c κs. search needs) (λ c κs. search needs)
+    (λ c κs. search needs) returns)

@@ -1,40 +1,8 @@
+-- `plasticity_nacc::NaccPlasticity::worked` answers `workedOf self b t sigma alpha`.
 use Rattle.plasticity_nacc.specs.Nacc.{workedOf}
 use borrow.Author.Needs.{needs}
 use Rattle.plasticity_nacc.proofs.NaccPlasticity.worked.Statement.{statement}
 use Rattle.plasticity_nacc.proofs.NaccPlasticity.worked.Tie as tie
-
-enum-known-b : tie.Need-enum-known-b
-enum-known-b c = search needs
-
-volume-square-requires : tie.Need-volume-square-requires
-volume-square-requires c κs = search needs
-
-tip-requires : tie.Need-tip-requires
-tip-requires c κs = search needs
-
-enum-known-b-2 : tie.Need-enum-known-b-2
-enum-known-b-2 c = search needs
-
-lower-square-requires : tie.Need-lower-square-requires
-lower-square-requires c κs = search needs
-
-tip-requires-2 : tie.Need-tip-requires-2
-tip-requires-2 c κs = search needs
-
-enum-known-b-3 : tie.Need-enum-known-b-3
-enum-known-b-3 c = search needs
-
-enum-known-b-4 : tie.Need-enum-known-b-4
-enum-known-b-4 c = search needs
-
-surface-requires : tie.Need-surface-requires
-surface-requires c κs = search needs
-
-enum-known-b-5 : tie.Need-enum-known-b-5
-enum-known-b-5 c = search needs
-
-refused-step-requires : tie.Need-refused-step-requires
-refused-step-requires c κs = search needs
 
 returns : tie.Need-returns
 unfolding workedOf
@@ -69,20 +37,6 @@ returns-5 c =
 pub worked-spec : {M : Type 1} → statement M
 worked-spec =
     tie.close
-    (tie.spec
-    enum-known-b
-    volume-square-requires
-    tip-requires
-    enum-known-b-2
-    lower-square-requires
-    tip-requires-2
-    enum-known-b-3
-    enum-known-b-4
-    surface-requires
-    enum-known-b-5
-    refused-step-requires
-    returns
-    returns-2
-    returns-3
-    returns-4
-    returns-5)
+    (tie.spec (λ c. search needs) (λ c κs. search needs) (λ c κs. search needs) (λ c. search needs)
+    (λ c κs. search needs) (λ c κs. search needs) (λ c. search needs) (λ c. search needs) (λ c κs. search needs)
+    (λ c. search needs) (λ c κs. search needs) returns returns-2 returns-3 returns-4 returns-5)

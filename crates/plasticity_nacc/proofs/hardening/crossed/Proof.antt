@@ -1,22 +1,8 @@
+-- `plasticity_nacc::hardening::crossed` answers `crossedOf root a b d0 centre p`.
 use Rattle.plasticity_nacc.specs.Hardening.{crossedOf}
 use borrow.Author.Needs.{needs}
 use Rattle.plasticity_nacc.proofs.hardening.crossed.Statement.{statement}
 use Rattle.plasticity_nacc.proofs.hardening.crossed.Tie as tie
-
-enum-known-root : tie.Need-enum-known-root
-enum-known-root c = search needs
-
-crossing-at-requires : tie.Need-crossing-at-requires
-crossing-at-requires c κs = search needs
-
-crossing-at-requires-2 : tie.Need-crossing-at-requires-2
-crossing-at-requires-2 c κs = search needs
-
-picked-requires : tie.Need-picked-requires
-picked-requires c κs = search needs
-
-enum-known-root-2 : tie.Need-enum-known-root-2
-enum-known-root-2 c = search needs
 
 returns : tie.Need-returns
 unfolding crossedOf
@@ -33,11 +19,5 @@ returns-2 c =
 pub crossed-spec : {M : Type 1} → statement M
 crossed-spec =
     tie.close
-    (tie.spec
-    enum-known-root
-    crossing-at-requires
-    crossing-at-requires-2
-    picked-requires
-    enum-known-root-2
-    returns
-    returns-2)
+    (tie.spec (λ c. search needs) (λ c κs. search needs) (λ c κs. search needs) (λ c κs. search needs)
+    (λ c. search needs) returns returns-2)

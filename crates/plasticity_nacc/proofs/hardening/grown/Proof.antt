@@ -1,19 +1,8 @@
+-- `plasticity_nacc::hardening::grown` answers `grownOf volume j alpha`.
 use Rattle.plasticity_nacc.specs.Hardening.{grownOf}
 use borrow.Author.Needs.{needs}
 use Rattle.plasticity_nacc.proofs.hardening.grown.Statement.{statement}
 use Rattle.plasticity_nacc.proofs.hardening.grown.Tie as tie
-
-enum-known-volume : tie.Need-enum-known-volume
-enum-known-volume c = search needs
-
-ln-on-path-requires : tie.Need-ln-on-path-requires
-ln-on-path-requires c κs = search needs
-
-raised-requires : tie.Need-raised-requires
-raised-requires c κs = search needs
-
-enum-known-volume-2 : tie.Need-enum-known-volume-2
-enum-known-volume-2 c = search needs
 
 returns : tie.Need-returns
 unfolding grownOf
@@ -38,11 +27,5 @@ returns-3 c =
 pub grown-spec : {M : Type 1} → statement M
 grown-spec =
     tie.close
-    (tie.spec
-    enum-known-volume
-    ln-on-path-requires
-    raised-requires
-    enum-known-volume-2
-    returns
-    returns-2
-    returns-3)
+    (tie.spec (λ c. search needs) (λ c κs. search needs) (λ c κs. search needs) (λ c. search needs) returns
+    returns-2 returns-3)

@@ -1,13 +1,8 @@
+-- `plasticity_nacc::hardening::normalised` answers `normalisedOf x y norm`.
 use Rattle.plasticity_nacc.specs.Hardening.{normalisedOf}
 use borrow.Author.Needs.{needs}
 use Rattle.plasticity_nacc.proofs.hardening.normalised.Statement.{statement}
 use Rattle.plasticity_nacc.proofs.hardening.normalised.Tie as tie
-
-enum-known-norm : tie.Need-enum-known-norm
-enum-known-norm c = search needs
-
-enum-known-norm-2 : tie.Need-enum-known-norm-2
-enum-known-norm-2 c = search needs
 
 returns : tie.Need-returns
 unfolding normalisedOf
@@ -22,4 +17,6 @@ returns-2 c =
     simp (t0)
 
 pub normalised-spec : {M : Type 1} → statement M
-normalised-spec = tie.close (tie.spec enum-known-norm enum-known-norm-2 returns returns-2)
+normalised-spec =
+    tie.close
+    (tie.spec (λ c. search needs) (λ c. search needs) returns returns-2)

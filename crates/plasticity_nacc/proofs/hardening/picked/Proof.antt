@@ -1,16 +1,8 @@
+-- `plasticity_nacc::hardening::picked` answers `pickedOf p centre p1 p2`.
 use Rattle.plasticity_nacc.specs.Hardening.{pickedOf}
 use borrow.Author.Needs.{needs}
 use Rattle.plasticity_nacc.proofs.hardening.picked.Statement.{statement}
 use Rattle.plasticity_nacc.proofs.hardening.picked.Tie as tie
-
-is-number-requires : tie.Need-is-number-requires
-is-number-requires c κs = search needs
-
-is-number-requires-2 : tie.Need-is-number-requires-2
-is-number-requires-2 c κs = search needs
-
-is-number-requires-3 : tie.Need-is-number-requires-3
-is-number-requires-3 c κs = search needs
 
 returns : tie.Need-returns
 unfolding pickedOf
@@ -35,10 +27,4 @@ returns-3 c =
 pub picked-spec : {M : Type 1} → statement M
 picked-spec =
     tie.close
-    (tie.spec
-    is-number-requires
-    is-number-requires-2
-    is-number-requires-3
-    returns
-    returns-2
-    returns-3)
+    (tie.spec (λ c κs. search needs) (λ c κs. search needs) (λ c κs. search needs) returns returns-2 returns-3)

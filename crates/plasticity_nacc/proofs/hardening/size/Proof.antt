@@ -1,3 +1,4 @@
+-- `plasticity_nacc::hardening::size` answers `sizeOf x`.
 use Rattle.plasticity_nacc.specs.Hardening.{sizeOf}
 use Rattle.plasticity_nacc.proofs.hardening.size.Statement.{statement}
 use Rattle.plasticity_nacc.proofs.hardening.size.Tie as tie
@@ -15,4 +16,6 @@ returns-2 c =
     simp (t0)
 
 pub size-spec : {M : Type 1} → statement M
-size-spec = tie.close (tie.spec returns returns-2)
+size-spec =
+    tie.close
+    (tie.spec returns returns-2)

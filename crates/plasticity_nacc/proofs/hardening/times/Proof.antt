@@ -1,19 +1,8 @@
+-- `plasticity_nacc::hardening::times` answers `timesOf a b`.
 use Rattle.plasticity_nacc.specs.Hardening.{timesOf}
 use borrow.Author.Needs.{needs}
 use Rattle.plasticity_nacc.proofs.hardening.times.Statement.{statement}
 use Rattle.plasticity_nacc.proofs.hardening.times.Tie as tie
-
-enum-known-a : tie.Need-enum-known-a
-enum-known-a c = search needs
-
-enum-known-b : tie.Need-enum-known-b
-enum-known-b c = search needs
-
-enum-known-b-2 : tie.Need-enum-known-b-2
-enum-known-b-2 c = search needs
-
-enum-known-a-2 : tie.Need-enum-known-a-2
-enum-known-a-2 c = search needs
 
 returns : tie.Need-returns
 unfolding timesOf
@@ -38,4 +27,5 @@ returns-3 c =
 pub times-spec : {M : Type 1} → statement M
 times-spec =
     tie.close
-    (tie.spec enum-known-a enum-known-b enum-known-b-2 enum-known-a-2 returns returns-2 returns-3)
+    (tie.spec (λ c. search needs) (λ c. search needs) (λ c. search needs) (λ c. search needs) returns returns-2
+    returns-3)

@@ -1,16 +1,8 @@
+-- `plasticity_nacc::surface::landed` answers `landedOf b sigma alpha`.
 use Rattle.plasticity_nacc.specs.Surface.{landedOf}
 use borrow.Author.Needs.{needs}
 use Rattle.plasticity_nacc.proofs.surface.landed.Statement.{statement}
 use Rattle.plasticity_nacc.proofs.surface.landed.Tie as tie
-
-enum-known-sigma : tie.Need-enum-known-sigma
-enum-known-sigma c = search needs
-
-enum-known-sigma-2 : tie.Need-enum-known-sigma-2
-enum-known-sigma-2 c = search needs
-
-refused-step-requires : tie.Need-refused-step-requires
-refused-step-requires c κs = search needs
 
 returns : tie.Need-returns
 unfolding landedOf
@@ -27,4 +19,4 @@ returns-2 c =
 pub landed-spec : {M : Type 1} → statement M
 landed-spec =
     tie.close
-    (tie.spec enum-known-sigma enum-known-sigma-2 refused-step-requires returns returns-2)
+    (tie.spec (λ c. search needs) (λ c. search needs) (λ c κs. search needs) returns returns-2)

@@ -1,34 +1,8 @@
+-- `plasticity_nacc::surface::roots` answers `rootsOf e`.
 use Rattle.plasticity_nacc.specs.Surface.{rootsOf}
 use borrow.Author.Needs.{needs}
 use Rattle.plasticity_nacc.proofs.surface.roots.Statement.{statement}
 use Rattle.plasticity_nacc.proofs.surface.roots.Tie as tie
-
-dot-requires : tie.Need-dot-requires
-dot-requires c κs = search needs
-
-is-number-requires : tie.Need-is-number-requires
-is-number-requires c κs = search needs
-
-array-read-sqrt-on-path : tie.Need-array-read-sqrt-on-path
-array-read-sqrt-on-path c = search needs
-
-sqrt-on-path-requires : tie.Need-sqrt-on-path-requires
-sqrt-on-path-requires c κs = search needs
-
-array-read-sqrt-on-path-2 : tie.Need-array-read-sqrt-on-path-2
-array-read-sqrt-on-path-2 c = search needs
-
-sqrt-on-path-requires-2 : tie.Need-sqrt-on-path-requires-2
-sqrt-on-path-requires-2 c κs = search needs
-
-array-read-sqrt-on-path-3 : tie.Need-array-read-sqrt-on-path-3
-array-read-sqrt-on-path-3 c = search needs
-
-sqrt-on-path-requires-3 : tie.Need-sqrt-on-path-requires-3
-sqrt-on-path-requires-3 c κs = search needs
-
-joined-requires : tie.Need-joined-requires
-joined-requires c κs = search needs
 
 returns : tie.Need-returns
 unfolding rootsOf
@@ -45,15 +19,6 @@ returns-2 c =
 pub roots-spec : {M : Type 1} → statement M
 roots-spec =
     tie.close
-    (tie.spec
-    dot-requires
-    is-number-requires
-    array-read-sqrt-on-path
-    sqrt-on-path-requires
-    array-read-sqrt-on-path-2
-    sqrt-on-path-requires-2
-    array-read-sqrt-on-path-3
-    sqrt-on-path-requires-3
-    joined-requires
-    returns
-    returns-2)
+    (tie.spec (λ c κs. search needs) (λ c κs. search needs) (λ c. search needs) (λ c κs. search needs)
+    (λ c. search needs) (λ c κs. search needs) (λ c. search needs) (λ c κs. search needs) (λ c κs. search needs)
+    returns returns-2)

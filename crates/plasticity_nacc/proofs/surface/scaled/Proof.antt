@@ -1,28 +1,8 @@
+-- `plasticity_nacc::surface::scaled` answers `scaledOf b scale t alpha`.
 use Rattle.plasticity_nacc.specs.Surface.{scaledOf}
 use borrow.Author.Needs.{needs}
 use Rattle.plasticity_nacc.proofs.surface.scaled.Statement.{statement}
 use Rattle.plasticity_nacc.proofs.surface.scaled.Tie as tie
-
-enum-known-scale : tie.Need-enum-known-scale
-enum-known-scale c = search needs
-
-is-number-requires : tie.Need-is-number-requires
-is-number-requires c κs = search needs
-
-sqrt-on-path-requires : tie.Need-sqrt-on-path-requires
-sqrt-on-path-requires c κs = search needs
-
-normed-requires : tie.Need-normed-requires
-normed-requires c κs = search needs
-
-refused-step-requires : tie.Need-refused-step-requires
-refused-step-requires c κs = search needs
-
-enum-known-scale-2 : tie.Need-enum-known-scale-2
-enum-known-scale-2 c = search needs
-
-refused-step-requires-2 : tie.Need-refused-step-requires-2
-refused-step-requires-2 c κs = search needs
 
 returns : tie.Need-returns
 unfolding scaledOf
@@ -47,14 +27,5 @@ returns-3 c =
 pub scaled-spec : {M : Type 1} → statement M
 scaled-spec =
     tie.close
-    (tie.spec
-    enum-known-scale
-    is-number-requires
-    sqrt-on-path-requires
-    normed-requires
-    refused-step-requires
-    enum-known-scale-2
-    refused-step-requires-2
-    returns
-    returns-2
-    returns-3)
+    (tie.spec (λ c. search needs) (λ c κs. search needs) (λ c κs. search needs) (λ c κs. search needs)
+    (λ c κs. search needs) (λ c. search needs) (λ c κs. search needs) returns returns-2 returns-3)

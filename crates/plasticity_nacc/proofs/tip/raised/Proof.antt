@@ -1,13 +1,8 @@
+-- `plasticity_nacc::tip::raised` answers `raisedOf alpha log`.
 use Rattle.plasticity_nacc.specs.Tip.{raisedOf}
 use borrow.Author.Needs.{needs}
 use Rattle.plasticity_nacc.proofs.tip.raised.Statement.{statement}
 use Rattle.plasticity_nacc.proofs.tip.raised.Tie as tie
-
-enum-known-log : tie.Need-enum-known-log
-enum-known-log c = search needs
-
-enum-known-log-2 : tie.Need-enum-known-log-2
-enum-known-log-2 c = search needs
 
 returns : tie.Need-returns
 unfolding raisedOf
@@ -22,4 +17,6 @@ returns-2 c =
     simp (t0)
 
 pub raised-spec : {M : Type 1} → statement M
-raised-spec = tie.close (tie.spec enum-known-log enum-known-log-2 returns returns-2)
+raised-spec =
+    tie.close
+    (tie.spec (λ c. search needs) (λ c. search needs) returns returns-2)

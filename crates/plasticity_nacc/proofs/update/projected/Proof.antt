@@ -1,34 +1,8 @@
+-- `plasticity_nacc::update::projected` answers `projectedOf q f u vt`.
 use Rattle.plasticity_nacc.specs.Nacc.{projectedOf}
 use borrow.Author.Needs.{needs}
 use Rattle.plasticity_nacc.proofs.update.projected.Statement.{statement}
 use Rattle.plasticity_nacc.proofs.update.projected.Tie as tie
-
-enum-known-b : tie.Need-enum-known-b
-enum-known-b c = search needs
-
-recomposed-requires : tie.Need-recomposed-requires
-recomposed-requires c κs = search needs
-
-enum-known-b-2 : tie.Need-enum-known-b-2
-enum-known-b-2 c = search needs
-
-recomposed-requires-2 : tie.Need-recomposed-requires-2
-recomposed-requires-2 c κs = search needs
-
-enum-known-b-3 : tie.Need-enum-known-b-3
-enum-known-b-3 c = search needs
-
-enum-known-b-4 : tie.Need-enum-known-b-4
-enum-known-b-4 c = search needs
-
-recomposed-requires-3 : tie.Need-recomposed-requires-3
-recomposed-requires-3 c κs = search needs
-
-enum-known-b-5 : tie.Need-enum-known-b-5
-enum-known-b-5 c = search needs
-
-refused-projection-requires : tie.Need-refused-projection-requires
-refused-projection-requires c κs = search needs
 
 returns : tie.Need-returns
 unfolding projectedOf
@@ -63,18 +37,6 @@ returns-5 c =
 pub projected-spec : {M : Type 1} → statement M
 projected-spec =
     tie.close
-    (tie.spec
-    enum-known-b
-    recomposed-requires
-    enum-known-b-2
-    recomposed-requires-2
-    enum-known-b-3
-    enum-known-b-4
-    recomposed-requires-3
-    enum-known-b-5
-    refused-projection-requires
-    returns
-    returns-2
-    returns-3
-    returns-4
-    returns-5)
+    (tie.spec (λ c. search needs) (λ c κs. search needs) (λ c. search needs) (λ c κs. search needs)
+    (λ c. search needs) (λ c. search needs) (λ c κs. search needs) (λ c. search needs) (λ c κs. search needs)
+    returns returns-2 returns-3 returns-4 returns-5)

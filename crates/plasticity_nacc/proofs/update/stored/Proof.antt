@@ -1,34 +1,8 @@
+-- `plasticity_nacc::update::stored` answers `storedOf q s`.
 use Rattle.plasticity_nacc.specs.Nacc.{storedOf}
 use borrow.Author.Needs.{needs}
 use Rattle.plasticity_nacc.proofs.update.stored.Statement.{statement}
 use Rattle.plasticity_nacc.proofs.update.stored.Tie as tie
-
-enum-told : tie.Need-enum-told
-enum-told c = search needs
-
-state-of-requires : tie.Need-state-of-requires
-state-of-requires c κs = search needs
-
-enum-told-2 : tie.Need-enum-told-2
-enum-told-2 c = search needs
-
-state-of-requires-2 : tie.Need-state-of-requires-2
-state-of-requires-2 c κs = search needs
-
-enum-told-3 : tie.Need-enum-told-3
-enum-told-3 c = search needs
-
-enum-told-4 : tie.Need-enum-told-4
-enum-told-4 c = search needs
-
-state-of-requires-3 : tie.Need-state-of-requires-3
-state-of-requires-3 c κs = search needs
-
-enum-known-b : tie.Need-enum-known-b
-enum-known-b c = search needs
-
-refuse-requires : tie.Need-refuse-requires
-refuse-requires c κs = search needs
 
 returns : tie.Need-returns
 unfolding storedOf
@@ -63,18 +37,6 @@ returns-5 c =
 pub stored-spec : {M : Type 1} → statement M
 stored-spec =
     tie.close
-    (tie.spec
-    enum-told
-    state-of-requires
-    enum-told-2
-    state-of-requires-2
-    enum-told-3
-    enum-told-4
-    state-of-requires-3
-    enum-known-b
-    refuse-requires
-    returns
-    returns-2
-    returns-3
-    returns-4
-    returns-5)
+    (tie.spec (λ c. search needs) (λ c κs. search needs) (λ c. search needs) (λ c κs. search needs)
+    (λ c. search needs) (λ c. search needs) (λ c κs. search needs) (λ c. search needs) (λ c κs. search needs)
+    returns returns-2 returns-3 returns-4 returns-5)

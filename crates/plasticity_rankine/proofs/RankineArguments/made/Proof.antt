@@ -1,19 +1,8 @@
+-- `plasticity_rankine::RankineArguments::made` answers `madeOf self`.
 use borrow.Author.Needs.{needs}
 use Rattle.plasticity_rankine.specs.Rankine.{madeOf}
 use Rattle.plasticity_rankine.proofs.RankineArguments.made.Statement.{statement}
 use Rattle.plasticity_rankine.proofs.RankineArguments.made.Tie as tie
-
-law-requires : tie.Need-law-requires
-law-requires c κs = search needs
-
-elastic-finite-requires : tie.Need-elastic-finite-requires
-elastic-finite-requires c κs = search needs
-
-parameters-finite-requires : tie.Need-parameters-finite-requires
-parameters-finite-requires c κs = search needs
-
-moduli-finite-requires : tie.Need-moduli-finite-requires
-moduli-finite-requires c κs = search needs
 
 returns : tie.Need-returns
 unfolding madeOf
@@ -38,11 +27,5 @@ returns-3 c =
 pub made-spec : {M : Type 1} → statement M
 made-spec =
     tie.close
-    (tie.spec
-    law-requires
-    elastic-finite-requires
-    parameters-finite-requires
-    moduli-finite-requires
-    returns
-    returns-2
-    returns-3)
+    (tie.spec (λ c κs. search needs) (λ c κs. search needs) (λ c κs. search needs) (λ c κs. search needs) returns
+    returns-2 returns-3)

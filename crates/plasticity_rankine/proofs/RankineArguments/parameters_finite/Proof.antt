@@ -1,17 +1,9 @@
+-- `plasticity_rankine::RankineArguments::parameters_finite` answers `argumentsFinite self`.
 use borrow.Author.Needs.{needs}
 use Rattle.plasticity_rankine.proofs.RankineArguments.parameters_finite.Statement.{
   statement,
 }
 use Rattle.plasticity_rankine.proofs.RankineArguments.parameters_finite.Tie as tie
-
-elastic-finite-requires : tie.Need-elastic-finite-requires
-elastic-finite-requires c κs = search needs
-
-is-finite-requires : tie.Need-is-finite-requires
-is-finite-requires c κs = search needs
-
-is-finite-requires-2 : tie.Need-is-finite-requires-2
-is-finite-requires-2 c κs = search needs
 
 returns : tie.Need-returns
 returns c =
@@ -19,4 +11,5 @@ returns c =
 
 pub parameters-finite-spec : {M : Type 1} → statement M
 parameters-finite-spec =
-    tie.close (tie.spec elastic-finite-requires is-finite-requires is-finite-requires-2 returns)
+    tie.close
+    (tie.spec (λ c κs. search needs) (λ c κs. search needs) (λ c κs. search needs) returns)

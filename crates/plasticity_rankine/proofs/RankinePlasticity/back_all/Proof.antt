@@ -1,3 +1,4 @@
+-- `plasticity_rankine::RankinePlasticity::back_all` answers `backAll self s`.
 use mathlib.Core.Path.{refl}
 use Rattle.plasticity_rankine.specs.Projection.{backAll}
 use Rattle.plasticity_rankine.proofs.RankinePlasticity.back_all.Statement.{statement}
@@ -8,4 +9,6 @@ unfolding backAll
 returns c = refl
 
 pub back-all-spec : {M : Type 1} → statement M
-back-all-spec = tie.close (tie.spec returns)
+back-all-spec =
+    tie.close
+    (tie.spec returns)

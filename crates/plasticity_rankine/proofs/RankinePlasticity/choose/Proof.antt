@@ -1,16 +1,8 @@
+-- `plasticity_rankine::RankinePlasticity::choose` answers `choiceOf self s sum r`.
 use borrow.Author.Needs.{needs}
 use Rattle.plasticity_rankine.specs.Projection.{choiceOf}
 use Rattle.plasticity_rankine.proofs.RankinePlasticity.choose.Statement.{statement}
 use Rattle.plasticity_rankine.proofs.RankinePlasticity.choose.Tie as tie
-
-first-side-requires : tie.Need-first-side-requires
-first-side-requires c κs = search needs
-
-is-number-requires : tie.Need-is-number-requires
-is-number-requires c κs = search needs
-
-choose-next-requires : tie.Need-choose-next-requires
-choose-next-requires c κs = search needs
 
 returns : tie.Need-returns
 unfolding choiceOf
@@ -35,10 +27,4 @@ returns-3 c =
 pub choose-spec : {M : Type 1} → statement M
 choose-spec =
     tie.close
-    (tie.spec
-    first-side-requires
-    is-number-requires
-    choose-next-requires
-    returns
-    returns-2
-    returns-3)
+    (tie.spec (λ c κs. search needs) (λ c κs. search needs) (λ c κs. search needs) returns returns-2 returns-3)

@@ -1,13 +1,8 @@
+-- `plasticity_rankine::RankinePlasticity::choose_last` answers `lastChoice self s c`.
 use borrow.Author.Needs.{needs}
 use Rattle.plasticity_rankine.specs.Projection.{lastChoice}
 use Rattle.plasticity_rankine.proofs.RankinePlasticity.choose_last.Statement.{statement}
 use Rattle.plasticity_rankine.proofs.RankinePlasticity.choose_last.Tie as tie
-
-third-side-requires : tie.Need-third-side-requires
-third-side-requires c κs = search needs
-
-is-number-requires : tie.Need-is-number-requires
-is-number-requires c κs = search needs
 
 returns : tie.Need-returns
 unfolding lastChoice
@@ -31,4 +26,5 @@ returns-3 c =
 
 pub choose-last-spec : {M : Type 1} → statement M
 choose-last-spec =
-    tie.close (tie.spec third-side-requires is-number-requires returns returns-2 returns-3)
+    tie.close
+    (tie.spec (λ c κs. search needs) (λ c κs. search needs) returns returns-2 returns-3)

@@ -1,16 +1,8 @@
+-- `plasticity_rankine::RankinePlasticity::choose_next` answers `nextChoice self s sum r`.
 use borrow.Author.Needs.{needs}
 use Rattle.plasticity_rankine.specs.Projection.{nextChoice}
 use Rattle.plasticity_rankine.proofs.RankinePlasticity.choose_next.Statement.{statement}
 use Rattle.plasticity_rankine.proofs.RankinePlasticity.choose_next.Tie as tie
-
-second-side-requires : tie.Need-second-side-requires
-second-side-requires c κs = search needs
-
-is-number-requires : tie.Need-is-number-requires
-is-number-requires c κs = search needs
-
-choose-last-requires : tie.Need-choose-last-requires
-choose-last-requires c κs = search needs
 
 returns : tie.Need-returns
 unfolding nextChoice
@@ -35,10 +27,4 @@ returns-3 c =
 pub choose-next-spec : {M : Type 1} → statement M
 choose-next-spec =
     tie.close
-    (tie.spec
-    second-side-requires
-    is-number-requires
-    choose-last-requires
-    returns
-    returns-2
-    returns-3)
+    (tie.spec (λ c κs. search needs) (λ c κs. search needs) (λ c κs. search needs) returns returns-2 returns-3)

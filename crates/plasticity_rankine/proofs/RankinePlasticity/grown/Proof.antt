@@ -1,18 +1,7 @@
+-- `plasticity_rankine::RankinePlasticity::grown` answers `grownOf self h norm`.
 use borrow.Author.Needs.{needs}
 use Rattle.plasticity_rankine.proofs.RankinePlasticity.grown.Statement.{statement}
 use Rattle.plasticity_rankine.proofs.RankinePlasticity.grown.Tie as tie
-
-enum-known-norm : tie.Need-enum-known-norm
-enum-known-norm c = search needs
-
-is-number-requires : tie.Need-is-number-requires
-is-number-requires c κs = search needs
-
-min-requires : tie.Need-min-requires
-min-requires c κs = search needs
-
-enum-known-norm-2 : tie.Need-enum-known-norm-2
-enum-known-norm-2 c = search needs
 
 returns : tie.Need-returns
 returns c =
@@ -34,11 +23,5 @@ returns-3 c =
 pub grown-spec : {M : Type 1} → statement M
 grown-spec =
     tie.close
-    (tie.spec
-    enum-known-norm
-    is-number-requires
-    min-requires
-    enum-known-norm-2
-    returns
-    returns-2
-    returns-3)
+    (tie.spec (λ c. search needs) (λ c κs. search needs) (λ c κs. search needs) (λ c. search needs) returns
+    returns-2 returns-3)

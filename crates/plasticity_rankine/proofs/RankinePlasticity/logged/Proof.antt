@@ -1,25 +1,8 @@
+-- `plasticity_rankine::RankinePlasticity::logged` answers `rankineLogged t self u vt s`.
 use borrow.Author.Needs.{needs}
 use Rattle.plasticity_rankine.specs.Rankine.{rankineLogged}
 use Rattle.plasticity_rankine.proofs.RankinePlasticity.logged.Statement.{statement}
 use Rattle.plasticity_rankine.proofs.RankinePlasticity.logged.Tie as tie
-
-enum-known-t : tie.Need-enum-known-t
-enum-known-t c = search needs
-
-soft-strength-requires : tie.Need-soft-strength-requires
-soft-strength-requires c κs = search needs
-
-projected-requires : tie.Need-projected-requires
-projected-requires c κs = search needs
-
-branch-requires : tie.Need-branch-requires
-branch-requires c κs = search needs
-
-enum-known-t-2 : tie.Need-enum-known-t-2
-enum-known-t-2 c = search needs
-
-refuse-requires : tie.Need-refuse-requires
-refuse-requires c κs = search needs
 
 returns : tie.Need-returns
 unfolding rankineLogged
@@ -36,12 +19,5 @@ returns-2 c =
 pub logged-spec : {M : Type 1} → statement M
 logged-spec =
     tie.close
-    (tie.spec
-    enum-known-t
-    soft-strength-requires
-    projected-requires
-    branch-requires
-    enum-known-t-2
-    refuse-requires
-    returns
-    returns-2)
+    (tie.spec (λ c. search needs) (λ c κs. search needs) (λ c κs. search needs) (λ c κs. search needs)
+    (λ c. search needs) (λ c κs. search needs) returns returns-2)

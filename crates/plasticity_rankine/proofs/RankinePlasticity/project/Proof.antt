@@ -1,34 +1,8 @@
+-- `plasticity_rankine::RankinePlasticity::project` answers `projectOf self strains s`.
 use borrow.Author.Needs.{needs}
 use Rattle.plasticity_rankine.specs.Projection.{projectOf}
 use Rattle.plasticity_rankine.proofs.RankinePlasticity.project.Statement.{statement}
 use Rattle.plasticity_rankine.proofs.RankinePlasticity.project.Tie as tie
-
-parameters-finite-requires : tie.Need-parameters-finite-requires
-parameters-finite-requires c κs = search needs
-
-row-finite-requires : tie.Need-row-finite-requires
-row-finite-requires c κs = search needs
-
-is-finite-requires : tie.Need-is-finite-requires
-is-finite-requires c κs = search needs
-
-moduli-finite-requires : tie.Need-moduli-finite-requires
-moduli-finite-requires c κs = search needs
-
-projected-requires : tie.Need-projected-requires
-projected-requires c κs = search needs
-
-row-finite-requires-2 : tie.Need-row-finite-requires-2
-row-finite-requires-2 c κs = search needs
-
-refused-strains-requires : tie.Need-refused-strains-requires
-refused-strains-requires c κs = search needs
-
-refused-strains-requires-2 : tie.Need-refused-strains-requires-2
-refused-strains-requires-2 c κs = search needs
-
-refused-strains-requires-3 : tie.Need-refused-strains-requires-3
-refused-strains-requires-3 c κs = search needs
 
 returns : tie.Need-returns
 unfolding projectOf
@@ -62,17 +36,6 @@ returns-4 c =
 pub project-spec : {M : Type 1} → statement M
 project-spec =
     tie.close
-    (tie.spec
-    parameters-finite-requires
-    row-finite-requires
-    is-finite-requires
-    moduli-finite-requires
-    projected-requires
-    row-finite-requires-2
-    refused-strains-requires
-    refused-strains-requires-2
-    refused-strains-requires-3
-    returns
-    returns-2
-    returns-3
-    returns-4)
+    (tie.spec (λ c κs. search needs) (λ c κs. search needs) (λ c κs. search needs) (λ c κs. search needs)
+    (λ c κs. search needs) (λ c κs. search needs) (λ c κs. search needs) (λ c κs. search needs)
+    (λ c κs. search needs) returns returns-2 returns-3 returns-4)

@@ -1,25 +1,8 @@
+-- `plasticity_rankine::RankinePlasticity::projected` answers `projectedOf self e s`.
 use borrow.Author.Needs.{needs}
 use Rattle.plasticity_rankine.specs.Projection.{projectedOf}
 use Rattle.plasticity_rankine.proofs.RankinePlasticity.projected.Statement.{statement}
 use Rattle.plasticity_rankine.proofs.RankinePlasticity.projected.Tie as tie
-
-rank-requires : tie.Need-rank-requires
-rank-requires c κs = search needs
-
-sum-requires : tie.Need-sum-requires
-sum-requires c κs = search needs
-
-arrange-requires : tie.Need-arrange-requires
-arrange-requires c κs = search needs
-
-choose-requires : tie.Need-choose-requires
-choose-requires c κs = search needs
-
-returned-requires : tie.Need-returned-requires
-returned-requires c κs = search needs
-
-restore-requires : tie.Need-restore-requires
-restore-requires c κs = search needs
 
 returns : tie.Need-returns
 unfolding projectedOf
@@ -29,11 +12,5 @@ returns c =
 pub projected-spec : {M : Type 1} → statement M
 projected-spec =
     tie.close
-    (tie.spec
-    rank-requires
-    sum-requires
-    arrange-requires
-    choose-requires
-    returned-requires
-    restore-requires
-    returns)
+    (tie.spec (λ c κs. search needs) (λ c κs. search needs) (λ c κs. search needs) (λ c κs. search needs)
+    (λ c κs. search needs) (λ c κs. search needs) returns)

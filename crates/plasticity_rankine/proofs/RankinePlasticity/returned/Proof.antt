@@ -1,42 +1,7 @@
+-- `plasticity_rankine::RankinePlasticity::returned` answers `returnedOf self s sum r b`.
 use borrow.Author.Needs.{needs}
 use Rattle.plasticity_rankine.proofs.RankinePlasticity.returned.Statement.{statement}
 use Rattle.plasticity_rankine.proofs.RankinePlasticity.returned.Tie as tie
-
-enum-told : tie.Need-enum-told
-enum-told c = search needs
-
-enum-told-2 : tie.Need-enum-told-2
-enum-told-2 c = search needs
-
-back-one-requires : tie.Need-back-one-requires
-back-one-requires c κs = search needs
-
-sorted-requires : tie.Need-sorted-requires
-sorted-requires c κs = search needs
-
-enum-told-3 : tie.Need-enum-told-3
-enum-told-3 c = search needs
-
-back-two-requires : tie.Need-back-two-requires
-back-two-requires c κs = search needs
-
-sorted-requires-2 : tie.Need-sorted-requires-2
-sorted-requires-2 c κs = search needs
-
-enum-told-4 : tie.Need-enum-told-4
-enum-told-4 c = search needs
-
-back-all-requires : tie.Need-back-all-requires
-back-all-requires c κs = search needs
-
-sorted-requires-3 : tie.Need-sorted-requires-3
-sorted-requires-3 c κs = search needs
-
-enum-told-5 : tie.Need-enum-told-5
-enum-told-5 c = search needs
-
-sorted-requires-4 : tie.Need-sorted-requires-4
-sorted-requires-4 c κs = search needs
 
 returns : tie.Need-returns
 returns c =
@@ -66,21 +31,7 @@ returns-5 c =
 pub returned-spec : {M : Type 1} → statement M
 returned-spec =
     tie.close
-    (tie.spec
-    enum-told
-    enum-told-2
-    back-one-requires
-    sorted-requires
-    enum-told-3
-    back-two-requires
-    sorted-requires-2
-    enum-told-4
-    back-all-requires
-    sorted-requires-3
-    enum-told-5
-    sorted-requires-4
-    returns
-    returns-2
-    returns-3
-    returns-4
+    (tie.spec (λ c. search needs) (λ c. search needs) (λ c κs. search needs) (λ c κs. search needs)
+    (λ c. search needs) (λ c κs. search needs) (λ c κs. search needs) (λ c. search needs) (λ c κs. search needs)
+    (λ c κs. search needs) (λ c. search needs) (λ c κs. search needs) returns returns-2 returns-3 returns-4
     returns-5)

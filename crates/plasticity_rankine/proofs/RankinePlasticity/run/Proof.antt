@@ -1,3 +1,4 @@
+-- `plasticity_rankine::RankinePlasticity::run` answers `rankineRun self u vt s`.
 use borrow.Author.Needs.{needs}
 use Rattle.plasticity_rankine.proofs.RankinePlasticity.run.Statement.{statement}
 use Rattle.plasticity_rankine.proofs.RankinePlasticity.run.Tie as tie
@@ -6,18 +7,12 @@ use Rattle.plasticity_rankine.proofs.RankinePlasticity.run.Lts as lts
 use Rattle.plasticity_rankine.proofs.RankinePlasticity.logged.Reads as logged-reads
 use Rattle.plasticity_rankine.proofs.steps.logs.Reads as logs-reads
 
--- src/update.rt:62:21
-logs-requires : tie.Need-logs-requires
-logs-requires c κs = search needs
-
--- src/update.rt:62:9
-logged-requires : tie.Need-logged-requires
-logged-requires c κs = search needs
-
 -- src/update.rt:58:5
 returns : tie.Need-returns
 returns c =
     simp (c .logged .ensures, c .before .logs .ensures)
 
 pub run-spec : {M : Type 1} → statement M
-run-spec = tie.close (tie.spec logs-requires logged-requires returns)
+run-spec =
+    tie.close
+    (tie.spec (λ c κs. search needs) (λ c κs. search needs) returns)

@@ -1,3 +1,4 @@
+-- `plasticity_rankine::RankinePlasticity::soft_strength` answers `softStrengthOf self h`.
 use mathlib.Core.Path.{refl}
 use Rattle.plasticity_rankine.specs.Rankine.{softStrengthOf}
 use Rattle.plasticity_rankine.proofs.RankinePlasticity.soft_strength.Statement.{statement}
@@ -8,4 +9,6 @@ unfolding softStrengthOf
 returns c = refl
 
 pub soft-strength-spec : {M : Type 1} → statement M
-soft-strength-spec = tie.close (tie.spec returns)
+soft-strength-spec =
+    tie.close
+    (tie.spec returns)

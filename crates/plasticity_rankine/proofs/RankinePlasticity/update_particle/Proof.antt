@@ -1,27 +1,10 @@
+-- `plasticity_rankine::RankinePlasticity::update_particle` answers `rankineUpdate self u vt s`.
 use borrow.Author.Needs.{needs}
 use Rattle.plasticity_rankine.specs.Rankine.{rankineUpdate}
 use Rattle.plasticity_rankine.proofs.RankinePlasticity.update_particle.Statement.{
   statement,
 }
 use Rattle.plasticity_rankine.proofs.RankinePlasticity.update_particle.Tie as tie
-
-parameters-finite-requires : tie.Need-parameters-finite-requires
-parameters-finite-requires c κs = search needs
-
-inputs-finite-requires : tie.Need-inputs-finite-requires
-inputs-finite-requires c κs = search needs
-
-moduli-finite-requires : tie.Need-moduli-finite-requires
-moduli-finite-requires c κs = search needs
-
-run-requires : tie.Need-run-requires
-run-requires c κs = search needs
-
-refuse-requires : tie.Need-refuse-requires
-refuse-requires c κs = search needs
-
-refuse-requires-2 : tie.Need-refuse-requires-2
-refuse-requires-2 c κs = search needs
 
 returns : tie.Need-returns
 unfolding rankineUpdate
@@ -46,13 +29,5 @@ returns-3 c =
 pub update-particle-spec : {M : Type 1} → statement M
 update-particle-spec =
     tie.close
-    (tie.spec
-    parameters-finite-requires
-    inputs-finite-requires
-    moduli-finite-requires
-    run-requires
-    refuse-requires
-    refuse-requires-2
-    returns
-    returns-2
-    returns-3)
+    (tie.spec (λ c κs. search needs) (λ c κs. search needs) (λ c κs. search needs) (λ c κs. search needs)
+    (λ c κs. search needs) (λ c κs. search needs) returns returns-2 returns-3)

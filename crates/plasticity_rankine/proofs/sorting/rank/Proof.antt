@@ -1,37 +1,8 @@
+-- `plasticity_rankine::sorting::rank` meets its contract.
 use borrow.Author.Needs.{needs}
 use Rattle.plasticity_rankine.proofs.Orders.{order-of}
 use Rattle.plasticity_rankine.proofs.sorting.rank.Statement.{statement}
 use Rattle.plasticity_rankine.proofs.sorting.rank.Tie as tie
-
-array-read-if1 : tie.Need-array-read-if1
-array-read-if1 c = search needs
-
-array-read-if1-2 : tie.Need-array-read-if1-2
-array-read-if1-2 c = search needs
-
-array-read-if2 : tie.Need-array-read-if2
-array-read-if2 c = search needs
-
-array-read-if2-2 : tie.Need-array-read-if2-2
-array-read-if2-2 c = search needs
-
-array-read-if3 : tie.Need-array-read-if3
-array-read-if3 c = search needs
-
-array-read-if3-2 : tie.Need-array-read-if3-2
-array-read-if3-2 c = search needs
-
-array-read-if4 : tie.Need-array-read-if4
-array-read-if4 c = search needs
-
-array-read-if4-2 : tie.Need-array-read-if4-2
-array-read-if4-2 c = search needs
-
-array-read-if5 : tie.Need-array-read-if5
-array-read-if5 c = search needs
-
-array-read-if5-2 : tie.Need-array-read-if5-2
-array-read-if5-2 c = search needs
 
 returns : tie.Need-returns
 returns c =
@@ -76,20 +47,6 @@ returns-6 c =
 pub rank-spec : {M : Type 1} → statement M
 rank-spec =
     tie.close
-    (tie.spec
-    array-read-if1
-    array-read-if1-2
-    array-read-if2
-    array-read-if2-2
-    array-read-if3
-    array-read-if3-2
-    array-read-if4
-    array-read-if4-2
-    array-read-if5
-    array-read-if5-2
-    returns
-    returns-2
-    returns-3
-    returns-4
-    returns-5
-    returns-6)
+    (tie.spec (λ c. search needs) (λ c. search needs) (λ c. search needs) (λ c. search needs) (λ c. search needs)
+    (λ c. search needs) (λ c. search needs) (λ c. search needs) (λ c. search needs) (λ c. search needs) returns
+    returns-2 returns-3 returns-4 returns-5 returns-6)

@@ -1,21 +1,7 @@
+-- `plasticity_rankine::steps::store` answers `rankineStore f sigma h s`.
 use borrow.Author.Needs.{needs}
 use Rattle.plasticity_rankine.proofs.steps.store.Statement.{statement}
 use Rattle.plasticity_rankine.proofs.steps.store.Tie as tie
-
-mat-finite-requires : tie.Need-mat-finite-requires
-mat-finite-requires c κs = search needs
-
-row-finite-requires : tie.Need-row-finite-requires
-row-finite-requires c κs = search needs
-
-is-finite-requires : tie.Need-is-finite-requires
-is-finite-requires c κs = search needs
-
-state-of-requires : tie.Need-state-of-requires
-state-of-requires c κs = search needs
-
-refuse-requires : tie.Need-refuse-requires
-refuse-requires c κs = search needs
 
 returns : tie.Need-returns
 returns c =
@@ -30,11 +16,5 @@ returns-2 c =
 pub store-spec : {M : Type 1} → statement M
 store-spec =
     tie.close
-    (tie.spec
-    mat-finite-requires
-    row-finite-requires
-    is-finite-requires
-    state-of-requires
-    refuse-requires
-    returns
-    returns-2)
+    (tie.spec (λ c κs. search needs) (λ c κs. search needs) (λ c κs. search needs) (λ c κs. search needs)
+    (λ c κs. search needs) returns returns-2)

@@ -1,15 +1,7 @@
+-- `plasticity_snow::SnowPlasticity::parameters_finite` answers `parametersFinite self`.
 use borrow.Author.Needs.{needs}
 use Rattle.plasticity_snow.proofs.SnowPlasticity.parameters_finite.Statement.{statement}
 use Rattle.plasticity_snow.proofs.SnowPlasticity.parameters_finite.Tie as tie
-
-is-finite-requires : tie.Need-is-finite-requires
-is-finite-requires c κs = search needs
-
-is-finite-requires-2 : tie.Need-is-finite-requires-2
-is-finite-requires-2 c κs = search needs
-
-is-finite-requires-3 : tie.Need-is-finite-requires-3
-is-finite-requires-3 c κs = search needs
 
 returns : tie.Need-returns
 returns c =
@@ -17,4 +9,5 @@ returns c =
 
 pub parameters-finite-spec : {M : Type 1} → statement M
 parameters-finite-spec =
-    tie.close (tie.spec is-finite-requires is-finite-requires-2 is-finite-requires-3 returns)
+    tie.close
+    (tie.spec (λ c κs. search needs) (λ c κs. search needs) (λ c κs. search needs) returns)

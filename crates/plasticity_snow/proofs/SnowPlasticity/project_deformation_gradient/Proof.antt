@@ -1,3 +1,4 @@
+-- `plasticity_snow::SnowPlasticity::project_deformation_gradient` answers `clampedOf self «singular_values»`.
 use borrow.Author.Needs.{needs}
 use lib.Ieee.{nan}
 use Rattle.tensor.specs.Axes.{of-one}
@@ -7,24 +8,6 @@ use Rattle.plasticity_snow.proofs.SnowPlasticity.project_deformation_gr
 }
 use Rattle.plasticity_snow.proofs.SnowPlasticity.project_deformation_gradient.Tie as tie
 
-array-read-clamp : tie.Need-array-read-clamp
-array-read-clamp c = search needs
-
-clamp-requires : tie.Need-clamp-requires
-clamp-requires c κs = search needs
-
-array-read-clamp-2 : tie.Need-array-read-clamp-2
-array-read-clamp-2 c = search needs
-
-clamp-requires-2 : tie.Need-clamp-requires-2
-clamp-requires-2 c κs = search needs
-
-array-read-clamp-3 : tie.Need-array-read-clamp-3
-array-read-clamp-3 c = search needs
-
-clamp-requires-3 : tie.Need-clamp-requires-3
-clamp-requires-3 c κs = search needs
-
 returns : tie.Need-returns
 returns c =
     simp (c .clamp3 .ensures, c .before .clamp2 .ensures, c .before .before .clamp .ensures)
@@ -33,11 +16,5 @@ returns c =
 pub project-deformation-gradient-spec : {M : Type 1} → statement M
 project-deformation-gradient-spec =
     tie.close
-    (tie.spec
-    array-read-clamp
-    clamp-requires
-    array-read-clamp-2
-    clamp-requires-2
-    array-read-clamp-3
-    clamp-requires-3
-    returns)
+    (tie.spec (λ c. search needs) (λ c κs. search needs) (λ c. search needs) (λ c κs. search needs)
+    (λ c. search needs) (λ c κs. search needs) returns)

@@ -1,19 +1,8 @@
+-- `plasticity_snow::SnowPlasticity::update_particle` answers `snowUpdate self u vt s`.
 use borrow.Author.Needs.{needs}
 use Rattle.plasticity_snow.specs.Snow.{snowUpdate}
 use Rattle.plasticity_snow.proofs.SnowPlasticity.update_particle.Statement.{statement}
 use Rattle.plasticity_snow.proofs.SnowPlasticity.update_particle.Tie as tie
-
-parameters-finite-requires : tie.Need-parameters-finite-requires
-parameters-finite-requires c κs = search needs
-
-inputs-finite-requires : tie.Need-inputs-finite-requires
-inputs-finite-requires c κs = search needs
-
-run-requires : tie.Need-run-requires
-run-requires c κs = search needs
-
-refuse-requires : tie.Need-refuse-requires
-refuse-requires c κs = search needs
 
 returns : tie.Need-returns
 unfolding snowUpdate
@@ -30,10 +19,5 @@ returns-2 c =
 pub update-particle-spec : {M : Type 1} → statement M
 update-particle-spec =
     tie.close
-    (tie.spec
-    parameters-finite-requires
-    inputs-finite-requires
-    run-requires
-    refuse-requires
-    returns
+    (tie.spec (λ c κs. search needs) (λ c κs. search needs) (λ c κs. search needs) (λ c κs. search needs) returns
     returns-2)

@@ -1,21 +1,7 @@
+-- `record::finite::mat_finite` meets its contract: what its calls ensure, on each path.
 use borrow.Author.Needs.{needs}
 use Rattle.record.proofs.finite.mat_finite.Statement.{statement}
 use Rattle.record.proofs.finite.mat_finite.Tie as tie
-
-row-finite-requires : tie.Need-row-finite-requires
-row-finite-requires c κs = search needs
-
-add-row-finite : tie.Need-add-row-finite
-add-row-finite c = search needs
-
-row-finite-requires-2 : tie.Need-row-finite-requires-2
-row-finite-requires-2 c κs = search needs
-
-add-row-finite-2 : tie.Need-add-row-finite-2
-add-row-finite-2 c = search needs
-
-row-finite-requires-3 : tie.Need-row-finite-requires-3
-row-finite-requires-3 c κs = search needs
 
 returns : tie.Need-returns
 returns c =
@@ -24,10 +10,5 @@ returns c =
 pub mat-finite-spec : {M : Type 1} → statement M
 mat-finite-spec =
     tie.close
-    (tie.spec
-    row-finite-requires
-    add-row-finite
-    row-finite-requires-2
-    add-row-finite-2
-    row-finite-requires-3
-    returns)
+    (tie.spec (λ c κs. search needs) (λ c. search needs) (λ c κs. search needs) (λ c. search needs)
+    (λ c κs. search needs) returns)

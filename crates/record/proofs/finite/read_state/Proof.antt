@@ -1,4 +1,5 @@
-use Rattle.record.proofs.Parts.{state-parts, first-scalars, last-scalars}
+-- `record::finite::read_state` meets its contract: what its calls ensure, on each path.
+use Rattle.record.proofs.Parts.{state-parts, scalars-parts}
 use native.Mathlib.Omega.{arith}
 use borrow.Author.Needs.{needs}
 use Rattle.record.proofs.finite.read_state.Statement.{statement}
@@ -10,41 +11,23 @@ read-rows-requires c κs = let s = c .before in let h = s .pre .0 in (omega arit
 read-row-requires : tie.Need-read-row-requires
 read-row-requires c κs = let s = c .before .before in let h = s .pre .0 in (omega arith, state-parts (s .args .r .now) (s .pre .1) .1)
 
-shared-slice-read-read-word : tie.Need-shared-slice-read-read-word
-shared-slice-read-read-word c = search needs
-
 read-word-requires : tie.Need-read-word-requires
-read-word-requires c κs = let s = c .before .before .before .before in first-scalars (s .args .r .now) (s .pre .1) .0
-
-shared-slice-read-read-word-2 : tie.Need-shared-slice-read-read-word-2
-shared-slice-read-read-word-2 c = search needs
+read-word-requires c κs = let s = c .before .before .before .before in scalars-parts (s .args .r .now) (s .pre .1) .0 .0
 
 read-word-requires-2 : tie.Need-read-word-requires-2
-read-word-requires-2 c κs = let s = c .before .before .before .before .before .before in first-scalars (s .args .r .now) (s .pre .1) .1
-
-shared-slice-read-read-word-3 : tie.Need-shared-slice-read-read-word-3
-shared-slice-read-read-word-3 c = search needs
+read-word-requires-2 c κs = let s = c .before .before .before .before .before .before in scalars-parts (s .args .r .now) (s .pre .1) .0 .1
 
 read-word-requires-3 : tie.Need-read-word-requires-3
-read-word-requires-3 c κs = let s = c .before .before .before .before .before .before .before .before in first-scalars (s .args .r .now) (s .pre .1) .2
-
-shared-slice-read-read-word-4 : tie.Need-shared-slice-read-read-word-4
-shared-slice-read-read-word-4 c = search needs
+read-word-requires-3 c κs = let s = c .before .before .before .before .before .before .before .before in scalars-parts (s .args .r .now) (s .pre .1) .0 .2
 
 read-word-requires-4 : tie.Need-read-word-requires-4
-read-word-requires-4 c κs = let s = c .before .before .before .before .before .before .before .before .before .before in last-scalars (s .args .r .now) (s .pre .1) .0
-
-shared-slice-read-read-word-5 : tie.Need-shared-slice-read-read-word-5
-shared-slice-read-read-word-5 c = search needs
+read-word-requires-4 c κs = let s = c .before .before .before .before .before .before .before .before .before .before in scalars-parts (s .args .r .now) (s .pre .1) .1 .0
 
 read-word-requires-5 : tie.Need-read-word-requires-5
-read-word-requires-5 c κs = let s = c .before .before .before .before .before .before .before .before .before .before .before .before in last-scalars (s .args .r .now) (s .pre .1) .1
-
-shared-slice-read-read-word-6 : tie.Need-shared-slice-read-read-word-6
-shared-slice-read-read-word-6 c = search needs
+read-word-requires-5 c κs = let s = c .before .before .before .before .before .before .before .before .before .before .before .before in scalars-parts (s .args .r .now) (s .pre .1) .1 .1
 
 read-word-requires-6 : tie.Need-read-word-requires-6
-read-word-requires-6 c κs = let s = c .before .before .before .before .before .before .before .before .before .before .before .before .before .before in last-scalars (s .args .r .now) (s .pre .1) .2
+read-word-requires-6 c κs = let s = c .before .before .before .before .before .before .before .before .before .before .before .before .before .before in scalars-parts (s .args .r .now) (s .pre .1) .1 .2
 
 returns : tie.Need-returns
 returns c =
@@ -53,19 +36,6 @@ returns c =
 pub read-state-spec : {M : Type 1} → statement M
 read-state-spec =
     tie.close
-    (tie.spec
-    read-rows-requires
-    read-row-requires
-    shared-slice-read-read-word
-    read-word-requires
-    shared-slice-read-read-word-2
-    read-word-requires-2
-    shared-slice-read-read-word-3
-    read-word-requires-3
-    shared-slice-read-read-word-4
-    read-word-requires-4
-    shared-slice-read-read-word-5
-    read-word-requires-5
-    shared-slice-read-read-word-6
-    read-word-requires-6
-    returns)
+    (tie.spec read-rows-requires read-row-requires (λ c. search needs) read-word-requires (λ c. search needs)
+    read-word-requires-2 (λ c. search needs) read-word-requires-3 (λ c. search needs) read-word-requires-4
+    (λ c. search needs) read-word-requires-5 (λ c. search needs) read-word-requires-6 returns)

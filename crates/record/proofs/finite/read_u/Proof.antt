@@ -1,3 +1,4 @@
+-- `record::finite::read_u` meets its contract: what its calls ensure, on each path.
 use native.Mathlib.Omega.{arith}
 use Rattle.record.proofs.Parts.{record-parts}
 use borrow.Author.Needs.{needs}
@@ -7,8 +8,7 @@ use Rattle.record.proofs.finite.read_u.Tie as tie
 read-mat-requires : tie.Need-read-mat-requires
 read-mat-requires c κs = let s = c .before in let h = s .pre .0 in (omega arith, record-parts (s .args .r .now) (s .pre .1) .0)
 
-returns : tie.Need-returns
-returns c = search needs
-
 pub read-u-spec : {M : Type 1} → statement M
-read-u-spec = tie.close (tie.spec read-mat-requires returns)
+read-u-spec =
+    tie.close
+    (tie.spec read-mat-requires (λ c. search needs))

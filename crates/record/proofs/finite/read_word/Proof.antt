@@ -1,3 +1,4 @@
+-- `record::finite::read_word` meets its contract: what its calls ensure, on each path.
 use Rattle.record.proofs.Parts.{no-nan}
 use borrow.Author.Needs.{needs}
 use Rattle.record.proofs.finite.read_word.Statement.{statement}
@@ -6,8 +7,7 @@ use Rattle.record.proofs.finite.read_word.Tie as tie
 float-from-bits-result : tie.Need-float-from-bits-result
 float-from-bits-result c = no-nan (c .args .n) (c .pre)
 
-returns : tie.Need-returns
-returns c = search needs
-
 pub read-word-spec : {M : Type 1} → statement M
-read-word-spec = tie.close (tie.spec float-from-bits-result returns)
+read-word-spec =
+    tie.close
+    (tie.spec float-from-bits-result (λ c. search needs))

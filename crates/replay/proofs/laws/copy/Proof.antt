@@ -1,3 +1,4 @@
+-- `replay::laws::copy` meets its contract.
 use Prim.Native.Nat.{_≤_, _-_}
 use mathlib.Core.Path.{_≡_}
 use lib.ListN.{length}
@@ -62,22 +63,5 @@ returns-3 c = search needs
 pub copy-spec : {M : Type 1} → statement M
 copy-spec =
     tie.close
-    (tie.spec
-    Inv-loop
-    μ-loop
-    loop-holds
-    same-length
-    returns
-    sub-if2
-    same-length-2
-    returns-2
-    mul-to
-    shared-slice-read-to
-    add-to
-    mul-to-2
-    slice-write-to
-    add-i
-    loop-less
-    loop-again
-    same-length-3
-    returns-3)
+    (tie.spec Inv-loop μ-loop loop-holds same-length returns sub-if2 same-length-2 returns-2 mul-to
+    shared-slice-read-to add-to mul-to-2 slice-write-to add-i loop-less loop-again same-length-3 returns-3)

@@ -1,3 +1,4 @@
+-- `replay::reading::decoded` meets its contract.
 use Prim.Native.Nat.{_≤_, _-_}
 use mathlib.Core.Path.{_≡_}
 use lib.ListN.{length}
@@ -65,23 +66,5 @@ returns-4 c = search needs
 pub decoded-spec : {M : Type 1} → statement M
 decoded-spec =
     tie.close
-    (tie.spec
-    Inv-loop
-    μ-loop
-    returns
-    loop-holds
-    same-length
-    returns-2
-    mul-word-at
-    word-at-requires
-    enum-known-w
-    mul-room
-    slice-write-room
-    enum-told
-    same-length-2
-    returns-3
-    add-i
-    loop-less
-    loop-again
-    same-length-3
-    returns-4)
+    (tie.spec Inv-loop μ-loop returns loop-holds same-length returns-2 mul-word-at word-at-requires enum-known-w
+    mul-room slice-write-room enum-told same-length-2 returns-3 add-i loop-less loop-again same-length-3 returns-4)

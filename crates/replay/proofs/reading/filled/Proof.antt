@@ -1,34 +1,15 @@
+-- `replay::reading::filled` meets its contract.
 use native.Mathlib.Omega.{arith}
 use lib.ListN.{length-take}
 use borrow.Author.Needs.{needs}
 use Rattle.replay.proofs.reading.filled.Statement.{statement}
 use Rattle.replay.proofs.reading.filled.Tie as tie
 
-returns : tie.Need-returns
-returns c = search needs
-
-slice-relend-prefix-read-full : tie.Need-slice-relend-prefix-read-full
-slice-relend-prefix-read-full c = search needs
-
 slice-aggregate-read-full : tie.Need-slice-aggregate-read-full
 slice-aggregate-read-full c = simp length-take (omega arith)
-
-read-full-requires : tie.Need-read-full-requires
-read-full-requires c κs = search needs
-
-same-length : tie.Need-same-length
-same-length c = search needs
-
-returns-2 : tie.Need-returns-2
-returns-2 c = search needs
 
 pub filled-spec : {M : Type 1} → statement M
 filled-spec =
     tie.close
-    (tie.spec
-    returns
-    slice-relend-prefix-read-full
-    slice-aggregate-read-full
-    read-full-requires
-    same-length
-    returns-2)
+    (tie.spec (λ c. search needs) (λ c. search needs) slice-aggregate-read-full (λ c κs. search needs)
+    (λ c. search needs) (λ c. search needs))

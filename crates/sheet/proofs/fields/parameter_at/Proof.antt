@@ -4,18 +4,6 @@ use borrow.Author.Needs.{needs}
 use Rattle.sheet.proofs.fields.parameter_at.Statement.{statement}
 use Rattle.sheet.proofs.fields.parameter_at.Tie as tie
 
-word-at-requires : tie.Need-word-at-requires
-word-at-requires c κs = search needs
-
-enum-known-w : tie.Need-enum-known-w
-enum-known-w c = search needs
-
-enum-known-w-2 : tie.Need-enum-known-w-2
-enum-known-w-2 c = search needs
-
-allows-requires : tie.Need-allows-requires
-allows-requires c κs = search needs
-
 returns : tie.Need-returns
 unfolding parameterAt
 returns c = simp (← c .before .before .before .word-at .ensures, c .before .w .given .1)
@@ -31,11 +19,5 @@ returns-3 c = simp (← c .before .before .before .before .before .word-at .ensu
 pub parameter-at-spec : {M : Type 1} → statement M
 parameter-at-spec =
     tie.close
-    (tie.spec
-    word-at-requires
-    enum-known-w
-    enum-known-w-2
-    allows-requires
-    returns
-    returns-2
-    returns-3)
+    (tie.spec (λ c κs. search needs) (λ c. search needs) (λ c. search needs) (λ c κs. search needs) returns
+    returns-2 returns-3)

@@ -1,6 +1,8 @@
 -- `sheet::fields::parameters` meets its contract: the loop's invariant: the parameters before i, in front of what is read from next on, are those of the whole reading; the places from i on are still 0.
-use Rattle.sheet.proofs.Steps.{prefixed, prefixed-nil, parameter-read, parameter-refused, rest-zero, all-read, kinds-most}
-use Rattle.sheet.specs.Sheet.{kindsOf, parameterAt, parametersAt}
+use Rattle.sheet.proofs.Steps.{prefixed, prefixed-nil, parameter-read, parameter-refused, rest-zero, all-read}
+use Rattle.model.proofs.KindLaws.{kinds-most}
+use Rattle.model.specs.Kinds.{kindsOf}
+use Rattle.sheet.specs.Sheet.{parameterAt, parametersAt}
 use borrow.Author.Needs.{needs}
 use lib.ListN.{length, take, drop, replicate, length-set}
 use native.Mathlib.Omega.{arith}
@@ -17,14 +19,14 @@ Inv-loop s model at n bits₀ next₀ i₀ bits next i =
 abbrev μ-loop : tie.MeasureT-loop
 μ-loop s model at n bits₀ next₀ i₀ bits next i = n - i
 
-fields-requires : tie.Need-fields-requires Inv-loop μ-loop
-fields-requires c κs = search needs
+parameters-of-requires : tie.Need-parameters-of-requires Inv-loop μ-loop
+parameters-of-requires c κs = search needs
 
 loop-holds : tie.Need-loop-holds Inv-loop μ-loop
 loop-holds c = (omega arith, refl, refl, prefixed-nil _)
 
-is-flag-requires : tie.Need-is-flag-requires Inv-loop μ-loop
-is-flag-requires c κs = search needs
+is-flag-of-requires : tie.Need-is-flag-of-requires Inv-loop μ-loop
+is-flag-of-requires c κs = search needs
 
 parameter-at-requires : tie.Need-parameter-at-requires Inv-loop μ-loop
 parameter-at-requires c κs = search needs
@@ -36,8 +38,8 @@ returns : tie.Need-returns Inv-loop μ-loop
 returns c =
     let s = c .before .before .before .before .before .before .before .before .before in
     let l = c .before .before .before .before .before .before .loop in
-    let h = rw (c .before .before .before .before .before .before .before .fields .ensures) at (c .before .before .before .before .before .loop-test .taken) in
-    let r = sym (c .before .w .given .1) ∙ c .before .before .before .parameter-at .ensures ∙ ap (λ (f : Bool). parameterAt f (s .args .s .now) (l .next)) (c .before .before .before .before .is-flag .ensures) in
+    let h = rw (c .before .before .before .before .before .before .before .parameters-of .ensures) at (c .before .before .before .before .before .loop-test .taken) in
+    let r = sym (c .before .w .given .1) ∙ c .before .before .before .parameter-at .ensures ∙ ap (λ (f : Bool). parameterAt f (s .args .s .now) (l .next)) (c .before .before .before .before .is-flag-of .ensures) in
     parameter-refused (kindsOf (s .args .model)) (s .args .s .now) (l .next) (l .i) h (s .args .at) (l .bits) (l .inv .3) _ r
 
 enum-known-w-2 : tie.Need-enum-known-w-2 Inv-loop μ-loop
@@ -46,14 +48,14 @@ enum-known-w-2 c = search needs
 mul-bits : tie.Need-mul-bits Inv-loop μ-loop
 mul-bits c =
     let m = kinds-most (c .before .before .before .before .before .before .before .before .before .args .model) in
-    let f = c .before .before .before .before .before .before .before .fields .ensures in
+    let f = c .before .before .before .before .before .before .before .parameters-of .ensures in
     let t = c .before .before .before .before .before .loop-test .taken in
     omega arith
 
 array-write-bits : tie.Need-array-write-bits Inv-loop μ-loop
 array-write-bits c =
     let m = kinds-most (c .before .before .before .before .before .before .before .before .before .args .model) in
-    let f = c .before .before .before .before .before .before .before .fields .ensures in
+    let f = c .before .before .before .before .before .before .before .parameters-of .ensures in
     let t = c .before .before .before .before .before .loop-test .taken in
     let v = c .before .before .before .before .before .before .loop .inv in
     omega arith
@@ -69,12 +71,12 @@ loop-again c =
     let s = c .before .before .before .before .before .before .before .before .before in
     let l = c .before .before .before .before .before .before .loop in
     let m = kinds-most (s .args .model) in
-    let f = c .before .before .before .before .before .before .before .fields .ensures in
+    let f = c .before .before .before .before .before .before .before .parameters-of .ensures in
     let t = c .before .before .before .before .before .loop-test .taken in
     let h = rw f at t in
     let k : l .i < 8 = omega arith in
     let g : l .i < length (l .bits) = omega (arith, l .inv .1) in
-    let r = sym (c .before .w2 .given .1) ∙ c .before .before .before .parameter-at .ensures ∙ ap (λ (f : Bool). parameterAt f (s .args .s .now) (l .next)) (c .before .before .before .before .is-flag .ensures) in
+    let r = sym (c .before .w2 .given .1) ∙ c .before .before .before .parameter-at .ensures ∙ ap (λ (f : Bool). parameterAt f (s .args .s .now) (l .next)) (c .before .before .before .before .is-flag-of .ensures) in
     (omega arith, simp length-set (l .inv .1), rest-zero (l .bits) (l .i) _ k (l .inv .2), parameter-read (kindsOf (s .args .model)) (s .args .s .now) (l .next) (l .i) h (s .args .at) (l .bits) (l .inv .3) _ _ g r)
 
 returns-2 : tie.Need-returns-2 Inv-loop μ-loop
@@ -82,7 +84,7 @@ returns-2 c =
     let s = c .before .before .before .before in
     let l = c .before .loop in
     let m = kinds-most (s .args .model) in
-    let f = c .before .before .fields .ensures in
+    let f = c .before .before .parameters-of .ensures in
     let t = c .loop-test .left in
     let v = l .inv .0 in
     let k : l .i ≡ length (kindsOf (s .args .model)) = omega arith in
@@ -91,19 +93,5 @@ returns-2 c =
 pub parameters-spec : {M : Type 1} → statement M
 parameters-spec =
     tie.close
-    (tie.spec
-    Inv-loop
-    μ-loop
-    fields-requires
-    loop-holds
-    is-flag-requires
-    parameter-at-requires
-    enum-known-w
-    returns
-    enum-known-w-2
-    mul-bits
-    array-write-bits
-    add-i
-    loop-less
-    loop-again
-    returns-2)
+    (tie.spec Inv-loop μ-loop parameters-of-requires loop-holds is-flag-of-requires parameter-at-requires enum-known-w returns
+    enum-known-w-2 mul-bits array-write-bits add-i loop-less loop-again returns-2)

@@ -1,24 +1,16 @@
 -- `sheet::reading::after_model` meets its contract: each return is a case of `afterParameters`.
-use Rattle.sheet.specs.Sheet.{kindsOf, parametersAt}
+use Rattle.model.specs.Kinds.{kindsOf}
+use Rattle.sheet.specs.Sheet.{parametersAt}
 use Rattle.sheet.proofs.Bounds.{stops, parameters-refused, parameters-read}
 use mathlib.Core.Path.{_∙_}
 use borrow.Author.Needs.{needs}
 use Rattle.sheet.proofs.reading.after_model.Statement.{statement}
 use Rattle.sheet.proofs.reading.after_model.Tie as tie
 
-parameters-requires : tie.Need-parameters-requires
-parameters-requires c κs = search needs
-
-refused-requires : tie.Need-refused-requires
-refused-requires c κs = search needs
-
 returns : tie.Need-returns
 returns c =
     let a = c .before .before .before .before .before .args in
     c .refused .ensures ∙ parameters-refused (a .s .now) (a .model) (parametersAt (kindsOf (a .model)) (a .s .now) (a .at)) _ (c .before .before .before .parameters .ensures) (c .before .if1 .taken)
-
-after-parameters-requires : tie.Need-after-parameters-requires
-after-parameters-requires c κs = search needs
 
 returns-2 : tie.Need-returns-2
 returns-2 c =
@@ -28,4 +20,4 @@ returns-2 c =
 pub after-model-spec : {M : Type 1} → statement M
 after-model-spec =
     tie.close
-    (tie.spec parameters-requires refused-requires returns after-parameters-requires returns-2)
+    (tie.spec (λ c κs. search needs) (λ c κs. search needs) returns (λ c κs. search needs) returns-2)

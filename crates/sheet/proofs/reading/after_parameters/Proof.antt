@@ -6,21 +6,6 @@ use borrow.Author.Needs.{needs}
 use Rattle.sheet.proofs.reading.after_parameters.Statement.{statement}
 use Rattle.sheet.proofs.reading.after_parameters.Tie as tie
 
-number-at-requires : tie.Need-number-at-requires
-number-at-requires c κs = search needs
-
-enum-known-n : tie.Need-enum-known-n
-enum-known-n c = search needs
-
-refused-requires : tie.Need-refused-requires
-refused-requires c κs = search needs
-
-enum-known-n-2 : tie.Need-enum-known-n-2
-enum-known-n-2 c = search needs
-
-refused-requires-2 : tie.Need-refused-requires-2
-refused-requires-2 c κs = search needs
-
 returns : tie.Need-returns
 returns c = simp (← c .before .before .before .before .before .number-at .ensures, c .before .before .before .n2 .given .1, lt-ltb _ _ (c .before .if1 .taken)) (c .refused2 .ensures)
 
@@ -36,13 +21,5 @@ returns-3 c = simp (← c .before .before .before .before .before .number-at .en
 pub after-parameters-spec : {M : Type 1} → statement M
 after-parameters-spec =
     tie.close
-    (tie.spec
-    number-at-requires
-    enum-known-n
-    refused-requires
-    enum-known-n-2
-    refused-requires-2
-    returns
-    records-end-requires
-    returns-2
-    returns-3)
+    (tie.spec (λ c κs. search needs) (λ c. search needs) (λ c κs. search needs) (λ c. search needs)
+    (λ c κs. search needs) returns records-end-requires returns-2 returns-3)

@@ -6,14 +6,8 @@ use borrow.Author.Needs.{needs}
 use Rattle.sheet.proofs.reading.read.Statement.{statement}
 use Rattle.sheet.proofs.reading.read.Tie as tie
 
-refused-requires : tie.Need-refused-requires
-refused-requires c κs = search needs
-
 returns : tie.Need-returns
 returns c = odd _ _ _ (c .refused .ensures) (c .before .if1 .taken)
-
-read-header-requires : tie.Need-read-header-requires
-read-header-requires c κs = search needs
 
 returns-2 : tie.Need-returns-2
 returns-2 c = bad _ _ _ (c .before .before .read-header .ensures) (c .before .before .before .if1 .left) (c .if2 .taken)
@@ -23,17 +17,11 @@ mul-n c =
     let l = few _ _ (c .before .before .before .read-header .ensures) (c .before .if2 .left) in
     omega arith
 
-refused-requires-2 : tie.Need-refused-requires-2
-refused-requires-2 c κs = search needs
-
 returns-3 : tie.Need-returns-3
 returns-3 c = narrow _ _ _ (c .before .before .before .before .before .read-header .ensures) (c .before .before .before .before .before .before .if1 .left) (c .before .before .before .if2 .left) _ (c .refused2 .ensures) (c .before .if3 .taken)
 
 fill-requires : tie.Need-fill-requires
 fill-requires c κs = (within _ _ (c .before .before .before .before .before .read-header .ensures) (c .before .before .before .if2 .left), c .before .if3 .left)
-
-same-length : tie.Need-same-length
-same-length c = search needs
 
 returns-4 : tie.Need-returns-4
 returns-4 c = good _ _ _ (c .before .before .before .before .before .before .before .before .read-header .ensures) (c .before .before .before .before .before .before .before .before .before .if1 .left) (c .before .before .before .before .before .before .if2 .left) _ (c .before .before .before .before .if3 .left) (c .before .before .fill .ensures)
@@ -41,14 +29,5 @@ returns-4 c = good _ _ _ (c .before .before .before .before .before .before .bef
 pub read-spec : {M : Type 1} → statement M
 read-spec =
     tie.close
-    (tie.spec
-    refused-requires
-    returns
-    read-header-requires
-    returns-2
-    mul-n
-    refused-requires-2
-    returns-3
-    fill-requires
-    same-length
-    returns-4)
+    (tie.spec (λ c κs. search needs) returns (λ c κs. search needs) returns-2 mul-n (λ c κs. search needs) returns-3
+    fill-requires (λ c. search needs) returns-4)

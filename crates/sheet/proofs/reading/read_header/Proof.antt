@@ -5,27 +5,9 @@ use borrow.Author.Needs.{needs}
 use Rattle.sheet.proofs.reading.read_header.Statement.{statement}
 use Rattle.sheet.proofs.reading.read_header.Tie as tie
 
-number-at-requires : tie.Need-number-at-requires
-number-at-requires c κs = search needs
-
-enum-known-n : tie.Need-enum-known-n
-enum-known-n c = search needs
-
-refused-requires : tie.Need-refused-requires
-refused-requires c κs = search needs
-
-enum-known-n-2 : tie.Need-enum-known-n-2
-enum-known-n-2 c = search needs
-
-refused-requires-2 : tie.Need-refused-requires-2
-refused-requires-2 c κs = search needs
-
 returns : tie.Need-returns
 unfolding headerOf
 returns c = simp (← c .before .before .before .before .before .number-at .ensures, c .before .before .before .n2 .given .1, lt-ltb _ _ (c .before .if1 .taken)) (c .refused2 .ensures)
-
-after-model-requires : tie.Need-after-model-requires
-after-model-requires c κs = search needs
 
 returns-2 : tie.Need-returns-2
 unfolding headerOf
@@ -38,13 +20,5 @@ returns-3 c = simp (← c .before .before .before .before .before .number-at .en
 pub read-header-spec : {M : Type 1} → statement M
 read-header-spec =
     tie.close
-    (tie.spec
-    number-at-requires
-    enum-known-n
-    refused-requires
-    enum-known-n-2
-    refused-requires-2
-    returns
-    after-model-requires
-    returns-2
-    returns-3)
+    (tie.spec (λ c κs. search needs) (λ c. search needs) (λ c κs. search needs) (λ c. search needs)
+    (λ c κs. search needs) returns (λ c κs. search needs) returns-2 returns-3)

@@ -10,26 +10,8 @@ returns c = other-size _ _ _ (c .if1 .taken)
 returns-2 : tie.Need-returns-2
 returns-2 c = record-late _ _ _ (c .before .if1 .left) (c .if2 .taken)
 
-sub-if3 : tie.Need-sub-if3
-sub-if3 c = search needs
-
-mul-if3 : tie.Need-mul-if3
-mul-if3 c = search needs
-
 returns-3 : tie.Need-returns-3
 returns-3 c = record-short _ _ _ (c .before .before .if1 .left) (c .if3 .taken)
-
-fill-requires : tie.Need-fill-requires
-fill-requires c κs = search needs
-
-mul-t4 : tie.Need-mul-t4
-mul-t4 c = search needs
-
-add-t6 : tie.Need-add-t6
-add-t6 c = search needs
-
-same-length : tie.Need-same-length
-same-length c = search needs
 
 returns-4 : tie.Need-returns-4
 returns-4 c = record-read _ _ _ (c .before .before .before .before .before .before .if1 .left) _ (c .before .before .before .before .if3 .left) (c .before .before .fill .ensures)
@@ -37,14 +19,5 @@ returns-4 c = record-read _ _ _ (c .before .before .before .before .before .befo
 pub record-at-spec : {M : Type 1} → statement M
 record-at-spec =
     tie.close
-    (tie.spec
-    returns
-    returns-2
-    sub-if3
-    mul-if3
-    returns-3
-    fill-requires
-    mul-t4
-    add-t6
-    same-length
-    returns-4)
+    (tie.spec returns returns-2 (λ c. search needs) (λ c. search needs) returns-3 (λ c κs. search needs)
+    (λ c. search needs) (λ c. search needs) (λ c. search needs) returns-4)

@@ -5,24 +5,9 @@ use borrow.Author.Needs.{needs}
 use Rattle.sheet.proofs.reading.records_end.Statement.{statement}
 use Rattle.sheet.proofs.reading.records_end.Tie as tie
 
-mul-wanted : tie.Need-mul-wanted
-mul-wanted c = search needs
-
-mul-wanted-2 : tie.Need-mul-wanted-2
-mul-wanted-2 c = search needs
-
-sub-left : tie.Need-sub-left
-sub-left c = search needs
-
-refused-requires : tie.Need-refused-requires
-refused-requires c κs = search needs
-
 returns : tie.Need-returns
 unfolding recordsEnd
 returns c = rw (lt-ltb _ _ (c .before .if1 .taken)) (c .refused .ensures)
-
-refused-requires-2 : tie.Need-refused-requires-2
-refused-requires-2 c κs = search needs
 
 returns-2 : tie.Need-returns-2
 unfolding recordsEnd
@@ -35,12 +20,5 @@ returns-3 c = rw (le-ltb _ _ (c .before .if1 .left), le-ltb _ _ (c .if2 .left))
 pub records-end-spec : {M : Type 1} → statement M
 records-end-spec =
     tie.close
-    (tie.spec
-    mul-wanted
-    mul-wanted-2
-    sub-left
-    refused-requires
-    returns
-    refused-requires-2
-    returns-2
-    returns-3)
+    (tie.spec (λ c. search needs) (λ c. search needs) (λ c. search needs) (λ c κs. search needs) returns
+    (λ c κs. search needs) returns-2 returns-3)

@@ -11,12 +11,6 @@ use Rattle.square_root.proofs.digits.guess.Lts as lts
 bound : (c : lts.Start reads.Pre reads.Post) → (141199651 - 42455873 * (c .args .n / 2 ^ 22) / 2 ^ 32) * (c .args .n / 2 ^ 22) ≤ 141199651 * 4294967295
 bound c = product (141199651 - 42455873 * (c .args .n / 2 ^ 22) / 2 ^ 32) (c .args .n / 2 ^ 22) (omega arith) (omega (arith, c .pre))
 
-mul-c : tie.Need-mul-c
-mul-c c = search needs
-
-sub-c : tie.Need-sub-c
-sub-c c = search needs
-
 mul-result : tie.Need-mul-result
 mul-result c = omega (arith, bound c)
 
@@ -27,4 +21,6 @@ returns : tie.Need-returns
 returns c = let b = bound c in (omega arith, omega arith)
 
 pub guess-spec : {M : Type 1} → statement M
-guess-spec = tie.close (tie.spec mul-c sub-c mul-result add-result returns)
+guess-spec =
+    tie.close
+    (tie.spec (λ c. search needs) (λ c. search needs) mul-result add-result returns)

@@ -41,15 +41,5 @@ returns c = record { under = c .loop-test .left; over = c .before .loop .inv .0 
 pub half-root-spec : {M : Type 1} → statement M
 half-root-spec =
     tie.close
-    (tie.spec
-    Inv-loop
-    μ-loop
-    guess-requires
-    mean-requires
-    mean-requires-2
-    loop-holds
-    mul-loop
-    sub-s
-    loop-less
-    loop-again
-    returns)
+    (tie.spec Inv-loop μ-loop guess-requires mean-requires mean-requires-2 loop-holds mul-loop sub-s loop-less
+    loop-again returns)

@@ -5,9 +5,6 @@ use borrow.Author.Needs.{needs}
 use Rattle.square_root.proofs.digits.mean.Statement.{statement}
 use Rattle.square_root.proofs.digits.mean.Tie as tie
 
-div-result : tie.Need-div-result
-div-result c = search needs
-
 add-result : tie.Need-add-result
 add-result c = omega (arith, quotient (c .args .n) (c .args .y) (c .pre .0) (c .pre .1))
 
@@ -15,4 +12,6 @@ returns : tie.Need-returns
 returns c = (mean-over (c .args .n) (c .args .y) (omega arith), omega (arith, quotient (c .args .n) (c .args .y) (c .pre .0) (c .pre .1)))
 
 pub mean-spec : {M : Type 1} → statement M
-mean-spec = tie.close (tie.spec div-result add-result returns)
+mean-spec =
+    tie.close
+    (tie.spec (λ c. search needs) add-result returns)

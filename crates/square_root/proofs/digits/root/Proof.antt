@@ -11,15 +11,6 @@ use Rattle.square_root.proofs.digits.half_root.Reads as half-root-reads
 known : (c : lts.After-half-root (half-root-reads.Asked, half-root-reads.Learnt) reads.Pre reads.Post) → Sizes (c .before .args .n) (c .half-root .result) (c .before .pre .0) (c .before .pre .1) (c .half-root .ensures)
 known c = sizes (c .before .args .n) (c .half-root .result) (c .before .pre .0) (c .before .pre .1) (c .half-root .ensures)
 
-half-root-requires : tie.Need-half-root-requires
-half-root-requires c κs = search needs
-
-mul-a : tie.Need-mul-a
-mul-a c = search needs
-
-sub-a : tie.Need-sub-a
-sub-a c = search needs
-
 mul-a-2 : tie.Need-mul-a-2
 mul-a-2 c = let z = known c in omega arith
 
@@ -53,17 +44,5 @@ returns-2 c = as-many (c .before .before .args .n) (c .before .half-root .result
 pub root-spec : {M : Type 1} → statement M
 root-spec =
     tie.close
-    (tie.spec
-    half-root-requires
-    mul-a
-    sub-a
-    mul-a-2
-    div-d
-    mul-m
-    add-m
-    rem-if1
-    mul-if1
-    mul-if1-2
-    sub-result
-    returns
-    returns-2)
+    (tie.spec (λ c κs. search needs) (λ c. search needs) (λ c. search needs) mul-a-2 div-d mul-m add-m rem-if1
+    mul-if1 mul-if1-2 sub-result returns returns-2)

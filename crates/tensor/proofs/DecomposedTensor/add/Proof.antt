@@ -1,21 +1,7 @@
+-- `tensor::DecomposedTensor::add` answers `givenTensor (tensorFinite self && tensorFinite rhs) (answeredTensor (sumOf self rhs))`.
 use borrow.Author.Needs.{needs}
 use Rattle.tensor.proofs.DecomposedTensor.add.Statement.{statement}
 use Rattle.tensor.proofs.DecomposedTensor.add.Tie as tie
-
-tensor-finite-requires : tie.Need-tensor-finite-requires
-tensor-finite-requires c κs = search needs
-
-tensor-finite-requires-2 : tie.Need-tensor-finite-requires-2
-tensor-finite-requires-2 c κs = search needs
-
-add-requires : tie.Need-add-requires
-add-requires c κs = search needs
-
-answered-tensor-requires : tie.Need-answered-tensor-requires
-answered-tensor-requires c κs = search needs
-
-refused-tensor-requires : tie.Need-refused-tensor-requires
-refused-tensor-requires c κs = search needs
 
 returns : tie.Need-returns
 returns c =
@@ -30,11 +16,5 @@ returns-2 c =
 pub add-spec : {M : Type 1} → statement M
 add-spec =
     tie.close
-    (tie.spec
-    tensor-finite-requires
-    tensor-finite-requires-2
-    add-requires
-    answered-tensor-requires
-    refused-tensor-requires
-    returns
-    returns-2)
+    (tie.spec (λ c κs. search needs) (λ c κs. search needs) (λ c κs. search needs) (λ c κs. search needs)
+    (λ c κs. search needs) returns returns-2)

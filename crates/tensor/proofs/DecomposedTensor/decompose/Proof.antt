@@ -1,18 +1,7 @@
+-- `tensor::DecomposedTensor::decompose` answers `givenTensor (matFinite m) (answeredTensor (decomposeOf m))`.
 use borrow.Author.Needs.{needs}
 use Rattle.tensor.proofs.DecomposedTensor.decompose.Statement.{statement}
 use Rattle.tensor.proofs.DecomposedTensor.decompose.Tie as tie
-
-mat-finite-requires : tie.Need-mat-finite-requires
-mat-finite-requires c κs = search needs
-
-decompose-requires : tie.Need-decompose-requires
-decompose-requires c κs = search needs
-
-answered-tensor-requires : tie.Need-answered-tensor-requires
-answered-tensor-requires c κs = search needs
-
-refused-tensor-requires : tie.Need-refused-tensor-requires
-refused-tensor-requires c κs = search needs
 
 returns : tie.Need-returns
 returns c =
@@ -27,10 +16,5 @@ returns-2 c =
 pub decompose-spec : {M : Type 1} → statement M
 decompose-spec =
     tie.close
-    (tie.spec
-    mat-finite-requires
-    decompose-requires
-    answered-tensor-requires
-    refused-tensor-requires
-    returns
+    (tie.spec (λ c κs. search needs) (λ c κs. search needs) (λ c κs. search needs) (λ c κs. search needs) returns
     returns-2)

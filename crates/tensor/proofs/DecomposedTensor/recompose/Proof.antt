@@ -1,18 +1,7 @@
+-- `tensor::DecomposedTensor::recompose` answers `givenMatrix (tensorFinite self) (answered (recomposedOf self))`.
 use borrow.Author.Needs.{needs}
 use Rattle.tensor.proofs.DecomposedTensor.recompose.Statement.{statement}
 use Rattle.tensor.proofs.DecomposedTensor.recompose.Tie as tie
-
-tensor-finite-requires : tie.Need-tensor-finite-requires
-tensor-finite-requires c κs = search needs
-
-recompose-requires : tie.Need-recompose-requires
-recompose-requires c κs = search needs
-
-answered-requires : tie.Need-answered-requires
-answered-requires c κs = search needs
-
-refused-matrix-requires : tie.Need-refused-matrix-requires
-refused-matrix-requires c κs = search needs
 
 returns : tie.Need-returns
 returns c =
@@ -27,10 +16,5 @@ returns-2 c =
 pub recompose-spec : {M : Type 1} → statement M
 recompose-spec =
     tie.close
-    (tie.spec
-    tensor-finite-requires
-    recompose-requires
-    answered-requires
-    refused-matrix-requires
-    returns
+    (tie.spec (λ c κs. search needs) (λ c κs. search needs) (λ c κs. search needs) (λ c κs. search needs) returns
     returns-2)

@@ -1,21 +1,7 @@
+-- `tensor::DecomposedTensor::times` answers `givenVector (tensorFinite self && rowFinite v) (answeredVector (timesOf self v))`.
 use borrow.Author.Needs.{needs}
 use Rattle.tensor.proofs.DecomposedTensor.times.Statement.{statement}
 use Rattle.tensor.proofs.DecomposedTensor.times.Tie as tie
-
-tensor-finite-requires : tie.Need-tensor-finite-requires
-tensor-finite-requires c κs = search needs
-
-row-finite-requires : tie.Need-row-finite-requires
-row-finite-requires c κs = search needs
-
-times-requires : tie.Need-times-requires
-times-requires c κs = search needs
-
-answered-vector-requires : tie.Need-answered-vector-requires
-answered-vector-requires c κs = search needs
-
-refused-vector-requires : tie.Need-refused-vector-requires
-refused-vector-requires c κs = search needs
 
 returns : tie.Need-returns
 returns c =
@@ -30,11 +16,5 @@ returns-2 c =
 pub times-spec : {M : Type 1} → statement M
 times-spec =
     tie.close
-    (tie.spec
-    tensor-finite-requires
-    row-finite-requires
-    times-requires
-    answered-vector-requires
-    refused-vector-requires
-    returns
-    returns-2)
+    (tie.spec (λ c κs. search needs) (λ c κs. search needs) (λ c κs. search needs) (λ c κs. search needs)
+    (λ c κs. search needs) returns returns-2)

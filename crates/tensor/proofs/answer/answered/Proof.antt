@@ -1,16 +1,8 @@
+-- `tensor::answer::answered` answers `answered m`.
 use borrow.Author.Needs.{needs}
 use Rattle.tensor.specs.Answer.{answered}
 use Rattle.tensor.proofs.answer.answered.Statement.{statement}
 use Rattle.tensor.proofs.answer.answered.Tie as tie
-
-mat-finite-requires : tie.Need-mat-finite-requires
-mat-finite-requires c κs = search needs
-
-to-rows-requires : tie.Need-to-rows-requires
-to-rows-requires c κs = search needs
-
-refused-matrix-requires : tie.Need-refused-matrix-requires
-refused-matrix-requires c κs = search needs
 
 returns : tie.Need-returns
 unfolding answered
@@ -27,4 +19,4 @@ returns-2 c =
 pub answered-spec : {M : Type 1} → statement M
 answered-spec =
     tie.close
-    (tie.spec mat-finite-requires to-rows-requires refused-matrix-requires returns returns-2)
+    (tie.spec (λ c κs. search needs) (λ c κs. search needs) (λ c κs. search needs) returns returns-2)

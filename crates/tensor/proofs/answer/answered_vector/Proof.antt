@@ -1,13 +1,8 @@
+-- `tensor::answer::answered_vector` answers `answeredVector v`.
 use borrow.Author.Needs.{needs}
 use Rattle.tensor.specs.Answer.{answeredVector}
 use Rattle.tensor.proofs.answer.answered_vector.Statement.{statement}
 use Rattle.tensor.proofs.answer.answered_vector.Tie as tie
-
-row-finite-requires : tie.Need-row-finite-requires
-row-finite-requires c κs = search needs
-
-refused-vector-requires : tie.Need-refused-vector-requires
-refused-vector-requires c κs = search needs
 
 returns : tie.Need-returns
 unfolding answeredVector
@@ -23,4 +18,5 @@ returns-2 c =
 
 pub answered-vector-spec : {M : Type 1} → statement M
 answered-vector-spec =
-    tie.close (tie.spec row-finite-requires refused-vector-requires returns returns-2)
+    tie.close
+    (tie.spec (λ c κs. search needs) (λ c κs. search needs) returns returns-2)

@@ -1,13 +1,8 @@
+-- `tensor::decomposed::answered_tensor` answers `answeredTensor t`.
 use borrow.Author.Needs.{needs}
 use Rattle.tensor.specs.Decomposed.{answeredTensor}
 use Rattle.tensor.proofs.decomposed.answered_tensor.Statement.{statement}
 use Rattle.tensor.proofs.decomposed.answered_tensor.Tie as tie
-
-tensor-finite-requires : tie.Need-tensor-finite-requires
-tensor-finite-requires c κs = search needs
-
-refused-tensor-requires : tie.Need-refused-tensor-requires
-refused-tensor-requires c κs = search needs
 
 returns : tie.Need-returns
 unfolding answeredTensor
@@ -23,4 +18,5 @@ returns-2 c =
 
 pub answered-tensor-spec : {M : Type 1} → statement M
 answered-tensor-spec =
-    tie.close (tie.spec tensor-finite-requires refused-tensor-requires returns returns-2)
+    tie.close
+    (tie.spec (λ c κs. search needs) (λ c κs. search needs) returns returns-2)

@@ -1,13 +1,13 @@
+-- `tensor::decomposed::refused_tensor` answers `refusedTensor n`.
 use borrow.Author.Needs.{needs}
 use Rattle.tensor.proofs.decomposed.refused_tensor.Statement.{statement}
 use Rattle.tensor.proofs.decomposed.refused_tensor.Tie as tie
-
-zero-requires : tie.Need-zero-requires
-zero-requires c κs = search needs
 
 returns : tie.Need-returns
 returns c =
     simp (c .zero .ensures)
 
 pub refused-tensor-spec : {M : Type 1} → statement M
-refused-tensor-spec = tie.close (tie.spec zero-requires returns)
+refused-tensor-spec =
+    tie.close
+    (tie.spec (λ c κs. search needs) returns)

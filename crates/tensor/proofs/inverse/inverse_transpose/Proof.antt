@@ -1,16 +1,8 @@
+-- `tensor::inverse::inverse_transpose` answers `inverseTransposeOf m j`.
 use Rattle.tensor.specs.Inverse.{inverseTransposeOf}
 use borrow.Author.Needs.{needs}
 use Rattle.tensor.proofs.inverse.inverse_transpose.Statement.{statement}
 use Rattle.tensor.proofs.inverse.inverse_transpose.Tie as tie
-
-identity-times-requires : tie.Need-identity-times-requires
-identity-times-requires c κs = search needs
-
-cofactors-requires : tie.Need-cofactors-requires
-cofactors-requires c κs = search needs
-
-mat-over-requires : tie.Need-mat-over-requires
-mat-over-requires c κs = search needs
 
 returns : tie.Need-returns
 unfolding inverseTransposeOf
@@ -27,4 +19,4 @@ returns-2 c =
 pub inverse-transpose-spec : {M : Type 1} → statement M
 inverse-transpose-spec =
     tie.close
-    (tie.spec identity-times-requires cofactors-requires mat-over-requires returns returns-2)
+    (tie.spec (λ c κs. search needs) (λ c κs. search needs) (λ c κs. search needs) returns returns-2)

@@ -1,25 +1,8 @@
+-- `tensor::inverse::mat_over` answers `matOverOf m d`.
 use Rattle.tensor.specs.Inverse.{matOverOf}
 use borrow.Author.Needs.{needs}
 use Rattle.tensor.proofs.inverse.mat_over.Statement.{statement}
 use Rattle.tensor.proofs.inverse.mat_over.Tie as tie
-
-array-copy-out-row-over : tie.Need-array-copy-out-row-over
-array-copy-out-row-over c = search needs
-
-row-over-requires : tie.Need-row-over-requires
-row-over-requires c κs = search needs
-
-array-copy-out-row-over-2 : tie.Need-array-copy-out-row-over-2
-array-copy-out-row-over-2 c = search needs
-
-row-over-requires-2 : tie.Need-row-over-requires-2
-row-over-requires-2 c κs = search needs
-
-array-copy-out-row-over-3 : tie.Need-array-copy-out-row-over-3
-array-copy-out-row-over-3 c = search needs
-
-row-over-requires-3 : tie.Need-row-over-requires-3
-row-over-requires-3 c κs = search needs
 
 returns : tie.Need-returns
 unfolding matOverOf
@@ -29,11 +12,5 @@ returns c =
 pub mat-over-spec : {M : Type 1} → statement M
 mat-over-spec =
     tie.close
-    (tie.spec
-    array-copy-out-row-over
-    row-over-requires
-    array-copy-out-row-over-2
-    row-over-requires-2
-    array-copy-out-row-over-3
-    row-over-requires-3
-    returns)
+    (tie.spec (λ c. search needs) (λ c κs. search needs) (λ c. search needs) (λ c κs. search needs)
+    (λ c. search needs) (λ c κs. search needs) returns)

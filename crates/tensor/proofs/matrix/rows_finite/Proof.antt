@@ -1,15 +1,7 @@
+-- `tensor::matrix::rows_finite` answers `rowsFinite m`.
 use borrow.Author.Needs.{needs}
 use Rattle.tensor.proofs.matrix.rows_finite.Statement.{statement}
 use Rattle.tensor.proofs.matrix.rows_finite.Tie as tie
-
-row-finite-requires : tie.Need-row-finite-requires
-row-finite-requires c κs = search needs
-
-row-finite-requires-2 : tie.Need-row-finite-requires-2
-row-finite-requires-2 c κs = search needs
-
-row-finite-requires-3 : tie.Need-row-finite-requires-3
-row-finite-requires-3 c κs = search needs
 
 returns : tie.Need-returns
 returns c =
@@ -17,4 +9,5 @@ returns c =
 
 pub rows-finite-spec : {M : Type 1} → statement M
 rows-finite-spec =
-    tie.close (tie.spec row-finite-requires row-finite-requires-2 row-finite-requires-3 returns)
+    tie.close
+    (tie.spec (λ c κs. search needs) (λ c κs. search needs) (λ c κs. search needs) returns)

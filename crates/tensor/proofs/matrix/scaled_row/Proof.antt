@@ -1,27 +1,10 @@
+-- `tensor::matrix::scaled_row` answers `scaledRowOf u s`.
 use borrow.Author.Needs.{needs}
 use lib.Ieee.{nan}
 use Rattle.tensor.specs.Axes.{of-two}
 use Rattle.tensor.specs.Matrix.{scaledRowOf}
 use Rattle.tensor.proofs.matrix.scaled_row.Statement.{statement}
 use Rattle.tensor.proofs.matrix.scaled_row.Tie as tie
-
-array-read-t7 : tie.Need-array-read-t7
-array-read-t7 c = search needs
-
-array-read-t10 : tie.Need-array-read-t10
-array-read-t10 c = search needs
-
-array-read-t14 : tie.Need-array-read-t14
-array-read-t14 c = search needs
-
-array-read-t17 : tie.Need-array-read-t17
-array-read-t17 c = search needs
-
-array-read-t21 : tie.Need-array-read-t21
-array-read-t21 c = search needs
-
-array-read-t24 : tie.Need-array-read-t24
-array-read-t24 c = search needs
 
 returns : tie.Need-returns
 unfolding scaledRowOf
@@ -30,11 +13,5 @@ returns c = of-two scaledRowOf nan nan (c .args .t1) (c .args .t2) (search needs
 pub scaled-row-spec : {M : Type 1} → statement M
 scaled-row-spec =
     tie.close
-    (tie.spec
-    array-read-t7
-    array-read-t10
-    array-read-t14
-    array-read-t17
-    array-read-t21
-    array-read-t24
-    returns)
+    (tie.spec (λ c. search needs) (λ c. search needs) (λ c. search needs) (λ c. search needs) (λ c. search needs)
+    (λ c. search needs) returns)

@@ -1,3 +1,4 @@
+-- `tensor::matrix::sum` answers `sumOf e`.
 use borrow.Author.Needs.{needs}
 use lib.Ieee.{nan}
 use Rattle.tensor.specs.Axes.{of-one}
@@ -5,18 +6,11 @@ use Rattle.tensor.specs.Matrix.{sumOf}
 use Rattle.tensor.proofs.matrix.sum.Statement.{statement}
 use Rattle.tensor.proofs.matrix.sum.Tie as tie
 
-array-read-result : tie.Need-array-read-result
-array-read-result c = search needs
-
-array-read-result-2 : tie.Need-array-read-result-2
-array-read-result-2 c = search needs
-
-array-read-result-3 : tie.Need-array-read-result-3
-array-read-result-3 c = search needs
-
 returns : tie.Need-returns
 unfolding sumOf
 returns c = of-one sumOf nan (c .args .t1) (search needs)
 
 pub sum-spec : {M : Type 1} → statement M
-sum-spec = tie.close (tie.spec array-read-result array-read-result-2 array-read-result-3 returns)
+sum-spec =
+    tie.close
+    (tie.spec (λ c. search needs) (λ c. search needs) (λ c. search needs) returns)

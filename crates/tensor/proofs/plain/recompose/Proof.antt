@@ -1,16 +1,8 @@
+-- `tensor::plain::recompose` answers `givenMatrix (tensorFinite self) (answered (recomposedOf self))`.
 use borrow.Author.Needs.{needs}
 use Rattle.tensor.specs.Decomposed.{recomposedOf}
 use Rattle.tensor.proofs.plain.recompose.Statement.{statement}
 use Rattle.tensor.proofs.plain.recompose.Tie as tie
-
-of-rows-requires : tie.Need-of-rows-requires
-of-rows-requires c κs = search needs
-
-identity-times-requires : tie.Need-identity-times-requires
-identity-times-requires c κs = search needs
-
-mat-add-requires : tie.Need-mat-add-requires
-mat-add-requires c κs = search needs
 
 returns : tie.Need-returns
 unfolding recomposedOf
@@ -19,4 +11,5 @@ returns c =
 
 pub recompose-spec : {M : Type 1} → statement M
 recompose-spec =
-    tie.close (tie.spec of-rows-requires identity-times-requires mat-add-requires returns)
+    tie.close
+    (tie.spec (λ c κs. search needs) (λ c κs. search needs) (λ c κs. search needs) returns)

@@ -1,13 +1,13 @@
+-- `tensor::plain::spherical_part` answers `sphericalOf m`.
 use borrow.Author.Needs.{needs}
 use Rattle.tensor.proofs.plain.spherical_part.Statement.{statement}
 use Rattle.tensor.proofs.plain.spherical_part.Tie as tie
-
-trace-requires : tie.Need-trace-requires
-trace-requires c κs = search needs
 
 returns : tie.Need-returns
 returns c =
     simp (c .trace .ensures)
 
 pub spherical-part-spec : {M : Type 1} → statement M
-spherical-part-spec = tie.close (tie.spec trace-requires returns)
+spherical-part-spec =
+    tie.close
+    (tie.spec (λ c κs. search needs) returns)

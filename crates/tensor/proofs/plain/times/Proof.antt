@@ -1,19 +1,8 @@
+-- `tensor::plain::times` answers `givenVector (tensorFinite self && rowFinite v) (answeredVector (timesOf self v))`.
 use borrow.Author.Needs.{needs}
 use Rattle.tensor.specs.Decomposed.{timesOf}
 use Rattle.tensor.proofs.plain.times.Statement.{statement}
 use Rattle.tensor.proofs.plain.times.Tie as tie
-
-of-rows-requires : tie.Need-of-rows-requires
-of-rows-requires c κs = search needs
-
-mat-vec-requires : tie.Need-mat-vec-requires
-mat-vec-requires c κs = search needs
-
-row-scale-requires : tie.Need-row-scale-requires
-row-scale-requires c κs = search needs
-
-row-add-requires : tie.Need-row-add-requires
-row-add-requires c κs = search needs
 
 returns : tie.Need-returns
 unfolding timesOf
@@ -23,4 +12,4 @@ returns c =
 pub times-spec : {M : Type 1} → statement M
 times-spec =
     tie.close
-    (tie.spec of-rows-requires mat-vec-requires row-scale-requires row-add-requires returns)
+    (tie.spec (λ c κs. search needs) (λ c κs. search needs) (λ c κs. search needs) (λ c κs. search needs) returns)

@@ -6,18 +6,11 @@ use Rattle.thirds.specs.Root.{cubeOf}
 use Rattle.thirds.proofs.root.cube.Statement.{statement}
 use Rattle.thirds.proofs.root.cube.Tie as tie
 
-mul-w : tie.Need-mul-w
-mul-w c = search needs
-
-mulhi-requires : tie.Need-mulhi-requires
-mulhi-requires c κs = search needs
-
-mulhi-requires-2 : tie.Need-mulhi-requires-2
-mulhi-requires-2 c κs = search needs
-
 returns : tie.Need-returns
 unfolding cubeOf
 returns c = c .mulhi2 .ensures ∙ ap (λ x. x * (c .before .before .args .v * 2 ^ 15) / 2 ^ 64) (c .before .mulhi .ensures)
 
 pub cube-spec : {M : Type 1} → statement M
-cube-spec = tie.close (tie.spec mul-w mulhi-requires mulhi-requires-2 returns)
+cube-spec =
+    tie.close
+    (tie.spec (λ c. search needs) (λ c κs. search needs) (λ c κs. search needs) returns)

@@ -64,22 +64,5 @@ returns-2 c = root-is _ _ (omega arith)
 pub fix-spec : {M : Type 1} → statement M
 fix-spec =
     tie.close
-    (tie.spec
-    Inv-loop
-    μ-loop
-    Inv-loop2
-    μ-loop2
-    cube-requires
-    loop-holds
-    sub-r
-    cube-requires-2
-    loop-less
-    loop-again
-    loop2-holds
-    add-cube
-    cube-requires-3
-    returns
-    add-r
-    loop2-less
-    loop2-again
-    returns-2)
+    (tie.spec Inv-loop μ-loop Inv-loop2 μ-loop2 cube-requires loop-holds sub-r cube-requires-2 loop-less loop-again
+    loop2-holds add-cube cube-requires-3 returns add-r loop2-less loop2-again returns-2)

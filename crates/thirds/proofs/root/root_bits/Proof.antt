@@ -9,39 +9,6 @@ use Rattle.thirds.proofs.Cubes.{root-small}
 use Rattle.thirds.proofs.root.root_bits.Statement.{statement}
 use Rattle.thirds.proofs.root.root_bits.Tie as tie
 
-add-float-of : tie.Need-add-float-of
-add-float-of c = search needs
-
-mul-float-of : tie.Need-mul-float-of
-mul-float-of c = search needs
-
-add-float-of-2 : tie.Need-add-float-of-2
-add-float-of-2 c = search needs
-
-float-of-requires : tie.Need-float-of-requires
-float-of-requires c κs = search needs
-
-add-m : tie.Need-add-m
-add-m c = search needs
-
-add-m-2 : tie.Need-add-m-2
-add-m-2 c = search needs
-
-shl-m : tie.Need-shl-m
-shl-m c = search needs
-
-add-result : tie.Need-add-result
-add-result c = search needs
-
-mul-result : tie.Need-mul-result
-mul-result c = search needs
-
-guess-requires : tie.Need-guess-requires
-guess-requires c κs = search needs
-
-fix-requires : tie.Need-fix-requires
-fix-requires c κs = search needs
-
 mul-result-2 : tie.Need-mul-result-2
 mul-result-2 c = omega (arith, root-small _ _ (c .fix .ensures))
 
@@ -57,18 +24,6 @@ returns c =
 pub root-bits-spec : {M : Type 1} → statement M
 root-bits-spec =
     tie.close
-    (tie.spec
-    add-float-of
-    mul-float-of
-    add-float-of-2
-    float-of-requires
-    add-m
-    add-m-2
-    shl-m
-    add-result
-    mul-result
-    guess-requires
-    fix-requires
-    mul-result-2
-    add-result-2
-    returns)
+    (tie.spec (λ c. search needs) (λ c. search needs) (λ c. search needs) (λ c κs. search needs) (λ c. search needs)
+    (λ c. search needs) (λ c. search needs) (λ c. search needs) (λ c. search needs) (λ c κs. search needs)
+    (λ c κs. search needs) mul-result-2 add-result-2 returns)

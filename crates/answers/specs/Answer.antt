@@ -1,0 +1,30 @@
+-- A number or two to be returned, and a call's inputs (document 01, section 6, numbers 3 and 1).
+use mathlib.Core.Bool.{Bool, cond, _&&_}
+use lib.Ieee.{Float}
+use Rattle.answers.specs.Refusals.{notFinite, noNumber}
+use Rattle.numbers.specs.Floats.{finite}
+use Rattle.answers.specs.declared.Answer.{Answer}
+use Rattle.answers.specs.declared.Answer.the-variants.{Value, Refused}
+use Rattle.answers.specs.declared.Pair.{Pair}
+use Rattle.answers.specs.declared.Pair.the-variants as pair
+
+-- the number where it is finite, else 3
+abbrev pub answeredOf : Float → Answer
+answeredOf x = cond (finite x) (Value x) (Refused noNumber)
+
+-- the answer where the inputs are finite, else 1
+abbrev pub given : Bool → Answer → Answer
+given ok e = cond ok e (Refused notFinite)
+
+-- an answer to be returned: its number where that is finite, else 3
+abbrev pub finiteAnswerOf : Answer → Answer
+finiteAnswerOf (Value x) = answeredOf x
+finiteAnswerOf (Refused n) = Refused n
+
+-- two numbers to be returned: 3 where one isn't finite
+abbrev pub pairOf : Float → Float → Pair
+pairOf x y = cond (finite x && finite y) (pair.Values x y) (pair.Refused noNumber)
+
+-- the two where the inputs are finite, else 1
+abbrev pub givenPair : Bool → Pair → Pair
+givenPair ok p = cond ok p (pair.Refused notFinite)

@@ -1,0 +1,3 @@
+pub mod Refusals
+pub mod Range
+pub mod Answer

@@ -1,0 +1,28 @@
+-- What an elementary function answers (document 01, sections 3 and 6).
+use mathlib.Core.Bool.{Bool, true, false, cond, _&&_}
+use lib.Ieee as Ieee
+use lib.Ieee.{Float}
+use Rattle.answers.specs.Refusals.{notFinite, outOfRange, noNumber}
+use Rattle.numbers.specs.Floats.{finite, isNumber}
+use Rattle.answers.specs.declared.Answer.{Answer}
+use Rattle.answers.specs.declared.Answer.the-variants.{Value, Refused}
+
+-- a range includes its ends
+abbrev pub inRange : Float → Float → Float → Bool
+inRange low high x = Ieee.le low x && Ieee.le x high
+
+-- refusal 2: an argument outside the range
+abbrev pub outsideOf : Float → Float → Float → Answer
+outsideOf low high x = Refused outOfRange
+
+-- the value v of a function at x, within its range
+abbrev pub ranged : Float → Float → Float → Float → Answer
+ranged low high x v = cond (inRange low high x) (Value v) (outsideOf low high x)
+
+-- a bare call: refusal 1 of a NaN or an infinity comes first
+abbrev pub bare : Float → Answer → Answer
+bare x e = cond (finite x) e (Refused notFinite)
+
+-- inside a law: a NaN arose on the path, refusal 3; an infinity is outside the range
+abbrev pub onPath : Float → Answer → Answer
+onPath x e = cond (isNumber x) e (Refused noNumber)

@@ -1,0 +1,34 @@
+-- The refusals by name (document 01, section 6).
+use Prim.Native.Nat.{ℕ}
+
+-- an input float is NaN or infinite
+abbrev pub notFinite : ℕ
+notFinite = 1
+
+-- an elementary function on the path taken would get an argument outside its range
+abbrev pub outOfRange : ℕ
+outOfRange = 2
+
+-- a NaN arises on the path taken, or a number to be returned or stored, a modulus or a principal stress isn't finite
+abbrev pub noNumber : ℕ
+noNumber = 3
+
+-- the sheet ends early
+abbrev pub endsEarly : ℕ
+endsEarly = 4
+
+-- a number in seven-bit groups isn't shortest or has over two groups
+abbrev pub notShortest : ℕ
+notShortest = 5
+
+-- unknown model, or a flag other than 0.0 and 1.0
+abbrev pub unknown : ℕ
+unknown = 6
+
+-- count over 200, or bytes after the last record
+abbrev pub tooMany : ℕ
+tooMany = 7
+
+-- a list's length is wrong
+abbrev pub wrongLength : ℕ
+wrongLength = 8

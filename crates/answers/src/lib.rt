@@ -1,0 +1,102 @@
+// What a call answers: a number, two numbers, or the refusal's number (document 01, section 6); and what a call asked by itself and one
+// asked inside a law make of the same answer.
+ghost use mathlib.Core.Path.{_≡_};
+ghost use Rattle.answers.specs.Answer.{answeredOf, finiteAnswerOf, pairOf};
+ghost use Rattle.answers.specs.Range.{inRange, outsideOf, bare, onPath};
+
+// The refusals by name (section 6, then the tickets in order).
+pub const NOT_FINITE: u8 = 1;
+
+pub const OUT_OF_RANGE: u8 = 2;
+
+pub const NO_NUMBER: u8 = 3;
+
+pub const ENDS_EARLY: u8 = 4;
+
+pub const NOT_SHORTEST: u8 = 5;
+
+pub const UNKNOWN: u8 = 6;
+
+pub const TOO_MANY: u8 = 7;
+
+pub const LENGTH: u8 = 8;
+
+// A number, or the refusal's number.
+pub enum Answer {
+    Value(f64),
+    Refused(u8),
+}
+
+// Two numbers, or the refusal's number.
+pub enum Pair {
+    Values(f64, f64),
+    Refused(u8),
+}
+
+// A number to be returned: 3 where it isn't finite.
+pub fn answered(x: f64) -> Answer
+    ensures { λ r. ⌜ r ≡ answeredOf x ⌝ }
+{
+    if numbers::is_finite(x) {
+        Answer::Value(x)
+    } else {
+        Answer::Refused(NO_NUMBER)
+    }
+}
+
+// An answer to be returned: 3 where its number isn't finite.
+pub fn finite_answer(e: Answer) -> Answer
+    ensures { λ r. ⌜ r ≡ finiteAnswerOf e ⌝ }
+{
+    match e {
+        Answer::Value(x) => answered(x),
+        Answer::Refused(n) => Answer::Refused(n),
+    }
+}
+
+// Two numbers to be returned: 3 where one isn't finite.
+pub fn answered_pair(x: f64, y: f64) -> Pair
+    ensures { λ r. ⌜ r ≡ pairOf x y ⌝ }
+{
+    if numbers::is_finite(x) & numbers::is_finite(y) {
+        Pair::Values(x, y)
+    } else {
+        Pair::Refused(NO_NUMBER)
+    }
+}
+
+// Whether x lies in an elementary function's range, ends included.
+pub fn in_range(low: f64, high: f64, x: f64) -> bool
+    ensures { λ r. ⌜ r ≡ inRange low high x ⌝ }
+{
+    (low <= x) & (x <= high)
+}
+
+// The refusal of an argument outside the range from low to high.
+pub fn outside(low: f64, high: f64, x: f64) -> Answer
+    ensures { λ r. ⌜ r ≡ outsideOf low high x ⌝ }
+{
+    Answer::Refused(OUT_OF_RANGE)
+}
+
+// The answer at x of a call by itself: a NaN or an infinity is refused by 1.
+pub fn bare(x: f64, e: Answer) -> Answer
+    ensures { λ r. ⌜ r ≡ bare x e ⌝ }
+{
+    if numbers::is_finite(x) {
+        e
+    } else {
+        Answer::Refused(NOT_FINITE)
+    }
+}
+
+// The answer at x inside a law: a NaN arose on the path and is refused by 3.
+pub fn on_path(x: f64, e: Answer) -> Answer
+    ensures { λ r. ⌜ r ≡ onPath x e ⌝ }
+{
+    if numbers::is_number(x) {
+        e
+    } else {
+        Answer::Refused(NO_NUMBER)
+    }
+}

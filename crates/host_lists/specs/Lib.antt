@@ -1,0 +1,3 @@
+pub mod Out
+pub mod Refused
+pub mod Read

@@ -1,0 +1,20 @@
+// A host's lent lists: what the C calls read of them, the refusals of the lists themselves, and the answers written into a room
+// (document 01, sections 6 and 7).
+mod read;
+mod refused;
+mod write;
+
+pub use read::decomposed;
+pub use read::matrix;
+pub use read::row;
+pub use refused::flagged;
+pub use refused::flagged_matrix;
+pub use refused::sized;
+pub use refused::sized_matrix;
+pub use refused::sized_vector;
+pub use refused::sized_verdict;
+pub use write::put;
+pub use write::put_matrix;
+pub use write::put_pair;
+pub use write::put_vector;
+pub use write::put_verdict;

@@ -1,0 +1,45 @@
+// The choice of the law.
+use crate::Model;
+use plasticity::State;
+use plasticity::Updated;
+ghost use mathlib.Core.Path.{_≡_};
+ghost use mathlib.Core.Bool.{true};
+ghost use Rattle.plasticity.specs.State.{inputsFinite};
+ghost use Rattle.model.specs.Model.{modelFinite, modelUpdate};
+
+// Whether every float of the parameters is finite.
+pub fn model_finite(m: Model) -> bool
+    ensures { λ r. ⌜ r ≡ modelFinite m ⌝ }
+{
+    match m {
+        Model::Snow(p) => p.parameters_finite(),
+        Model::Rankine(a) => a.parameters_finite(),
+        Model::DruckerPrager(p) => p.parameters_finite(),
+        Model::Nacc(a) => a.parameters_finite(),
+    }
+}
+
+// The update of one particle by the model's law.
+pub fn update(m: Model, u: [[f64; 3]; 3], vt: [[f64; 3]; 3], s: State) -> Updated
+    ensures { λ r. ⌜ r ≡ modelUpdate m u vt s ⌝ }
+{
+    match m {
+        Model::Snow(p) => p.update_particle(u, vt, s),
+        Model::Rankine(a) => a.update_particle(u, vt, s),
+        Model::DruckerPrager(p) => p.update_particle(u, vt, s),
+        Model::Nacc(a) => a.update_particle(u, vt, s),
+    }
+}
+
+// The same of a record that is known to be finite.
+pub fn update_tested(m: Model, u: [[f64; 3]; 3], vt: [[f64; 3]; 3], s: State) -> Updated
+    requires { ⌜ inputsFinite u vt s ≡ true ⌝ }
+    ensures { λ r. ⌜ r ≡ modelUpdate m u vt s ⌝ }
+{
+    match m {
+        Model::Snow(p) => p.update_tested(u, vt, s),
+        Model::Rankine(a) => a.update_tested(u, vt, s),
+        Model::DruckerPrager(p) => p.update_tested(u, vt, s),
+        Model::Nacc(a) => a.update_tested(u, vt, s),
+    }
+}

@@ -1,0 +1,49 @@
+// The models (document 01, sections 5 to 7): which number names which plastic law, what parameters it has, the law from their bits,
+// and the update by it.
+mod choice;
+mod fields;
+mod kinds;
+
+pub use choice::model_finite;
+pub use choice::update;
+pub use choice::update_tested;
+pub use fields::corotated;
+pub use fields::drucker_prager;
+pub use fields::limits;
+pub use fields::model_of;
+pub use fields::neo_hookean;
+pub use fields::rankine;
+pub use kinds::fit;
+pub use kinds::is_flag;
+pub use kinds::is_flag_of;
+pub use kinds::known;
+pub use kinds::parameters_of;
+use plasticity_drucker_prager::DruckerPragerPlasticity;
+use plasticity_nacc::NaccArguments;
+use plasticity_rankine::RankineArguments;
+use plasticity_snow::SnowPlasticity;
+
+// The plastic laws.
+pub enum Law {
+    Snow,
+    Rankine,
+    DruckerPrager,
+    Nacc,
+}
+
+// A plastic law with its parameters as a sheet has them.
+pub enum Model {
+    Snow(SnowPlasticity),
+    Rankine(RankineArguments),
+    DruckerPrager(DruckerPragerPlasticity),
+    Nacc(NaccArguments),
+}
+
+// The last model number.
+pub const LAST: u64 = 3;
+
+// How many parameters a model has at most.
+pub const PARAMETERS: usize = 8;
+
+// The bits of 1.0, a flag that is set.
+pub const SET: u64 = 0x3ff0_0000_0000_0000;

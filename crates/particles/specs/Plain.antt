@@ -1,0 +1,59 @@
+-- What the model's law makes of one record (document 01, sections 6 and 7).
+use mathlib.Core.Bool.{false, cond}
+use mathlib.Core.List.{List}
+use Prim.Native.Nat.{ℕ}
+use lib.Dec.{eqb}
+use lib.ListN.{length}
+use Rattle.answers.specs.Refusals.{wrongLength}
+use Rattle.plasticity.specs.declared.Outcome.{Outcome}
+use Rattle.plasticity.specs.declared.Outcome.the-variants.{Untouched, Stored, Refused}
+use Rattle.plasticity.specs.declared.State.{State}
+use Rattle.plasticity.specs.declared.Updated.{Updated}
+use Rattle.record.specs.Layout.{floats, uAt, vtAt, stateAt, putShape, putPlasticDeterminant, putPlasticHardening, putElasticHardening, putLogGain, putAlpha}
+use Rattle.model.specs.declared.Model.{Model}
+use Rattle.model.specs.declared.Model.the-variants.{Snow, Rankine, DruckerPrager, Nacc}
+use Rattle.model.specs.Model.{modelUpdate}
+use Rattle.particles.specs.Pass.{Worked}
+
+-- of the six scalars an update writes only those that its law names
+abbrev pub snowScalars : List ℕ → State → List ℕ
+snowScalars r s = putElasticHardening (putPlasticDeterminant r (s .scalars .«plastic_determinant»)) (s .scalars .«elastic_hardening»)
+
+abbrev pub rankineScalars : List ℕ → State → List ℕ
+rankineScalars r s = putPlasticHardening r (s .scalars .«plastic_hardening»)
+
+abbrev pub druckerPragerScalars : List ℕ → State → List ℕ
+druckerPragerScalars r s =
+    putLogGain (putPlasticHardening (putPlasticDeterminant r (s .scalars .«plastic_determinant»)) (s .scalars .«plastic_hardening»)) (s .scalars .«log_gain»)
+
+abbrev pub naccScalars : List ℕ → State → List ℕ
+naccScalars r s = putAlpha r (s .scalars .alpha)
+
+abbrev pub putScalars : Model → List ℕ → State → List ℕ
+putScalars (Snow p) r s = snowScalars r s
+putScalars (Rankine a) r s = rankineScalars r s
+putScalars (DruckerPrager p) r s = druckerPragerScalars r s
+putScalars (Nacc a) r s = naccScalars r s
+
+abbrev pub putState : Model → List ℕ → State → List ℕ
+putState m r s = putScalars m (putShape r s) s
+
+unfoldable pub updatedAt : Model → List ℕ → Updated
+updatedAt m r = modelUpdate m (uAt r) (vtAt r) (stateAt r)
+
+-- a record that is untouched or refused holds its bits
+abbrev pub kept : Model → Outcome → List ℕ → State → List ℕ
+kept m Untouched r s = r
+kept m (Stored a) r s = putState m r s
+kept m (Refused n) r s = r
+
+unfoldable pub recordLaw : Model → List ℕ → Worked
+recordLaw m r =
+    record { outcome = updatedAt m r .outcome; failed = false; after = kept m (updatedAt m r .outcome) r (updatedAt m r .state) }
+
+-- one record by itself: refusal 8 where the list is no record
+abbrev pub recordOutcome : Model → List ℕ → Outcome
+recordOutcome m r = cond (eqb (length r) floats) (recordLaw m r .outcome) (Refused wrongLength)
+
+abbrev pub recordAfter : Model → List ℕ → List ℕ
+recordAfter m r = cond (eqb (length r) floats) (recordLaw m r .after) r

@@ -1,0 +1,52 @@
+// One record by its plastic law.
+use crate::stored;
+use model::Model;
+use plasticity::Outcome;
+use plasticity::Updated;
+ghost use mathlib.Core.Path.{_≡_};
+ghost use mathlib.Core.Bool.{true};
+ghost use lib.ListN.{length};
+ghost use Rattle.record.specs.Layout.{floats, recordFinite};
+ghost use Rattle.particles.specs.Plain.{updatedAt, recordLaw};
+
+// The law on a finite record.
+fn updated(m: Model, r: &[u64]) -> Updated
+    requires { ⌜ (length (now r) ≡ floats) × (recordFinite (now r) ≡ true) ⌝ }
+    ensures { λ x. ⌜ x ≡ updatedAt m (now (r .entry)) ⌝ }
+{
+    model::update_tested(
+        m,
+        record::read_u(r),
+        record::read_vt(r),
+        record::read_state(r),
+    )
+}
+
+// One finite record: what is refused or untouched keeps its bits.
+pub fn finite_step(m: Model, r: &mut [u64]) -> Outcome
+    requires { ⌜ (length (now r) ≡ floats) × (recordFinite (now r) ≡ true) ⌝ }
+    ensures { λ x. ⌜ (x ≡ recordLaw m (now (r .entry)) .outcome) × (now (r .exit) ≡ recordLaw m (now (r .entry)) .after) ⌝ }
+{
+    let d = updated(m, &r[..]);
+    let o = d.outcome;
+    match o {
+        Outcome::Untouched => {}
+        Outcome::Stored(_) => {
+            let s = d.state;
+            stored::write_state(m, r, s);
+        }
+        Outcome::Refused(_) => {}
+    }
+    o
+}
+
+// One record. A float that isn't finite is the first refusal of every law, so all its patterns are tested at once.
+pub fn step(m: Model, r: &mut [u64]) -> Outcome
+    requires { ⌜ length (now r) ≡ floats ⌝ }
+    ensures { λ x. ⌜ (x ≡ recordLaw m (now (r .entry)) .outcome) × (now (r .exit) ≡ recordLaw m (now (r .entry)) .after) ⌝ }
+{
+    if record::all_finite(&r[..]) {
+        return finite_step(m, r);
+    }
+    Outcome::Refused(answers::NOT_FINITE)
+}

@@ -1,0 +1,23 @@
+-- `plasticity_rankine::RankineArguments::update_tested` answers `argumentsUpdate self u vt s`.
+use borrow.Author.Needs.{needs}
+use Rattle.plasticity_rankine.specs.Rankine.{argumentsUpdate}
+use Rattle.plasticity_rankine.proofs.RankineArguments.update_tested.Statement.{statement}
+use Rattle.plasticity_rankine.proofs.RankineArguments.update_tested.Tie as tie
+
+returns : tie.Need-returns
+unfolding argumentsUpdate
+returns c =
+    let t0 = simp (c .before .before .before .elastic-finite .ensures) at (c .before .before .if1 .taken) in
+    simp (c .update-tested .ensures, c .before .law .ensures, t0)
+
+returns-2 : tie.Need-returns-2
+unfolding argumentsUpdate
+returns-2 c =
+    let t0 = simp (c .before .before .elastic-finite .ensures) at (c .before .if1 .left) in
+    simp (c .refuse .ensures, t0)
+
+pub update-tested-spec : {M : Type 1} → statement M
+update-tested-spec =
+    tie.close
+    (tie.spec (λ c κs. search needs) (λ c κs. search needs) (λ c κs. search needs) (λ c κs. search needs) returns
+    returns-2)

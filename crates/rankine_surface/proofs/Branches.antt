@@ -1,0 +1,349 @@
+-- The Rankine branches on sorted strains: how near the yield surface each comes
+use mathlib.Core.Path.{_≡_, refl, sym, ap, _∙_}
+use Prim.Native.Nat.{ℕ, _+_, _*_, _^_, _≤_, _<_}
+use native.Mathlib.Nat.{le-refl, le-trans, le-of-eq, mul-le-mul-right, mul-le-mul-left}
+use native.Mathlib.Omega.{arith}
+use lib.Dec.{T, leb, lit≤}
+use lib.IntN.{ℤ, pos, negsuc, negℤ, _+ℤ_, _*ℤ_, _-ℤ_}
+use lib.Ieee.{Float, binary64, add, sub, mul, div, le, fits, ofBits}
+use Rattle.exact.specs.Units.{L, L-pos, mag, Fin64}
+use Rattle.exact.specs.Integers.{n, _≤ᶻ_, abs, abs-+, abs-neg, abs-pos, *-parts}
+use Rattle.exact.specs.Ring.{ring, var, con, _:+_, _:-_, _:*_}
+use Rattle.exact.specs.Value.{val, abs-val}
+use Rattle.exact.specs.OrderLe.{le-val}
+use Rattle.plasticity_rankine.specs.declared.RankinePlasticity.{RankinePlasticity}
+use Rattle.plasticity_rankine.specs.declared.Sorted.{Sorted}
+use Rattle.plasticity_rankine.specs.Sorting.{sortedOf}
+use Rattle.plasticity_rankine.specs.Projection.{two, thrice, firstSide, secondSide, thirdSide, backOne, backTwo, backAll}
+use Rattle.rankine_surface.specs.Surface.{modulus, Under, Fair, Strain}
+use Rattle.rankine_surface.proofs.Scale.{On, also, wide, tight, loose, down, add-on, sub-on, mul-on, Quot, div-on, Scale, Scales, exact, whole, L-big}
+use Rattle.rankine_surface.proofs.Bounds.{times-le, plus-le, near-under, under-up, under-down, mean}
+
+infixl 6 _⊕_
+infixl 6 _⊖_
+infixl 7 _⊗_
+infixl 7 _⊘_
+abbrev _⊕_ : Float → Float → Float
+x ⊕ y = add binary64 x y
+
+abbrev _⊖_ : Float → Float → Float
+x ⊖ y = sub binary64 x y
+
+abbrev _⊗_ : Float → Float → Float
+x ⊗ y = mul binary64 x y
+
+abbrev _⊘_ : Float → Float → Float
+x ⊘ y = div binary64 x y
+
+-- low ≤ mid ≤ high are e0, e1, e2 in some order
+pub record Upwards (e0 e1 e2 : Float) (r : Sorted) : Type 0 where
+  pub first : Strain e0
+  pub second : Strain e1
+  pub third : Strain e2
+  pub low : Strain (r .low)
+  pub mid : Strain (r .mid)
+  pub high : Strain (r .high)
+  pub low-mid : val (r .low) ≤ᶻ val (r .mid)
+  pub mid-high : val (r .mid) ≤ᶻ val (r .high)
+  pub sum : val e0 +ℤ val e1 +ℤ val e2 ≡ val (r .low) +ℤ val (r .mid) +ℤ val (r .high)
+
+-- the exact principal stress that belongs to w
+abbrev pub principal : RankinePlasticity → Sorted → Float → ℤ
+principal law r w = val (law .lambda) *ℤ (val (r .low) +ℤ val (r .mid) +ℤ val (r .high)) +ℤ pos 2 *ℤ val (law .mu) *ℤ val w
+
+pub record Held (law : RankinePlasticity) (s : Float) (r : Sorted) : Type 0 where
+  pub low : Under (principal law r (r .low)) (val s *ℤ pos L) (modulus law * L)
+  pub mid : Under (principal law r (r .mid)) (val s *ℤ pos L) (modulus law * L)
+  pub high : Under (principal law r (r .high)) (val s *ℤ pos L) (modulus law * L)
+
+pub record OnYield (law : RankinePlasticity) (s : Float) (r : Sorted) : Type 0 where
+  pub fine-low : Fin64 (r .low)
+  pub fine-mid : Fin64 (r .mid)
+  pub fine-high : Fin64 (r .high)
+  pub held : Held law s r
+  pub reaches : Under (val s *ℤ pos L) (principal law r (r .high)) (modulus law * L)
+
+-- ---- whole numbers only
+abbrev P : ℕ → ℕ → ℤ → ℤ → ℤ → ℤ → ℤ
+P m l x y z w = pos l *ℤ (x +ℤ y +ℤ z) +ℤ pos (2 * m) *ℤ w
+
+P-mono : (m l : ℕ) (x y z v w : ℤ) → v ≤ᶻ w → P m l x y z v ≤ᶻ P m l x y z w
+P-mono m l x y z v w h = plus-le (pos l *ℤ (x +ℤ y +ℤ z)) (pos l *ℤ (x +ℤ y +ℤ z)) (pos (2 * m) *ℤ v) (pos (2 * m) *ℤ w) (le-refl _) (go v w (2 * m) h)
+  where
+    go : (v w : ℤ) (k : ℕ) → v ≤ᶻ w → pos k *ℤ v ≤ᶻ pos k *ℤ w
+    go v w k h = omega (arith, *-parts (pos k) v, *-parts (pos k) w, mul-le-mul-left k h)
+
+record Four (m l K : ℕ) (x y z σ : ℤ) : Type 0 where
+  low : Under (P m l x y z x) σ K
+  mid : Under (P m l x y z y) σ K
+  high : Under (P m l x y z z) σ K
+  reaches : Under σ (P m l x y z z) K
+
+one-moved : (m l K e : ℕ) (c b z σ : ℤ) → 0 < m → abs (z *ℤ pos (2 * m + l) -ℤ (σ -ℤ pos l *ℤ (c +ℤ b))) * 2 ^ 53 ≤ e * K → T (leb e 512)
+    → Under (pos (2 * m + l) *ℤ b +ℤ pos l *ℤ (c +ℤ b)) σ K → c ≤ᶻ b → Four m l K c b z σ
+one-moved m l K e c b z σ o h t k w =
+    let q =
+    ring 6 (pos m, (pos l, (c, (b, (z, (σ, tt)))))) (var 4 :* (con (pos 2) :* var 0 :+ var 1) :- (var 5 :- var 1 :* (var 2 :+ var 3)))
+    (var 1 :* (var 2 :+ var 3 :+ var 4) :+ con (pos 2) :* var 0 :* var 4 :- var 5) tt in
+    let n = near-under (P m l c b z z) σ e K (rw q at h) t in
+    let mb : Under (P m l c b z b) σ K = mean (P m l c b z z) (pos (2 * m + l) *ℤ b +ℤ pos l *ℤ (c +ℤ b)) (P m l c b z b) σ l (2 * m) K (omega arith)
+    (ring 5 (pos m, (pos l, (c, (b, (z, tt))))) ((var 1 :* (var 2 :+ var 3 :+ var 4) :+ con (pos 2) :* var 0 :* var 3) :* (var 1 :+ con (pos 2) :* var 0))
+    ((var 1 :* (var 2 :+ var 3 :+ var 4) :+ con (pos 2) :* var 0 :* var 4) :* var 1 :+ ((con (pos 2) :* var 0 :+ var 1) :* var 3 :+ var 1 :* (var 2 :+ var 3))
+    :* (con (pos 2) :* var 0))
+    tt) (n .0) k in
+    record { low = under-down (P m l c b z c) (P m l c b z b) σ K (P-mono m l c b z c b w) mb; mid = mb; high = n .0; reaches = n .1 }
+
+two-moved : (m l K e : ℕ) (c z σ : ℤ) → 0 < m → abs (z *ℤ pos (2 * m + 2 * l) -ℤ (σ -ℤ pos l *ℤ c)) * 2 ^ 53 ≤ e * K → T (leb e 512)
+    → Under (pos (2 * m + 3 * l) *ℤ c) σ K → Four m l K c z z σ
+two-moved m l K e c z σ o h t k =
+    let q =
+    ring 5 (pos m, (pos l, (c, (z, (σ, tt))))) (var 3 :* (con (pos 2) :* var 0 :+ con (pos 2) :* var 1) :- (var 4 :- var 1 :* var 2))
+    (var 1 :* (var 2 :+ var 3 :+ var 3) :+ con (pos 2) :* var 0 :* var 3 :- var 4) tt in
+    let n = near-under (P m l c z z z) σ e K (rw q at h) t in
+    record {
+      low = mean (P m l c z z z) (pos (2 * m + 3 * l) *ℤ c) (P m l c z z c) σ (2 * l) (2 * m) K (omega arith)
+          (ring 4 (pos m, (pos l, (c, (z, tt))))
+          ((var 1 :* (var 2 :+ var 3 :+ var 3) :+ con (pos 2) :* var 0 :* var 2) :* (con (pos 2) :* var 1 :+ con (pos 2) :* var 0))
+          ((var 1 :* (var 2 :+ var 3 :+ var 3) :+ con (pos 2) :* var 0 :* var 3) :* (con (pos 2) :* var 1) :+ (con (pos 2) :* var 0 :+ con (pos 3) :* var 1) :*
+          var 2 :* (con (pos 2) :* var 0))
+          tt) (n .0) k;
+      mid = n .0;
+      high = n .0;
+      reaches = n .1;
+    }
+
+all-moved : (m l K e : ℕ) (z σ : ℤ) → abs (z *ℤ pos (2 * m + 3 * l) -ℤ σ) * 2 ^ 53 ≤ e * K → T (leb e 512) → Four m l K z z z σ
+all-moved m l K e z σ h t =
+    let q =
+    ring 4 (pos m, (pos l, (z, (σ, tt)))) (var 2 :* (con (pos 2) :* var 0 :+ con (pos 3) :* var 1) :- var 3)
+    (var 1 :* (var 2 :+ var 2 :+ var 2) :+ con (pos 2) :* var 0 :* var 2 :- var 3) tt in
+    let n = near-under (P m l z z z z) σ e K (rw q at h) t in
+    record { low = n .0; mid = n .0; high = n .0; reaches = n .1 }
+
+-- ---- constants
+two-val : val two ≡ pos (2 * L)
+unfolding val mag L ofBits
+two-val = refl
+
+thrice-val : val thrice ≡ pos (3 * L)
+unfolding val mag L ofBits
+thrice-val = refl
+
+two-fine : Fin64 two
+unfolding ofBits fits
+two-fine = (tt, tt)
+
+thrice-fine : Fin64 thrice
+unfolding ofBits fits
+thrice-fine = (tt, tt)
+
+mag-of : (x : Float) (k : ℕ) → val x ≡ pos k → mag x ≡ k
+mag-of x k e = sym (abs-val x) ∙ ap abs e ∙ abs-pos k
+
+two-on : On L 1 two (pos (2 * L)) 2 0
+two-on = also two-val (whole L 2 two-fine (le-of-eq (mag-of two (2 * L) two-val)))
+
+thrice-on : On L 1 thrice (pos (3 * L)) 3 0
+thrice-on = also thrice-val (whole L 3 thrice-fine (le-of-eq (mag-of thrice (3 * L) thrice-val)))
+
+non-neg : (x : Float) → pos 0 ≤ᶻ val x → val x ≡ pos (mag x)
+non-neg x h = go (val x) h ∙ ap pos (abs-val x)
+  where
+    go : (z : ℤ) → pos 0 ≤ᶻ z → z ≡ pos (abs z)
+    go (pos k) h = ap pos (sym (abs-pos k))
+    go (negsuc k) h = absurd (omega arith)
+
+-- a constant times a modulus
+times-on : {k x : Float} {W m : ℕ} (c : ℕ) → L ≤ W → W ≤ 2 ^ 60 * L → c * m ≤ 1 * W → On L 1 k (pos (c * L)) c 0 → On W 1 x (pos m) 1 0
+    → T (leb ((0 + c + 1) * (0 + 1 + 1)) (2 ^ 50)) → On W 1 (k ⊗ x) (pos (c * m)) 1 (0 * 1 + c * 0 + c * 1 + 3)
+times-on {W = W} {m = m} c l r h i j t =
+    tight 1 (rw (abs-pos (c * m)) h)
+    (down c (pos m) (mul-on (record { tiny = mul-le-mul-left L (le-trans (lit≤ tt) (le-trans L-big l)); room = omega (arith, mul-le-mul-left L r) }) i j t))
+
+-- the sum of two moduli, on its own scale
+sum-on : {x y : Float} {A B e f : ℕ} → A + B ≤ 2 ^ 60 * L → On (A + B) 1 x (pos A) 1 e → On (A + B) 1 y (pos B) 1 f → T (leb (e + f + 1 + 1 + 2) (2 ^ 50))
+    → On (A + B) 1 (x ⊕ y) (pos (A + B)) 1 (e + f + 1 + 1)
+sum-on {A = A} {B = B} h i j t = add-on (record { some = lit≤ tt; room = omega arith }) 1 i j (rw (abs-pos (A + B)) (omega arith)) t
+
+-- sizes that add up
+add-up : {W D : ℕ} (o : Scale W D) {x y : Float} {X Y : ℤ} {B C e f : ℕ} → On W D x X B e → On W D y Y C f → T (leb (e + f + B + C + 2) (2 ^ 50))
+    → On W D (x ⊕ y) (X +ℤ Y) (B + C) (e + f + (B + C) + 1)
+add-up {W} o {X = X} {Y = Y} {B = B} {C = C} i j t = add-on o (B + C) i j (omega (arith, abs-+ X Y, i .size, j .size)) t
+
+sub-up : {W D : ℕ} (o : Scale W D) {x y : Float} {X Y : ℤ} {B C e f : ℕ} → On W D x X B e → On W D y Y C f → T (leb (e + f + B + C + 2) (2 ^ 50))
+    → On W D (x ⊖ y) (X -ℤ Y) (B + C) (e + f + (B + C) + 1)
+sub-up {W} o {X = X} {Y = Y} {B = B} {C = C} i j t = sub-on o (B + C) i j (omega (arith, abs-+ X (negℤ Y), abs-neg Y, i .size, j .size)) t
+
+strains : Scale L 1
+strains = record { some = lit≤ tt; room = omega arith }
+
+strain-on : {x : Float} → Strain x → On L 1 x (val x) 4 0
+strain-on i = whole L 4 (i .fine) (i .size)
+
+module _ {law : RankinePlasticity} {s : Float} (g : Fair law s) where
+  mu-is : val (law .mu) ≡ pos (mag (law .mu))
+  mu-is = non-neg (law .mu) (omega (arith, g .ranges .mu-low))
+
+  la-is : val (law .lambda) ≡ pos (mag (law .lambda))
+  la-is = non-neg (law .lambda) (g .ranges .la-low)
+
+  mu-least : L ≤ mag (law .mu)
+  mu-least = omega (arith, rw mu-is at (g .ranges .mu-low))
+
+  mu-most : mag (law .mu) ≤ 2 ^ 40 * L
+  mu-most = omega (arith, rw mu-is at (g .ranges .mu-high))
+
+  la-most : mag (law .lambda) ≤ 2 ^ 40 * L
+  la-most = omega (arith, rw la-is at (g .ranges .la-high))
+
+  mu-on : (W : ℕ) → mag (law .mu) ≤ 1 * W → On W 1 (law .mu) (pos (mag (law .mu))) 1 0
+  mu-on W h = also mu-is (whole W 1 (g .mu-fine) h)
+
+  la-on : (W : ℕ) → mag (law .lambda) ≤ 1 * W → On W 1 (law .lambda) (pos (mag (law .lambda))) 1 0
+  la-on W h = also la-is (whole W 1 (g .la-fine) h)
+
+  -- the thrice divisors
+  den1 : On (2 * mag (law .mu) + mag (law .lambda)) 1 (two ⊗ (law .mu) ⊕ (law .lambda)) (pos (2 * mag (law .mu) + mag (law .lambda))) 1 7
+  den1 = let W = 2 * mag (law .mu) + mag (law .lambda) in
+      sum-on (omega (arith, mu-most, la-most))
+      (times-on 2 (omega (arith, mu-least)) (omega (arith, mu-most, la-most)) (omega arith) two-on (mu-on W (omega arith)) tt) (la-on W (omega arith)) tt
+
+  den2 : On (2 * mag (law .mu) + 2 * mag (law .lambda)) 1 (two ⊗ (law .mu) ⊕ two ⊗ (law .lambda)) (pos (2 * mag (law .mu) + 2 * mag (law .lambda))) 1 12
+  den2 = let W = 2 * mag (law .mu) + 2 * mag (law .lambda) in
+      sum-on (omega (arith, mu-most, la-most))
+      (times-on 2 (omega (arith, mu-least)) (omega (arith, mu-most, la-most)) (omega arith) two-on (mu-on W (omega arith)) tt)
+      (times-on 2 (omega (arith, mu-least)) (omega (arith, mu-most, la-most)) (omega arith) two-on (la-on W (omega arith)) tt) tt
+
+  den3 : On (modulus law) 1 (two ⊗ (law .mu) ⊕ thrice ⊗ (law .lambda)) (pos (modulus law)) 1 13
+  den3 = let W = modulus law in
+      sum-on (omega (arith, mu-most, la-most))
+      (times-on 2 (omega (arith, mu-least)) (omega (arith, mu-most, la-most)) (omega arith) two-on (mu-on W (omega arith)) tt)
+      (times-on 3 (omega (arith, mu-least)) (omega (arith, mu-most, la-most)) (omega arith) thrice-on (la-on W (omega arith)) tt) tt
+
+  -- scales
+  M-room : modulus law ≤ 2 ^ 60 * L
+  M-room = omega (arith, mu-most, la-most)
+
+  stress : Scale (modulus law * L) L
+  stress = record { some = L-pos; room = omega (arith, mul-le-mul-right L M-room) }
+
+  products : Scales (modulus law) L
+  products =
+      record
+      { tiny = omega (arith, mul-le-mul-right {m = 2 ^ 53} L (le-trans (lit≤ tt) (le-trans L-big mu-least))); room = omega (arith, mul-le-mul-right L M-room) }
+
+  s-on : On (modulus law * L) L s (val s *ℤ pos L) 4 0
+  s-on = exact (modulus law * L) L 4 (g .s-fine) (omega (arith, mul-le-mul-right L (g .ranges .s-size)))
+
+  module _ {e0 e1 e2 : Float} {r : Sorted} (d : Upwards e0 e1 e2 r) where
+    S-on : On L 1 (e0 ⊕ e1 ⊕ e2) (val (r .low) +ℤ val (r .mid) +ℤ val (r .high)) 12 22
+    S-on = also (d .sum) (add-up strains (add-up strains (strain-on (d .first)) (strain-on (d .second)) tt) (strain-on (d .third)) tt)
+
+    Sa-on : On L 1 (e0 ⊕ e1 ⊕ e2 ⊖ r .high) (val (r .low) +ℤ val (r .mid)) 8 31
+    Sa-on =
+        let q = ring 3 (val (r .low), (val (r .mid), (val (r .high), tt))) (var 0 :+ var 1 :+ var 2 :- var 2) (var 0 :+ var 1) tt in
+        also q
+        (sub-on strains 8 S-on (strain-on (d .high))
+        (rw q (omega (arith, abs-+ (val (r .low)) (val (r .mid)), abs-val (r .low), abs-val (r .mid), d .low .size, d .mid .size))) tt)
+
+    Sab-on : On L 1 (e0 ⊕ e1 ⊕ e2 ⊖ r .high ⊖ r .mid) (val (r .low)) 4 36
+    Sab-on =
+        let q = ring 2 (val (r .low), (val (r .mid), tt)) (var 0 :+ var 1 :- var 1) (var 0) tt in
+        also q (sub-on strains 4 Sa-on (strain-on (d .mid)) (rw q (omega (arith, abs-val (r .low), d .low .size))) tt)
+
+    -- the tests, and the quotients
+    mu2-on : On (modulus law) 1 (two ⊗ (law .mu)) (pos (2 * mag (law .mu))) 1 5
+    mu2-on = times-on 2 (omega (arith, mu-least)) (omega (arith, mu-most, la-most)) (omega arith) two-on (mu-on (modulus law) (omega arith)) tt
+
+    la-M : On (modulus law) 1 (law .lambda) (pos (mag (law .lambda))) 1 0
+    la-M = la-on (modulus law) (omega arith)
+
+    t1-on : On (modulus law * L) L ((law .lambda) ⊗ (e0 ⊕ e1 ⊕ e2) ⊕ two ⊗ (law .mu) ⊗ r .high)
+        (pos (mag (law .lambda)) *ℤ (val (r .low) +ℤ val (r .mid) +ℤ val (r .high)) +ℤ pos (2 * mag (law .mu)) *ℤ val (r .high)) 16 81
+    t1-on = add-up stress (mul-on products la-M S-on tt) (mul-on products mu2-on (strain-on (d .high)) tt) tt
+
+    t2-on : On (modulus law * L) L ((two ⊗ (law .mu) ⊕ (law .lambda)) ⊗ r .mid ⊕ (law .lambda) ⊗ (e0 ⊕ e1 ⊕ e2 ⊖ r .high))
+        (pos (2 * mag (law .mu) + mag (law .lambda)) *ℤ val (r .mid) +ℤ pos (mag (law .lambda)) *ℤ (val (r .low) +ℤ val (r .mid))) 12 90
+    t2-on = add-up stress (mul-on products (wide (modulus law) (omega arith) den1) (strain-on (d .mid)) tt) (mul-on products la-M Sa-on tt) tt
+
+    q1 : Quot (modulus law) (2 * mag (law .mu) + mag (law .lambda)) ((s ⊖ (law .lambda) ⊗ (e0 ⊕ e1 ⊕ e2 ⊖ r .high)) ⊘ (two ⊗ (law .mu) ⊕ (law .lambda)))
+        (val s *ℤ pos L -ℤ pos (mag (law .lambda)) *ℤ (val (r .low) +ℤ val (r .mid))) 309
+    q1 = div-on M-room (omega (arith, mu-least)) (omega arith) (sub-up stress s-on (mul-on products la-M Sa-on tt) tt) (loose 16 tt den1) tt
+
+    t3-on : On (modulus law * L) L ((two ⊗ (law .mu) ⊕ thrice ⊗ (law .lambda)) ⊗ r .low) (pos (modulus law) *ℤ val (r .low)) 4 59
+    t3-on = mul-on products den3 (strain-on (d .low)) tt
+
+    q2 : Quot (modulus law) (2 * mag (law .mu) + 2 * mag (law .lambda))
+        ((s ⊖ (law .lambda) ⊗ (e0 ⊕ e1 ⊕ e2 ⊖ r .high ⊖ r .mid)) ⊘ (two ⊗ (law .mu) ⊕ two ⊗ (law .lambda)))
+        (val s *ℤ pos L -ℤ pos (mag (law .lambda)) *ℤ val (r .low)) 238
+    q2 = div-on M-room (omega (arith, mu-least)) (omega arith) (sub-up stress s-on (mul-on products la-M Sab-on tt) tt) (loose 16 tt den2) tt
+
+    q3 : Quot (modulus law) (modulus law) (s ⊘ (two ⊗ (law .mu) ⊕ thrice ⊗ (law .lambda))) (val s *ℤ pos L) 118
+    q3 = div-on M-room (omega (arith, mu-least)) (omega arith) s-on (loose 16 tt den3) tt
+
+  -- a test that passed
+  tested : {t : Float} {X : ℤ} {B e : ℕ} → On (modulus law * L) L t X B e → T (leb e 512) → T (le t s) → Under X (val s *ℤ pos L) (modulus law * L)
+  tested {t} {X} {B} {e} i c h =
+      under-up X (val t *ℤ pos L) (val s *ℤ pos L) (modulus law * L) (near-under (val t *ℤ pos L) X e (modulus law * L) (i .near) c .1)
+      (times-le (val t) (val s) L (le-val t s (i .fine) (g .s-fine) h))
+
+  yields : {r : Sorted} → Fin64 (r .low) → Fin64 (r .mid) → Fin64 (r .high)
+      → Four (mag (law .mu)) (mag (law .lambda)) (modulus law * L) (val (r .low)) (val (r .mid)) (val (r .high)) (val s *ℤ pos L) → OnYield law s r
+  yields a b c f =
+      record {
+        fine-low = a;
+        fine-mid = b;
+        fine-high = c;
+        held = record
+            { low = rw (mu-is, la-is) (f .low); mid = rw (mu-is, la-is) (f .mid); high = rw (mu-is, la-is) (f .high) };
+        reaches = rw (mu-is, la-is) (f .reaches);
+      }
+
+  module _ {e0 e1 e2 : Float} {r : Sorted} (d : Upwards e0 e1 e2 r) where
+    pub untouched : T (le (firstSide law (e0 ⊕ e1 ⊕ e2) (r .high)) s) → Held law s r
+    unfolding firstSide
+    untouched h =
+        let K = modulus law * L in
+        let x = val (r .low) in
+        let y = val (r .mid) in
+        let z = val (r .high) in
+        let u : Under (P (mag (law .mu)) (mag (law .lambda)) x y z z) (val s *ℤ pos L) K = tested (t1-on d) tt h in
+        let v : Under (P (mag (law .mu)) (mag (law .lambda)) x y z y) (val s *ℤ pos L) K =
+        under-down (P (mag (law .mu)) (mag (law .lambda)) x y z y) (P (mag (law .mu)) (mag (law .lambda)) x y z z) (val s *ℤ pos L) K
+        (P-mono (mag (law .mu)) (mag (law .lambda)) x y z y z (d .mid-high)) u in
+        record {
+          low =
+              rw (mu-is, la-is)
+              (under-down (P (mag (law .mu)) (mag (law .lambda)) x y z x) (P (mag (law .mu)) (mag (law .lambda)) x y z y) (val s *ℤ pos L) K
+              (P-mono (mag (law .mu)) (mag (law .lambda)) x y z x y (d .low-mid)) v);
+          mid = rw (mu-is, la-is) v;
+          high = rw (mu-is, la-is) u;
+        }
+
+    some : 0 < mag (law .mu)
+    some = omega (arith, mu-least, L-pos)
+
+    pub one-back : T (le (secondSide law (e0 ⊕ e1 ⊕ e2) (r .high) (r .mid)) s)
+        → OnYield law s (sortedOf (r .low) (r .mid) (backOne law s (e0 ⊕ e1 ⊕ e2) (r .high)))
+    unfolding secondSide backOne
+    one-back h =
+        yields (d .low .fine) (d .mid .fine) (q1 d .fine)
+        (one-moved (mag (law .mu)) (mag (law .lambda)) (modulus law * L) 309 (val (r .low)) (val (r .mid))
+        (val ((s ⊖ (law .lambda) ⊗ (e0 ⊕ e1 ⊕ e2 ⊖ r .high)) ⊘ (two ⊗ (law .mu) ⊕ (law .lambda)))) (val s *ℤ pos L) some (q1 d .near) tt (tested (t2-on d) tt h)
+        (d .low-mid))
+
+    pub two-back : T (le (thirdSide law (r .low)) s)
+        → OnYield law s (sortedOf (r .low) (backTwo law s (e0 ⊕ e1 ⊕ e2) (r .high) (r .mid)) (backTwo law s (e0 ⊕ e1 ⊕ e2) (r .high) (r .mid)))
+    unfolding thirdSide backTwo
+    two-back h =
+        yields (d .low .fine) (q2 d .fine) (q2 d .fine)
+        (two-moved (mag (law .mu)) (mag (law .lambda)) (modulus law * L) 238 (val (r .low))
+        (val ((s ⊖ (law .lambda) ⊗ (e0 ⊕ e1 ⊕ e2 ⊖ r .high ⊖ r .mid)) ⊘ (two ⊗ (law .mu) ⊕ two ⊗ (law .lambda)))) (val s *ℤ pos L) some (q2 d .near) tt
+        (tested (t3-on d) tt h))
+
+    pub all-back : OnYield law s (sortedOf (backAll law s) (backAll law s) (backAll law s))
+    unfolding backAll
+    all-back =
+        yields (q3 d .fine) (q3 d .fine) (q3 d .fine)
+        (all-moved (mag (law .mu)) (mag (law .lambda)) (modulus law * L) 118 (val (s ⊘ (two ⊗ (law .mu) ⊕ thrice ⊗ (law .lambda)))) (val s *ℤ pos L)
+        (q3 d .near) tt)

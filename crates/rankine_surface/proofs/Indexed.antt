@@ -1,0 +1,231 @@
+-- The Rankine projection of strains in index order: sorted upwards, returned, and put back
+use mathlib.Core.Path.{_≡_, refl, sym, ap, _∙_, subst}
+use mathlib.Core.Logic.{inl, inr}
+use Prim.Native.Nat.{ℕ, _*_}
+use mathlib.Core.Bool.{Bool, true, false, not, cond}
+use mathlib.Core.List.{List, [], _∷_}
+use lib.Dec.{T}
+use lib.IntN.{pos, _+ℤ_, _*ℤ_}
+use lib.Ieee.{Float, le}
+use Rattle.exact.specs.Units.{L, Fin64}
+use Rattle.exact.specs.Integers.{n, _≤ᶻ_}
+use Rattle.exact.specs.Ring.{ring, var, con, _:+_}
+use Rattle.exact.specs.Value.{val}
+use Rattle.exact.specs.OrderLe.{le-val}
+use Rattle.exact.specs.Distances.{not-le-val}
+use Rattle.numbers.specs.Floats.{isNumber}
+use Rattle.tensor.specs.Matrix.{three, sumOf}
+use Rattle.plasticity_rankine.specs.declared.RankinePlasticity.{RankinePlasticity}
+use Rattle.plasticity_rankine.specs.declared.Sorted.{Sorted}
+use Rattle.plasticity_rankine.specs.declared.Rank.{Rank}
+use Rattle.plasticity_rankine.specs.declared.Rank.the-variants as rank
+use Rattle.plasticity_rankine.specs.declared.Branch.{Branch}
+use Rattle.plasticity_rankine.specs.declared.Branch.the-variants.{Untouched, One, Two, All, Refused}
+use Rattle.plasticity_rankine.specs.Sorting.{orderOf, indexesOf, arrangeOf, restoreOf}
+use Rattle.plasticity_rankine.proofs.Orders.{rankOf, order-of-three}
+use Rattle.plasticity_rankine.specs.Projection.{firstSide, secondSide, thirdSide, lastChoice, nextChoice, choiceOf, returnedOf, projectedOf}
+use Rattle.rankine_surface.specs.Axes.{Each, Some, total}
+use Rattle.rankine_surface.specs.Surface.{modulus, Under, Below, Reaches, Fair, Strain, Settled, OnSurface, firstTest}
+use Rattle.rankine_surface.proofs.Branches.{Upwards, principal, Held, OnYield, untouched, one-back, two-back, all-back}
+
+-- ---- there and back
+-- the orders of three axes
+data Order : List ℕ → Type 0 where
+  R012 : Order (0 ∷ 1 ∷ 2 ∷ [])
+  R021 : Order (0 ∷ 2 ∷ 1 ∷ [])
+  R102 : Order (1 ∷ 0 ∷ 2 ∷ [])
+  R120 : Order (1 ∷ 2 ∷ 0 ∷ [])
+  R201 : Order (2 ∷ 0 ∷ 1 ∷ [])
+  R210 : Order (2 ∷ 1 ∷ 0 ∷ [])
+
+of-rank : (k : Rank) → Order (indexesOf k)
+of-rank rank.R012 = R012
+of-rank rank.R021 = R021
+of-rank rank.R102 = R102
+of-rank rank.R120 = R120
+of-rank rank.R201 = R201
+of-rank rank.R210 = R210
+
+order : (x y z : Float) → Order (orderOf (three x y z))
+order x y z = subst Order (sym (order-of-three x y z)) (of-rank (rankOf (le x y) (le y z) (le x z)))
+
+total-restore : {k : List ℕ} → Order k → (r : Sorted) → total (restoreOf k r) ≡ val (r .low) +ℤ val (r .mid) +ℤ val (r .high)
+total-restore R012 r = ring 3 (val (r .low), (val (r .mid), (val (r .high), tt))) (var 0 :+ (var 1 :+ (var 2 :+ con (pos 0)))) (var 0 :+ var 1 :+ var 2) tt
+total-restore R021 r = ring 3 (val (r .low), (val (r .mid), (val (r .high), tt))) (var 0 :+ (var 2 :+ (var 1 :+ con (pos 0)))) (var 0 :+ var 1 :+ var 2) tt
+total-restore R102 r = ring 3 (val (r .low), (val (r .mid), (val (r .high), tt))) (var 1 :+ (var 0 :+ (var 2 :+ con (pos 0)))) (var 0 :+ var 1 :+ var 2) tt
+total-restore R120 r = ring 3 (val (r .low), (val (r .mid), (val (r .high), tt))) (var 2 :+ (var 0 :+ (var 1 :+ con (pos 0)))) (var 0 :+ var 1 :+ var 2) tt
+total-restore R201 r = ring 3 (val (r .low), (val (r .mid), (val (r .high), tt))) (var 1 :+ (var 2 :+ (var 0 :+ con (pos 0)))) (var 0 :+ var 1 :+ var 2) tt
+total-restore R210 r = ring 3 (val (r .low), (val (r .mid), (val (r .high), tt))) (var 2 :+ (var 1 :+ (var 0 :+ con (pos 0)))) (var 0 :+ var 1 :+ var 2) tt
+
+total-three : (x y z : Float) → val x +ℤ val y +ℤ val z ≡ total (three x y z)
+total-three x y z = ring 3 (val x, (val y, (val z, tt))) (var 0 :+ var 1 :+ var 2) (var 0 :+ (var 1 :+ (var 2 :+ con (pos 0)))) tt
+
+and-back : {k : List ℕ} → Order k → (x y z : Float) → restoreOf k (arrangeOf k (three x y z)) ≡ three x y z
+and-back R012 x y z = refl
+and-back R021 x y z = refl
+and-back R102 x y z = refl
+and-back R120 x y z = refl
+and-back R201 x y z = refl
+and-back R210 x y z = refl
+
+record Laid (F : Float → Type 0) (r : Sorted) : Type 0 where
+  low : F (r .low)
+  mid : F (r .mid)
+  high : F (r .high)
+
+laid : (F : Float → Type 0) {k : List ℕ} → Order k → (x y z : Float) → F x → F y → F z → Laid F (arrangeOf k (three x y z))
+laid F R012 x y z a b c = record { low = a; mid = b; high = c }
+laid F R021 x y z a b c = record { low = a; mid = c; high = b }
+laid F R102 x y z a b c = record { low = b; mid = a; high = c }
+laid F R120 x y z a b c = record { low = b; mid = c; high = a }
+laid F R201 x y z a b c = record { low = c; mid = a; high = b }
+laid F R210 x y z a b c = record { low = c; mid = b; high = a }
+
+put : (F : Float → Type 0) {k : List ℕ} → Order k → (r : Sorted) → F (r .low) → F (r .mid) → F (r .high) → Each F (restoreOf k r)
+put F R012 r a b c = (a, (b, (c, tt)))
+put F R021 r a b c = (a, (c, (b, tt)))
+put F R102 r a b c = (b, (a, (c, tt)))
+put F R120 r a b c = (c, (a, (b, tt)))
+put F R201 r a b c = (b, (c, (a, tt)))
+put F R210 r a b c = (c, (b, (a, tt)))
+
+one : (F : Float → Type 0) {k : List ℕ} → Order k → (r : Sorted) → F (r .high) → Some F (restoreOf k r)
+one F R012 r h = inr (inr (inl h))
+one F R021 r h = inr (inl h)
+one F R102 r h = inr (inr (inl h))
+one F R120 r h = inl h
+one F R201 r h = inr (inl h)
+one F R210 r h = inl h
+
+record Ordered (r : Sorted) : Type 0 where
+  low-mid : val (r .low) ≤ᶻ val (r .mid)
+  mid-high : val (r .mid) ≤ᶻ val (r .high)
+
+ordered : (x y z : Float) (a b c : Bool) → (T a → val x ≤ᶻ val y) → (T (not a) → val y ≤ᶻ val x) → (T b → val y ≤ᶻ val z) → (T (not b) → val z ≤ᶻ val y)
+    → (T c → val x ≤ᶻ val z) → (T (not c) → val z ≤ᶻ val x)
+    → Ordered (arrangeOf (indexesOf (rankOf a b c)) (three x y z))
+ordered x y z true true c h h' i i' j j' = record { low-mid = h tt; mid-high = i tt }
+ordered x y z true false true h h' i i' j j' = record { low-mid = j tt; mid-high = i' tt }
+ordered x y z true false false h h' i i' j j' = record { low-mid = j' tt; mid-high = h tt }
+ordered x y z false b true h h' i i' j j' = record { low-mid = h' tt; mid-high = j tt }
+ordered x y z false true false h h' i i' j j' = record { low-mid = i tt; mid-high = j' tt }
+ordered x y z false false false h h' i i' j j' = record { low-mid = i' tt; mid-high = h' tt }
+
+upwards : (x y z : Float) → Each Strain (three x y z) → Upwards x y z (arrangeOf (orderOf (three x y z)) (three x y z))
+upwards x y z i =
+    let k = orderOf (three x y z) in
+    let d = order x y z in
+    let a = i .0 in
+    let b = i .1 .0 in
+    let c = i .1 .1 .0 in
+    let s = laid Strain d x y z a b c in
+    let o =
+    subst (λ l. Ordered (arrangeOf l (three x y z))) (sym (order-of-three x y z))
+    (ordered x y z (le x y) (le y z) (le x z) (le-val x y (a .fine) (b .fine)) (not-le-val x y (a .fine) (b .fine)) (le-val y z (b .fine) (c .fine))
+    (not-le-val y z (b .fine) (c .fine)) (le-val x z (a .fine) (c .fine)) (not-le-val x z (a .fine) (c .fine))) in
+    record {
+      first = a;
+      second = b;
+      third = c;
+      low = s .low;
+      mid = s .mid;
+      high = s .high;
+      low-mid = o .low-mid;
+      mid-high = o .mid-high;
+      sum = total-three x y z ∙ ap total (sym (and-back d x y z)) ∙ total-restore d (arrangeOf k (three x y z));
+    }
+
+-- ---- bounds in index order
+below : (law : RankinePlasticity) (s : Float) {k : List ℕ} → Order k → (r : Sorted) → Held law s r → Each (Below law s (restoreOf k r)) (restoreOf k r)
+below law s {k} d r h =
+    subst (λ t. Each (λ w. Under (val (law .lambda) *ℤ t +ℤ pos 2 *ℤ val (law .mu) *ℤ val w) (val s *ℤ pos L) (modulus law * L)) (restoreOf k r))
+    (sym (total-restore d r))
+    (put (λ w. Under (principal law r w) (val s *ℤ pos L) (modulus law * L)) d r (h .low) (h .mid) (h .high))
+
+reaches : (law : RankinePlasticity) (s : Float) {k : List ℕ} → Order k → (r : Sorted) → Under (val s *ℤ pos L) (principal law r (r .high)) (modulus law * L)
+    → Some (Reaches law s (restoreOf k r)) (restoreOf k r)
+reaches law s {k} d r h =
+    subst (λ t. Some (λ w. Under (val s *ℤ pos L) (val (law .lambda) *ℤ t +ℤ pos 2 *ℤ val (law .mu) *ℤ val w) (modulus law * L)) (restoreOf k r))
+    (sym (total-restore d r))
+    (one (λ w. Under (val s *ℤ pos L) (principal law r w) (modulus law * L)) d r h)
+
+on-surface : (law : RankinePlasticity) (s : Float) {k : List ℕ} → Order k → (r : Sorted) → OnYield law s r → OnSurface law s (restoreOf k r)
+on-surface law s {k} d r y =
+    record {
+      fine = put Fin64 d r (y .fine-low) (y .fine-mid) (y .fine-high);
+      below = below law s d r (y .held);
+      reaches = reaches law s d r (y .reaches);
+    }
+
+-- ---- the branch
+abbrev pub Moves : Branch → Type 0
+Moves (Refused n) = ⊥
+Moves (Untouched x y) = ⊥
+Moves (One x y) = Unit {0}
+Moves (Two x y) = Unit {0}
+Moves (All x y) = Unit {0}
+
+pick : (F : Branch → Type 0) (n1 l1 n2 l2 n3 l3 : Bool) (A B C D : Branch) → T (not l1)
+    → Settled (cond n1 (cond l1 A (cond n2 (cond l2 B (cond n3 (cond l3 C D) (Refused 3))) (Refused 3))) (Refused 3))
+    → (T l2 → F B) → (T l3 → F C) → F D → F (cond n1 (cond l1 A (cond n2 (cond l2 B (cond n3 (cond l3 C D) (Refused 3))) (Refused 3))) (Refused 3))
+pick F false l1 n2 l2 n3 l3 A B C D h t b c d = absurd t
+pick F true true n2 l2 n3 l3 A B C D h t b c d = absurd h
+pick F true false false l2 n3 l3 A B C D h t b c d = absurd t
+pick F true false true true n3 l3 A B C D h t b c d = b tt
+pick F true false true false false l3 A B C D h t b c d = absurd t
+pick F true false true false true true A B C D h t b c d = c tt
+pick F true false true false true false A B C D h t b c d = d
+
+record Moved (law : RankinePlasticity) (s S : Float) (r : Sorted) (b : Branch) : Type 0 where
+  moves : Moves b
+  yields : OnYield law s (returnedOf law s S r b)
+
+module _ {law : RankinePlasticity} {s : Float} (g : Fair law s) (x y z : Float) (i : Each Strain (three x y z)) where
+  -- where the first test holds
+  pub inside : T (firstTest law (three x y z) s) → Each (Below law s (three x y z)) (three x y z)
+  unfolding sumOf
+  inside h =
+      let k = orderOf (three x y z) in
+      let d = order x y z in
+      subst (λ t. Each (Below law s t) t) (and-back d x y z) (below law s d (arrangeOf k (three x y z)) (untouched g (upwards x y z i) h))
+
+  moved : (r : Sorted) → Upwards x y z r → T (not (le (firstSide law (sumOf (three x y z)) (r .high)) s)) → Settled (choiceOf law s (sumOf (three x y z)) r)
+      → Moved law s (sumOf (three x y z)) r (choiceOf law s (sumOf (three x y z)) r)
+  unfolding sumOf choiceOf nextChoice lastChoice
+  moved r d h t =
+      let S = sumOf (three x y z) in
+      pick (Moved law s S r) (isNumber (firstSide law S (r .high))) (le (firstSide law S (r .high)) s) (isNumber (secondSide law S (r .high) (r .mid)))
+      (le (secondSide law S (r .high) (r .mid)) s) (isNumber (thirdSide law (r .low))) (le (thirdSide law (r .low)) s)
+      (Untouched (firstSide law S (r .high)) s) (One (secondSide law S (r .high) (r .mid)) s) (Two (thirdSide law (r .low)) s) (All (thirdSide law (r .low)) s)
+      h t
+      (λ l. record { moves = tt; yields = one-back g d l })
+      (λ l. record { moves = tt; yields = two-back g d l })
+      (record { moves = tt; yields = all-back g d })
+
+  -- and where it fails
+  pub outside : T (not (firstTest law (three x y z) s))
+      → let k = orderOf (three x y z) in let r = arrangeOf k (three x y z) in let b = choiceOf law s (sumOf (three x y z)) r in Settled b
+      → Moves b × OnSurface law s (restoreOf k (returnedOf law s (sumOf (three x y z)) r b))
+  outside h t =
+      let k = orderOf (three x y z) in
+      let r = arrangeOf k (three x y z) in
+      let m = moved r (upwards x y z i) h t in
+      (m .moves, on-surface law s (order x y z) (returnedOf law s (sumOf (three x y z)) r (choiceOf law s (sumOf (three x y z)) r)) (m .yields))
+
+kept : (law : RankinePlasticity) (s S : Float) (r : Sorted) (n l : Bool) (x y : Float) (B : Branch) → T l
+    → Settled (cond n (cond l (Untouched x y) B) (Refused 3))
+    → returnedOf law s S r (cond n (cond l (Untouched x y) B) (Refused 3)) ≡ r
+kept law s S r true true x y B t h = refl
+kept law s S r true false x y B t h = absurd t
+kept law s S r false l x y B t h = absurd h
+
+-- where the first test holds, the projection hands the strains back
+pub same : (law : RankinePlasticity) (s x y z : Float) → T (firstTest law (three x y z) s) → Settled (projectedOf law (three x y z) s .branch)
+    → projectedOf law (three x y z) s .strains ≡ three x y z
+unfolding projectedOf choiceOf
+same law s x y z t h =
+    let e = three x y z in
+    let k = orderOf e in
+    let r = arrangeOf k e in
+    let c = firstSide law (sumOf e) (r .high) in
+    ap (restoreOf k) (kept law s (sumOf e) r (isNumber c) (le c s) c s (nextChoice law s (sumOf e) r) t h) ∙ and-back (order x y z) x y z

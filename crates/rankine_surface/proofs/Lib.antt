@@ -1,0 +1,12 @@
+pub mod Scale
+pub mod Bounds
+pub mod Branches
+pub mod Indexed
+pub mod Strains
+pub mod Update
+pub mod Places
+pub mod Passes
+pub mod Records
+pub mod Sheets
+pub mod Cases
+pub mod Examples

@@ -1,0 +1,123 @@
+-- Demand 3 of a record that Rankine's law works, and of a record in a pass
+use mathlib.Core.Bool.{false}
+use mathlib.Core.Path.{_≡_, refl, sym, ap, _∙_, subst}
+use mathlib.Core.List.{List}
+use Prim.Native.Nat.{ℕ}
+use lib.Dec.{T}
+use lib.ListN.{length, length-set}
+use lib.Ieee as Ieee
+use lib.Ieee.{Float, binary64}
+use lib.Ieee.Bits.{ofBits-fits}
+use Rattle.numbers.specs.Floats.{finite}
+use Rattle.tensor.specs.Matrix.{sub, zero, one}
+use Rattle.plasticity.specs.declared.Outcome.{Outcome}
+use Rattle.plasticity.specs.declared.Outcome.the-variants as outcome
+use Rattle.plasticity.specs.declared.Updated.{Updated}
+use Rattle.record.specs.Layout.{floats, uAt, vtAt, stateAt, putPhase}
+use Rattle.failure_maximum_stress.specs.declared.MaximumStressFailure.{MaximumStressFailure}
+use Rattle.failure_maximum_stress.specs.declared.Verdict.{Verdict}
+use Rattle.failure_maximum_stress.specs.declared.Verdict.the-variants as verdict
+use Rattle.elasticity_corotated_linear.specs.declared.CorotatedLinearElasticity.{CorotatedLinearElasticity}
+use Rattle.plasticity_rankine.specs.declared.RankineArguments.{RankineArguments}
+use Rattle.plasticity_rankine.specs.Rankine.{rankineUpdate, lawOf, logsOf}
+use Rattle.model.specs.declared.Model.the-variants.{Rankine}
+use Rattle.particles.specs.Plain.{updatedAt, kept, recordLaw}
+use Rattle.particles.specs.Pass.{recordAt}
+use Rattle.particles.specs.Judged.{judgedAt, unlessRefused, failedLaw, byVerdict, failureLaw}
+use Rattle.particles.proofs.PassLaws.{record-keeps}
+use Rattle.particles.proofs.JudgedLaws.{failure-keeps}
+use Rattle.rankine_surface.specs.Axes.{Each}
+use Rattle.rankine_surface.specs.Surface.{Accepted, F64, Small, Ranges, numbersOf, Inside, Returned, Demand3By}
+use Rattle.rankine_surface.specs.Record.{Premises, Found, foundOf, InsideAt, ReturnedAt, Demand3At, projectedAt, InPass, passFound, metBy, metAt}
+use Rattle.rankine_surface.proofs.Strains.{exps-f64}
+use Rattle.rankine_surface.proofs.Update.{demand-3-by}
+use Rattle.rankine_surface.proofs.Places.{stored-sigma, stored-hardening, phase-sigma, phase-hardening}
+use Rattle.rankine_surface.proofs.Passes.{in-pass, found}
+
+-- the record that the update v leaves
+abbrev left : RankineArguments → List ℕ → Updated → Found
+left a r v = foundOf (record { outcome = v .outcome; failed = false; after = kept (Rankine a) (v .outcome) r (v .state) })
+
+module _ (a : RankineArguments) (r : List ℕ) where
+  abbrev worked : Updated
+  worked = rankineUpdate (lawOf a) (uAt r) (vtAt r) (stateAt r)
+
+  inside-at : Inside (lawOf a) (uAt r) (vtAt r) (stateAt r) → InsideAt a r (left a r worked)
+  inside-at d =
+      subst (λ (v : Updated). InsideAt a r (left a r v)) (sym (d .untouched)) (record { answer = (refl, refl); bits = refl; below = d .below })
+
+  returned-at : length r ≡ floats → F64 (a .«tensile_strength») → Returned (lawOf a) (uAt r) (vtAt r) (stateAt r) → ReturnedAt a r (left a r worked)
+  returned-at k f d =
+      let s = worked .state in
+      let back = stored-hardening r s k (subst F64 (sym (d .written)) (d .f64 f)) ∙ d .written in
+      let g = subst (Each F64) (sym (d .sigma)) (exps-f64 (projectedAt a r)) in
+      subst (λ (o : Outcome). ReturnedAt a r (left a r (record { state = s; outcome = o }))) (sym (d .stored))
+      (record {
+        answer = (refl, ap (λ (x : Float). Ieee.toBits binary64 x) (sym back));
+        capped = subst (λ (x : Float). T (Ieee.le x (a .«tensile_strength»))) (sym back) (d .capped);
+        sigma = stored-sigma r s k (ap length (d .sigma) ∙ d .axes) g ∙ d .sigma;
+        on-surface = d .on-surface;
+      })
+
+-- a record's sigma are f64
+sigma-f64 : (r : List ℕ) → Each F64 (stateAt r .sigma)
+sigma-f64 r = (ofBits-fits binary64 _, (ofBits-fits binary64 _, (ofBits-fits binary64 _, tt)))
+
+pub record-3 : {a : RankineArguments} {r : List ℕ} → length r ≡ floats → Premises a r (recordLaw (Rankine a) r .outcome)
+    → Demand3At a r (foundOf (recordLaw (Rankine a) r))
+unfolding recordLaw updatedAt
+record-3 {a} {r} k g =
+    let d : Demand3By a (uAt r) (vtAt r) (stateAt r) =
+    demand-3-by (record { accepted = g .accepted; s-finite = g .s-finite; ranges = g .ranges; sigma = sigma-f64 r; strains = g .strains }) in
+    subst (λ (v : Updated). Demand3At a r (left a r v)) (sym (d .update))
+    (record { holds = λ h. inside-at a r (d .law .holds h); fails = λ h. returned-at a r k (g .strength) (d .law .fails h) })
+
+pub pass-3 : {a : RankineArguments} {xs out : List ℕ} {i : ℕ} → InPass xs out i
+    → Premises a (recordAt xs i) (recordLaw (Rankine a) (recordAt xs i) .outcome)
+    → Demand3At a (recordAt xs i) (passFound (recordLaw (Rankine a)) xs out i)
+pass-3 {a} {xs} {out} {i} w g =
+    let law = recordLaw (Rankine a) in
+    let k = record-keeps (Rankine a) in
+    subst (Demand3At a (recordAt xs i)) (sym (found law k xs out i w)) (record-3 (in-pass law k xs out i w) g)
+
+-- ---- the pass with failure: the law meets the record with a phase that may be new
+new-phase : (a : RankineArguments) (r : List ℕ) (o : Outcome) → Premises a r o → Premises a (putPhase r zero) o
+new-phase a r o g =
+    let h = sym (phase-hardening r zero) in
+    let e = sym (phase-sigma r zero) in
+    record {
+      accepted = g .accepted;
+      ranges = subst (λ (x : Float). Ranges (lawOf a) (sub (a .«tensile_strength») (sub x one))) h (g .ranges);
+      s-finite = subst (λ (x : Float). T (finite (sub (a .«tensile_strength») (sub x one)))) h (g .s-finite);
+      strains = subst (λ (x : List Float). Each Small (numbersOf (logsOf x))) e (g .strains);
+      strength = g .strength;
+    }
+
+not-refused : (o : Outcome) (r s : List ℕ) → Accepted o → unlessRefused o r s ≡ s
+not-refused outcome.Untouched r s h = refl
+not-refused (outcome.Stored x) r s h = refl
+not-refused (outcome.Refused n) r s h = absurd h
+
+failed-3 : (a : RankineArguments) (r : List ℕ) → length r ≡ floats → Premises a r (failedLaw (Rankine a) r .outcome)
+    → Demand3At a (putPhase r zero) (foundOf (failedLaw (Rankine a) r))
+unfolding failedLaw
+failed-3 a r k g =
+    let w = recordLaw (Rankine a) (putPhase r zero) in
+    subst (λ (s : List ℕ). Demand3At a (putPhase r zero) (foundOf (record { outcome = w .outcome; failed = false; after = s })))
+    (sym (not-refused (w .outcome) r (w .after) (g .accepted))) (record-3 (length-set r _ _ ∙ k) (new-phase a r (w .outcome) g))
+
+by-verdict-3 : (v : Verdict) (a : RankineArguments) (r : List ℕ) → length r ≡ floats → Premises a r (byVerdict v (Rankine a) r .outcome)
+    → Demand3At a (metBy v r) (foundOf (byVerdict v (Rankine a) r))
+by-verdict-3 verdict.No a r k g = record-3 k g
+by-verdict-3 verdict.Yes a r k g = failed-3 a r k g
+by-verdict-3 (verdict.Refused n) a r k g = absurd (g .accepted)
+
+pub pass-with-failure-3 : (l : MaximumStressFailure) (e : CorotatedLinearElasticity) {a : RankineArguments} {xs out : List ℕ} {i : ℕ} → InPass xs out i
+    → Premises a (recordAt xs i) (failureLaw (Rankine a) l e (recordAt xs i) .outcome)
+    → Demand3At a (metAt (Rankine a) l e (recordAt xs i)) (passFound (failureLaw (Rankine a) l e) xs out i)
+unfolding failureLaw
+pass-with-failure-3 l e {a} {xs} {out} {i} w g =
+    let law = failureLaw (Rankine a) l e in
+    let k = failure-keeps (Rankine a) l e in
+    subst (Demand3At a (metAt (Rankine a) l e (recordAt xs i))) (sym (found law k xs out i w))
+    (by-verdict-3 (judgedAt (Rankine a) l e (recordAt xs i)) a (recordAt xs i) (in-pass law k xs out i w) g)

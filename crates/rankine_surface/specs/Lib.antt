@@ -1,0 +1,4 @@
+pub mod Axes
+pub mod Record
+pub mod Sheet
+pub mod Surface

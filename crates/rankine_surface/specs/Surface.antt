@@ -1,0 +1,162 @@
+-- Demand 3: how near the yield surface Rankine's update comes, taken exactly. A finite f64 is a whole number of units of
+-- 2 ^ -1074 (`val`; its size is `mag`; 1 is L units), so that no rounding is left in what is said here.
+use mathlib.Core.Path.{_≡_}
+use mathlib.Core.Bool.{Bool, not}
+use mathlib.Core.List.{List, []}
+use Prim.Native.Nat.{ℕ, _+_, _*_, _^_, _≤_}
+use lib.Dec.{T}
+use lib.ListN.{length}
+use lib.IntN.{ℤ, pos, _+ℤ_, _*ℤ_}
+use lib.Ieee as Ieee
+use lib.Ieee.{Float}
+use Rattle.exact.specs.Units.{L, mag, Fin64}
+use Rattle.exact.specs.Integers.{_≤ᶻ_}
+use Rattle.exact.specs.Value.{val}
+use Rattle.numbers.specs.Floats.{finite}
+use Rattle.tensor.specs.Matrix.{sub, one, three, sumOf}
+use Rattle.plasticity.specs.declared.Outcome.{Outcome}
+use Rattle.plasticity.specs.declared.Outcome.the-variants.{Untouched, Stored, Refused}
+use Rattle.plasticity.specs.declared.State.{State}
+use Rattle.plasticity_rankine.specs.declared.Branch.{Branch}
+use Rattle.plasticity_rankine.specs.declared.Branch.the-variants as branch
+use Rattle.plasticity_rankine.specs.declared.RankineArguments.{RankineArguments}
+use Rattle.plasticity_rankine.specs.declared.RankinePlasticity.{RankinePlasticity}
+use Rattle.plasticity_rankine.specs.declared.Triple.{Triple}
+use Rattle.plasticity_rankine.specs.declared.Triple.the-variants as triple
+use Rattle.plasticity_rankine.specs.Sorting.{orderOf, arrangeOf}
+use Rattle.plasticity_rankine.specs.Projection.{firstSide, projectedOf, projectOf}
+use Rattle.plasticity_rankine.specs.Rankine.{logsOf, expsOf, untouchedOf, rankineUpdate, lawOf, argumentsUpdate}
+use Rattle.rankine_surface.specs.Axes.{Each, Some, total}
+
+-- ---- exact stresses
+-- 2mu + 3lambda, in units of 2 ^ -1074
+abbrev pub modulus : RankinePlasticity → ℕ
+modulus p = 2 * mag (p .mu) + 3 * mag (p .lambda)
+
+-- the principal stress that belongs to the strain w among the strains e, lambda (sum of e) + 2mu w, in units of 2 ^ -2148
+abbrev pub stressOf : RankinePlasticity → List Float → Float → ℤ
+stressOf p e w = val (p .lambda) *ℤ total e +ℤ pos 2 *ℤ val (p .mu) *ℤ val w
+
+-- u is at most v + K / 2 ^ 44
+pub record Under (u v : ℤ) (K : ℕ) : Type 0 where
+  pub under : u *ℤ pos (2 ^ 44) ≤ᶻ v *ℤ pos (2 ^ 44) +ℤ pos K
+
+-- the stress of w is at most s + (2mu + 3lambda) / 2 ^ 44
+abbrev pub Below : RankinePlasticity → Float → List Float → Float → Type 0
+Below p s e w = Under (stressOf p e w) (val s *ℤ pos L) (modulus p * L)
+
+-- the stress of w is at least s - (2mu + 3lambda) / 2 ^ 44
+abbrev pub Reaches : RankinePlasticity → Float → List Float → Float → Type 0
+Reaches p s e w = Under (val s *ℤ pos L) (stressOf p e w) (modulus p * L)
+
+-- ---- what is taken
+-- mu in 1 to 2 ^ 40, lambda in 0 to 2 ^ 40, s within 4 (2mu + 3lambda) of zero
+pub record Ranges (p : RankinePlasticity) (s : Float) : Type 0 where
+  pub mu-low : pos L ≤ᶻ val (p .mu)
+  pub mu-high : val (p .mu) ≤ᶻ pos (2 ^ 40 * L)
+  pub la-low : pos 0 ≤ᶻ val (p .lambda)
+  pub la-high : val (p .lambda) ≤ᶻ pos (2 ^ 40 * L)
+  pub s-size : mag s ≤ 4 * modulus p
+
+-- the three as finite f64 in those ranges
+pub record Fair (p : RankinePlasticity) (s : Float) : Type 0 where
+  pub mu-fine : Fin64 (p .mu)
+  pub la-fine : Fin64 (p .lambda)
+  pub s-fine : Fin64 s
+  pub ranges : Ranges p s
+
+-- in -4 to 4
+abbrev pub Small : Float → Type 0
+Small x = mag x ≤ 4 * L
+
+-- a strain in -4 to 4 as a finite f64
+pub record Strain (x : Float) : Type 0 where
+  pub fine : Fin64 x
+  pub size : Small x
+
+-- a number that an f64 holds; in the code each one is
+abbrev pub F64 : Float → Type 0
+F64 x = T (Ieee.fits Ieee.binary64 x)
+
+abbrev pub Accepted : Outcome → Type 0
+Accepted Untouched = Unit {0}
+Accepted (Stored a) = Unit {0}
+Accepted (Refused n) = ⊥
+
+-- the numbers of an answer; none beside a refusal
+abbrev pub numbersOf : Triple → List Float
+numbersOf (triple.Values x y z) = three x y z
+numbersOf (triple.Refused n) = []
+
+-- our logarithms of sigma
+abbrev pub logStrains : State → List Float
+logStrains st = numbersOf (logsOf (st .sigma))
+
+-- the softened strength, as the update works it: s = strength - (hardening - 1)
+abbrev pub softened : RankinePlasticity → State → Float
+softened p st = sub (p .«tensile_strength») (sub (st .scalars .«plastic_hardening») one)
+
+-- not refused, the ranges of the moduli and of s, and log strains in -4 to 4: that these are finite f64 is the logarithm's own law
+pub record Taken (p : RankinePlasticity) (u vt : List (List Float)) (st : State) : Type 0 where
+  pub accepted : Accepted (rankineUpdate p u vt st .outcome)
+  pub fair : Fair p (softened p st)
+  pub sigma : Each F64 (st .sigma)
+  pub strains : Each Small (logStrains st)
+
+-- the same of the law that `new` makes: its moduli are f64, and finite where nothing is refused
+pub record TakenBy (a : RankineArguments) (u vt : List (List Float)) (st : State) : Type 0 where
+  pub accepted : Accepted (argumentsUpdate a u vt st .outcome)
+  pub s-finite : T (finite (softened (lawOf a) st))
+  pub ranges : Ranges (lawOf a) (softened (lawOf a) st)
+  pub sigma : Each F64 (st .sigma)
+  pub strains : Each Small (logStrains st)
+
+-- the first yield test: lambda S + 2mu a <= s in floats
+abbrev pub firstTest : RankinePlasticity → List Float → Float → Bool
+firstTest p e s = Ieee.le (firstSide p (sumOf e) (arrangeOf (orderOf e) e .high)) s
+
+-- ---- what is promised
+-- where the test holds: the state is handed back as it came, and no stress is above
+pub record Inside (p : RankinePlasticity) (u vt : List (List Float)) (st : State) : Type 0 where
+  pub untouched : rankineUpdate p u vt st ≡ untouchedOf st
+  pub below : Each (Below p (softened p st) (logStrains st)) (logStrains st)
+
+-- finite strains whose largest stress lies within the distance of s, above or below (`val` is 0 at a NaN or an infinity)
+pub record OnSurface (p : RankinePlasticity) (s : Float) (e : List Float) : Type 0 where
+  pub fine : Each Fin64 e
+  pub below : Each (Below p s e) e
+  pub reaches : Some (Reaches p s e) e
+
+abbrev pub projectedStrains : RankinePlasticity → State → List Float
+projectedStrains p st = projectedOf p (logStrains st) (softened p st) .strains
+
+-- where it fails: sigma becomes the exponentials of the projected strains, which lie on the surface, and the hardening is stored, capped
+pub record Returned (p : RankinePlasticity) (u vt : List (List Float)) (st : State) : Type 0 where
+  pub hardening : Float
+  pub stored : rankineUpdate p u vt st .outcome ≡ Stored hardening
+  pub written : rankineUpdate p u vt st .state .scalars .«plastic_hardening» ≡ hardening
+  pub capped : T (Ieee.le hardening (p .«tensile_strength»))
+  pub f64 : F64 (p .«tensile_strength») → F64 hardening
+  pub sigma : rankineUpdate p u vt st .state .sigma ≡ numbersOf (expsOf (projectedStrains p st))
+  pub axes : length (numbersOf (expsOf (projectedStrains p st))) ≡ 3
+  pub on-surface : OnSurface p (softened p st) (projectedStrains p st)
+
+pub record Demand3 (p : RankinePlasticity) (u vt : List (List Float)) (st : State) : Type 0 where
+  pub holds : T (firstTest p (logStrains st) (softened p st)) → Inside p u vt st
+  pub fails : T (not (firstTest p (logStrains st) (softened p st))) → Returned p u vt st
+
+pub record Demand3By (a : RankineArguments) (u vt : List (List Float)) (st : State) : Type 0 where
+  pub update : argumentsUpdate a u vt st ≡ rankineUpdate (lawOf a) u vt st
+  pub law : Demand3 (lawOf a) u vt st
+
+-- ---- the projection as a call by itself, where it refuses nothing
+abbrev pub Settled : Branch → Type 0
+Settled (branch.Untouched x y) = Unit {0}
+Settled (branch.One x y) = Unit {0}
+Settled (branch.Two x y) = Unit {0}
+Settled (branch.All x y) = Unit {0}
+Settled (branch.Refused n) = ⊥
+
+pub record Projects (p : RankinePlasticity) (e : List Float) (s : Float) : Type 0 where
+  pub holds : T (firstTest p e s) → (projectOf p e s .strains ≡ e) × Each (Below p s e) e
+  pub fails : T (not (firstTest p e s)) → OnSurface p s (projectOf p e s .strains)
