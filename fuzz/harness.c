@@ -43,7 +43,7 @@ static void check_room(const struct room *r, const char *what) {
             fault("%s: word %ld from the end is %016llx and should be %016llx", what, (long)(all - k), (unsigned long long)w[k], (unsigned long long)want[k]);
 }
 
-// ---- one record: pasoletu_update alone, and what document 01 says of any answer
+// ---- one record: pasoletu_update alone, and what RULES says of any answer
 
 struct done {
     uint8_t status;
@@ -125,7 +125,7 @@ static int lengths_fit(uint64_t model, size_t np) {
     return model >= MODELS || np == FIELDS[model];
 }
 
-// pasoletu_update on a record, with the lengths given; what it leaves is checked against everything that document 01 says of it.
+// pasoletu_update on a record, with the lengths given; what it leaves is checked against everything that RULES says of it.
 static struct done updated(uint64_t model, const uint64_t *p, size_t np, const uint64_t *was, size_t nr, size_t na) {
     struct done d = {0};
     uint64_t *r = lend(&one_room, was, nr), *a = lend(&two_room, NULL, na);

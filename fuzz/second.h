@@ -1,4 +1,4 @@
-// Document 01's sections 6 and 7 a second time: the sheet, the finite test, the principal stresses of a pass with failure.
+// RULES' sections 6 and 7 a second time: the sheet, the finite test, the principal stresses of a pass with failure.
 #define ONE 0x3ff0000000000000ULL
 
 static double value(uint64_t w) {

@@ -1,5 +1,5 @@
 //! Build 2 run and watched: the hooks that the crate nalgebra of this folder asks, what each call of the text did on its way,
-//! and the outcome that document 01 section 6 gives for it.
+//! and the outcome that RULES section 6 gives for it.
 use crate::calls::{self, *};
 use crate::ours;
 use nalgebra::hooks::{Function, Op};
@@ -211,7 +211,7 @@ pub fn run(n: usize, i: &[u64], o: &mut [u64], mode: Mode) {
     }
 }
 
-/// What document 01 has a call answer: 0 and the words, or a refusal's number and the words as they came.
+/// What RULES has a call answer: 0 and the words, or a refusal's number and the words as they came.
 #[derive(Clone, PartialEq, Debug)]
 pub struct Answer {
     pub status: u8,
@@ -323,7 +323,7 @@ fn drucker_prager_dq(i: &[u64]) -> f64 {
     dq
 }
 
-/// The answer that document 01 and build 2 give.
+/// The answer that RULES and build 2 give.
 pub fn expected(n: usize, i: &[u64]) -> Answer {
     let words = CALLS[n].outputs;
     let refused = |status| Answer { status, out: vec![0; words] };

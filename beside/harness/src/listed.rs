@@ -1,4 +1,4 @@
-//! The differences that docs/DIFFERENCES.md lists. Where one may show, what document 01 has ours answer instead of the Rust.
+//! The differences that docs/DIFFERENCES.md lists. Where one may show, what RULES has ours answer instead of the Rust.
 use crate::calls::*;
 use crate::inside::{self, Answer};
 
@@ -53,7 +53,7 @@ fn one_zero(i: &[u64], at: usize) -> Option<Vec<u64>> {
     Some(w)
 }
 
-/// What document 01 has ours answer where the Rust's zeros differ; nothing where they can't.
+/// What RULES has ours answer where the Rust's zeros differ; nothing where they can't.
 pub fn by_document(n: usize, i: &[u64], rust: &Answer) -> Option<Answer> {
     let mut a = rust.clone();
     match n {

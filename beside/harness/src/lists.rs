@@ -1,4 +1,4 @@
-//! The list pass, the pass with failure and the sheet. None is in the Rust: document 01 sections 6 and 7 decide, and each record's
+//! The list pass, the pass with failure and the sheet. None is in the Rust: RULES sections 6 and 7 decide, and each record's
 //! law is build 2's.
 use crate::calls;
 use crate::draw::Draw;
@@ -8,7 +8,7 @@ use crate::ours;
 
 const MARK: u64 = 0x7ff4_dead_beef_0002;
 
-/// A law's step on one record: the outcome's two numbers; the record is new where it is stored. Of two zeros as document 01 has it.
+/// A law's step on one record: the outcome's two numbers; the record is new where it is stored. Of two zeros as RULES has it.
 fn step(model: usize, p: &[u64], record: &mut [u64]) -> (u64, u64) {
     let (n, i) = (calls::UPDATE + model, [p, record].concat());
     let a = inside::expected(n, &i);
@@ -349,7 +349,7 @@ fn one_sheet(d: &mut Draw, run: bool, t: &mut Tally) {
 }
 
 pub fn compare(seed: u64, count: u64, failed: &mut bool) {
-    println!("\nLists and sheets (document 01 sections 6 and 7, each law build 2's)");
+    println!("\nLists and sheets (RULES sections 6 and 7, each law build 2's)");
     println!("{:<20} {:>8} {:>8}  answers by refusal number; records by outcome", "call", "run", "unlisted");
     for (k, name) in calls::LISTS.into_iter().enumerate() {
         if !ours::has_name(name) {

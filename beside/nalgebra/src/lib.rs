@@ -1,4 +1,4 @@
-//! The part of nalgebra's surface that the ten files use, with document 01 section 4's orders: sums by rising index from the left,
+//! The part of nalgebra's surface that the ten files use, with RULES section 4's orders: sums by rising index from the left,
 //! the determinant along the first row, `recompose` scaling U's columns first, the inverse as cofactors over the determinant.
 //! Factors and principal stresses are those that the caller brings. Elementary functions are asked of the harness.
 //! No std here: with it, the inherent `f64::ln` and its like would win over `ComplexField`, silently.
@@ -490,7 +490,7 @@ impl ComplexField for f64 {
         unsafe { hooks::beside_elementary(which, self, Location::caller()) }
     }
 
-    /// Document 01 section 3's halving.
+    /// RULES section 3's halving.
     fn powi(self, e: i32) -> f64 {
         let mut n = e.unsigned_abs();
         let (mut r, mut base) = (1.0, self);

@@ -1,4 +1,4 @@
-"""Tests of the Python module. The values are document 01's (section 7's example; section 8: P1 to P12) and such as are worked
+"""Tests of the Python module. The values are RULES' (section 7's example; section 8: P1 to P12) and such as are worked
 by hand."""
 import array
 import dataclasses

@@ -1,4 +1,4 @@
--- A number or two to be returned, and a call's inputs (document 01, section 6, numbers 3 and 1).
+-- A number or two to be returned, and a call's inputs (RULES, section 6, numbers 3 and 1).
 use mathlib.Core.Bool.{Bool, cond, _&&_}
 use lib.Ieee.{Float}
 use Rattle.answers.specs.Refusals.{notFinite, noNumber}

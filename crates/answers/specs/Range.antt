@@ -1,4 +1,4 @@
--- What an elementary function answers (document 01, sections 3 and 6).
+-- What an elementary function answers (RULES, sections 3 and 6).
 use mathlib.Core.Bool.{Bool, true, false, cond, _&&_}
 use lib.Ieee as Ieee
 use lib.Ieee.{Float}

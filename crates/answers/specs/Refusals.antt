@@ -1,4 +1,4 @@
--- The refusals by name (document 01, section 6).
+-- The refusals by name (RULES, section 6).
 use Prim.Native.Nat.{ℕ}
 
 -- an input float is NaN or infinite

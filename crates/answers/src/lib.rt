@@ -1,4 +1,4 @@
-// What a call answers: a number, two numbers, or the refusal's number (document 01, section 6); and what a call asked by itself and one
+// What a call answers: a number, two numbers, or the refusal's number (RULES, section 6); and what a call asked by itself and one
 // asked inside a law make of the same answer.
 ghost use mathlib.Core.Path.{_≡_};
 ghost use Rattle.answers.specs.Answer.{answeredOf, finiteAnswerOf, pairOf};

@@ -1,4 +1,4 @@
--- The corotated law's energies (document 01, section 5: "Energy takes the product of sigma, `pos_energy` the determinant of F").
+-- The corotated law's energies (RULES, section 5: "Energy takes the product of sigma, `pos_energy` the determinant of F").
 use mathlib.Core.Bool.{Bool, cond, _&&_}
 use mathlib.Core.List.{List, map}
 use lib.Ieee as Ieee

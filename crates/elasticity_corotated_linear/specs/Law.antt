@@ -1,4 +1,4 @@
--- The corotated law's own floats and its `new` (document 01, section 6; elasticity_corotated_linear.rs).
+-- The corotated law's own floats and its `new` (RULES, section 6; elasticity_corotated_linear.rs).
 use mathlib.Core.Bool.{Bool, true, cond, _&&_}
 use lib.Ieee.{Float, binary64, ofBits}
 use Rattle.answers.specs.Refusals.{notFinite, noNumber}

@@ -1,4 +1,4 @@
--- The corotated law's stress (document 01, section 5: "Phase exactly 1.0 takes the unsplit path; the tensile part is dropped only at phase 0.0 with the flag").
+-- The corotated law's stress (RULES, section 5: "Phase exactly 1.0 takes the unsplit path; the tensile part is dropped only at phase 0.0 with the flag").
 use mathlib.Core.Bool.{Bool, cond, _&&_}
 use mathlib.Core.List.{List, map}
 use lib.Ieee as Ieee

@@ -1,90 +1,72 @@
--- The neo-Hookean law's energies (document 01, section 5: "`elastic_energy_density` below j = 1 makes the *volumetric* part tensile; `pos_energy` from j = 1 up multiplies by phase and not by `phase_coeff`").
-use mathlib.Core.Bool.{Bool, cond, _&&_}
-use mathlib.Core.List.{List}
-use lib.Ieee as Ieee
+-- The neo-Hookean law's energies (RULES, section 5: "`elastic_energy_density` below j = 1 makes the *volumetric* part tensile; `pos_energy` from j = 1 up multiplies by phase and not by `phase_coeff`").
+use mathlib.Core.List.{List, [], _∷_}
 use lib.Ieee.{Float}
-use Rattle.answers.specs.Refusals.{noNumber}
-use Rattle.numbers.specs.Floats.{finite, isNumber}
-use Rattle.answers.specs.Range.{onPath}
-use Rattle.numbers.specs.Power.{powiOf}
-use Rattle.answers.specs.Answer.{answeredOf, given}
 use Rattle.answers.specs.declared.Answer.{Answer}
-use Rattle.answers.specs.declared.Answer.the-variants.{Value, Refused}
-use Rattle.physics.specs.Physics.{two}
-use Rattle.tensor.specs.Matrix.{add, sub, mul, div, zero, one, detOf, mulOf, transposeOf, traceOf, matScaleOf}
-use Rattle.tensor.specs.Finite.{matFinite}
-use Rattle.tensor.specs.Number.{matNumber}
-use Rattle.thirds.specs.Thirds.{invCbrtRanged, invCbrtSquaredRanged}
-use Rattle.logarithm.specs.Ln.{lnRanged}
-use Rattle.elasticity_neo_hookean.specs.Law.{dim, lawFinite, phaseCoeffOf, bulkOf, cauchyGreenOf}
+use Rattle.tensor.specs.Matrix as tensor
+use Rattle.walk.specs.Expr.{Expr, num, _+_, _-_, _*_, _/_}
+use Rattle.walk.specs.Walk.{Walk, ln, minus-third, minus-two-thirds, less, at-most, inputs, ask, work, split, result, answerAs}
+use Rattle.walk.specs.Tensor.{one, rows, turned, times, scaled, determinant, trace}
+use Rattle.walk.specs.Power.{power}
+use Rattle.walk.specs.Answers.{matrix, returned}
+use Rattle.elasticity_neo_hookean.specs.Law.{two, dim, floats, coefficient, bulk, cauchyGreen}
 use Rattle.elasticity_neo_hookean.specs.declared.NeoHookeanElasticity.{NeoHookeanElasticity}
 
--- p is the law, h the elastic hardening, j the determinant of F, k the bulk modulus times h, b is F F^T, w the power of j, c the phase's coefficient.
+-- p is the law, h the elastic hardening, j the determinant of F, k the bulk modulus times h, l the logarithm of j.
 
--- both energies: l is the logarithm of j, q the square of j
-unfoldable pub volumetricEnergy : Float → Float → Float → Float
-volumetricEnergy k q l = mul (div k two) (sub (div (sub q one) two) l)
+-- both energies: q is the square of j
+abbrev pub volumetricEnergy : Expr → Expr → Expr → Expr
+volumetricEnergy k q l = k / two * ((q - one) / two - l)
 
--- elastic_energy_density: here 2/3 multiplies mu h
-unfoldable pub kappaOf : NeoHookeanElasticity → Float → Float
-kappaOf p h = add (mul (div two dim) (mul (p .mu) h)) (mul (p .lambda) h)
+-- ---- elastic_energy_density: here 2/3 multiplies mu h
+abbrev pub kappa : NeoHookeanElasticity → Float → Expr
+kappa p h = two / dim * (num (p .mu) * num h) + num (p .lambda) * num h
 
--- the trace of A^T A, where A is F times j^(-1/3): an entry off the diagonal overflows only where the trace does, and then the energy isn't finite
-unfoldable pub stretchOf : Float → List (List Float) → Float
-stretchOf w f = traceOf (mulOf (transposeOf (matScaleOf w f)) (matScaleOf w f))
+-- A^T A, where A is F times w, the power -1/3 of j
+abbrev pub stretch : Expr → List (List Float) → List (List Expr)
+stretch w f = times (turned (scaled w (rows f))) (scaled w (rows f))
 
-unfoldable pub deviatoricEnergy : NeoHookeanElasticity → Float → Float → List (List Float) → Float
-deviatoricEnergy p h w f = mul (div (mul (p .mu) h) two) (sub (stretchOf w f) dim)
+abbrev pub deviatoricEnergy : NeoHookeanElasticity → Float → List (List Float) → Expr
+deviatoricEnergy p h s = num (p .mu) * num h / two * (trace (rows s) - dim)
 
--- from j = 1 up both parts are tensile, and 0 is added; below it the volumetric part
-unfoldable pub energySum : Float → Float → Float → Float → Float
-energySum c j dev vol = cond (Ieee.le one j) (add (mul c (add vol dev)) zero) (add (mul c vol) dev)
+-- from j = 1 up both parts are tensile, and 0 is added; below it the volumetric part; c is the phase's coefficient
+abbrev pub sumWalk : Expr → Expr → Expr → Expr → Walk Float
+sumWalk c j dev vol = split 6 (at-most one j) (returned 7 (c * (vol + dev) + num tensor.zero)) (returned 7 (c * vol + dev))
 
--- a refusal of the logarithm is handed on; a NaN of either part is in the sum
-unfoldable pub energyLogged : Answer → Float → Float → Float → Float → Answer
-energyLogged (Value l) c j kappa dev = answeredOf (energySum c j dev (volumetricEnergy kappa (powiOf j 2) l))
-energyLogged (Refused n) c j kappa dev = Refused n
+unfoldable pub energySteps : NeoHookeanElasticity → Float → Float → List (List Float) → Walk Float
+energySteps p phase h f =
+    work 1 (kappa p h) (λ k.
+    work 2 (determinant f) (λ j.
+    ask 3 minus-third j (λ w.
+    matrix 4 (stretch w f) (λ s.
+    ask 5 ln j (λ l.
+    sumWalk (coefficient phase) j (deviatoricEnergy p h s) (volumetricEnergy k (power j 2) l))))))
 
--- a refusal of the power is handed on; the logarithm has the same range, so no 2 comes after the power
-unfoldable pub energyPowered : Answer → NeoHookeanElasticity → Float → Float → Float → Float → List (List Float) → Answer
-energyPowered (Value w) p c h j kappa f = energyLogged (onPath j (lnRanged j)) c j kappa (deviatoricEnergy p h w f)
-energyPowered (Refused n) p c h j kappa f = Refused n
+unfoldable pub energyWalk : NeoHookeanElasticity → Float → Float → List (List Float) → Walk Float
+energyWalk p phase h f = inputs (floats p (phase ∷ h ∷ []) f) (energySteps p phase h f)
 
--- kappa comes before the power: a NaN there is met first, and a NaN in j is the power's 3
-unfoldable pub energySteps : NeoHookeanElasticity → Float → Float → Float → Float → List (List Float) → Answer
-energySteps p c h j kappa f = cond (isNumber kappa) (energyPowered (onPath j (invCbrtRanged j)) p c h j kappa f) (Refused noNumber)
+abbrev pub elasticEnergyDensity : NeoHookeanElasticity → Float → Float → List (List Float) → Answer
+elasticEnergyDensity p phase h f = answerAs (result (energyWalk p phase h f))
 
-unfoldable pub elasticEnergyDensity : NeoHookeanElasticity → Float → Float → List (List Float) → Answer
-elasticEnergyDensity p phase h f =
-    given (lawFinite p && finite phase && finite h && matFinite f)
-    (energySteps p (phaseCoeffOf phase) h (detOf f) (kappaOf p h) f)
+-- ---- pos_energy: here h multiplies mu; b is F F^T, w the power -2/3 of j
+abbrev pub posDeviatoric : NeoHookeanElasticity → Float → Expr → List (List Float) → Expr
+posDeviatoric p h w b = num h * num (p .mu) / two * (trace (rows b) * w - dim)
 
--- pos_energy: here h multiplies mu
-
-unfoldable pub posDeviatoric : NeoHookeanElasticity → Float → Float → List (List Float) → Float
-posDeviatoric p h w b = mul (div (mul h (p .mu)) two) (sub (mul (traceOf b) w) dim)
+abbrev pub posSum : Float → Expr → Expr → Expr → Walk Float
+posSum phase j dev vol = split 7 (less j one) (returned 8 (dev * coefficient phase)) (returned 8 ((dev + vol) * num phase))
 
 -- below j = 1 the volumetric part is worked and not used: its NaN is met all the same
-unfoldable pub posSum : Float → Float → Float → Float → Answer
-posSum phase j dev vol =
-    cond (isNumber vol)
-    (answeredOf (cond (Ieee.lt j one) (mul dev (phaseCoeffOf phase)) (mul (add dev vol) phase)))
-    (Refused noNumber)
+unfoldable pub posSteps : NeoHookeanElasticity → Float → Float → List (List Float) → Walk Float
+posSteps p phase h f =
+    work 1 (determinant f) (λ j.
+    work 2 (bulk p h) (λ k.
+    matrix 3 (cauchyGreen f) (λ b.
+    ask 4 minus-two-thirds j (λ w.
+    ask 5 ln j (λ l.
+    work 6 (volumetricEnergy k (j * j) l) (λ vol.
+    posSum phase j (posDeviatoric p h w b) vol))))))
 
-unfoldable pub posLogged : Answer → Float → Float → Float → Float → Answer
-posLogged (Value l) phase j k dev = posSum phase j dev (volumetricEnergy k (mul j j) l)
-posLogged (Refused n) phase j k dev = Refused n
+unfoldable pub posWalk : NeoHookeanElasticity → Float → Float → List (List Float) → Walk Float
+posWalk p phase h f = inputs (floats p (phase ∷ h ∷ []) f) (posSteps p phase h f)
 
-unfoldable pub posPowered : Answer → NeoHookeanElasticity → Float → Float → Float → Float → List (List Float) → Answer
-posPowered (Value w) p phase h j k b = posLogged (onPath j (lnRanged j)) phase j k (posDeviatoric p h w b)
-posPowered (Refused n) p phase h j k b = Refused n
-
--- k and F F^T come before the power: a NaN there is met first, and a NaN in j is the power's 3
-unfoldable pub posSteps : NeoHookeanElasticity → Float → Float → Float → Float → List (List Float) → Answer
-posSteps p phase h j k b =
-    cond (isNumber k && matNumber b) (posPowered (onPath j (invCbrtSquaredRanged j)) p phase h j k b) (Refused noNumber)
-
-unfoldable pub posEnergy : NeoHookeanElasticity → Float → Float → List (List Float) → Answer
-posEnergy p phase h f =
-    given (lawFinite p && finite phase && finite h && matFinite f)
-    (posSteps p phase h (detOf f) (bulkOf p h) (cauchyGreenOf f))
+abbrev pub posEnergy : NeoHookeanElasticity → Float → Float → List (List Float) → Answer
+posEnergy p phase h f = answerAs (result (posWalk p phase h f))

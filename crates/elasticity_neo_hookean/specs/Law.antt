@@ -1,26 +1,42 @@
--- The neo-Hookean law's own floats, its `new`, `phase_coeff` and the steps that its stresses and energies share (document 01, sections 5 and 6; elasticity_neo_hookean.rs).
+-- The neo-Hookean law's own floats, its `new`, `phase_coeff` and the formulas that its stresses and energies share (RULES, sections 5 and 6; elasticity_neo_hookean.rs).
 use mathlib.Core.Bool.{Bool, cond, _&&_}
-use mathlib.Core.List.{List}
+use mathlib.Core.List.{List, [], _∷_, _++_}
 use lib.Ieee.{Float, binary64, ofBits}
 use Rattle.answers.specs.Refusals.{notFinite, noNumber}
 use Rattle.numbers.specs.Floats.{finite}
-use Rattle.answers.specs.Answer.{answeredOf, given}
 use Rattle.answers.specs.declared.Answer.{Answer}
-use Rattle.physics.specs.Physics.{two, lameOf}
+use Rattle.physics.specs.Physics as physics
+use Rattle.physics.specs.Physics.{lameOf}
 use Rattle.physics.specs.declared.Lame.{Lame}
-use Rattle.tensor.specs.Matrix.{add, sub, mul, div, one, mulOf, transposeOf}
+use Rattle.tensor.specs.Axes.{allOf}
+use Rattle.walk.specs.Expr.{Expr, num, _+_, _-_, _*_, _/_, value}
+use Rattle.walk.specs.Walk.{Walk, inputs, result, answerAs}
+use Rattle.walk.specs.Every.{flat}
+use Rattle.walk.specs.Tensor.{one, rows, turned, times}
+use Rattle.walk.specs.Answers.{returned}
 use Rattle.elasticity_neo_hookean.specs.declared.NeoHookeanElasticity.{NeoHookeanElasticity}
 use Rattle.elasticity_neo_hookean.specs.declared.Made.{Made}
 use Rattle.elasticity_neo_hookean.specs.declared.Made.the-variants.{Law, Refused}
 
+abbrev pub two : Expr
+two = num physics.two
+
 -- the number of axes
-abbrev pub dim : Float
-dim = ofBits binary64 0x4008_0000_0000_0000
+abbrev pub dim : Expr
+dim = num (ofBits binary64 0x4008_0000_0000_0000)
 
--- the law's floats are inputs of each call
+-- ---- the law's floats are inputs of each call
+abbrev pub parametersOf : NeoHookeanElasticity → List Float
+parametersOf p = p .«cfl_coeff» ∷ p .lambda ∷ p .mu ∷ []
+
 abbrev pub lawFinite : NeoHookeanElasticity → Bool
-lawFinite p = finite (p .«cfl_coeff») && finite (p .lambda) && finite (p .mu)
+lawFinite p = allOf finite (parametersOf p)
 
+-- the law's, then the call's scalars, then F's
+unfoldable pub floats : NeoHookeanElasticity → List Float → List (List Float) → List Float
+floats p scalars f = parametersOf p ++ scalars ++ flat f
+
+-- ---- `new`
 -- coefficient 0.5
 unfoldable pub lawOf : Lame → NeoHookeanElasticity
 lawOf m = record { «cfl_coeff» = ofBits binary64 0x3fe0_0000_0000_0000; lambda = m .lambda; mu = m .mu }
@@ -32,21 +48,20 @@ fromLame m = cond (finite (m .lambda) && finite (m .mu)) (Law (lawOf m)) (Refuse
 unfoldable pub newOf : Float → Float → Made
 newOf young poisson = cond (finite young && finite poisson) (fromLame (lameOf young poisson)) (Refused notFinite)
 
--- 0.001
-abbrev pub residual : Float
-residual = ofBits binary64 0x3f50_624d_d2f1_a9fc
-
--- of a finite phase no NaN arises
-unfoldable pub phaseCoeffOf : Float → Float
-phaseCoeffOf phase = add (mul (mul (sub one residual) phase) phase) residual
+-- ---- `phase_coeff`, where R is 0.001
+abbrev pub coefficient : Float → Expr
+coefficient phase =
+    let r = num (ofBits binary64 0x3f50_624d_d2f1_a9fc) in
+    (one - r) * num phase * num phase + r
 
 unfoldable pub phaseCoeff : Float → Answer
-phaseCoeff phase = given (finite phase) (answeredOf (phaseCoeffOf phase))
+phaseCoeff phase = answerAs (result (inputs (phase ∷ []) (returned 1 (coefficient phase))))
 
+-- ---- of both stresses and `pos_energy`; h is the elastic hardening
 -- k = 2/3 mu h + lambda h
-unfoldable pub bulkOf : NeoHookeanElasticity → Float → Float
-bulkOf p h = add (mul (mul (div two dim) (p .mu)) h) (mul (p .lambda) h)
+abbrev pub bulk : NeoHookeanElasticity → Float → Expr
+bulk p h = two / dim * num (p .mu) * num h + num (p .lambda) * num h
 
 -- F F^T
-unfoldable pub cauchyGreenOf : List (List Float) → List (List Float)
-cauchyGreenOf f = mulOf f (transposeOf f)
+abbrev pub cauchyGreen : List (List Float) → List (List Expr)
+cauchyGreen f = times (rows f) (turned (rows f))

@@ -1,78 +1,71 @@
--- The neo-Hookean law's stresses (document 01, section 5: "`kirchhoff_stress` splits: from j = 1 up all is tensile, else only the deviatoric part; `fpk_stress` has no split and no phase").
-use mathlib.Core.Bool.{Bool, cond, _&&_}
-use mathlib.Core.List.{List}
-use lib.Ieee as Ieee
+-- The neo-Hookean law's stresses (RULES, section 5: "`kirchhoff_stress` splits: from j = 1 up all is tensile, else only the deviatoric part; `fpk_stress` has no split and no phase").
+use mathlib.Core.List.{List, [], _∷_}
+use Prim.Native.Nat.{ℕ}
 use lib.Ieee.{Float}
-use Rattle.answers.specs.Refusals.{noNumber}
-use Rattle.numbers.specs.Floats.{finite, isNumber}
-use Rattle.answers.specs.Range.{onPath}
-use Rattle.answers.specs.declared.Answer.{Answer}
-use Rattle.answers.specs.declared.Answer.the-variants.{Value, Refused}
-use Rattle.physics.specs.Physics.{two}
-use Rattle.tensor.specs.Matrix.{sub, mul, div, one, three, detOf, mulOf, matAddOf, matScaleOf, identityTimesOf}
-use Rattle.tensor.specs.Decomposed.{deviatoricOf}
-use Rattle.tensor.specs.Finite.{matFinite}
-use Rattle.tensor.specs.Number.{matNumber}
-use Rattle.tensor.specs.Inverse.{inverseTransposeOf}
-use Rattle.tensor.specs.Answer.{zeroRow, answered, refusedMatrix, givenMatrix}
+use Rattle.tensor.specs.Matrix as tensor
+use Rattle.tensor.specs.Matrix.{three, identityTimesOf}
+use Rattle.tensor.specs.Answer.{zeroRow}
 use Rattle.tensor.specs.declared.MatrixAnswer.{MatrixAnswer}
-use Rattle.thirds.specs.Thirds.{invCbrtSquaredRanged}
-use Rattle.elasticity_neo_hookean.specs.Law.{lawFinite, phaseCoeffOf, bulkOf, cauchyGreenOf}
+use Rattle.walk.specs.Expr.{Expr, num, _-_, _*_, _/_, value}
+use Rattle.walk.specs.Walk.{Walk, minus-two-thirds, zeros, at-most, inputs, ask, work, split, result}
+use Rattle.walk.specs.Tensor.{one, rows, times, plus, scaled, identity-times, determinant, deviatoric, cofactors-over}
+use Rattle.walk.specs.Answers.{matrix, returnedMatrix, matrixAs}
+use Rattle.elasticity_neo_hookean.specs.Law.{two, floats, coefficient, bulk, cauchyGreen}
 use Rattle.elasticity_neo_hookean.specs.declared.NeoHookeanElasticity.{NeoHookeanElasticity}
 
--- p is the law, h the elastic hardening, j the determinant of F, k the bulk modulus times h, b is F F^T, w the power of j, c the phase's coefficient.
+-- p is the law, h the elastic hardening, j the determinant of F, k the bulk modulus times h, b is F F^T, w is j^(-2/3), c the phase's coefficient.
 
 -- both stresses: mu h j^(-2/3) times the deviatoric part of F F^T
-unfoldable pub shearStress : NeoHookeanElasticity → Float → Float → List (List Float) → List (List Float)
-shearStress p h w b = matScaleOf (mul (mul (p .mu) h) w) (deviatoricOf b)
+abbrev pub shear : NeoHookeanElasticity → Float → Expr → List (List Float) → List (List Expr)
+shear p h w b = scaled (num (p .mu) * num h * w) (deviatoric (rows b))
 
--- fpk_stress: g is the inverse of F^T
+-- ---- fpk_stress: g is the inverse of F^T, at j = 0 the identity
+abbrev pub inverted : {A : Type 0} → ℕ → List (List Float) → Expr → (List (List Float) → Walk A) → Walk A
+inverted n f j k = split n (zeros (value j ∷ [])) (k (identityTimesOf tensor.one)) (matrix n (cofactors-over f j) k)
 
-unfoldable pub fpkVolumetric : Float → Float → List (List Float) → List (List Float)
-fpkVolumetric j k g = matScaleOf (mul (div (mul j k) two) (sub j (div one j))) g
+abbrev pub fpkVolumetric : Expr → Expr → List (List Float) → List (List Expr)
+fpkVolumetric j k g = scaled (j * k / two * (j - one / j)) (rows g)
 
-unfoldable pub fpkOf : NeoHookeanElasticity → Float → Float → Float → Float → List (List Float) → List (List Float) → List (List Float)
-fpkOf p h j k w g b = matAddOf (mulOf (shearStress p h w b) g) (fpkVolumetric j k g)
+unfoldable pub fpkSteps : NeoHookeanElasticity → List (List Float) → Float → Walk (List (List Float))
+fpkSteps p f h =
+    work 1 (determinant f) (λ j.
+    work 2 (bulk p h) (λ k.
+    inverted 3 f j (λ g.
+    matrix 4 (cauchyGreen f) (λ b.
+    ask 5 minus-two-thirds j (λ w.
+    returnedMatrix 6 (plus (times (shear p h w b) (rows g)) (fpkVolumetric j k g)))))))
 
--- a refusal of the power is handed on; a NaN after it is in an entry of the sum
-unfoldable pub fpkPowered : Answer → NeoHookeanElasticity → Float → Float → Float → List (List Float) → List (List Float) → MatrixAnswer
-fpkPowered (Value w) p h j k g b = answered (fpkOf p h j k w g b)
-fpkPowered (Refused n) p h j k g b = refusedMatrix n
+unfoldable pub fpkWalk : NeoHookeanElasticity → List (List Float) → Float → Walk (List (List Float))
+fpkWalk p f h = inputs (floats p (h ∷ []) f) (fpkSteps p f h)
 
--- k, the inverse and F F^T come before the power: a NaN there is met first, and a NaN in j is the power's 3
-unfoldable pub fpkSteps : NeoHookeanElasticity → Float → Float → Float → List (List Float) → List (List Float) → MatrixAnswer
-fpkSteps p h j k g b =
-    cond (isNumber k && matNumber g && matNumber b)
-    (fpkPowered (onPath j (invCbrtSquaredRanged j)) p h j k g b)
-    (refusedMatrix noNumber)
+abbrev pub fpkStress : NeoHookeanElasticity → List (List Float) → Float → MatrixAnswer
+fpkStress p f h = matrixAs (result (fpkWalk p f h))
 
-unfoldable pub fpkStress : NeoHookeanElasticity → List (List Float) → Float → MatrixAnswer
-fpkStress p f h =
-    givenMatrix (lawFinite p && matFinite f && finite h)
-    (fpkSteps p h (detOf f) (bulkOf p h) (inverseTransposeOf f (detOf f)) (cauchyGreenOf f))
+-- ---- kirchhoff_stress
+abbrev pub volumetric : Expr → Expr → List (List Expr)
+volumetric j k = identity-times (k / two * (j * j - one))
 
--- kirchhoff_stress
+-- from j = 1 up all is tensile, and zeros are added
+abbrev pub tensile : Expr → List (List Expr) → List (List Expr) → List (List Expr)
+tensile c dev vol = plus (scaled c (plus dev vol)) (rows (three zeroRow zeroRow zeroRow))
 
-unfoldable pub volumetricStress : Float → Float → List (List Float)
-volumetricStress j k = identityTimesOf (mul (div k two) (sub (mul j j) one))
+-- below it only the deviatoric part
+abbrev pub compressed : Expr → List (List Expr) → List (List Expr) → List (List Expr)
+compressed c dev vol = plus (scaled c dev) vol
 
--- from j = 1 up all is tensile, and zeros are added; below it only the deviatoric part
-unfoldable pub splitSum : Float → Float → List (List Float) → List (List Float) → List (List Float)
-splitSum c j dev vol =
-    cond (Ieee.le one j)
-    (matAddOf (matScaleOf c (matAddOf dev vol)) (three zeroRow zeroRow zeroRow))
-    (matAddOf (matScaleOf c dev) vol)
+abbrev pub splitWalk : Expr → Expr → List (List Expr) → List (List Expr) → Walk (List (List Float))
+splitWalk c j dev vol = split 5 (at-most one j) (returnedMatrix 6 (tensile c dev vol)) (returnedMatrix 6 (compressed c dev vol))
 
-unfoldable pub kirchhoffPowered : Answer → NeoHookeanElasticity → Float → Float → Float → Float → List (List Float) → MatrixAnswer
-kirchhoffPowered (Value w) p c h j k b = answered (splitSum c j (shearStress p h w b) (volumetricStress j k))
-kirchhoffPowered (Refused n) p c h j k b = refusedMatrix n
+unfoldable pub kirchhoffSteps : NeoHookeanElasticity → Float → Float → List (List Float) → Walk (List (List Float))
+kirchhoffSteps p phase h f =
+    work 1 (determinant f) (λ j.
+    work 2 (bulk p h) (λ k.
+    matrix 3 (cauchyGreen f) (λ b.
+    ask 4 minus-two-thirds j (λ w.
+    splitWalk (coefficient phase) j (shear p h w b) (volumetric j k)))))
 
--- k and F F^T come before the power: a NaN there is met first, and a NaN in j is the power's 3
-unfoldable pub kirchhoffSteps : NeoHookeanElasticity → Float → Float → Float → Float → List (List Float) → MatrixAnswer
-kirchhoffSteps p c h j k b =
-    cond (isNumber k && matNumber b) (kirchhoffPowered (onPath j (invCbrtSquaredRanged j)) p c h j k b) (refusedMatrix noNumber)
+unfoldable pub kirchhoffWalk : NeoHookeanElasticity → Float → Float → List (List Float) → Walk (List (List Float))
+kirchhoffWalk p phase h f = inputs (floats p (phase ∷ h ∷ []) f) (kirchhoffSteps p phase h f)
 
-unfoldable pub kirchhoffStress : NeoHookeanElasticity → Float → Float → List (List Float) → MatrixAnswer
-kirchhoffStress p phase h f =
-    givenMatrix (lawFinite p && finite phase && finite h && matFinite f)
-    (kirchhoffSteps p (phaseCoeffOf phase) h (detOf f) (bulkOf p h) (cauchyGreenOf f))
+abbrev pub kirchhoffStress : NeoHookeanElasticity → Float → Float → List (List Float) → MatrixAnswer
+kirchhoffStress p phase h f = matrixAs (result (kirchhoffWalk p phase h f))

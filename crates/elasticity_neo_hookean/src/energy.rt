@@ -1,168 +1,127 @@
 use crate::NeoHookeanElasticity;
 use crate::plain;
+use crate::stress;
 use answers::Answer;
 ghost use mathlib.Core.Path.{_≡_};
-ghost use Rattle.elasticity_neo_hookean.specs.Energy.{volumetricEnergy, kappaOf, stretchOf, deviatoricEnergy, energySum, energyLogged, energyPowered, energySteps, posDeviatoric, posSum, posLogged, posPowered, posSteps};
+ghost use mathlib.Core.Bool.{cond};
+ghost use lib.Ieee.{le, lt};
+ghost use Rattle.answers.specs.Answer.{answeredOf};
+ghost use Rattle.tensor.specs.Matrix.{add, mul, zero, one};
+ghost use Rattle.walk.specs.Expr.{num, value};
+ghost use Rattle.walk.specs.Walk.{result, answerAs};
+ghost use Rattle.walk.specs.Tensor.{worth};
+ghost use Rattle.elasticity_neo_hookean.specs.Law.{coefficient};
+ghost use Rattle.elasticity_neo_hookean.specs.Energy.{volumetricEnergy, kappa, stretch, deviatoricEnergy, energySteps, posDeviatoric, posSteps};
 
 // q is the square of j, l its logarithm.
 fn volumetric_energy(k: f64, q: f64, l: f64) -> f64
-    ensures { λ r. ⌜ r ≡ volumetricEnergy k q l ⌝ }
+    ensures { λ r. ⌜ r ≡ value (volumetricEnergy (num k) (num q) (num l)) ⌝ }
 {
     k / 2.0 * ((q - 1.0) / 2.0 - l)
 }
 
 // The bulk modulus as `elastic_energy_density` groups it.
-pub fn kappa(p: NeoHookeanElasticity, hardening: f64) -> f64
-    ensures { λ r. ⌜ r ≡ kappaOf p hardening ⌝ }
+fn kappa(p: NeoHookeanElasticity, hardening: f64) -> f64
+    ensures { λ r. ⌜ r ≡ value (kappa p hardening) ⌝ }
 {
     2.0 / 3.0 * (p.mu * hardening) + p.lambda * hardening
 }
 
-fn stretch(w: f64, f: [[f64; 3]; 3]) -> f64
-    ensures { λ r. ⌜ r ≡ stretchOf w f ⌝ }
+// w is j to the power -1/3.
+fn stretch(w: f64, f: [[f64; 3]; 3]) -> [[f64; 3]; 3]
+    ensures { λ r. ⌜ r ≡ worth (stretch (num w) f) ⌝ }
 {
-    let s = tensor::mat_scale(w, f);
-    tensor::trace(tensor::mat_mul(tensor::transpose(s), s))
+    let a = tensor::mat_scale(w, f);
+    tensor::mat_mul(tensor::transpose(a), a)
 }
 
-// w is j to the power -1/3.
-fn deviatoric_energy(p: NeoHookeanElasticity, hardening: f64, w: f64, f: [[f64; 3]; 3]) -> f64
-    ensures { λ r. ⌜ r ≡ deviatoricEnergy p hardening w f ⌝ }
+fn deviatoric_energy(p: NeoHookeanElasticity, hardening: f64, s: [[f64; 3]; 3]) -> f64
+    ensures { λ r. ⌜ r ≡ value (deviatoricEnergy p hardening s) ⌝ }
 {
-    p.mu * hardening / 2.0 * (stretch(w, f) - 3.0)
+    p.mu * hardening / 2.0 * (tensor::trace(s) - 3.0)
 }
 
 // Below j = 1 the volumetric part is the tensile one, as the text has it.
-fn energy_sum(c: f64, j: f64, dev: f64, vol: f64) -> f64
-    ensures { λ r. ⌜ r ≡ energySum c j dev vol ⌝ }
+fn energy_sum(c: f64, j: f64, dev: f64, vol: f64) -> Answer
+    ensures { λ r. ⌜ r ≡ cond (le one j) (answeredOf (add (mul c (add vol dev)) zero)) (answeredOf (add (mul c vol) dev)) ⌝ }
 {
     if j >= 1.0 {
-        c * (vol + dev) + 0.0
+        answers::answered(c * (vol + dev) + 0.0)
     } else {
-        c * vol + dev
+        answers::answered(c * vol + dev)
     }
 }
 
-fn energy_logged(log: Answer, c: f64, j: f64, kappa: f64, dev: f64) -> Answer
-    ensures { λ r. ⌜ r ≡ energyLogged log c j kappa dev ⌝ }
+// A NaN in k comes before the power's refusal; one in j is the power's.
+pub fn energy(p: NeoHookeanElasticity, phase: f64, hardening: f64, f: [[f64; 3]; 3]) -> Answer
+    ensures { λ r. ⌜ r ≡ answerAs (result (energySteps p phase hardening f)) ⌝ }
 {
-    match log {
-        Answer::Value(l) => {
-            let vol = volumetric_energy(kappa, numbers::powi(j, 2), l);
-            answers::answered(energy_sum(c, j, dev, vol))
+    let k = kappa(p, hardening);
+    let j = tensor::determinant(f);
+    if numbers::is_number(k) {
+        match thirds::inv_cbrt_on_path(j) {
+            Answer::Value(w) => {
+                let s = stretch(w, f);
+                if tensor::mat_number(s) {
+                    match logarithm::ln_on_path(j) {
+                        Answer::Value(l) => {
+                            let vol = volumetric_energy(k, numbers::powi(j, 2), l);
+                            let dev = deviatoric_energy(p, hardening, s);
+                            energy_sum(plain::phase_coeff(phase), j, dev, vol)
+                        }
+                        Answer::Refused(n) => Answer::Refused(n),
+                    }
+                } else {
+                    Answer::Refused(answers::NO_NUMBER)
+                }
+            }
+            Answer::Refused(n) => Answer::Refused(n),
         }
-        Answer::Refused(n) => Answer::Refused(n),
-    }
-}
-
-fn energy_powered(
-    power: Answer,
-    p: NeoHookeanElasticity,
-    c: f64,
-    hardening: f64,
-    j: f64,
-    kappa: f64,
-    f: [[f64; 3]; 3],
-) -> Answer
-    ensures { λ r. ⌜ r ≡ energyPowered power p c hardening j kappa f ⌝ }
-{
-    match power {
-        Answer::Value(w) => {
-            let dev = deviatoric_energy(p, hardening, w, f);
-            energy_logged(logarithm::ln_on_path(j), c, j, kappa, dev)
-        }
-        Answer::Refused(n) => Answer::Refused(n),
-    }
-}
-
-pub fn energy_steps(
-    p: NeoHookeanElasticity,
-    c: f64,
-    hardening: f64,
-    j: f64,
-    kappa: f64,
-    f: [[f64; 3]; 3],
-) -> Answer
-    ensures { λ r. ⌜ r ≡ energySteps p c hardening j kappa f ⌝ }
-{
-    if numbers::is_number(kappa) {
-        energy_powered(thirds::inv_cbrt_on_path(j), p, c, hardening, j, kappa, f)
     } else {
         Answer::Refused(answers::NO_NUMBER)
     }
 }
 
+// w is j to the power -2/3, b is F F^T.
 fn pos_deviatoric(p: NeoHookeanElasticity, hardening: f64, w: f64, b: [[f64; 3]; 3]) -> f64
-    ensures { λ r. ⌜ r ≡ posDeviatoric p hardening w b ⌝ }
+    ensures { λ r. ⌜ r ≡ value (posDeviatoric p hardening (num w) b) ⌝ }
 {
     hardening * p.mu / 2.0 * (tensor::trace(b) * w - 3.0)
 }
 
 // From j = 1 up the phase itself multiplies, not its coefficient, as the text has it.
 fn pos_sum(phase: f64, j: f64, dev: f64, vol: f64) -> Answer
-    ensures { λ r. ⌜ r ≡ posSum phase j dev vol ⌝ }
+    ensures { λ r. ⌜ r ≡ cond (lt j one) (answeredOf (mul dev (value (coefficient phase)))) (answeredOf (mul (add dev vol) phase)) ⌝ }
 {
-    if numbers::is_number(vol) {
-        if j < 1.0 {
-            answers::answered(dev * plain::phase_coeff(phase))
-        } else {
-            answers::answered((dev + vol) * phase)
-        }
+    if j < 1.0 {
+        answers::answered(dev * plain::phase_coeff(phase))
     } else {
-        Answer::Refused(answers::NO_NUMBER)
+        answers::answered((dev + vol) * phase)
     }
 }
 
-fn pos_logged(log: Answer, phase: f64, j: f64, k: f64, dev: f64) -> Answer
-    ensures { λ r. ⌜ r ≡ posLogged log phase j k dev ⌝ }
+// A NaN in F F^T or in k comes before the power's refusal; one in j is the power's.
+pub fn pos(p: NeoHookeanElasticity, phase: f64, hardening: f64, f: [[f64; 3]; 3]) -> Answer
+    ensures { λ r. ⌜ r ≡ answerAs (result (posSteps p phase hardening f)) ⌝ }
 {
-    match log {
-        Answer::Value(l) => pos_sum(phase, j, dev, volumetric_energy(k, j * j, l)),
-        Answer::Refused(n) => Answer::Refused(n),
-    }
-}
-
-fn pos_powered(
-    power: Answer,
-    p: NeoHookeanElasticity,
-    phase: f64,
-    hardening: f64,
-    j: f64,
-    k: f64,
-    b: [[f64; 3]; 3],
-) -> Answer
-    ensures { λ r. ⌜ r ≡ posPowered power p phase hardening j k b ⌝ }
-{
-    match power {
-        Answer::Value(w) => {
-            let dev = pos_deviatoric(p, hardening, w, b);
-            pos_logged(logarithm::ln_on_path(j), phase, j, k, dev)
-        }
-        Answer::Refused(n) => Answer::Refused(n),
-    }
-}
-
-// b is F F^T: a NaN in it or in k comes before the power's refusal.
-pub fn pos_steps(
-    p: NeoHookeanElasticity,
-    phase: f64,
-    hardening: f64,
-    j: f64,
-    k: f64,
-    b: [[f64; 3]; 3],
-) -> Answer
-    ensures { λ r. ⌜ r ≡ posSteps p phase hardening j k b ⌝ }
-{
+    let j = tensor::determinant(f);
+    let k = p.bulk(hardening);
+    let b = stress::cauchy_green_strain(f);
     if numbers::is_number(k) & tensor::mat_number(b) {
-        pos_powered(
-            thirds::inv_cbrt_squared_on_path(j),
-            p,
-            phase,
-            hardening,
-            j,
-            k,
-            b,
-        )
+        match thirds::inv_cbrt_squared_on_path(j) {
+            Answer::Value(w) => match logarithm::ln_on_path(j) {
+                Answer::Value(l) => {
+                    let vol = volumetric_energy(k, j * j, l);
+                    if numbers::is_number(vol) {
+                        pos_sum(phase, j, pos_deviatoric(p, hardening, w, b), vol)
+                    } else {
+                        Answer::Refused(answers::NO_NUMBER)
+                    }
+                }
+                Answer::Refused(n) => Answer::Refused(n),
+            },
+            Answer::Refused(n) => Answer::Refused(n),
+        }
     } else {
         Answer::Refused(answers::NO_NUMBER)
     }

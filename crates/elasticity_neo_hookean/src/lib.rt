@@ -8,8 +8,11 @@ use answers::Answer;
 use physics::Lame;
 use tensor::MatrixAnswer;
 ghost use mathlib.Core.Path.{_≡_};
-ghost use mathlib.Core.Bool.{false};
-ghost use Rattle.elasticity_neo_hookean.specs.Law.{lawFinite, lawOf, fromLame, newOf, phaseCoeff, bulkOf, cauchyGreenOf};
+ghost use mathlib.Core.Bool.{false, _&&_};
+ghost use Rattle.numbers.specs.Floats.{finite};
+ghost use Rattle.tensor.specs.Finite.{matFinite};
+ghost use Rattle.walk.specs.Expr.{value};
+ghost use Rattle.elasticity_neo_hookean.specs.Law.{lawFinite, lawOf, fromLame, newOf, phaseCoeff, bulk};
 ghost use Rattle.elasticity_neo_hookean.specs.Stress.{fpkStress, kirchhoffStress};
 ghost use Rattle.elasticity_neo_hookean.specs.Energy.{elasticEnergyDensity, posEnergy};
 
@@ -45,13 +48,6 @@ fn from_lame(m: Lame) -> Made
     }
 }
 
-// F F^T.
-fn cauchy_green_strain(f: [[f64; 3]; 3]) -> [[f64; 3]; 3]
-    ensures { λ r. ⌜ r ≡ cauchyGreenOf f ⌝ }
-{
-    tensor::mat_mul(f, tensor::transpose(f))
-}
-
 impl NeoHookeanElasticity {
     pub const CFL_COEFF: f64 = 0.5;
 
@@ -73,8 +69,18 @@ impl NeoHookeanElasticity {
             & numbers::is_finite(self.mu)
     }
 
+    // Of the calls that take a phase.
+    fn inputs_finite(self, phase: f64, hardening: f64, f: [[f64; 3]; 3]) -> bool
+        ensures { λ r. ⌜ r ≡ lawFinite self && finite phase && finite hardening && matFinite f ⌝ }
+    {
+        self.law_finite()
+            & numbers::is_finite(phase)
+            & numbers::is_finite(hardening)
+            & tensor::mat_finite(f)
+    }
+
     fn bulk(self, hardening: f64) -> f64
-        ensures { λ r. ⌜ r ≡ bulkOf self hardening ⌝ }
+        ensures { λ r. ⌜ r ≡ value (bulk self hardening) ⌝ }
     {
         2.0 / 3.0 * self.mu * hardening + self.lambda * hardening
     }
@@ -82,11 +88,8 @@ impl NeoHookeanElasticity {
     pub fn fpk_stress(self, f: [[f64; 3]; 3], hardening: f64) -> MatrixAnswer
         ensures { λ r. ⌜ r ≡ fpkStress self f hardening ⌝ }
     {
-        if self.law_finite() & tensor::mat_finite(f) & numbers::is_finite(hardening) {
-            let j = tensor::determinant(f);
-            let k = self.bulk(hardening);
-            let g = tensor::inverse_transpose(f, j);
-            stress::fpk_steps(self, hardening, j, k, g, cauchy_green_strain(f))
+        if self.law_finite() & numbers::is_finite(hardening) & tensor::mat_finite(f) {
+            stress::fpk(self, f, hardening)
         } else {
             tensor::refused_matrix(answers::NOT_FINITE)
         }
@@ -95,15 +98,8 @@ impl NeoHookeanElasticity {
     pub fn kirchhoff_stress(self, phase: f64, hardening: f64, f: [[f64; 3]; 3]) -> MatrixAnswer
         ensures { λ r. ⌜ r ≡ kirchhoffStress self phase hardening f ⌝ }
     {
-        if self.law_finite()
-            & numbers::is_finite(phase)
-            & numbers::is_finite(hardening)
-            & tensor::mat_finite(f)
-        {
-            let c = plain::phase_coeff(phase);
-            let j = tensor::determinant(f);
-            let k = self.bulk(hardening);
-            stress::kirchhoff_steps(self, c, hardening, j, k, cauchy_green_strain(f))
+        if self.inputs_finite(phase, hardening, f) {
+            stress::kirchhoff(self, phase, hardening, f)
         } else {
             tensor::refused_matrix(answers::NOT_FINITE)
         }
@@ -128,14 +124,8 @@ impl NeoHookeanElasticity {
     pub fn elastic_energy_density(self, phase: f64, hardening: f64, f: [[f64; 3]; 3]) -> Answer
         ensures { λ r. ⌜ r ≡ elasticEnergyDensity self phase hardening f ⌝ }
     {
-        if self.law_finite()
-            & numbers::is_finite(phase)
-            & numbers::is_finite(hardening)
-            & tensor::mat_finite(f)
-        {
-            let kappa = energy::kappa(self, hardening);
-            let j = tensor::determinant(f);
-            energy::energy_steps(self, plain::phase_coeff(phase), hardening, j, kappa, f)
+        if self.inputs_finite(phase, hardening, f) {
+            energy::energy(self, phase, hardening, f)
         } else {
             Answer::Refused(answers::NOT_FINITE)
         }
@@ -145,14 +135,8 @@ impl NeoHookeanElasticity {
     pub fn pos_energy(self, phase: f64, hardening: f64, f: [[f64; 3]; 3]) -> Answer
         ensures { λ r. ⌜ r ≡ posEnergy self phase hardening f ⌝ }
     {
-        if self.law_finite()
-            & numbers::is_finite(phase)
-            & numbers::is_finite(hardening)
-            & tensor::mat_finite(f)
-        {
-            let j = tensor::determinant(f);
-            let k = self.bulk(hardening);
-            energy::pos_steps(self, phase, hardening, j, k, cauchy_green_strain(f))
+        if self.inputs_finite(phase, hardening, f) {
+            energy::pos(self, phase, hardening, f)
         } else {
             Answer::Refused(answers::NOT_FINITE)
         }

@@ -1,4 +1,4 @@
--- Document 01, section 3, whole: a row a function. Each call, made by itself, answers its value for every f64 of its range, ends included,
+-- RULES, section 3, whole: a row a function. Each call, made by itself, answers its value for every f64 of its range, ends included,
 -- as near to the exact value as the table says, and a value for no other number. The distances are those of `series` and `exact`.
 use mathlib.Core.Path.{_≡_}
 use mathlib.Core.Bool.{true}

@@ -1,4 +1,4 @@
--- Document 01, section 8, P6 to P9: pressure0 10, mass and volume 1, largest negative pressure 1.
+-- RULES, section 8, P6 to P9: pressure0 10, mass and volume 1, largest negative pressure 1.
 use mathlib.Core.Path.{_≡_, refl}
 use Prim.Native.Nat.{ℕ}
 use lib.Ieee as Ieee

@@ -1,4 +1,4 @@
--- Monaghan's Kirchhoff stress, from eos_monaghan_sph.rs, with the refusals of document 01, section 6.
+-- Monaghan's Kirchhoff stress, from eos_monaghan_sph.rs, with the refusals of RULES, section 6.
 use mathlib.Core.Bool.{cond, _&&_}
 use mathlib.Core.List.{List}
 use lib.Ieee as Ieee

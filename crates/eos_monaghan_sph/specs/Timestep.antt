@@ -1,4 +1,4 @@
--- Monaghan's `timestep_bound`, from eos_monaghan_sph.rs and document 01, sections 5 and 6. In the text's order:
+-- Monaghan's `timestep_bound`, from eos_monaghan_sph.rs and RULES, sections 5 and 6. In the text's order:
 --   the pressure       its NaNs, and density0's, are 3 (Pressure.antt); it may be infinite
 --   width / j          0 over 0: 3
 --   the root's argument

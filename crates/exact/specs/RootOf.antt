@@ -1,4 +1,4 @@
--- The square root of a binary64 value, correctly rounded: IEEE 754, 5.4.1 (document 01, section 3).
+-- The square root of a binary64 value, correctly rounded: IEEE 754, 5.4.1 (RULES, section 3).
 use mathlib.Core.Path.{_≡_}
 use mathlib.Core.Bool.{false, cond}
 use Prim.Native.Nat.{ℕ, zero, suc, _+_, _*_, _/_, _≤_, _<_}

@@ -1,4 +1,4 @@
--- The exponential is as near as document 01, section 3, asks: exp-near. And exactly 1 at 0: exp-zero. Assumes nothing.
+-- The exponential is as near as RULES, section 3, asks: exp-near. And exactly 1 at 0: exp-zero. Assumes nothing.
 use mathlib.Core.Path.{_≡_, refl, sym, subst}
 use mathlib.Core.Bool.{Bool, true, false, cond}
 use Prim.Native.Nat.{ℕ, zero, suc, _+_, _-_, _*_, _/_, _^_, _≤_, _<_}

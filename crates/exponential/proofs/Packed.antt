@@ -121,7 +121,7 @@ near z r f b d S H b1 lo hi d1 d2 =
       most = rw (H .units) (most-of E (2 ^ f) d (pow-succ' 2 f) d2);
     }
 
--- one part in 2^48 is less than document 01's one in 2^45
+-- one part in 2^48 is less than RULES' one in 2^45
 weaker-above : (a l G P : ℕ) → 0 < P → P ≤ G → a * (G + 1) * (l * (P - 1)) ≤ a * P * (l * G)
 weaker-above a l G P p h =
     let k : (P - 1) + (P - 1) * G ≤ P * G = go (P - 1) (omega arith) in omega (arith, mul-le-mul-right (a * l) k)

@@ -1,4 +1,4 @@
--- The hyperbolic sine is as near as document 01, section 3, asks: sinh-near. And exactly 0 at 0: sinh-zero. Assumes nothing.
+-- The hyperbolic sine is as near as RULES, section 3, asks: sinh-near. And exactly 0 at 0: sinh-zero. Assumes nothing.
 use mathlib.Core.Path.{_≡_, refl, sym, ap, _∙_}
 use mathlib.Core.Bool.{Bool, true, false, not, cond}
 use Prim.Native.Nat.{ℕ, _+_, _-_, _*_, _^_, _≤_}

@@ -1,4 +1,4 @@
--- What exp answers at a number (document 01, sections 3 and 6): its value within the range, or the refusal.
+-- What exp answers at a number (RULES, sections 3 and 6): its value within the range, or the refusal.
 use lib.Ieee.{Float}
 use Rattle.answers.specs.Range.{ranged}
 use Rattle.answers.specs.declared.Answer.{Answer}

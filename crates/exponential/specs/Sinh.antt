@@ -1,4 +1,4 @@
--- What the hyperbolic sine works (document 01, section 3): half of exp |x| less its reciprocal, with the sign of x, so that -0 gives -0.
+-- What the hyperbolic sine works (RULES, section 3): half of exp |x| less its reciprocal, with the sign of x, so that -0 gives -0.
 -- How near it is stands in `series`, SinhNear; that it is so near, in proofs/SinhClose.
 use mathlib.Core.Bool.{false, cond}
 use lib.Ieee as Ieee

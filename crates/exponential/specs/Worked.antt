@@ -1,4 +1,4 @@
--- What the exponential works (document 01, section 3): in whole numbers, an argument in units of 2^-53 and a value in units of 2^-61,
+-- What the exponential works (RULES, section 3): in whole numbers, an argument in units of 2^-53 and a value in units of 2^-61,
 -- 2^-62 or 2^-63. How near it is stands in `series`, ExpNear; that it is so near, in proofs/Near.
 use mathlib.Core.Bool.{Bool, true, false, cond}
 use Prim.Native.Nat.{ℕ, _+_, _-_, _*_, _/_, _%_, _^_}

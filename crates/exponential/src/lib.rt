@@ -1,4 +1,4 @@
-// The exponential and the hyperbolic sine (document 01, section 3). The exponential is worked in fixed point: 2^k times a part from two
+// The exponential and the hyperbolic sine (RULES, section 3). The exponential is worked in fixed point: 2^k times a part from two
 // tables and four terms of the series.
 mod entries;
 mod hyperbolic;

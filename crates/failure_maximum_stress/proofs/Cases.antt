@@ -1,4 +1,4 @@
--- Document 01, section 8, P10 and P11.
+-- RULES, section 8, P10 and P11.
 use mathlib.Core.Path.{_≡_, refl}
 use lib.Ieee as Ieee
 use lib.Ieee.{Float, binary64, ofBits}

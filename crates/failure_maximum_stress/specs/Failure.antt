@@ -1,4 +1,4 @@
--- The failure rule on given principal stresses, from failure_maximum_stress.rs and document 01, section 5.
+-- The failure rule on given principal stresses, from failure_maximum_stress.rs and RULES, section 5.
 use mathlib.Core.Bool.{Bool, cond, _&&_, _||_}
 use mathlib.Core.List.{List}
 use lib.Ieee as Ieee

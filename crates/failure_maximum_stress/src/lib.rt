@@ -1,4 +1,4 @@
-// The verdict on given principal stresses (failure_maximum_stress.rs; document 01, sections 5 and 6).
+// The verdict on given principal stresses (failure_maximum_stress.rs; RULES, sections 5 and 6).
 ghost use mathlib.Core.Path.{_≡_};
 ghost use Rattle.failure_maximum_stress.specs.Failure.{limitsOf, limitsFinite, largestOf, smallestOf, exceedsOf, verdictOf};
 

@@ -1,14 +1,13 @@
--- The answers of the calls that read lists: each law's own answer, after 8 for a length and 6 for a flag (document 01, section 6).
+-- The answers of the calls that read lists: each law's own answer, after 8 for a length and 6 for a flag (RULES, section 6).
 use mathlib.Core.Bool.{_&&_}
 use mathlib.Core.List.{List}
 use Prim.Native.Nat.{ℕ}
 use lib.ListN.{getD}
 use lib.Ieee.{Float}
-use Rattle.numbers.specs.Floats.{finite}
 use Rattle.answers.specs.Answer.{answeredOf, given}
 use Rattle.answers.specs.declared.Answer.{Answer}
 use Rattle.tensor.specs.Finite.{rowFinite, matFinite}
-use Rattle.tensor.specs.Answer.{answered, answeredVector, givenMatrix, givenVector, refusedVector}
+use Rattle.tensor.specs.Answer.{answered, answeredVector, givenMatrix, givenVector}
 use Rattle.tensor.specs.Decomposed.{deviatoricOf, sphericalOf, timesOf, tensorFinite}
 use Rattle.tensor.specs.declared.VectorAnswer.{VectorAnswer}
 use Rattle.tensor.specs.declared.MatrixAnswer.{MatrixAnswer}
@@ -21,18 +20,10 @@ use Rattle.eos_monaghan_sph.specs.Stress as monaghan
 use Rattle.eos_monaghan_sph.specs.Timestep as timestep
 use Rattle.eos_monaghan_sph.specs.declared.MonaghanSphEos.{MonaghanSphEos}
 use Rattle.failure_maximum_stress.specs.Failure.{verdictOf}
-use Rattle.failure_maximum_stress.specs.declared.MaximumStressFailure.{MaximumStressFailure}
 use Rattle.failure_maximum_stress.specs.declared.Verdict.{Verdict}
 use Rattle.plasticity_snow.specs.Snow.{clampedOf}
 use Rattle.plasticity_snow.specs.declared.SnowPlasticity.{SnowPlasticity}
-use Rattle.plasticity_rankine.specs.Projection.{projectOf}
-use Rattle.plasticity_rankine.specs.Rankine.{argumentsFinite, madeOf}
-use Rattle.plasticity_rankine.specs.declared.RankineArguments.{RankineArguments}
-use Rattle.plasticity_rankine.specs.declared.Projected.{Projected}
-use Rattle.plasticity_rankine.specs.declared.Branch.{Branch}
-use Rattle.plasticity_rankine.specs.declared.Branch.the-variants as branch
-use Rattle.plasticity_rankine.specs.declared.Made.{Made}
-use Rattle.plasticity_rankine.specs.declared.Made.the-variants as made
+use Rattle.plasticity_rankine.specs.Projection.{argumentsProject}
 use Rattle.plasticity_drucker_prager.specs.Alpha.{alphaOf}
 use Rattle.record.specs.Layout.{rowAt, matAt}
 use Rattle.host_lists.specs.Refused.{has, sizedNumber, sizedVector, sizedMatrix, sizedVerdict, flaggedNumber, flaggedMatrix}
@@ -108,24 +99,7 @@ snowOf low high coeff = record { «min_epsilon» = low; «max_epsilon» = high; 
 unfoldable pub snowClamp : SnowPlasticity → List ℕ → VectorAnswer
 snowClamp p s = sizedVector (has 3 s) (vectorOf (clampedOf p (rowAt s 0)))
 
--- ---- Rankine's projection: 1 for an argument, a strain or the strength s, then 3 for the moduli, then 3 for a NaN or a result
-abbrev pub branchStrains : Branch → List Float → VectorAnswer
-branchStrains (branch.Untouched x y) e = vectorOf e
-branchStrains (branch.One x y) e = vectorOf e
-branchStrains (branch.Two x y) e = vectorOf e
-branchStrains (branch.All x y) e = vectorOf e
-branchStrains (branch.Refused n) e = refusedVector n
-
-abbrev pub strainsOf : Projected → VectorAnswer
-strainsOf q = branchStrains (q .branch) (q .strains)
-
-unfoldable pub madeProject : Made → List Float → Float → VectorAnswer
-madeProject (made.Law p) e s = strainsOf (projectOf p e s)
-madeProject (made.Refused n) e s = refusedVector n
-
-unfoldable pub argumentsProject : RankineArguments → List Float → Float → VectorAnswer
-argumentsProject a e s = givenVector (argumentsFinite a && rowFinite e && finite s) (madeProject (madeOf a) e s)
-
+-- ---- Rankine's projection
 unfoldable pub rankineProject : List ℕ → Float → List ℕ → VectorAnswer
 rankineProject p s e = sizedVector (has 4 p && has 3 e) (argumentsProject (rankineOf p) (rowAt e 0) s)
 

@@ -1,4 +1,4 @@
--- What the pass and the pass with failure answer and write (document 01, sections 6 and 7).
+-- What the pass and the pass with failure answer and write (RULES, sections 6 and 7).
 use mathlib.Core.Bool.{Bool, true, cond, _&&_}
 use mathlib.Core.List.{List, [], _∷_}
 use Prim.Native.Nat.{ℕ}

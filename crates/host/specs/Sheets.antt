@@ -1,4 +1,4 @@
--- What the reading and the run of a sheet answer and write (document 01, sections 6 and 7).
+-- What the reading and the run of a sheet answer and write (RULES, sections 6 and 7).
 use mathlib.Core.Bool.{cond}
 use mathlib.Core.List.{List, [], _∷_, _++_}
 use Prim.Native.Nat.{ℕ}

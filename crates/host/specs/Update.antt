@@ -1,4 +1,4 @@
--- What the update of one record answers and writes (document 01, sections 6 and 7).
+-- What the update of one record answers and writes (RULES, sections 6 and 7).
 use mathlib.Core.Bool.{Bool, cond, _&&_}
 use mathlib.Core.List.{List, [], _∷_}
 use Prim.Native.Nat.{ℕ}
@@ -18,7 +18,7 @@ outcomeCode Untouched = 0
 outcomeCode (Stored a) = 0
 outcomeCode (Refused n) = n
 
--- and then nothing is written; else document 01's two numbers of the outcome
+-- and then nothing is written; else RULES' two numbers of the outcome
 abbrev pub outcomeAnswer : Outcome → List ℕ → List ℕ
 outcomeAnswer Untouched answer = codeOf Untouched ∷ valueOf Untouched ∷ []
 outcomeAnswer (Stored a) answer = codeOf (Stored a) ∷ valueOf (Stored a) ∷ []

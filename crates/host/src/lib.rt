@@ -1,4 +1,4 @@
-// The calls for C, Rust and Python hosts: each answers 0 or document 01's refusal number, and writes nothing where it refuses.
+// The calls for C, Rust and Python hosts: each answers 0 or RULES' refusal number, and writes nothing where it refuses.
 pub mod elasticity;
 mod lists_out;
 pub mod monaghan;

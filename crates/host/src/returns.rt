@@ -1,15 +1,10 @@
 // The verdict, the bare clamp, Rankine's projection, Drucker-Prager's slope and DecomposedTensor's product for hosts.
 use failure_maximum_stress::MaximumStressFailure;
-use plasticity_rankine::Branch;
-use plasticity_rankine::Made;
-use plasticity_rankine::Projected;
-use plasticity_rankine::RankineArguments;
-use plasticity_rankine::RankinePlasticity;
 use plasticity_snow::SnowPlasticity;
 use tensor::VectorAnswer;
 ghost use mathlib.Core.Path.{_≡_};
 ghost use Rattle.host_lists.specs.Out.{numberCode, numberOut, vectorCode, vectorOut, verdictCode, verdictOut};
-ghost use Rattle.host.specs.Calls.{failed, snowOf, snowClamp, vectorOf, strainsOf, madeProject, argumentsProject, rankineProject, druckerPragerAlpha, decomposedTimes};
+ghost use Rattle.host.specs.Calls.{failed, snowOf, snowClamp, vectorOf, rankineProject, druckerPragerAlpha, decomposedTimes};
 
 #[no_mangle]
 pub extern "C" fn pasoletu_failed(
@@ -63,48 +58,6 @@ fn vector(v: [f64; 3]) -> VectorAnswer
     }
 }
 
-// The strains, or the refusal that the branch carries.
-fn strains(q: Projected) -> VectorAnswer
-    ensures { λ r. ⌜ r ≡ strainsOf q ⌝ }
-{
-    let e = q.strains;
-    let b = q.branch;
-    match b {
-        Branch::Untouched(_, _) => vector(e),
-        Branch::One(_, _) => vector(e),
-        Branch::Two(_, _) => vector(e),
-        Branch::All(_, _) => vector(e),
-        Branch::Refused(n) => tensor::refused_vector(n),
-    }
-}
-
-// Of what `new` answers.
-fn made_project(m: Made, e: [f64; 3], s: f64) -> VectorAnswer
-    ensures { λ r. ⌜ r ≡ madeProject m e s ⌝ }
-{
-    match m {
-        Made::Law(p) => strains(p.project(e, s)),
-        Made::Refused(n) => tensor::refused_vector(n),
-    }
-}
-
-// 1 is tested first, then the moduli by 3.
-fn project(a: RankineArguments, e: [f64; 3], s: f64) -> VectorAnswer
-    ensures { λ r. ⌜ r ≡ argumentsProject a e s ⌝ }
-{
-    if a.parameters_finite() & tensor::row_finite(e) & numbers::is_finite(s) {
-        let m = RankinePlasticity::new(
-            a.young_modulus,
-            a.poisson_ratio,
-            a.tensile_strength,
-            a.softening_rate,
-        );
-        made_project(m, e, s)
-    } else {
-        tensor::refused_vector(answers::NOT_FINITE)
-    }
-}
-
 #[no_mangle]
 pub extern "C" fn pasoletu_rankine_project(
     arguments: &[u64],
@@ -118,7 +71,7 @@ pub extern "C" fn pasoletu_rankine_project(
     let ok = (arguments.len() == 4) & (strains.len() == 3);
     let a = model::rankine(arguments);
     host_lists::put_vector(
-        host_lists::sized_vector(ok, project(a, host_lists::row(strains), s)),
+        host_lists::sized_vector(ok, a.project(host_lists::row(strains), s)),
         out,
     )
 }

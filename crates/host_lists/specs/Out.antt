@@ -1,4 +1,4 @@
--- What a host's call answers and writes (document 01, section 6): 8 where the room has the wrong length, the refusal's number, or 0.
+-- What a host's call answers and writes (RULES, section 6): 8 where the room has the wrong length, the refusal's number, or 0.
 use mathlib.Core.Bool.{cond}
 use mathlib.Core.List.{List}
 use Prim.Native.Nat.{ℕ}

@@ -1,4 +1,4 @@
--- The refusals of a host's lists themselves (document 01, section 6): 8 for a length, 6 for a flag.
+-- The refusals of a host's lists themselves (RULES, section 6): 8 for a length, 6 for a flag.
 use mathlib.Core.Bool.{Bool, true, cond}
 use mathlib.Core.List.{List}
 use Prim.Native.Nat.{ℕ}

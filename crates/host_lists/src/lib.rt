@@ -1,5 +1,5 @@
 // A host's lent lists: what the C calls read of them, the refusals of the lists themselves, and the answers written into a room
-// (document 01, sections 6 and 7).
+// (RULES, sections 6 and 7).
 mod read;
 mod refused;
 mod write;

@@ -1,4 +1,4 @@
-// What is printed of a sheet (document 01, section 7): the count, a line a particle, and "end"; or the refusal alone.
+// What is printed of a sheet (RULES, section 7): the count, a line a particle, and "end"; or the refusal alone.
 mod whole;
 
 use libc::STDOUT_FILENO;

@@ -1,4 +1,4 @@
--- What the logarithm works (document 01, section 3): in whole numbers of 2^-57 for a number from 1 to 2, and a sum of two floats. How
+-- What the logarithm works (RULES, section 3): in whole numbers of 2^-57 for a number from 1 to 2, and a sum of two floats. How
 -- near it is stands in `series`, LogNear; that it is so near, in proofs/Laws.
 use Prim.Native.Nat.{ℕ, _+_, _-_, _*_, _/_, _%_, _^_}
 use lib.Ieee as Ieee

@@ -1,4 +1,4 @@
-// The logarithm (document 01, section 3): the exponent times log 2, and in fixed point what three factors from tables and two
+// The logarithm (RULES, section 3): the exponent times log 2, and in fixed point what three factors from tables and two
 // terms of the series give.
 mod entries;
 mod part;

@@ -1,4 +1,4 @@
--- The laws from their parameters' bits, in declared order (document 01, sections 5 and 7): fields, arguments of `new`, fields,
+-- The laws from their parameters' bits, in declared order (RULES, sections 5 and 7): fields, arguments of `new`, fields,
 -- arguments of `with_m`; and the fields of the elastic laws and of the limits.
 use mathlib.Core.Bool.{Bool, not}
 use mathlib.Core.List.{List}

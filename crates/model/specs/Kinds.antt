@@ -1,4 +1,4 @@
--- The model numbers and the kinds of their parameters (document 01, sections 5 and 7). This alone says which number is which law.
+-- The model numbers and the kinds of their parameters (RULES, sections 5 and 7). This alone says which number is which law.
 use mathlib.Core.Bool.{Bool, true, false, cond, _&&_, _||_}
 use mathlib.Core.List.{List, [], _∷_}
 use Prim.Native.Nat.{ℕ, _+_}

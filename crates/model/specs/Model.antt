@@ -1,10 +1,11 @@
--- The model choice: what counts as an input of each record, and the update (document 01, section 7).
+-- The model choice: what counts as an input of each record, and the update (RULES, section 7).
 use mathlib.Core.Bool.{Bool}
 use mathlib.Core.List.{List}
 use lib.Ieee.{Float}
 use Rattle.plasticity.specs.declared.State.{State}
 use Rattle.plasticity.specs.declared.Updated.{Updated}
 use Rattle.plasticity_snow.specs.Snow as snow
+use Rattle.plasticity_rankine.specs.Law as rankine-law
 use Rattle.plasticity_rankine.specs.Rankine as rankine
 use Rattle.plasticity_drucker_prager.specs.Law as drucker-prager-law
 use Rattle.plasticity_drucker_prager.specs.DruckerPrager as drucker-prager
@@ -16,7 +17,7 @@ use Rattle.model.specs.declared.Model.the-variants.{Snow, Rankine, Druck
 -- the parameters' floats are inputs of each record
 abbrev pub modelFinite : Model → Bool
 modelFinite (Snow p) = snow.parametersFinite p
-modelFinite (Rankine a) = rankine.argumentsFinite a
+modelFinite (Rankine a) = rankine-law.argumentsFinite a
 modelFinite (DruckerPrager p) = drucker-prager-law.parametersFinite p
 modelFinite (Nacc a) = nacc-law.argumentsFinite a
 

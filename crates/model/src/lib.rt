@@ -1,4 +1,4 @@
-// The models (document 01, sections 5 to 7): which number names which plastic law, what parameters it has, the law from their bits,
+// The models (RULES, sections 5 to 7): which number names which plastic law, what parameters it has, the law from their bits,
 // and the update by it.
 mod choice;
 mod fields;

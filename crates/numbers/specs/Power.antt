@@ -1,4 +1,4 @@
--- The integer power (document 01, section 3: by halving from r = 1; a negative exponent inverts r at the end).
+-- The integer power (RULES, section 3: by halving from r = 1; a negative exponent inverts r at the end).
 use mathlib.Core.Bool.{Bool, true, false, cond}
 use Prim.Native.Nat.{ℕ, zero, suc, _-_, _/_, _%_, _^_, _<_}
 use lib.Dec.{eqb, ltb}

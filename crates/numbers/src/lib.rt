@@ -1,4 +1,4 @@
-// The rules that all laws share: minimum and maximum, finite and NaN tests, bits and floats, the integer power (document 01,
+// The rules that all laws share: minimum and maximum, finite and NaN tests, bits and floats, the integer power (RULES,
 // sections 3 and 4).
 mod bits;
 mod power;

@@ -4,16 +4,24 @@ use mathlib.Core.Bool.{Bool, true, false, cond, _&&_}
 use mathlib.Core.List.{List}
 use Prim.Native.Nat.{ℕ}
 use lib.Ieee.{Float}
+use Rattle.numbers.specs.Floats.{finite}
+use Rattle.tensor.specs.Axes.{allOf}
+use Rattle.walk.specs.Update.{updatedOf}
+use Rattle.walk.specs.Walk as walk
 use Rattle.plasticity.specs.State.{inputsFinite, refused}
 use Rattle.plasticity.specs.declared.Outcome.the-variants as outcome
 use Rattle.plasticity.specs.declared.State.{State}
 use Rattle.plasticity.specs.declared.Updated.{Updated}
 use Rattle.record.specs.Layout.{uAt, vtAt, stateAt, recordFinite}
 use Rattle.plasticity_snow.specs.Snow as snow
-use Rattle.plasticity_rankine.specs.Projection as rankine-projection
+use Rattle.plasticity_snow.proofs.Laws as snow-laws
+use Rattle.plasticity_rankine.proofs.Laws as rankine-laws
+use Rattle.plasticity_rankine.specs.Law as rankine-law
 use Rattle.plasticity_rankine.specs.Rankine as rankine
+use Rattle.plasticity_drucker_prager.proofs.Laws as drucker-prager-laws
 use Rattle.plasticity_drucker_prager.specs.Law as drucker-prager-law
 use Rattle.plasticity_drucker_prager.specs.DruckerPrager as drucker-prager
+use Rattle.plasticity_nacc.proofs.Laws as nacc-laws
 use Rattle.plasticity_nacc.specs.Law as nacc-law
 use Rattle.plasticity_nacc.specs.Nacc as nacc
 use Rattle.failure_maximum_stress.specs.declared.MaximumStressFailure.{MaximumStressFailure}
@@ -34,26 +42,22 @@ last-fails : {A : Type 0} (a b : Bool) (x y : A) → b ≡ false → cond (a && 
 last-fails true b x y q = ap (λ (t : Bool). cond t x y) q
 last-fails false b x y q = refl
 
-either : {A : Type 0} (a : Bool) (x y : A) → x ≡ y → cond a x y ≡ y
-either true x y q = q
-either false x y q = refl
-
 module _ (u vt : List (List Float)) (s : State) (q : inputsFinite u vt s ≡ false) where
   not-finite : (m : Model) → modelUpdate m u vt s ≡ refused 1 s
-  unfolding snow.snowUpdate rankine.argumentsUpdate rankine.rankineUpdate drucker-prager.druckerUpdate nacc.argumentsUpdate nacc.naccUpdate
-  not-finite (Snow p) = last-fails (snow.parametersFinite p) (inputsFinite u vt s) (snow.snowRun p u vt s) (refused 1 s) q
+  unfolding snow.snowWalk rankine.argumentsWalk drucker-prager.druckerWalk nacc.argumentsWalk
+  not-finite (Snow p) =
+      rw (snow-laws.inputs-law p u vt s) (ap (updatedOf s) (last-fails (snow.parametersFinite p) (inputsFinite u vt s) (walk.result (snow.runWalk p u vt s)) (walk.refused 1) q))
   not-finite (Rankine a) =
-      let p = rankine.lawOf a in
-      either (rankine.elasticFinite a) (rankine.rankineUpdate p u vt s) (refused 1 s)
-      (last-fails (rankine-projection.parametersFinite p) (inputsFinite u vt s)
-      (cond (rankine-projection.moduliFinite p) (rankine.rankineRun p u vt s) (refused 3 s)) (refused 1 s) q)
+      let p = rankine-law.lawOf a in
+      rw (rankine-laws.inputs-law (rankine-law.argumentsFloats a) u vt s)
+      (ap (updatedOf s) (last-fails (allOf finite (rankine-law.argumentsFloats a)) (inputsFinite u vt s) (walk.result (rankine-law.moduli p (rankine.runWalk p (s .sigma) u vt s))) (walk.refused 1) q))
   not-finite (DruckerPrager p) =
-      last-fails (drucker-prager-law.parametersFinite p) (inputsFinite u vt s) (drucker-prager.druckerRun p u vt s) (refused 1 s) q
+      rw (drucker-prager-laws.inputs-law p u vt s)
+      (ap (updatedOf s) (last-fails (drucker-prager-law.parametersFinite p) (inputsFinite u vt s) (walk.result (drucker-prager.runWalk p u vt s)) (walk.refused 1) q))
   not-finite (Nacc a) =
       let p = nacc-law.lawOf a in
-      either (nacc-law.elasticFinite a) (nacc.naccUpdate p u vt s) (refused 1 s)
-      (last-fails (nacc-law.parametersFinite p) (inputsFinite u vt s)
-      (cond (nacc-law.moduliFinite p) (nacc.naccRun p u vt s) (refused 3 s)) (refused 1 s) q)
+      rw (nacc-laws.inputs-law (nacc-law.argumentsFloats a) u vt s)
+      (ap (updatedOf s) (last-fails (allOf finite (nacc-law.argumentsFloats a)) (inputsFinite u vt s) (walk.result (nacc.moduli p (nacc.runWalk p u vt s))) (walk.refused 1) q))
 
 pub refused-law : (m : Model) (r : List ℕ) → recordFinite r ≡ false → (outcome.Refused 1 ≡ recordLaw m r .outcome) × (r ≡ recordLaw m r .after)
 unfolding recordLaw updatedAt

@@ -1,4 +1,4 @@
--- What the pass with failure makes of one record (document 01, section 7): the verdict on the record as it came, then the plastic law.
+-- What the pass with failure makes of one record (RULES, section 7): the verdict on the record as it came, then the plastic law.
 use mathlib.Core.Bool.{Bool, true, false, cond, _&&_}
 use mathlib.Core.List.{List}
 use Prim.Native.Nat.{ℕ}

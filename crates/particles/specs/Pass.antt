@@ -1,4 +1,4 @@
--- The pass over a list of records by any step (document 01, sections 6 and 7).
+-- The pass over a list of records by any step (RULES, sections 6 and 7).
 use mathlib.Core.Bool.{Bool, cond, _&&_}
 use mathlib.Core.List.{List, [], _∷_, _++_}
 use Prim.Native.Nat.{ℕ, zero, suc, _+_, _*_, _/_}
@@ -23,7 +23,7 @@ pub record Worked : Type 0 where
   pub failed : Bool
   pub after : List ℕ
 
--- document 01's numbers of an outcome: 0, 1 or 2, and 0, the amount's bits or the refusal number
+-- RULES' numbers of an outcome: 0, 1 or 2, and 0, the amount's bits or the refusal number
 abbrev pub codeOf : Outcome → ℕ
 codeOf Untouched = 0
 codeOf (Stored a) = 1

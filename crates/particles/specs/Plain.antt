@@ -1,4 +1,4 @@
--- What the model's law makes of one record (document 01, sections 6 and 7).
+-- What the model's law makes of one record (RULES, sections 6 and 7).
 use mathlib.Core.Bool.{false, cond}
 use mathlib.Core.List.{List}
 use Prim.Native.Nat.{ℕ}

@@ -1,4 +1,4 @@
--- The principal stresses that are judged (document 01, section 7): "from sigma, worked from the left:
+-- The principal stresses that are judged (RULES, section 7): "from sigma, worked from the left:
 -- 2mu h (sigma - 1) sigma + lambda h (J - 1) J, with h the elastic hardening and J the product of sigma, split by phase as section 5 says".
 use mathlib.Core.Bool.{cond}
 use mathlib.Core.List.{List}

@@ -1,4 +1,4 @@
-// One record by itself, the pass over a lent list of records, and the pass with failure (document 01, section 7).
+// One record by itself, the pass over a lent list of records, and the pass with failure (RULES, section 7).
 mod failure;
 mod judged;
 mod list;

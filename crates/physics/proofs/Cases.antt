@@ -1,4 +1,4 @@
--- Document 01, section 8, P4: inv_exact(0.0) is 0.0.
+-- RULES, section 8, P4: inv_exact(0.0) is 0.0.
 use mathlib.Core.Path.{_≡_, refl}
 use lib.Ieee as Ieee
 use lib.Ieee.{ofBits}

@@ -1,4 +1,4 @@
--- A norm, over however many axes (document 01, section 4: "the root of the sum of squares").
+-- A norm, over however many axes (RULES, section 4: "the root of the sum of squares").
 use mathlib.Core.List.{List}
 use lib.Ieee.{Float}
 use Rattle.answers.specs.Range.{onPath}

@@ -1,5 +1,5 @@
 // Moduli, the quadratic and tensor parts (physics.rs). Module `plain` has the text's functions as they stand, on every
-// input; the calls of the same names here refuse by document 01, section 6.
+// input; the calls of the same names here refuse by RULES, section 6.
 mod moduli;
 mod norm;
 mod parts;

@@ -1,4 +1,4 @@
--- Finite inputs, and a refusal (document 01, sections 6 and 7).
+-- Finite inputs, and a refusal (RULES, sections 6 and 7).
 use mathlib.Core.Bool.{Bool, _&&_}
 use mathlib.Core.List.{List}
 use Prim.Native.Nat.{ℕ}

@@ -3,7 +3,7 @@ use tensor::Rows;
 ghost use mathlib.Core.Path.{_≡_};
 ghost use Rattle.plasticity.specs.State.{scalarsFinite, stateFinite, inputsFinite, refused};
 
-// Untouched, stored with one amount, or refused with its number (document 01, section 7).
+// Untouched, stored with one amount, or refused with its number (RULES, section 7).
 pub enum Outcome {
     Untouched,
     Stored(f64),

@@ -1,6 +1,6 @@
--- P12 of document 01, section 8, from the logarithm at 1 and the root at 0; and the defaults' angles.
+-- P12 of RULES, section 8, from the logarithm at 1 and the root at 0; and the defaults' angles.
 use mathlib.Core.Bool.{true}
-use mathlib.Core.List.{List}
+use mathlib.Core.List.{List, [], _∷_}
 use mathlib.Core.Path.{_≡_, refl}
 use lib.Ieee as Ieee
 use lib.Ieee.{Float, binary64, ofBits}
@@ -11,14 +11,16 @@ use Rattle.exact.specs.RootOf.{sqrtOf}
 use Rattle.tensor.specs.Matrix.{mul, div, zero, one, three, sumOf, productOf, dotOf, scaledRowOf, rowsOf}
 use Rattle.plasticity.specs.declared.Outcome.the-variants.{Stored}
 use Rattle.plasticity.specs.declared.State.{State}
-use Rattle.plasticity_drucker_prager.specs.declared.Branch.the-variants.{Isotropic}
+use Rattle.walk.specs.Walk.{result, answerAs, given}
+use Rattle.walk.specs.Exact.{number-then}
+use Rattle.walk.specs.Update.{updatedOf}
+use Rattle.walk.specs.Matrix.{value-sum, value-product, value-dot}
 use Rattle.plasticity_drucker_prager.specs.declared.DruckerPragerPlasticity.{DruckerPragerPlasticity}
-use Rattle.plasticity_drucker_prager.specs.declared.Projected.{Projected}
-use Rattle.plasticity_drucker_prager.specs.declared.Triple.the-variants.{Values}
 use Rattle.plasticity_drucker_prager.specs.Law.{defaultsOf}
-use Rattle.plasticity_drucker_prager.specs.Alpha.{alphaOnPath}
-use Rattle.plasticity_drucker_prager.specs.Projection.{joinedOf, logsOf, strainOf, deviatoricOf, choiceOf, tipOf, returnedOf, strainedOf, loggedOf, projectedOf}
-use Rattle.plasticity_drucker_prager.specs.DruckerPrager.{correctedOf, determinantOf, differenceOf, druckerStore, gainedOf, movedOf, branchOf, slopedOf, druckerRun, druckerUpdate}
+use Rattle.plasticity_drucker_prager.specs.Alpha.{two, dim, alphaWalk}
+use Rattle.plasticity_drucker_prager.specs.Projection.{isotropic, Returned, tipWalk, strainedWalk, projectWalk}
+use Rattle.plasticity_drucker_prager.specs.DruckerPrager.{movedWalk, runWalk, druckerWalk, druckerUpdate}
+use Rattle.plasticity_drucker_prager.proofs.Laws.{store-law, way-then, inputs-law}
 
 -- a degree as Rust's `to_radians` has it: pi over 180
 abbrev degree : Float
@@ -34,22 +36,13 @@ angles l m = (refl, refl, refl)
 abbrev ones : List Float
 ones = three one one one
 
-abbrev tip : Projected
-tip = record { branch = Isotropic zero zero; sigma = ones; dq = zero }
-
-logs : lnOf one ≡ zero → logsOf ones ≡ Values zero zero zero
-unfolding logsOf joinedOf isNumber Ieee.le Ieee.lt Ieee.eq ofBits
-logs h = simp h
-
-strains : (p : DruckerPragerPlasticity) (a : Float) → sqrtOf zero ≡ zero → strainedOf p ones (strainOf (three zero zero zero) zero) a ≡ tip
-unfolding sumOf dotOf strainedOf strainOf deviatoricOf choiceOf returnedOf tipOf isNumber Ieee.add Ieee.sub Ieee.mul Ieee.div Ieee.le Ieee.lt Ieee.eq ofBits
-strains p a h = simp h
+abbrev tip : Returned
+tip = record { way = isotropic (three zero zero zero); sigma = ones; dq = zero }
 
 -- the projection: sigma all ones and dq 0, whatever alpha is
-pub projection :
-    (p : DruckerPragerPlasticity) (a : Float) → lnOf one ≡ zero → sqrtOf zero ≡ zero → projectedOf p ones zero a ≡ tip
-unfolding projectedOf loggedOf
-projection p a h k = simp (logs h, strains p a k)
+pub projection : (p : DruckerPragerPlasticity) (a : Float) → lnOf one ≡ zero → sqrtOf zero ≡ zero → result (projectWalk dim p ones zero a) ≡ given tip
+unfolding projectWalk strainedWalk tipWalk sumOf dotOf isNumber Ieee.add Ieee.sub Ieee.mul Ieee.div Ieee.le Ieee.lt Ieee.eq ofBits
+projection p a h k = simp (h, k, value-sum, value-dot)
 
 abbrev identity : List (List Float)
 identity = three (three one zero zero) (three zero one zero) (three zero zero one)
@@ -70,19 +63,27 @@ rested =
       };
     }
 
-moved : (l m : Float) → lnOf one ≡ zero → movedOf (defaultsOf l m) ones zero identity identity rested .outcome ≡ Stored zero
-unfolding productOf sumOf dotOf scaledRowOf movedOf gainedOf druckerStore differenceOf determinantOf correctedOf finite isNumber Ieee.add Ieee.sub Ieee.mul Ieee.div Ieee.le Ieee.lt Ieee.eq ofBits
-moved l m h = simp h
+moved : (l m : Float) → lnOf one ≡ zero → updatedOf rested (result (movedWalk (defaultsOf l m) ones zero identity identity rested)) .outcome ≡ Stored zero
+unfolding movedWalk productOf sumOf dotOf scaledRowOf finite isNumber Ieee.add Ieee.sub Ieee.mul Ieee.div Ieee.le Ieee.lt Ieee.eq ofBits
+moved l m h = simp (h, value-product, store-law)
 
 run :
-    (l m a : Float) → lnOf one ≡ zero → sqrtOf zero ≡ zero → alphaOnPath (defaultsOf l m) one ≡ Value a →
-    druckerRun (defaultsOf l m) identity identity rested .outcome ≡ Stored zero
-unfolding druckerRun slopedOf branchOf
-run l m a h k e = simp (e, projection (defaultsOf l m) a h k, moved l m h)
+    (l m a : Float) → lnOf one ≡ zero → sqrtOf zero ≡ zero → answerAs (result (alphaWalk (defaultsOf l m) one)) ≡ Value a →
+    updatedOf rested (result (runWalk (defaultsOf l m) identity identity rested)) .outcome ≡ Stored zero
+unfolding runWalk
+run l m a h k e = simp (number-then, e, way-then, projection (defaultsOf l m) a h k, moved l m h)
 
 -- P12: the default law with finite moduli stores, and dq is 0
 pub p12 :
-    (l m a : Float) → finite l ≡ true → finite m ≡ true → lnOf one ≡ zero → sqrtOf zero ≡ zero → alphaOnPath (defaultsOf l m) one ≡ Value a →
+    (l m a : Float) → finite l ≡ true → finite m ≡ true → lnOf one ≡ zero → sqrtOf zero ≡ zero → answerAs (result (alphaWalk (defaultsOf l m) one)) ≡ Value a →
     druckerUpdate (defaultsOf l m) identity identity rested .outcome ≡ Stored zero
-unfolding druckerUpdate finite ofBits
-p12 l m a f g h k e = simp (f, g, run l m a h k e)
+unfolding druckerWalk finite ofBits
+p12 l m a f g h k e = simp (inputs-law, f, g, run l m a h k e)
+
+-- the same walk on two axes: P12's projection there
+abbrev flat : Returned
+flat = record { way = isotropic (zero ∷ zero ∷ []); sigma = one ∷ one ∷ []; dq = zero }
+
+pub flat-projection : (p : DruckerPragerPlasticity) (a : Float) → lnOf one ≡ zero → sqrtOf zero ≡ zero → result (projectWalk two p (one ∷ one ∷ []) zero a) ≡ given flat
+unfolding projectWalk strainedWalk tipWalk sumOf dotOf isNumber Ieee.add Ieee.sub Ieee.mul Ieee.div Ieee.le Ieee.lt Ieee.eq ofBits
+flat-projection p a h k = simp (h, k, value-sum, value-dot)

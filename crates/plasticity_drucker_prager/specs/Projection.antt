@@ -1,134 +1,141 @@
--- The Drucker-Prager projection (document 01, section 5; plasticity_drucker_prager.rs, `project_deformation_gradient`).
-use mathlib.Core.Bool.{Bool, cond, _&&_}
-use mathlib.Core.List.{List, map}
+-- The Drucker-Prager projection (RULES, section 5; plasticity_drucker_prager.rs, `project_deformation_gradient`), over however many axes.
+use mathlib.Core.Bool.{cond, _&&_}
+use mathlib.Core.List.{List, [], _∷_, _++_, map}
 use Prim.Native.Nat.{ℕ}
 use lib.ListN.{getD}
-use lib.Ieee as Ieee
 use lib.Ieee.{Float, nan}
-use Rattle.answers.specs.Refusals.{notFinite, noNumber}
-use Rattle.numbers.specs.Floats.{finite, isNumber}
-use Rattle.answers.specs.Range.{onPath}
+use Rattle.answers.specs.Refusals.{noNumber}
+use Rattle.numbers.specs.Floats.{finite}
 use Rattle.answers.specs.declared.Answer.{Answer}
 use Rattle.answers.specs.declared.Answer.the-variants as answers
-use Rattle.exponential.specs.Exp.{expRanged}
-use Rattle.logarithm.specs.Ln.{lnRanged}
-use Rattle.physics.specs.Norm.{normOf}
-use Rattle.tensor.specs.Axes.{allOf, pairwise}
-use Rattle.tensor.specs.Matrix.{add, sub, mul, div, zero, one, three, sumOf, dotOf}
+use Rattle.tensor.specs.Matrix as tensor
 use Rattle.tensor.specs.Finite.{rowFinite}
 use Rattle.tensor.specs.Answer.{zeroRow}
+use Rattle.plasticity.specs.declared.Outcome.{Outcome}
+use Rattle.plasticity.specs.declared.Outcome.the-variants as outcome
+use Rattle.walk.specs.Expr.{Expr, num, _+_, _-_, _*_, _/_, value, nums}
+use Rattle.walk.specs.Walk.{Walk, exp, ln, root, less, at-most, zeros, inputs, ask, asks, work, works, branch, results, end, _then_, Ended, given, refused}
+use Rattle.walk.specs.Matrix.{sum, dot}
 use Rattle.plasticity_drucker_prager.specs.declared.Branch.{Branch}
 use Rattle.plasticity_drucker_prager.specs.declared.Branch.the-variants.{Isotropic, Expanding, Inside, Surface, Refused}
 use Rattle.plasticity_drucker_prager.specs.declared.DruckerPragerPlasticity.{DruckerPragerPlasticity}
 use Rattle.plasticity_drucker_prager.specs.declared.Projected.{Projected}
-use Rattle.plasticity_drucker_prager.specs.declared.Triple.{Triple}
-use Rattle.plasticity_drucker_prager.specs.declared.Triple.the-variants as triple
-use Rattle.plasticity_drucker_prager.specs.Law.{two, dim, parametersFinite}
+use Rattle.plasticity_drucker_prager.specs.declared.Results.{Results}
+use Rattle.plasticity_drucker_prager.specs.Law.{parametersOf}
+use Rattle.plasticity_drucker_prager.specs.Alpha.{two}
 
--- three answers in index order: the first refusal is handed on
-unfoldable pub joinedOf : Answer → Answer → Answer → Triple
-joinedOf (answers.Value x) (answers.Value y) (answers.Value z) = triple.Values x y z
-joinedOf (answers.Value x) (answers.Value y) (answers.Refused n) = triple.Refused n
-joinedOf (answers.Value x) (answers.Refused n) c = triple.Refused n
-joinedOf (answers.Refused n) b c = triple.Refused n
+abbrev pub zero : Expr
+zero = num tensor.zero
 
-abbrev lnAt : List Float → ℕ → Answer
-lnAt v i = onPath (getD v i nan) (lnRanged (getD v i nan))
+-- ---- where it ends, with what the last test compared with 0: the deviatoric entries, the trace, gamma (and the deviatoric norm)
+pub data Way : Type 0 where
+  isotropic : List Float → Way
+  expanding : Float → Way
+  inside : Float → Way
+  surface : Float → Float → Way
 
-abbrev expAt : List Float → ℕ → Answer
-expAt v i = onPath (getD v i nan) (expRanged (getD v i nan))
+pub record Returned : Type 0 where
+  pub way : Way
+  pub sigma : List Float
+  pub dq : Float
 
-unfoldable pub logsOf : List Float → Triple
-logsOf sigma = joinedOf (lnAt sigma 0) (lnAt sigma 1) (lnAt sigma 2)
+-- an entry of the strain less gamma times that of the deviatoric part over its norm
+abbrev pub back : List Float → List Float → Expr → Expr → List Expr
+back (x ∷ e) (y ∷ d) g norm = num x - g * (num y / norm) ∷ back e d g norm
+back (x ∷ e) [] g norm = []
+back [] d g norm = []
 
--- a sum of squares is a NaN exactly where an entry is
-abbrev pub allNumbers : List Float → Bool
-allNumbers e = isNumber (dotOf e e)
-
--- the entries are worked before the first exponential: a NaN in any of them is met first
-unfoldable pub expsOf : List Float → Triple
-expsOf e = cond (allNumbers e) (joinedOf (expAt e 0) (expAt e 1) (expAt e 2)) (triple.Refused noNumber)
-
--- "Strain is log sigma + gain/3."
-unfoldable pub strainOf : List Float → Float → List Float
-strainOf logs gain = map (λ x. add x (div gain dim)) logs
-
-unfoldable pub deviatoricOf : List Float → Float → List Float
-deviatoricOf e trace = map (λ x. sub x (div trace dim)) e
-
-abbrev pub allZero : List Float → Bool
-allZero d = allOf (λ x. Ieee.eq x zero) d
-
--- norm + (3 lambda + 2 mu) / (2 mu) trace alpha
-unfoldable pub gammaOf : DruckerPragerPlasticity → Float → Float → Float → Float
-gammaOf p norm trace alpha =
-    add norm (mul (mul (div (add (mul dim (p .lambda)) (mul two (p .mu))) (mul two (p .mu))) trace) alpha)
-
--- the choice, with the two numbers last compared. "gamma <= 0: untouched." A NaN compares false and would be lost: it is refused by 3 first
-unfoldable pub yieldChoice : DruckerPragerPlasticity → Answer → Float → Float → Branch
-yieldChoice p (answers.Value norm) trace alpha =
-    cond (isNumber (gammaOf p norm trace alpha))
-    (cond (Ieee.le (gammaOf p norm trace alpha) zero)
-    (Inside (gammaOf p norm trace alpha) zero)
-    (Surface (gammaOf p norm trace alpha) zero norm))
-    (Refused noNumber)
-yieldChoice p (answers.Refused n) trace alpha = Refused n
-
--- "Deviatoric part all zero, or trace > 0", then gamma. A NaN in the trace is in every entry of the deviatoric part d
-unfoldable pub choiceOf : DruckerPragerPlasticity → Float → List Float → Float → Branch
-choiceOf p trace d alpha =
-    cond (allNumbers d)
-    (cond (allZero d) (Isotropic (getD d 2 nan) zero)
-    (cond (Ieee.lt zero trace) (Expanding trace zero) (yieldChoice p (normOf d) trace alpha)))
-    (Refused noNumber)
-
-abbrev pub refusedProjection : ℕ → Projected
-refusedProjection n = record { branch = Refused n; sigma = zeroRow; dq = zero }
-
+-- ---- the steps
 -- "sigma all ones, dq the norm of the strain"
-unfoldable pub tipOf : Branch → Answer → Projected
-tipOf b (answers.Value norm) = record { branch = b; sigma = three one one one; dq = norm }
-tipOf b (answers.Refused n) = refusedProjection n
+unfoldable pub tipWalk : Way → List Float → Walk Returned
+tipWalk b e = ask 10 root (dot e e) (λ norm. end (record { way = b; sigma = map (λ x. tensor.one) e; dq = value norm }))
 
--- the strain less gamma times the deviatoric part over its norm
-unfoldable pub backOf : List Float → List Float → Float → Float → List Float
-backOf e d gamma norm = pairwise (λ x y. sub x (mul gamma (div y norm))) e d
+-- back to the cone: dq is gamma
+unfoldable pub surfaceWalk : Expr → Expr → List Float → Walk Returned
+surfaceWalk g norm b =
+    asks 15 exp b (λ sigma. end (record { way = surface (value g) (value norm); sigma = sigma; dq = value g }))
 
--- once the exponentials are known; dq is gamma
-unfoldable pub surfaceOf : Branch → Float → Triple → Projected
-surfaceOf b gamma (triple.Values x y z) = record { branch = b; sigma = three x y z; dq = gamma }
-surfaceOf b gamma (triple.Refused n) = refusedProjection n
+-- the results are finite
+unfoldable pub returnedWalk : Returned → Walk Returned
+returnedWalk q = results 19 (nums (q .sigma) ∷ (num (q .dq) ∷ []) ∷ []) (end q)
 
--- the branch worked
-unfoldable pub returnedOf : Branch → List Float → List Float → List Float → Projected
-returnedOf (Isotropic x y) sigma e d = tipOf (Isotropic x y) (normOf e)
-returnedOf (Expanding x y) sigma e d = tipOf (Expanding x y) (normOf e)
-returnedOf (Inside x y) sigma e d = record { branch = Inside x y; sigma = sigma; dq = zero }
-returnedOf (Surface gamma y norm) sigma e d = surfaceOf (Surface gamma y norm) gamma (expsOf (backOf e d gamma norm))
-returnedOf (Refused n) sigma e d = refusedProjection n
+unfoldable pub projectFloats : DruckerPragerPlasticity → List Float → Float → Float → List Float
+projectFloats p sigma gain alpha = parametersOf p ++ (sigma ++ (gain ∷ alpha ∷ []))
 
-unfoldable pub strainedOf : DruckerPragerPlasticity → List Float → List Float → Float → Projected
-strainedOf p sigma e alpha =
-    let trace = sumOf e in
-    let d = deviatoricOf e trace in
-    returnedOf (choiceOf p trace d alpha) sigma e d
+-- ---- dim is the number of axes
+module _ (dim : Expr) where
+  -- ---- the formulas
+  -- "Strain is log sigma + gain/3."
+  abbrev pub strain : List Float → Float → List Expr
+  strain logs gain = map (λ x. num x + num gain / dim) logs
 
--- once the logarithms are known
-unfoldable pub loggedOf : DruckerPragerPlasticity → Triple → List Float → Float → Float → Projected
-loggedOf p (triple.Values x y z) sigma gain alpha = strainedOf p sigma (strainOf (three x y z) gain) alpha
-loggedOf p (triple.Refused n) sigma gain alpha = refusedProjection n
+  abbrev pub deviatoric : List Float → Expr → List Expr
+  deviatoric e trace = map (λ x. num x - trace / dim) e
 
--- as a step of the law
-unfoldable pub projectedOf : DruckerPragerPlasticity → List Float → Float → Float → Projected
-projectedOf p sigma gain alpha = loggedOf p (logsOf sigma) sigma gain alpha
+  -- norm + (3 lambda + 2 mu) / (2 mu) trace alpha
+  abbrev pub gamma : DruckerPragerPlasticity → Expr → Expr → Float → Expr
+  gamma p norm trace alpha =
+      let lambda = num (p .lambda) in
+      let mu = num (p .mu) in
+      norm + (dim * lambda + two * mu) / (two * mu) * trace * num alpha
 
--- the results are finite, else 3
-unfoldable pub returnedProjection : Projected → Projected
-returnedProjection q = cond (rowFinite (q .sigma) && finite (q .dq)) q (refusedProjection noNumber)
+  -- "gamma <= 0: untouched."
+  unfoldable pub yieldWalk : DruckerPragerPlasticity → List Float → List Float → List Float → Expr → Float → Walk Returned
+  yieldWalk p sigma e d trace alpha =
+      ask 11 root (dot d d) (λ norm.
+      work 12 (gamma p norm trace alpha) (λ g.
+      branch 13 (at-most g zero)
+      (end (record { way = inside (value g); sigma = sigma; dq = tensor.zero }))
+      (works 14 (back e d g norm) (λ b. surfaceWalk g norm b))))
 
--- as a call by itself: 1 comes first
-unfoldable pub projectOf : DruckerPragerPlasticity → List Float → Float → Float → Projected
-projectOf p sigma gain alpha =
-    cond (parametersFinite p && rowFinite sigma && finite gain && finite alpha)
-    (returnedProjection (projectedOf p sigma gain alpha))
-    (refusedProjection notFinite)
+  -- "Deviatoric part all zero, or trace > 0"
+  unfoldable pub strainedWalk : DruckerPragerPlasticity → List Float → List Float → Float → Walk Returned
+  strainedWalk p sigma e alpha =
+      work 7 (sum e) (λ trace.
+      works 7 (deviatoric e trace) (λ d.
+      branch 8 (zeros d)
+      (tipWalk (isotropic d) e)
+      (branch 9 (less zero trace) (tipWalk (expanding (value trace)) e) (yieldWalk p sigma e d trace alpha))))
+
+  unfoldable pub projectWalk : DruckerPragerPlasticity → List Float → Float → Float → Walk Returned
+  projectWalk p sigma gain alpha =
+      asks 6 ln sigma (λ logs.
+      works 7 (strain logs gain) (λ e.
+      strainedWalk p sigma e alpha))
+
+  -- as a call by itself
+  unfoldable pub projectCall : DruckerPragerPlasticity → List Float → Float → Float → Walk Returned
+  projectCall p sigma gain alpha =
+      inputs (projectFloats p sigma gain alpha) (projectWalk p sigma gain alpha then returnedWalk)
+
+-- ---- as the code hands it on: zeros stand beside a refusal
+abbrev pub refusedProjection : ℕ → Projected
+refusedProjection n = record { branch = Refused n; sigma = zeroRow; dq = tensor.zero }
+
+abbrev pub branchOf : Way → Branch
+branchOf (isotropic d) = Isotropic (getD d 2 nan) tensor.zero
+branchOf (expanding x) = Expanding x tensor.zero
+branchOf (inside x) = Inside x tensor.zero
+branchOf (surface x norm) = Surface x tensor.zero norm
+
+abbrev pub projectedOf : Ended Returned → Projected
+projectedOf (given q) = record { branch = branchOf (q .way); sigma = q .sigma; dq = q .dq }
+projectedOf (refused n) = refusedProjection n
+
+abbrev pub tipOf : Branch → List Float → Answer → Projected
+tipOf b ones (answers.Value norm) = record { branch = b; sigma = ones; dq = norm }
+tipOf b ones (answers.Refused n) = refusedProjection n
+
+abbrev pub returnedOf : Projected → Projected
+returnedOf q = cond (rowFinite (q .sigma) && finite (q .dq)) q (refusedProjection noNumber)
+
+-- ---- as it is handed out: the branch and what it compared stay inside
+abbrev pub outcomeOf : Branch → Float → Outcome
+outcomeOf (Isotropic x y) dq = outcome.Stored dq
+outcomeOf (Expanding x y) dq = outcome.Stored dq
+outcomeOf (Inside x y) dq = outcome.Untouched
+outcomeOf (Surface x y norm) dq = outcome.Stored dq
+outcomeOf (Refused n) dq = outcome.Refused n
+
+abbrev pub resultsOf : Projected → Results
+resultsOf q = record { outcome = outcomeOf (q .branch) (q .dq); sigma = q .sigma }

@@ -1,13 +1,15 @@
-// Which branch is taken.
-use crate::Branch;
-use crate::DruckerPragerPlasticity;
-use answers::Answer;
+// The formulas on three axes.
 ghost use mathlib.Core.Path.{_≡_};
-ghost use Rattle.plasticity_drucker_prager.specs.Projection.{strainOf, deviatoricOf, allZero, gammaOf, yieldChoice, choiceOf};
+ghost use Rattle.numbers.specs.Floats.{isNumber};
+ghost use Rattle.tensor.specs.Axes.{allOf};
+ghost use Rattle.walk.specs.Expr.{num, values};
+ghost use Rattle.walk.specs.Walk.{holds, zeros};
+ghost use Rattle.plasticity_drucker_prager.specs.Alpha.{dim};
+ghost use Rattle.plasticity_drucker_prager.specs.Projection.{strain, deviatoric, back};
 
 // A third of the gain is added to each logarithm.
 pub fn strain(logs: [f64; 3], gain: f64) -> [f64; 3]
-    ensures { λ r. ⌜ r ≡ strainOf logs gain ⌝ }
+    ensures { λ r. ⌜ r ≡ values (strain dim logs gain) ⌝ }
 {
     [
         logs[0] + gain / 3.0,
@@ -17,61 +19,32 @@ pub fn strain(logs: [f64; 3], gain: f64) -> [f64; 3]
 }
 
 pub fn deviatoric(e: [f64; 3], trace: f64) -> [f64; 3]
-    ensures { λ r. ⌜ r ≡ deviatoricOf e trace ⌝ }
+    ensures { λ r. ⌜ r ≡ values (deviatoric dim e (num trace)) ⌝ }
 {
     [e[0] - trace / 3.0, e[1] - trace / 3.0, e[2] - trace / 3.0]
 }
 
+// The strain less gamma times the deviatoric direction.
+pub fn back(e: [f64; 3], d: [f64; 3], gamma: f64, norm: f64) -> [f64; 3]
+    ensures { λ r. ⌜ r ≡ values (back e d (num gamma) (num norm)) ⌝ }
+{
+    [
+        e[0] - gamma * (d[0] / norm),
+        e[1] - gamma * (d[1] / norm),
+        e[2] - gamma * (d[2] / norm),
+    ]
+}
+
 // Zeros of either sign.
-fn all_zero(d: [f64; 3]) -> bool
-    ensures { λ r. ⌜ r ≡ allZero d ⌝ }
+pub fn all_zero(d: [f64; 3]) -> bool
+    ensures { λ r. ⌜ r ≡ holds (zeros d) ⌝ }
 {
     (d[0] == 0.0) & (d[1] == 0.0) & (d[2] == 0.0)
 }
 
-impl DruckerPragerPlasticity {
-    fn gamma(self, norm: f64, trace: f64, alpha: f64) -> f64
-        ensures { λ r. ⌜ r ≡ gammaOf self norm trace alpha ⌝ }
-    {
-        norm + (3.0 * self.lambda + 2.0 * self.mu) / (2.0 * self.mu) * trace * alpha
-    }
-
-    // The test of gamma, once the deviatoric norm is known. A NaN would compare false: it is refused first.
-    fn choose_yield(self, norm: Answer, trace: f64, alpha: f64) -> Branch
-        ensures { λ r. ⌜ r ≡ yieldChoice self norm trace alpha ⌝ }
-    {
-        match norm {
-            Answer::Value(x) => {
-                let g = self.gamma(x, trace, alpha);
-                if numbers::is_number(g) {
-                    if g <= 0.0 {
-                        Branch::Inside(g, 0.0)
-                    } else {
-                        Branch::Surface(g, 0.0, x)
-                    }
-                } else {
-                    Branch::Refused(answers::NO_NUMBER)
-                }
-            }
-            Answer::Refused(n) => Branch::Refused(n),
-        }
-    }
-
-    // The branch of a strain with this trace and deviatoric part. The sum of squares is a NaN exactly where an entry is;
-    // a NaN in the trace is in every entry.
-    pub(crate) fn choose(self, trace: f64, d: [f64; 3], alpha: f64) -> Branch
-        ensures { λ r. ⌜ r ≡ choiceOf self trace d alpha ⌝ }
-    {
-        if numbers::is_number(tensor::dot(d, d)) {
-            if all_zero(d) {
-                Branch::Isotropic(d[2], 0.0)
-            } else if trace > 0.0 {
-                Branch::Expanding(trace, 0.0)
-            } else {
-                self.choose_yield(physics::norm_on_path(d), trace, alpha)
-            }
-        } else {
-            Branch::Refused(answers::NO_NUMBER)
-        }
-    }
+// Whether no entry is a NaN.
+pub fn all_numbers(v: [f64; 3]) -> bool
+    ensures { λ r. ⌜ r ≡ allOf isNumber v ⌝ }
+{
+    numbers::is_number(v[0]) & numbers::is_number(v[1]) & numbers::is_number(v[2])
 }

@@ -1,10 +1,11 @@
-// Drucker-Prager: log strains are returned to a cone (plasticity_drucker_prager.rs; document 01, section 5).
+// Drucker-Prager: log strains are returned to a cone (plasticity_drucker_prager.rs; RULES, section 5).
 mod alpha;
 mod choice;
 mod projection;
 mod update;
 
 use answers::Pair;
+use plasticity::Outcome;
 ghost use mathlib.Core.Path.{_≡_};
 ghost use Rattle.plasticity_drucker_prager.specs.Law.{defaultsOf, madeOf, newOf, parametersFinite};
 
@@ -22,12 +23,6 @@ pub struct DruckerPragerPlasticity {
 // What `new` answers: the law, or the refusal's number.
 pub enum Made {
     Law(DruckerPragerPlasticity),
-    Refused(u8),
-}
-
-// Three numbers, or the refusal's number.
-pub enum Triple {
-    Values(f64, f64, f64),
     Refused(u8),
 }
 
@@ -50,6 +45,12 @@ pub struct Projected {
     pub branch: Branch,
     pub sigma: [f64; 3],
     pub dq: f64,
+}
+
+// What the projection hands out: untouched, stored with dq or refused, and the singular values after it; zeros beside a refusal.
+pub struct Results {
+    pub outcome: Outcome,
+    pub sigma: [f64; 3],
 }
 
 impl DruckerPragerPlasticity {

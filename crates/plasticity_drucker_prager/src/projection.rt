@@ -1,53 +1,18 @@
-// The branch worked, and the projection as a call by itself.
+// The projection: the branch taken and worked.
 use crate::Branch;
 use crate::DruckerPragerPlasticity;
 use crate::Projected;
-use crate::Triple;
+use crate::Results;
 use crate::choice;
 use answers::Answer;
+use plasticity::Outcome;
 ghost use mathlib.Core.Path.{_≡_};
-ghost use Rattle.plasticity_drucker_prager.specs.Projection.{joinedOf, logsOf, expsOf, refusedProjection, tipOf, backOf, surfaceOf, returnedOf, strainedOf, loggedOf, projectedOf, returnedProjection, projectOf};
-
-// Three answers in index order: the first refusal is handed on.
-fn joined(a: Answer, b: Answer, c: Answer) -> Triple
-    ensures { λ r. ⌜ r ≡ joinedOf a b c ⌝ }
-{
-    match a {
-        Answer::Value(x) => match b {
-            Answer::Value(y) => match c {
-                Answer::Value(z) => Triple::Values(x, y, z),
-                Answer::Refused(n) => Triple::Refused(n),
-            },
-            Answer::Refused(n) => Triple::Refused(n),
-        },
-        Answer::Refused(n) => Triple::Refused(n),
-    }
-}
-
-fn logs(sigma: [f64; 3]) -> Triple
-    ensures { λ r. ⌜ r ≡ logsOf sigma ⌝ }
-{
-    joined(
-        logarithm::ln_on_path(sigma[0]),
-        logarithm::ln_on_path(sigma[1]),
-        logarithm::ln_on_path(sigma[2]),
-    )
-}
-
-// All entries are worked before the first exponential: a NaN in any of them is met first.
-fn exps(e: [f64; 3]) -> Triple
-    ensures { λ r. ⌜ r ≡ expsOf e ⌝ }
-{
-    if numbers::is_number(tensor::dot(e, e)) {
-        joined(
-            exponential::exp_on_path(e[0]),
-            exponential::exp_on_path(e[1]),
-            exponential::exp_on_path(e[2]),
-        )
-    } else {
-        Triple::Refused(answers::NO_NUMBER)
-    }
-}
+ghost use Rattle.tensor.specs.Matrix.{three, one};
+ghost use Rattle.physics.specs.Norm.{normOf};
+ghost use Rattle.walk.specs.Expr.{num, value};
+ghost use Rattle.walk.specs.Walk.{result};
+ghost use Rattle.plasticity_drucker_prager.specs.Alpha.{dim};
+ghost use Rattle.plasticity_drucker_prager.specs.Projection.{gamma, surfaceWalk, yieldWalk, strainedWalk, projectWalk, projectCall, refusedProjection, projectedOf, tipOf, returnedOf, outcomeOf, resultsOf};
 
 fn refused_projection(n: u8) -> Projected
     ensures { λ r. ⌜ r ≡ refusedProjection n ⌝ }
@@ -61,10 +26,10 @@ fn refused_projection(n: u8) -> Projected
 }
 
 // All ones, once the norm of the strain is known.
-fn tip(b: Branch, norm: Answer) -> Projected
-    ensures { λ r. ⌜ r ≡ tipOf b norm ⌝ }
+fn tip(b: Branch, e: [f64; 3]) -> Projected
+    ensures { λ r. ⌜ r ≡ tipOf b (three one one one) (normOf e) ⌝ }
 {
-    match norm {
+    match physics::norm_on_path(e) {
         Answer::Value(x) => {
             let ones = [1.0, 1.0, 1.0];
             Projected {
@@ -77,58 +42,32 @@ fn tip(b: Branch, norm: Answer) -> Projected
     }
 }
 
-// The strain less gamma times the deviatoric direction.
-fn back(e: [f64; 3], d: [f64; 3], gamma: f64, norm: f64) -> [f64; 3]
-    ensures { λ r. ⌜ r ≡ backOf e d gamma norm ⌝ }
+// Back to the cone.
+fn surface(gamma: f64, norm: f64, b: [f64; 3]) -> Projected
+    ensures { λ r. ⌜ r ≡ projectedOf (result (surfaceWalk (num gamma) (num norm) b)) ⌝ }
 {
-    [
-        e[0] - gamma * (d[0] / norm),
-        e[1] - gamma * (d[1] / norm),
-        e[2] - gamma * (d[2] / norm),
-    ]
-}
-
-// Once the exponentials are known.
-fn surface(b: Branch, gamma: f64, sigma: Triple) -> Projected
-    ensures { λ r. ⌜ r ≡ surfaceOf b gamma sigma ⌝ }
-{
-    match sigma {
-        Triple::Values(x, y, z) => {
-            let new = [x, y, z];
-            Projected {
-                branch: b,
-                sigma: new,
-                dq: gamma,
-            }
-        }
-        Triple::Refused(n) => refused_projection(n),
-    }
-}
-
-// The branch worked, on the singular values, the strain e and its deviatoric part d.
-fn returned(b: Branch, sigma: [f64; 3], e: [f64; 3], d: [f64; 3]) -> Projected
-    ensures { λ r. ⌜ r ≡ returnedOf b sigma e d ⌝ }
-{
-    match b {
-        Branch::Isotropic(x, y) => tip(Branch::Isotropic(x, y), physics::norm_on_path(e)),
-        Branch::Expanding(x, y) => tip(Branch::Expanding(x, y), physics::norm_on_path(e)),
-        Branch::Inside(x, y) => Projected {
-            branch: Branch::Inside(x, y),
-            sigma,
-            dq: 0.0,
+    match exponential::exp_on_path(b[0]) {
+        Answer::Value(x) => match exponential::exp_on_path(b[1]) {
+            Answer::Value(y) => match exponential::exp_on_path(b[2]) {
+                Answer::Value(z) => {
+                    let new = [x, y, z];
+                    Projected {
+                        branch: Branch::Surface(gamma, 0.0, norm),
+                        sigma: new,
+                        dq: gamma,
+                    }
+                }
+                Answer::Refused(n) => refused_projection(n),
+            },
+            Answer::Refused(n) => refused_projection(n),
         },
-        Branch::Surface(gamma, y, norm) => surface(
-            Branch::Surface(gamma, y, norm),
-            gamma,
-            exps(back(e, d, gamma, norm)),
-        ),
-        Branch::Refused(n) => refused_projection(n),
+        Answer::Refused(n) => refused_projection(n),
     }
 }
 
 // The results are returned where all are finite.
 fn returned_projection(q: Projected) -> Projected
-    ensures { λ r. ⌜ r ≡ returnedProjection q ⌝ }
+    ensures { λ r. ⌜ r ≡ returnedOf q ⌝ }
 {
     let sigma = q.sigma;
     if tensor::row_finite(sigma) & numbers::is_finite(q.dq) {
@@ -138,44 +77,120 @@ fn returned_projection(q: Projected) -> Projected
     }
 }
 
+// Whether the values are new; dq is the amount.
+fn outcome_of(b: Branch, dq: f64) -> Outcome
+    ensures { λ r. ⌜ r ≡ outcomeOf b dq ⌝ }
+{
+    match b {
+        Branch::Isotropic(_, _) => Outcome::Stored(dq),
+        Branch::Expanding(_, _) => Outcome::Stored(dq),
+        Branch::Inside(_, _) => Outcome::Untouched,
+        Branch::Surface(_, _, _) => Outcome::Stored(dq),
+        Branch::Refused(n) => Outcome::Refused(n),
+    }
+}
+
+fn handed_out(q: Projected) -> Results
+    ensures { λ r. ⌜ r ≡ resultsOf q ⌝ }
+{
+    let b = q.branch;
+    let sigma = q.sigma;
+    let outcome = outcome_of(b, q.dq);
+    Results { outcome, sigma }
+}
+
 impl DruckerPragerPlasticity {
-    // The steps after the strain.
-    fn strained(self, sigma: [f64; 3], e: [f64; 3], alpha: f64) -> Projected
-        ensures { λ r. ⌜ r ≡ strainedOf self sigma e alpha ⌝ }
+    fn gamma(self, norm: f64, trace: f64, alpha: f64) -> f64
+        ensures { λ r. ⌜ r ≡ value (gamma dim self (num norm) (num trace) alpha) ⌝ }
     {
-        let trace = tensor::sum(e);
-        let d = choice::deviatoric(e, trace);
-        returned(self.choose(trace, d, alpha), sigma, e, d)
+        norm + (3.0 * self.lambda + 2.0 * self.mu) / (2.0 * self.mu) * trace * alpha
     }
 
-    // Once the logarithms are known.
-    fn logged(self, logs: Triple, sigma: [f64; 3], gain: f64, alpha: f64) -> Projected
-        ensures { λ r. ⌜ r ≡ loggedOf self logs sigma gain alpha ⌝ }
+    // The test of gamma. A NaN would compare false: it is refused first.
+    fn yielded(self, sigma: [f64; 3], e: [f64; 3], d: [f64; 3], trace: f64, alpha: f64) -> Projected
+        ensures { λ r. ⌜ r ≡ projectedOf (result (yieldWalk dim self sigma e d (num trace) alpha)) ⌝ }
     {
-        match logs {
-            Triple::Values(x, y, z) => {
-                let l = [x, y, z];
-                self.strained(sigma, choice::strain(l, gain), alpha)
+        match physics::norm_on_path(d) {
+            Answer::Value(norm) => {
+                let g = self.gamma(norm, trace, alpha);
+                if numbers::is_number(g) {
+                    if g <= 0.0 {
+                        Projected {
+                            branch: Branch::Inside(g, 0.0),
+                            sigma,
+                            dq: 0.0,
+                        }
+                    } else {
+                        let b = choice::back(e, d, g, norm);
+                        if choice::all_numbers(b) {
+                            surface(g, norm, b)
+                        } else {
+                            refused_projection(3)
+                        }
+                    }
+                } else {
+                    refused_projection(3)
+                }
             }
-            Triple::Refused(n) => refused_projection(n),
+            Answer::Refused(n) => refused_projection(n),
+        }
+    }
+
+    // The steps after the strain.
+    fn strained(self, sigma: [f64; 3], e: [f64; 3], alpha: f64) -> Projected
+        ensures { λ r. ⌜ r ≡ projectedOf (result (strainedWalk dim self sigma e alpha)) ⌝ }
+    {
+        let trace = tensor::sum(e);
+        if numbers::is_number(trace) {
+            let d = choice::deviatoric(e, trace);
+            if choice::all_numbers(d) {
+                if choice::all_zero(d) {
+                    tip(Branch::Isotropic(d[2], 0.0), e)
+                } else if trace > 0.0 {
+                    tip(Branch::Expanding(trace, 0.0), e)
+                } else {
+                    self.yielded(sigma, e, d, trace, alpha)
+                }
+            } else {
+                refused_projection(3)
+            }
+        } else {
+            refused_projection(3)
         }
     }
 
     // The projection as a step of the law.
     pub(crate) fn projected(self, sigma: [f64; 3], gain: f64, alpha: f64) -> Projected
-        ensures { λ r. ⌜ r ≡ projectedOf self sigma gain alpha ⌝ }
+        ensures { λ r. ⌜ r ≡ projectedOf (result (projectWalk dim self sigma gain alpha)) ⌝ }
     {
-        self.logged(logs(sigma), sigma, gain, alpha)
+        match logarithm::ln_on_path(sigma[0]) {
+            Answer::Value(x) => match logarithm::ln_on_path(sigma[1]) {
+                Answer::Value(y) => match logarithm::ln_on_path(sigma[2]) {
+                    Answer::Value(z) => {
+                        let l = [x, y, z];
+                        let e = choice::strain(l, gain);
+                        if choice::all_numbers(e) {
+                            self.strained(sigma, e, alpha)
+                        } else {
+                            refused_projection(3)
+                        }
+                    }
+                    Answer::Refused(n) => refused_projection(n),
+                },
+                Answer::Refused(n) => refused_projection(n),
+            },
+            Answer::Refused(n) => refused_projection(n),
+        }
     }
 
-    // The projection of singular values.
-    pub fn project_deformation_gradient(
+    // The projection by itself, with its branch.
+    fn projected_by_itself(
         self,
         singular_values: [f64; 3],
         log_vol_gain: f64,
         alpha: f64,
     ) -> Projected
-        ensures { λ r. ⌜ r ≡ projectOf self «singular_values» «log_vol_gain» alpha ⌝ }
+        ensures { λ r. ⌜ r ≡ projectedOf (result (projectCall dim self «singular_values» «log_vol_gain» alpha)) ⌝ }
     {
         if self.parameters_finite()
             & tensor::row_finite(singular_values)
@@ -186,5 +201,17 @@ impl DruckerPragerPlasticity {
         } else {
             refused_projection(1)
         }
+    }
+
+    // The projection of singular values.
+    pub fn project_deformation_gradient(
+        self,
+        singular_values: [f64; 3],
+        log_vol_gain: f64,
+        alpha: f64,
+    ) -> Results
+        ensures { λ r. ⌜ r ≡ resultsOf (projectedOf (result (projectCall dim self «singular_values» «log_vol_gain» alpha))) ⌝ }
+    {
+        handed_out(self.projected_by_itself(singular_values, log_vol_gain, alpha))
     }
 }

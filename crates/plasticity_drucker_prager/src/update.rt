@@ -10,7 +10,10 @@ use plasticity::Updated;
 ghost use mathlib.Core.Path.{_≡_};
 ghost use mathlib.Core.Bool.{true};
 ghost use Rattle.plasticity.specs.State.{inputsFinite};
-ghost use Rattle.plasticity_drucker_prager.specs.DruckerPrager.{untouchedOf, correctedOf, determinantOf, differenceOf, stateOf, druckerStore, gainedOf, movedOf, branchOf, slopedOf, staysOf, druckerRun, druckerUpdate};
+ghost use Rattle.walk.specs.Expr.{num};
+ghost use Rattle.walk.specs.Walk.{result};
+ghost use Rattle.walk.specs.Update.{updatedOf};
+ghost use Rattle.plasticity_drucker_prager.specs.DruckerPrager.{untouchedOf, stateOf, storeWalk, movedWalk, staysOf, runWalk, correctedOf, followedOf, druckerUpdate};
 
 fn untouched(s: State) -> Updated
     ensures { λ r. ⌜ r ≡ untouchedOf s ⌝ }
@@ -21,26 +24,7 @@ fn untouched(s: State) -> Updated
     }
 }
 
-// The plastic determinant times the previous determinant over the new.
-fn determinant(d: f64, prev: f64, new: f64) -> f64
-    ensures { λ r. ⌜ r ≡ determinantOf d prev new ⌝ }
-{
-    d * (prev / new)
-}
-
-// The logarithm of the previous determinant less that of the new: the first refusal is handed on.
-fn difference(prev: Answer, new: Answer) -> Answer
-    ensures { λ r. ⌜ r ≡ differenceOf prev new ⌝ }
-{
-    match prev {
-        Answer::Value(x) => match new {
-            Answer::Value(y) => Answer::Value(x - y),
-            Answer::Refused(n) => Answer::Refused(n),
-        },
-        Answer::Refused(n) => Answer::Refused(n),
-    }
-}
-
+// F, sigma, plastic determinant, plastic hardening and log gain are new.
 fn state_of(f: [[f64; 3]; 3], sigma: [f64; 3], d: f64, hardening: f64, gain: f64, s: State) -> State
     ensures { λ r. ⌜ r ≡ stateOf f sigma d hardening gain s ⌝ }
 {
@@ -60,21 +44,21 @@ fn state_of(f: [[f64; 3]; 3], sigma: [f64; 3], d: f64, hardening: f64, gain: f64
 
 // The results are stored where all are finite; then dq, a summand of the hardening, is finite too.
 fn store(
-    f: [[f64; 3]; 3],
+    u: [[f64; 3]; 3],
     sigma: [f64; 3],
+    vt: [[f64; 3]; 3],
     d: f64,
     hardening: f64,
     gain: f64,
     dq: f64,
     s: State,
 ) -> Updated
-    ensures { λ r. ⌜ r ≡ druckerStore f sigma d hardening gain dq s ⌝ }
+    ensures { λ r. ⌜ r ≡ updatedOf s (result (storeWalk u sigma vt (num d) (num hardening) (num gain) dq s)) ⌝ }
 {
+    let f = tensor::recompose(u, sigma, vt);
     if tensor::mat_finite(f)
         & tensor::row_finite(sigma)
-        & numbers::is_finite(d)
-        & numbers::is_finite(hardening)
-        & numbers::is_finite(gain)
+        & (numbers::is_finite(d) & numbers::is_finite(hardening) & numbers::is_finite(gain))
     {
         Updated {
             state: state_of(f, sigma, d, hardening, gain, s),
@@ -85,47 +69,19 @@ fn store(
     }
 }
 
-// Once the difference of the logarithms is known.
-fn gained(
-    difference: Answer,
-    u: [[f64; 3]; 3],
-    sigma: [f64; 3],
-    vt: [[f64; 3]; 3],
-    d: f64,
-    dq: f64,
-    s: State,
-) -> Updated
-    ensures { λ r. ⌜ r ≡ gainedOf difference u sigma vt d dq s ⌝ }
-{
-    match difference {
-        Answer::Value(x) => store(
-            tensor::recompose(u, sigma, vt),
-            sigma,
-            d,
-            s.scalars.plastic_hardening + dq,
-            s.scalars.log_gain + x,
-            dq,
-            s,
-        ),
-        Answer::Refused(n) => plasticity::refuse(n, s),
-    }
-}
-
 impl DruckerPragerPlasticity {
     // With a growing volume the new determinant stands.
-    fn corrected(self, prev: f64, new: f64) -> f64
-        ensures { λ r. ⌜ r ≡ correctedOf self prev new ⌝ }
+    fn corrected(self, prev: f64, grown: f64, diff: f64) -> f64
+        ensures { λ r. ⌜ r ≡ correctedOf self prev grown diff ⌝ }
     {
-        let diff = new - prev;
         if diff > 0.0 {
-            new
+            grown
         } else {
             prev + diff * self.volume_correction
         }
     }
 
-    // New singular values: determinants, logarithms, hardening, recomposed F. The plastic determinant is worked before the
-    // logarithms: its NaN is met first.
+    // New singular values: determinants, logarithms, hardening, recomposed F.
     fn moved(
         self,
         sigma: [f64; 3],
@@ -134,22 +90,41 @@ impl DruckerPragerPlasticity {
         vt: [[f64; 3]; 3],
         s: State,
     ) -> Updated
-        ensures { λ r. ⌜ r ≡ movedOf self sigma dq u vt s ⌝ }
+        ensures { λ r. ⌜ r ≡ updatedOf s (result (movedWalk self sigma dq u vt s)) ⌝ }
     {
         let old = s.sigma;
         let prev = tensor::product(old);
-        let new = self.corrected(prev, tensor::product(sigma));
-        let d = determinant(s.scalars.plastic_determinant, prev, new);
-        if numbers::is_number(d) {
-            let x = difference(logarithm::ln_on_path(prev), logarithm::ln_on_path(new));
-            gained(x, u, sigma, vt, d, dq, s)
+        let grown = tensor::product(sigma);
+        let diff = grown - prev;
+        if numbers::is_number(diff) {
+            let new = self.corrected(prev, grown, diff);
+            if numbers::is_number(new) {
+                let d = s.scalars.plastic_determinant * (prev / new);
+                if numbers::is_number(d) {
+                    match logarithm::ln_on_path(prev) {
+                        Answer::Value(x) => match logarithm::ln_on_path(new) {
+                            Answer::Value(y) => {
+                                let hardening = s.scalars.plastic_hardening + dq;
+                                let gain = s.scalars.log_gain + (x - y);
+                                store(u, sigma, vt, d, hardening, gain, dq, s)
+                            }
+                            Answer::Refused(n) => plasticity::refuse(n, s),
+                        },
+                        Answer::Refused(n) => plasticity::refuse(n, s),
+                    }
+                } else {
+                    plasticity::refuse(answers::NO_NUMBER, s)
+                }
+            } else {
+                plasticity::refuse(answers::NO_NUMBER, s)
+            }
         } else {
             plasticity::refuse(answers::NO_NUMBER, s)
         }
     }
 
     fn branch(self, q: Projected, u: [[f64; 3]; 3], vt: [[f64; 3]; 3], s: State) -> Updated
-        ensures { λ r. ⌜ r ≡ branchOf self q u vt s ⌝ }
+        ensures { λ r. ⌜ r ≡ followedOf (q .branch) self (q .sigma) (q .dq) u vt s ⌝ }
     {
         let b = q.branch;
         let sigma = q.sigma;
@@ -162,19 +137,6 @@ impl DruckerPragerPlasticity {
         }
     }
 
-    // Once alpha is known.
-    fn sloped(self, alpha: Answer, u: [[f64; 3]; 3], vt: [[f64; 3]; 3], s: State) -> Updated
-        ensures { λ r. ⌜ r ≡ slopedOf self alpha u vt s ⌝ }
-    {
-        match alpha {
-            Answer::Value(a) => {
-                let sigma = s.sigma;
-                self.branch(self.projected(sigma, s.scalars.log_gain, a), u, vt, s)
-            }
-            Answer::Refused(n) => plasticity::refuse(n, s),
-        }
-    }
-
     // Whether the law leaves a particle of this phase alone.
     fn stays(self, phase: f64) -> bool
         ensures { λ r. ⌜ r ≡ staysOf self phase ⌝ }
@@ -184,12 +146,19 @@ impl DruckerPragerPlasticity {
 
     // The steps in the law's order: phase, alpha, projection, determinants, recomposed F.
     fn run(self, u: [[f64; 3]; 3], vt: [[f64; 3]; 3], s: State) -> Updated
-        ensures { λ r. ⌜ r ≡ druckerRun self u vt s ⌝ }
+        ensures { λ r. ⌜ r ≡ updatedOf s (result (runWalk self u vt s)) ⌝ }
     {
         if self.stays(s.scalars.phase) {
             untouched(s)
         } else {
-            self.sloped(self.alpha_on_path(s.scalars.plastic_hardening), u, vt, s)
+            match self.alpha_on_path(s.scalars.plastic_hardening) {
+                Answer::Value(a) => {
+                    let sigma = s.sigma;
+                    let q = self.projected(sigma, s.scalars.log_gain, a);
+                    self.branch(q, u, vt, s)
+                }
+                Answer::Refused(n) => plasticity::refuse(n, s),
+            }
         }
     }
 

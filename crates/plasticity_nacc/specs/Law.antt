@@ -1,5 +1,6 @@
--- The NACC law of its arguments: `with_m` and `new` (document 01, section 6; plasticity_nacc.rs).
+-- The NACC law of its arguments: `with_m` and `new` (RULES, section 6; plasticity_nacc.rs).
 use mathlib.Core.Bool.{Bool, cond, _&&_}
+use mathlib.Core.List.{List, [], _∷_}
 use lib.Ieee.{Float, binary64, ofBits}
 use Rattle.answers.specs.Refusals.{notFinite, noNumber}
 use Rattle.numbers.specs.Constants.{three}
@@ -57,6 +58,13 @@ argumentsFinite a = elasticFinite a && finite (a .cohesion) && finite (a .«hard
 
 abbrev pub parametersFinite : NaccPlasticity → Bool
 parametersFinite p = finite (p .«hardening_factor») && finite (p .cohesion) && finite (p .friction)
+
+-- the floats, as a law and as its arguments
+abbrev pub parametersOf : NaccPlasticity → List Float
+parametersOf p = p .«hardening_factor» ∷ p .cohesion ∷ p .friction ∷ []
+
+abbrev pub argumentsFloats : NaccArguments → List Float
+argumentsFloats a = a .«young_modulus» ∷ a .«poisson_ratio» ∷ a .cohesion ∷ a .«hardening_factor» ∷ a .m ∷ []
 
 abbrev pub moduliFinite : NaccPlasticity → Bool
 moduliFinite p = finite (p .mu) && finite (p .kappa)

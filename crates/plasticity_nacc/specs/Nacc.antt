@@ -1,94 +1,196 @@
--- The NACC projection and update (document 01, sections 5 and 6; plasticity_nacc.rs).
+-- The NACC projection and update as walks (RULES, sections 5 and 6; plasticity_nacc.rs).
 use mathlib.Core.Bool.{Bool, cond, _&&_}
-use mathlib.Core.List.{List}
+use mathlib.Core.List.{List, [], _∷_, _++_}
 use Prim.Native.Nat.{ℕ}
-use lib.Ieee.{Float}
-use Rattle.answers.specs.Refusals.{notFinite, noNumber}
-use Rattle.numbers.specs.Floats.{finite}
-use Rattle.answers.specs.Range.{onPath}
-use Rattle.answers.specs.declared.Answer.{Answer}
-use Rattle.answers.specs.declared.Answer.the-variants as answers
-use Rattle.thirds.specs.Thirds.{invCbrtSquaredRanged}
-use Rattle.tensor.specs.Matrix.{zero, productOf, recomposeOf, rowsOf}
+use lib.ListN.{getD}
+use lib.Ieee as Ieee
+use lib.Ieee.{Float, nan}
+use Rattle.answers.specs.Refusals.{noNumber}
+use Rattle.numbers.specs.Floats.{finite, isNumber}
+use Rattle.tensor.specs.Matrix as tensor
+use Rattle.tensor.specs.Matrix.{three, recomposeOf, rowsOf}
 use Rattle.tensor.specs.Finite.{rowFinite, matFinite}
 use Rattle.tensor.specs.Answer.{zeroRow, zeroRows}
 use Rattle.tensor.specs.declared.Rows.{Rows}
-use Rattle.plasticity.specs.State.{inputsFinite, refused}
+use Rattle.plasticity.specs.State as law
+use Rattle.plasticity.specs.declared.Outcome.{Outcome}
 use Rattle.plasticity.specs.declared.Outcome.the-variants as outcome
 use Rattle.plasticity.specs.declared.State.{State}
 use Rattle.plasticity.specs.declared.Updated.{Updated}
+use Rattle.walk.specs.Expr.{Expr, num, neg, _+_, _-_, _*_, _/_, value, nums}
+use Rattle.walk.specs.Walk.{Walk, Test, ln, root, sinh, third, two-thirds, minus-two-thirds, less, flag, inputs, ask, asks, work, works, most, size, branch, split, when, results, end, _then_, Ended, given, refused, result}
+use Rattle.walk.specs.Matrix.{product}
+use Rattle.walk.specs.Every.{flat}
+use Rattle.walk.specs.Update.{Change, untouched, stored, updatedOf, recomposed, floatsOf}
 use Rattle.plasticity_nacc.specs.declared.Branch.{Branch}
 use Rattle.plasticity_nacc.specs.declared.Branch.the-variants.{Upper, Lower, Inside, Surface, Refused}
 use Rattle.plasticity_nacc.specs.declared.NaccArguments.{NaccArguments}
 use Rattle.plasticity_nacc.specs.declared.NaccPlasticity.{NaccPlasticity}
 use Rattle.plasticity_nacc.specs.declared.Projected.{Projected}
+use Rattle.plasticity_nacc.specs.declared.Results.{Results}
 use Rattle.plasticity_nacc.specs.declared.Stepped.{Stepped}
 use Rattle.plasticity_nacc.specs.declared.Trial.{Trial}
-use Rattle.plasticity_nacc.specs.Law.{lawOf, elasticFinite, parametersFinite, moduliFinite}
-use Rattle.plasticity_nacc.specs.TrialState.{p0OnPath, trialOf}
-use Rattle.plasticity_nacc.specs.Choice.{choiceOf}
-use Rattle.plasticity_nacc.specs.Tip.{refusedStep, volumeSquare, lowerSquare, tipOf}
-use Rattle.plasticity_nacc.specs.Surface.{surfaceOf}
+use Rattle.plasticity_nacc.specs.Law.{lawOf, argumentsFloats, parametersOf, parametersFinite}
+use Rattle.plasticity_nacc.specs.Formulas as of
+use Rattle.plasticity_nacc.specs.Formulas.{zero, small, trialOf}
 
--- the branch worked
-unfoldable pub workedOf : NaccPlasticity → Branch → Trial → List Float → Float → Stepped
-workedOf p (Upper x y) t sigma alpha = tipOf p (Upper x y) (volumeSquare p (t .p0)) (t .j) alpha
-workedOf p (Lower x y) t sigma alpha = tipOf p (Lower x y) (lowerSquare p (t .p0)) (t .j) alpha
-workedOf p (Inside x y) t sigma alpha = record { branch = Inside x y; sigma = sigma; alpha = alpha }
-workedOf p (Surface x y) t sigma alpha = surfaceOf p (Surface x y) t alpha
-workedOf p (Refused n) t sigma alpha = refusedStep n
+-- ---- where it ends: the branch with the two numbers last compared, sigma and alpha
+pub data Way : Type 0 where
+  upper : Float → Float → Way
+  lower : Float → Float → Way
+  inside : Float → Float → Way
+  surface : Float → Float → Way
 
-unfoldable pub triedOf : NaccPlasticity → Trial → List Float → Float → Stepped
-triedOf p t sigma alpha = workedOf p (choiceOf p t) t sigma alpha
+pub record Shape : Type 0 where
+  pub sigma : List Float
+  pub alpha : Float
 
--- once j to the power -2/3 is known
-unfoldable pub poweredOf : NaccPlasticity → Answer → Float → Float → List Float → Float → Stepped
-poweredOf p (answers.Value w) p0 j sigma alpha = triedOf p (trialOf p w p0 j sigma) sigma alpha
-poweredOf p (answers.Refused n) p0 j sigma alpha = refusedStep n
+pub record Landed : Type 0 where
+  pub way : Way
+  pub shape : Shape
 
--- once p0 is known; j is the product of sigma, and a NaN there is the power's 3
-unfoldable pub pressedOf : NaccPlasticity → Answer → List Float → Float → Stepped
-pressedOf p (answers.Value p0) sigma alpha =
-    poweredOf p (onPath (productOf sigma) (invCbrtSquaredRanged (productOf sigma))) p0 (productOf sigma) sigma alpha
-pressedOf p (answers.Refused n) sigma alpha = refusedStep n
+-- ---- a tip, whose volume is x: the cube root, then alpha raised by the logarithm of j / x where hardening is enabled
+unfoldable pub tipWalk : NaccPlasticity → Expr → Float → Float → Walk Shape
+tipWalk p x j alpha =
+    ask 11 third x (λ e.
+    split 12 (flag (p .«hardening_enabled»))
+    (ask 12 ln (num j / x) (λ l. end (record { sigma = three (value e) (value e) (value e); alpha = value (num alpha + l) })))
+    (end (record { sigma = three (value e) (value e) (value e); alpha = alpha })))
 
--- the steps in the law's order
-unfoldable pub stepsOf : NaccPlasticity → List Float → Float → Stepped
-stepsOf p sigma alpha = pressedOf p (p0OnPath p alpha) sigma alpha
+-- ---- the hardening step: the new alpha
+-- of a zero of either sign 0
+abbrev pub sizeOf : Float → Float
+sizeOf x = cond (Ieee.le x tensor.zero) (tensor.sub tensor.zero x) x
 
-abbrev pub refusedProjection : ℕ → Projected
-refusedProjection n = record { branch = Refused n; f = zeroRows; sigma = zeroRow; alpha = zero }
+-- at the crossing's pressure x: the volume there, above 1e-4 the logarithm of j over it
+unfoldable pub growWalk : NaccPlasticity → Expr → Float → Float → Walk Float
+growWalk p x j alpha =
+    work 22 (of.volumeSquare p x) (λ v.
+    size 22 v (λ v.
+    ask 22 root v (λ x.
+    split 23 (less small x) (ask 23 ln (num j / x) (λ l. end (value (num alpha + l)))) (end alpha))))
 
--- F recomposed; the results are finite, else 3
-unfoldable pub recomposedOf : Branch → List (List Float) → List Float → List (List Float) → Float → Projected
-recomposedOf b u sigma vt alpha =
-    cond (matFinite (recomposeOf u sigma vt) && rowFinite sigma && finite alpha)
-    (record { branch = b; f = rowsOf (recomposeOf u sigma vt); sigma = sigma; alpha = alpha })
-    (refusedProjection noNumber)
+-- along the direction (d0, d1) from the centre c: both crossings, and the one on the trial state's side
+unfoldable pub crossWalk : NaccPlasticity → Trial → Expr → Float → Float → Float → Walk Float
+crossWalk p t c d0 d1 alpha =
+    let a = of.quadratic p (num d0) (num d1) in
+    let b = of.linear p c (num (t .p0)) (num d0) in
+    ask 19 root (of.discriminant a b (of.constant p c (num (t .p0)))) (λ r.
+    works 20 (of.crossing c (neg b + r) a (num d0) ∷ of.crossing c (neg b - r) a (num d0) ∷ []) (λ l.
+    let p1 = num (getD l 0 nan) in
+    let p2 = num (getD l 1 nan) in
+    split 21 (less zero ((num (t .p) - c) * (p1 - c))) (growWalk p p1 (t .j) alpha) (growWalk p p2 (t .j) alpha)))
 
--- inside the yield surface F is as it came
-abbrev pub byBranch : Branch → List Float → Float → Rows → List (List Float) → List (List Float) → Projected
-byBranch (Upper x y) sigma alpha f u vt = recomposedOf (Upper x y) u sigma vt alpha
-byBranch (Lower x y) sigma alpha f u vt = recomposedOf (Lower x y) u sigma vt alpha
-byBranch (Inside x y) sigma alpha f u vt = record { branch = Inside x y; f = f; sigma = sigma; alpha = alpha }
-byBranch (Surface x y) sigma alpha f u vt = recomposedOf (Surface x y) u sigma vt alpha
-byBranch (Refused n) sigma alpha f u vt = refusedProjection n
+-- the direction of (p_c - p_tr, 0 - q_tr), with q_tr = root((6 - 3)/2) |s_tr|
+unfoldable pub hardenWalk : NaccPlasticity → Trial → Float → Walk Float
+hardenWalk p t alpha =
+    work 14 (of.centre p (num (t .p0))) (λ c.
+    ask 15 root of.half (λ a.
+    ask 16 root (num (t .squares)) (λ b.
+    let x = c - num (t .p) in
+    let y = zero - a * b in
+    ask 17 root (x * x + y * y) (λ n.
+    works 18 (x / n ∷ y / n ∷ []) (λ d. crossWalk p t c (getD d 0 nan) (getD d 1 nan) alpha)))))
 
-unfoldable pub projectedOf : Stepped → Rows → List (List Float) → List (List Float) → Projected
-projectedOf q f u vt = byBranch (q .branch) (q .sigma) (q .alpha) f u vt
+-- "the four-condition hardening step first": none of these tests is a branch of section 5
+abbrev pub conditions : NaccPlasticity → Trial → List Test
+conditions p t =
+    flag (p .«hardening_enabled») ∷ less small (num (t .p0)) ∷ less (num (t .p)) (num (t .p0) - small) ∷ less (of.low p (num (t .p0)) + small) (num (t .p)) ∷ []
 
--- ---- the projection as a call by itself: 1 comes first, then the moduli by 3
-abbrev pub projectionInputs : NaccPlasticity → List (List Float) → List (List Float) → List Float → List (List Float) → Float → Bool
-projectionInputs p f u sigma vt alpha =
+unfoldable pub hardenedWalk : NaccPlasticity → Trial → Float → Walk Float
+hardenedWalk p t alpha = when 13 (conditions p t) (hardenWalk p t alpha) (end alpha)
+
+-- what the branches before it have tested
+abbrev pub settled : NaccPlasticity → Trial → Bool
+settled p t = isNumber (t .p0) && isNumber (t .p) && isNumber (value (of.low p (num (t .p0))))
+
+-- ---- the surface
+unfoldable pub rootsWalk : List Float → Float → Walk Shape
+rootsWalk e alpha = asks 29 root e (λ sigma. end (record { sigma = sigma; alpha = alpha }))
+
+-- k = root(-y1 / y0) (j^(2/3) / mu), then k s_tr / |s_tr| + mean
+unfoldable pub landWalk : NaccPlasticity → Trial → Float → Walk Shape
+landWalk p t alpha =
+    ask 24 root (of.ratio p t) (λ r.
+    ask 25 two-thirds (num (t .j)) (λ w.
+    work 26 (r * (w / num (p .mu))) (λ k.
+    ask 27 root (num (t .squares)) (λ norm.
+    works 28 (of.spread k (t .s) norm (t .mean)) (λ e. rootsWalk e alpha)))))
+
+unfoldable pub surfaceWalk : NaccPlasticity → Trial → Float → Walk Shape
+surfaceWalk p t alpha = hardenedWalk p t alpha then (λ a. landWalk p t a)
+
+-- ---- the branches: "p_tr > p0: upper tip. p_tr < -beta p0: lower tip. y < 1e-4: untouched .. Else the surface"
+abbrev pub ends : Way → Shape → Walk Landed
+ends w q = end (record { way = w; shape = q })
+
+unfoldable pub yieldWalk : NaccPlasticity → Trial → List Float → Float → Walk Landed
+yieldWalk p t sigma alpha =
+    work 9 (of.y p t) (λ y.
+    branch 9 (less y small) (ends (inside (value y) (value small)) (record { sigma = sigma; alpha = alpha }))
+    (surfaceWalk p t alpha then ends (surface (value y) (value small))))
+
+unfoldable pub lowerWalk : NaccPlasticity → Trial → List Float → Float → Walk Landed
+lowerWalk p t sigma alpha =
+    work 8 (of.low p (num (t .p0))) (λ low.
+    branch 8 (less (num (t .p)) low)
+    (ask 10 root (of.lowerSquare p (num (t .p0))) (λ x. tipWalk p x (t .j) alpha then ends (lower (t .p) (value low))))
+    (yieldWalk p t sigma alpha))
+
+unfoldable pub branchWalk : NaccPlasticity → Trial → List Float → Float → Walk Landed
+branchWalk p t sigma alpha =
+    branch 7 (less (num (t .p0)) (num (t .p)))
+    (ask 10 root (of.volumeSquare p (num (t .p0))) (λ x. tipWalk p x (t .j) alpha then ends (upper (t .p) (t .p0))))
+    (lowerWalk p t sigma alpha)
+
+-- ---- the trial state, in the text's order: p0, the power of j, stress and pressure
+unfoldable pub pressWalk : NaccPlasticity → Expr → List Float → Float → Walk Landed
+pressWalk p m sigma alpha =
+    ask 3 sinh (num (p .«hardening_factor») * m) (λ x.
+    work 4 (of.p0 p x) (λ p0.
+    ask 5 minus-two-thirds (product sigma) (λ w.
+    works 6 (of.squares p w sigma ∷ of.pressure p (product sigma) ∷ []) (λ l.
+    branchWalk p (trialOf p (value w) (value p0) (value (product sigma)) sigma) sigma alpha))))
+
+-- xi max(-alpha, 0)
+unfoldable pub stepsWalk : NaccPlasticity → List Float → Float → Walk Landed
+stepsWalk p sigma alpha = most 2 (neg (num alpha)) zero (λ m. pressWalk p m sigma alpha)
+
+-- ---- F recomposed, the results finite; inside the yield surface F is as it came
+pub record Result : Type 0 where
+  pub way : Way
+  pub f : Rows
+  pub shape : Shape
+
+unfoldable pub recomposedWalk : Way → List (List Float) → Shape → List (List Float) → Walk Result
+recomposedWalk w u q vt =
+    results 30 (recomposed u (q .sigma) vt ++ nums (q .sigma) ∷ (num (q .alpha) ∷ []) ∷ [])
+    (end (record { way = w; f = rowsOf (recomposeOf u (q .sigma) vt); shape = q }))
+
+unfoldable pub wayWalk : Way → Shape → Rows → List (List Float) → List (List Float) → Walk Result
+wayWalk (upper x y) q f u vt = recomposedWalk (upper x y) u q vt
+wayWalk (lower x y) q f u vt = recomposedWalk (lower x y) u q vt
+wayWalk (inside x y) q f u vt = end (record { way = inside x y; f = f; shape = q })
+wayWalk (surface x y) q f u vt = recomposedWalk (surface x y) u q vt
+
+unfoldable pub projectWalk : NaccPlasticity → Rows → List (List Float) → List Float → List (List Float) → Float → Walk Result
+projectWalk p f u sigma vt alpha = stepsWalk p sigma alpha then (λ q. wayWalk (q .way) (q .shape) f u vt)
+
+-- "1 is tested first, then the moduli by 3"
+abbrev pub moduli : {A : Type 0} → NaccPlasticity → Walk A → Walk A
+moduli p w = results 1 ((num (p .mu) ∷ num (p .kappa) ∷ []) ∷ []) w
+
+abbrev pub projectInputs : NaccPlasticity → List (List Float) → List (List Float) → List Float → List (List Float) → Float → Bool
+projectInputs p f u sigma vt alpha =
     parametersFinite p && matFinite f && matFinite u && rowFinite sigma && matFinite vt && finite alpha
 
-unfoldable pub projectOf : NaccPlasticity → List (List Float) → List (List Float) → List Float → List (List Float) → Float → Projected
-projectOf p f u sigma vt alpha =
-    cond (projectionInputs p f u sigma vt alpha)
-    (cond (moduliFinite p) (projectedOf (stepsOf p sigma alpha) (rowsOf f) u vt) (refusedProjection noNumber))
-    (refusedProjection notFinite)
+unfoldable pub projectFloats : NaccPlasticity → List (List Float) → List (List Float) → List Float → List (List Float) → Float → List Float
+projectFloats p f u sigma vt alpha = parametersOf p ++ (flat f ++ (flat u ++ (sigma ++ (flat vt ++ (alpha ∷ [])))))
 
--- ---- the update: F, sigma and alpha are new, and alpha is the amount
+unfoldable pub projectCall : NaccPlasticity → List (List Float) → List (List Float) → List Float → List (List Float) → Float → Walk Result
+projectCall p f u sigma vt alpha = inputs (projectFloats p f u sigma vt alpha) (moduli p (projectWalk p (rowsOf f) u sigma vt alpha))
+
+-- ---- the update: F, sigma and alpha are new, and alpha is the amount; "y < 1e-4: untouched, alpha too"
 abbrev pub stateOf : Rows → List Float → Float → State → State
 stateOf f sigma alpha s =
     record {
@@ -104,28 +206,87 @@ stateOf f sigma alpha s =
       };
     }
 
+abbrev pub changeOf : Way → Rows → Shape → State → Change
+changeOf (upper x y) f q s = stored (stateOf f (q .sigma) (q .alpha) s) (q .alpha)
+changeOf (lower x y) f q s = stored (stateOf f (q .sigma) (q .alpha) s) (q .alpha)
+changeOf (inside x y) f q s = untouched
+changeOf (surface x y) f q s = stored (stateOf f (q .sigma) (q .alpha) s) (q .alpha)
+
+unfoldable pub runWalk : NaccPlasticity → List (List Float) → List (List Float) → State → Walk Change
+runWalk p u vt s = projectWalk p (s .f) u (s .sigma) vt (s .scalars .alpha) then (λ q. end (changeOf (q .way) (q .f) (q .shape) s))
+
+-- parameters first
+unfoldable pub floats : List Float → List (List Float) → List (List Float) → State → List Float
+floats l u vt s = l ++ floatsOf u vt s
+
+unfoldable pub naccWalk : NaccPlasticity → List (List Float) → List (List Float) → State → Walk Change
+naccWalk p u vt s = inputs (floats (parametersOf p) u vt s) (moduli p (runWalk p u vt s))
+
+-- by the law that `with_m` makes of the arguments
+unfoldable pub argumentsWalk : NaccArguments → List (List Float) → List (List Float) → State → Walk Change
+argumentsWalk a u vt s = inputs (floats (argumentsFloats a) u vt s) (moduli (lawOf a) (runWalk (lawOf a) u vt s))
+
+-- ---- as the code hands it on: zeros stand beside a refusal
+abbrev pub branchOf : Way → Branch
+branchOf (upper x y) = Upper x y
+branchOf (lower x y) = Lower x y
+branchOf (inside x y) = Inside x y
+branchOf (surface x y) = Surface x y
+
+abbrev pub refusedStep : ℕ → Stepped
+refusedStep n = record { branch = Refused n; sigma = zeroRow; alpha = tensor.zero }
+
+abbrev pub asBranch : Branch → Ended Shape → Stepped
+asBranch b (given q) = record { branch = b; sigma = q .sigma; alpha = q .alpha }
+asBranch b (refused n) = refusedStep n
+
+abbrev pub steppedOf : Ended Landed → Stepped
+steppedOf (given q) = record { branch = branchOf (q .way); sigma = q .shape .sigma; alpha = q .shape .alpha }
+steppedOf (refused n) = refusedStep n
+
+abbrev pub refusedProjection : ℕ → Projected
+refusedProjection n = record { branch = Refused n; f = zeroRows; sigma = zeroRow; alpha = tensor.zero }
+
+abbrev pub projectedOf : Ended Result → Projected
+projectedOf (given q) = record { branch = branchOf (q .way); f = q .f; sigma = q .shape .sigma; alpha = q .shape .alpha }
+projectedOf (refused n) = refusedProjection n
+
+unfoldable pub recomposedOf : Branch → List (List Float) → List Float → List (List Float) → Float → Projected
+recomposedOf b u sigma vt alpha =
+    cond ((matFinite (recomposeOf u sigma vt) && rowFinite sigma) && finite alpha)
+    (record { branch = b; f = rowsOf (recomposeOf u sigma vt); sigma = sigma; alpha = alpha })
+    (refusedProjection noNumber)
+
+abbrev pub byBranch : Branch → List Float → Float → Rows → List (List Float) → List (List Float) → Projected
+byBranch (Upper x y) sigma alpha f u vt = recomposedOf (Upper x y) u sigma vt alpha
+byBranch (Lower x y) sigma alpha f u vt = recomposedOf (Lower x y) u sigma vt alpha
+byBranch (Inside x y) sigma alpha f u vt = record { branch = Inside x y; f = f; sigma = sigma; alpha = alpha }
+byBranch (Surface x y) sigma alpha f u vt = recomposedOf (Surface x y) u sigma vt alpha
+byBranch (Refused n) sigma alpha f u vt = refusedProjection n
+
+-- as it is handed out: the branch and what it compared stay inside
+abbrev pub outcomeOf : Branch → Float → Outcome
+outcomeOf (Upper x y) alpha = outcome.Stored alpha
+outcomeOf (Lower x y) alpha = outcome.Stored alpha
+outcomeOf (Inside x y) alpha = outcome.Untouched
+outcomeOf (Surface x y) alpha = outcome.Stored alpha
+outcomeOf (Refused n) alpha = outcome.Refused n
+
+abbrev pub resultsOf : Projected → Results
+resultsOf q = record { outcome = outcomeOf (q .branch) (q .alpha); f = q .f; sigma = q .sigma }
+
 abbrev pub storedAs : Rows → List Float → Float → State → Updated
 storedAs f sigma alpha s = record { state = stateOf f sigma alpha s; outcome = outcome.Stored alpha }
 
--- "y < 1e-4: untouched, alpha too"
 abbrev pub storedBy : Branch → Rows → List Float → Float → State → Updated
 storedBy (Upper x y) f sigma alpha s = storedAs f sigma alpha s
 storedBy (Lower x y) f sigma alpha s = storedAs f sigma alpha s
 storedBy (Inside x y) f sigma alpha s = record { state = s; outcome = outcome.Untouched }
 storedBy (Surface x y) f sigma alpha s = storedAs f sigma alpha s
-storedBy (Refused n) f sigma alpha s = refused n s
+storedBy (Refused n) f sigma alpha s = law.refused n s
 
-unfoldable pub storedOf : Projected → State → Updated
-storedOf q s = storedBy (q .branch) (q .f) (q .sigma) (q .alpha) s
+abbrev pub naccUpdate : NaccPlasticity → List (List Float) → List (List Float) → State → Updated
+naccUpdate p u vt s = updatedOf s (result (naccWalk p u vt s))
 
-unfoldable pub naccRun : NaccPlasticity → List (List Float) → List (List Float) → State → Updated
-naccRun p u vt s = storedOf (projectedOf (stepsOf p (s .sigma) (s .scalars .alpha)) (s .f) u vt) s
-
--- 1 comes first, then the moduli by 3
-unfoldable pub naccUpdate : NaccPlasticity → List (List Float) → List (List Float) → State → Updated
-naccUpdate p u vt s =
-    cond (parametersFinite p && inputsFinite u vt s) (cond (moduliFinite p) (naccRun p u vt s) (refused noNumber s)) (refused notFinite s)
-
--- by the law that `with_m` makes of the arguments
-unfoldable pub argumentsUpdate : NaccArguments → List (List Float) → List (List Float) → State → Updated
-argumentsUpdate a u vt s = cond (elasticFinite a) (naccUpdate (lawOf a) u vt s) (refused notFinite s)
+abbrev pub argumentsUpdate : NaccArguments → List (List Float) → List (List Float) → State → Updated
+argumentsUpdate a u vt s = updatedOf s (result (argumentsWalk a u vt s))

@@ -1,101 +1,14 @@
 // The hardening step: where the line from the surface's centre to the trial state crosses the surface.
 use crate::NaccPlasticity;
 use crate::Trial;
-use crate::tip;
 use answers::Answer;
-use answers::Pair;
 ghost use mathlib.Core.Path.{_≡_};
-ghost use Rattle.plasticity_nacc.specs.Hardening.{timesOf, hardens, centreOf, normalisedOf, aimedOf, directionOf, quadraticOf, linearOf, constantOf, discriminantOf, pickedOf, crossingAt, crossedOf, crossingOf, sizeOf, grownOf, volumeOf, directedOf, hardeningStep, hardenedOf};
-
-// Two answers in order, multiplied: the first refusal is handed on.
-pub fn times(a: Answer, b: Answer) -> Answer
-    ensures { λ r. ⌜ r ≡ timesOf a b ⌝ }
-{
-    match a {
-        Answer::Value(x) => match b {
-            Answer::Value(y) => Answer::Value(x * y),
-            Answer::Refused(n) => Answer::Refused(n),
-        },
-        Answer::Refused(n) => Answer::Refused(n),
-    }
-}
-
-// Once the norm of (x, y) is known.
-fn normalised(x: f64, y: f64, norm: Answer) -> Pair
-    ensures { λ r. ⌜ r ≡ normalisedOf x y norm ⌝ }
-{
-    match norm {
-        Answer::Value(n) => Pair::Values(x / n, y / n),
-        Answer::Refused(k) => Pair::Refused(k),
-    }
-}
-
-// The direction of (x, 0 - q), once q is known.
-fn aimed(x: f64, q: Answer) -> Pair
-    ensures { λ r. ⌜ r ≡ aimedOf x q ⌝ }
-{
-    match q {
-        Answer::Value(v) => {
-            let y = 0.0 - v;
-            normalised(x, y, square_root::sqrt_on_path(x * x + y * y))
-        }
-        Answer::Refused(n) => Pair::Refused(n),
-    }
-}
-
-// From the centre to the trial state.
-fn direction(t: Trial, centre: f64) -> Pair
-    ensures { λ r. ⌜ r ≡ directionOf t centre ⌝ }
-{
-    let q = times(
-        square_root::sqrt_on_path((6.0 - 3.0) / 2.0),
-        square_root::sqrt_on_path(t.squares),
-    );
-    aimed(centre - t.p, q)
-}
-
-fn discriminant(a: f64, b: f64, c: f64) -> f64
-    ensures { λ r. ⌜ r ≡ discriminantOf a b c ⌝ }
-{
-    b * b - 4.0 * a * c
-}
-
-// The crossing on the trial state's side. Both are worked, and a NaN would compare false: any is refused first.
-fn picked(p: f64, centre: f64, p1: f64, p2: f64) -> Answer
-    ensures { λ r. ⌜ r ≡ pickedOf p centre p1 p2 ⌝ }
-{
-    let side = (p - centre) * (p1 - centre);
-    if numbers::is_number(p1) & numbers::is_number(p2) & numbers::is_number(side) {
-        if side > 0.0 {
-            Answer::Value(p1)
-        } else {
-            Answer::Value(p2)
-        }
-    } else {
-        Answer::Refused(answers::NO_NUMBER)
-    }
-}
-
-// The pressure at n / (2 a) along the direction, whose first entry is d0.
-fn crossing_at(centre: f64, n: f64, a: f64, d0: f64) -> f64
-    ensures { λ r. ⌜ r ≡ crossingAt centre n a d0 ⌝ }
-{
-    centre + n / (2.0 * a) * d0
-}
-
-// Once the discriminant's root is known.
-fn crossed(root: Answer, a: f64, b: f64, d0: f64, centre: f64, p: f64) -> Answer
-    ensures { λ r. ⌜ r ≡ crossedOf root a b d0 centre p ⌝ }
-{
-    match root {
-        Answer::Value(r) => {
-            let p1 = crossing_at(centre, -b + r, a, d0);
-            let p2 = crossing_at(centre, -b - r, a, d0);
-            picked(p, centre, p1, p2)
-        }
-        Answer::Refused(n) => Answer::Refused(n),
-    }
-}
+ghost use mathlib.Core.Bool.{true};
+ghost use Rattle.tensor.specs.Axes.{allOf};
+ghost use Rattle.walk.specs.Expr.{num, value};
+ghost use Rattle.walk.specs.Walk.{holds, result, answerAs};
+ghost use Rattle.plasticity_nacc.specs.Formulas.{volumeSquare, quadratic, linear, constant};
+ghost use Rattle.plasticity_nacc.specs.Nacc.{sizeOf, growWalk, crossWalk, hardenWalk, conditions, hardenedWalk, settled};
 
 // The size of x; of either zero 0.0.
 fn size(x: f64) -> f64
@@ -104,26 +17,123 @@ fn size(x: f64) -> f64
     if x <= 0.0 { 0.0 - x } else { x }
 }
 
-// Once the volume at the crossing is known.
-fn grown(volume: Answer, j: f64, alpha: f64) -> Answer
-    ensures { λ r. ⌜ r ≡ grownOf volume j alpha ⌝ }
-{
-    match volume {
-        Answer::Value(x) => {
-            if x > 0.0001 {
-                tip::raised(alpha, logarithm::ln_on_path(j / x))
-            } else {
-                Answer::Value(alpha)
-            }
-        }
-        Answer::Refused(n) => Answer::Refused(n),
-    }
-}
-
 impl NaccPlasticity {
-    // The four conditions. All numbers here are known to be no NaN.
+    // The square of the volume at the pressure x.
+    pub(crate) fn volume_square(self, x: f64) -> f64
+        ensures { λ r. ⌜ r ≡ value (volumeSquare self (num x)) ⌝ }
+    {
+        -2.0 * x / self.kappa + 1.0
+    }
+
+    // At the crossing's pressure x: the new alpha.
+    fn grown(self, x: f64, j: f64, alpha: f64) -> Answer
+        ensures { λ r. ⌜ r ≡ answerAs (result (growWalk self (num x) j alpha)) ⌝ }
+    {
+        let square = self.volume_square(x);
+        if numbers::is_number(square) {
+            match square_root::sqrt_on_path(size(square)) {
+                Answer::Value(v) => {
+                    if v > 0.0001 {
+                        match logarithm::ln_on_path(j / v) {
+                            Answer::Value(l) => Answer::Value(alpha + l),
+                            Answer::Refused(n) => Answer::Refused(n),
+                        }
+                    } else {
+                        Answer::Value(alpha)
+                    }
+                }
+                Answer::Refused(n) => Answer::Refused(n),
+            }
+        } else {
+            Answer::Refused(answers::NO_NUMBER)
+        }
+    }
+
+    // The coefficients of the crossing along the direction (d0, d1).
+    fn quadratic(self, d0: f64, d1: f64) -> f64
+        ensures { λ r. ⌜ r ≡ value (quadratic self (num d0) (num d1)) ⌝ }
+    {
+        self.friction * self.friction * d0 * d0 + (1.0 + 2.0 * self.cohesion) * d1 * d1
+    }
+
+    fn linear(self, c: f64, p0: f64, d0: f64) -> f64
+        ensures { λ r. ⌜ r ≡ value (linear self (num c) (num p0) (num d0)) ⌝ }
+    {
+        self.friction * self.friction * d0 * (2.0 * c - p0 + self.cohesion * p0)
+    }
+
+    fn constant(self, c: f64, p0: f64) -> f64
+        ensures { λ r. ⌜ r ≡ value (constant self (num c) (num p0)) ⌝ }
+    {
+        self.friction * self.friction * (c + self.cohesion * p0) * (c - p0)
+    }
+
+    // From the centre c along (d0, d1): both crossings are worked, and the one on the trial state's side is taken.
+    fn crossed(self, t: Trial, c: f64, d0: f64, d1: f64, alpha: f64) -> Answer
+        ensures { λ r. ⌜ r ≡ answerAs (result (crossWalk self t (num c) d0 d1 alpha)) ⌝ }
+    {
+        let k = self.constant(c, t.p0);
+        let b = self.linear(c, t.p0, d0);
+        let a = self.quadratic(d0, d1);
+        match square_root::sqrt_on_path(b * b - 4.0 * a * k) {
+            Answer::Value(r) => {
+                let p1 = c + (-b + r) / (2.0 * a) * d0;
+                let p2 = c + (-b - r) / (2.0 * a) * d0;
+                if numbers::is_number(p1) & numbers::is_number(p2) {
+                    let side = (t.p - c) * (p1 - c);
+                    if numbers::is_number(side) {
+                        if side > 0.0 {
+                            self.grown(p1, t.j, alpha)
+                        } else {
+                            self.grown(p2, t.j, alpha)
+                        }
+                    } else {
+                        Answer::Refused(answers::NO_NUMBER)
+                    }
+                } else {
+                    Answer::Refused(answers::NO_NUMBER)
+                }
+            }
+            Answer::Refused(n) => Answer::Refused(n),
+        }
+    }
+
+    // From the centre, the pressure midway between the tips, to the trial state.
+    fn hardening_step(self, t: Trial, alpha: f64) -> Answer
+        ensures { λ r. ⌜ r ≡ answerAs (result (hardenWalk self t alpha)) ⌝ }
+    {
+        let c = (1.0 - self.cohesion) * t.p0 / 2.0;
+        if numbers::is_number(c) {
+            match square_root::sqrt_on_path((6.0 - 3.0) / 2.0) {
+                Answer::Value(a) => match square_root::sqrt_on_path(t.squares) {
+                    Answer::Value(b) => {
+                        let x = c - t.p;
+                        let y = 0.0 - a * b;
+                        match square_root::sqrt_on_path(x * x + y * y) {
+                            Answer::Value(norm) => {
+                                let d0 = x / norm;
+                                let d1 = y / norm;
+                                if numbers::is_number(d0) & numbers::is_number(d1) {
+                                    self.crossed(t, c, d0, d1, alpha)
+                                } else {
+                                    Answer::Refused(answers::NO_NUMBER)
+                                }
+                            }
+                            Answer::Refused(n) => Answer::Refused(n),
+                        }
+                    }
+                    Answer::Refused(n) => Answer::Refused(n),
+                },
+                Answer::Refused(n) => Answer::Refused(n),
+            }
+        } else {
+            Answer::Refused(answers::NO_NUMBER)
+        }
+    }
+
+    // The four conditions.
     fn hardens(self, t: Trial) -> bool
-        ensures { λ r. ⌜ r ≡ hardens self t ⌝ }
+        ensures { λ r. ⌜ r ≡ allOf holds (conditions self t) ⌝ }
     {
         self.hardening_enabled
             & (t.p0 > 0.0001)
@@ -131,87 +141,10 @@ impl NaccPlasticity {
             & (t.p > -self.cohesion * t.p0 + 0.0001)
     }
 
-    // The pressure midway between the tips.
-    fn centre(self, p0: f64) -> f64
-        ensures { λ r. ⌜ r ≡ centreOf self p0 ⌝ }
-    {
-        (1.0 - self.cohesion) * p0 / 2.0
-    }
-
-    // The coefficients of the crossing along the direction (d0, d1).
-    fn quadratic(self, d0: f64, d1: f64) -> f64
-        ensures { λ r. ⌜ r ≡ quadraticOf self d0 d1 ⌝ }
-    {
-        self.friction * self.friction * d0 * d0 + (1.0 + 2.0 * self.cohesion) * d1 * d1
-    }
-
-    fn linear(self, centre: f64, p0: f64, d0: f64) -> f64
-        ensures { λ r. ⌜ r ≡ linearOf self centre p0 d0 ⌝ }
-    {
-        self.friction * self.friction * d0 * (2.0 * centre - p0 + self.cohesion * p0)
-    }
-
-    fn constant(self, centre: f64, p0: f64) -> f64
-        ensures { λ r. ⌜ r ≡ constantOf self centre p0 ⌝ }
-    {
-        self.friction * self.friction * (centre + self.cohesion * p0) * (centre - p0)
-    }
-
-    // The pressure at the crossing. A NaN in a coefficient is in the discriminant.
-    fn crossing(self, d0: f64, d1: f64, centre: f64, t: Trial) -> Answer
-        ensures { λ r. ⌜ r ≡ crossingOf self d0 d1 centre t ⌝ }
-    {
-        let c = self.constant(centre, t.p0);
-        let b = self.linear(centre, t.p0, d0);
-        let a = self.quadratic(d0, d1);
-        crossed(
-            square_root::sqrt_on_path(discriminant(a, b, c)),
-            a,
-            b,
-            d0,
-            centre,
-            t.p,
-        )
-    }
-
-    // The volume at the crossing, once its pressure is known.
-    fn volume(self, crossing: Answer) -> Answer
-        ensures { λ r. ⌜ r ≡ volumeOf self crossing ⌝ }
-    {
-        match crossing {
-            Answer::Value(p) => square_root::sqrt_on_path(size(self.volume_square(p))),
-            Answer::Refused(n) => Answer::Refused(n),
-        }
-    }
-
-    // Once the direction is known.
-    fn directed(self, direction: Pair, centre: f64, t: Trial, alpha: f64) -> Answer
-        ensures { λ r. ⌜ r ≡ directedOf self direction centre t alpha ⌝ }
-    {
-        match direction {
-            Pair::Values(d0, d1) => {
-                let v = self.volume(self.crossing(d0, d1, centre, t));
-                grown(v, t.j, alpha)
-            }
-            Pair::Refused(n) => Answer::Refused(n),
-        }
-    }
-
-    // The centre is worked before the first root: its NaN is met first.
-    fn hardening_step(self, t: Trial, alpha: f64) -> Answer
-        ensures { λ r. ⌜ r ≡ hardeningStep self t alpha ⌝ }
-    {
-        let centre = self.centre(t.p0);
-        if numbers::is_number(centre) {
-            self.directed(direction(t, centre), centre, t, alpha)
-        } else {
-            Answer::Refused(answers::NO_NUMBER)
-        }
-    }
-
-    // The new alpha.
+    // The new alpha. The numbers compared are known to be no NaN.
     pub(crate) fn hardened(self, t: Trial, alpha: f64) -> Answer
-        ensures { λ r. ⌜ r ≡ hardenedOf self t alpha ⌝ }
+        requires { ⌜ settled self t ≡ true ⌝ }
+        ensures { λ r. ⌜ r ≡ answerAs (result (hardenedWalk self t alpha)) ⌝ }
     {
         if self.hardens(t) {
             self.hardening_step(t, alpha)

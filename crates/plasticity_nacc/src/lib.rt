@@ -1,12 +1,11 @@
-// Non-associated Cam clay (plasticity_nacc.rs; document 01, section 5).
+// Non-associated Cam clay (plasticity_nacc.rs; RULES, section 5).
 mod arguments;
-mod choice;
+mod branches;
 mod hardening;
 mod surface;
-mod tip;
-mod trial_state;
 mod update;
 
+use plasticity::Outcome;
 use tensor::Rows;
 
 // The law with its moduli; made by `new` or `with_m`.
@@ -59,17 +58,18 @@ pub enum Branch {
     Refused(u8),
 }
 
-// Three numbers, or the refusal's number.
-pub enum Triple {
-    Values(f64, f64, f64),
-    Refused(u8),
-}
-
 // The branch with the singular values and alpha after it; zeros stand beside a refusal.
 pub struct Stepped {
     pub branch: Branch,
     pub sigma: [f64; 3],
     pub alpha: f64,
+}
+
+// What the projection hands out: untouched, stored with alpha or refused, and F and the singular values after it; zeros beside a refusal.
+pub struct Results {
+    pub outcome: Outcome,
+    pub f: Rows,
+    pub sigma: [f64; 3],
 }
 
 // The same with F recomposed; inside the yield surface F is as it came.

@@ -1,49 +1,30 @@
-// The projection to the yield surface.
+// The projection to the yield surface and to a tip of it.
 use crate::Branch;
 use crate::NaccPlasticity;
 use crate::Stepped;
 use crate::Trial;
-use crate::Triple;
-use crate::hardening;
-use crate::tip;
 use answers::Answer;
 ghost use mathlib.Core.Path.{_≡_};
-ghost use Rattle.plasticity_nacc.specs.Surface.{joinedOf, rootsOf, spreadOf, landedOf, normedOf, scaledOf, ratioOf, overMu, scaleOf, alphaedOf, surfaceOf};
+ghost use mathlib.Core.Bool.{true};
+ghost use Rattle.walk.specs.Expr.{num, value, values};
+ghost use Rattle.walk.specs.Walk.{result};
+ghost use Rattle.plasticity_nacc.specs.Formulas.{y0, y1, spread};
+ghost use Rattle.plasticity_nacc.specs.Nacc.{refusedStep, asBranch, tipWalk, rootsWalk, landWalk, surfaceWalk, settled};
 
-// Three answers in index order: the first refusal is handed on.
-fn joined(a: Answer, b: Answer, c: Answer) -> Triple
-    ensures { λ r. ⌜ r ≡ joinedOf a b c ⌝ }
+pub fn refused_step(n: u8) -> Stepped
+    ensures { λ r. ⌜ r ≡ refusedStep n ⌝ }
 {
-    match a {
-        Answer::Value(x) => match b {
-            Answer::Value(y) => match c {
-                Answer::Value(z) => Triple::Values(x, y, z),
-                Answer::Refused(n) => Triple::Refused(n),
-            },
-            Answer::Refused(n) => Triple::Refused(n),
-        },
-        Answer::Refused(n) => Triple::Refused(n),
-    }
-}
-
-// All entries are worked before the first root: a NaN in any of them is met first.
-fn roots(e: [f64; 3]) -> Triple
-    ensures { λ r. ⌜ r ≡ rootsOf e ⌝ }
-{
-    if numbers::is_number(tensor::dot(e, e)) {
-        joined(
-            square_root::sqrt_on_path(e[0]),
-            square_root::sqrt_on_path(e[1]),
-            square_root::sqrt_on_path(e[2]),
-        )
-    } else {
-        Triple::Refused(answers::NO_NUMBER)
+    let z = [0.0, 0.0, 0.0];
+    Stepped {
+        branch: Branch::Refused(n),
+        sigma: z,
+        alpha: 0.0,
     }
 }
 
 // k times the stress over its norm, and the mean.
 fn spread(k: f64, s: [f64; 3], norm: f64, mean: f64) -> [f64; 3]
-    ensures { λ r. ⌜ r ≡ spreadOf k s norm mean ⌝ }
+    ensures { λ r. ⌜ r ≡ values (spread (num k) s (num norm) mean) ⌝ }
 {
     [
         k * (s[0] / norm) + mean,
@@ -52,92 +33,109 @@ fn spread(k: f64, s: [f64; 3], norm: f64, mean: f64) -> [f64; 3]
     ]
 }
 
-// Once the singular values are known.
-fn landed(b: Branch, sigma: Triple, alpha: f64) -> Stepped
-    ensures { λ r. ⌜ r ≡ landedOf b sigma alpha ⌝ }
+// The singular values are the roots of these.
+fn roots(b: Branch, e: [f64; 3], alpha: f64) -> Stepped
+    ensures { λ r. ⌜ r ≡ asBranch b (result (rootsWalk e alpha)) ⌝ }
 {
-    match sigma {
-        Triple::Values(x, y, z) => {
-            let new = [x, y, z];
-            Stepped {
-                branch: b,
-                sigma: new,
-                alpha,
-            }
-        }
-        Triple::Refused(n) => tip::refused_step(n),
-    }
-}
-
-// Once the stress's norm is known.
-fn normed(b: Branch, k: f64, norm: Answer, t: Trial, alpha: f64) -> Stepped
-    ensures { λ r. ⌜ r ≡ normedOf b k norm t alpha ⌝ }
-{
-    match norm {
-        Answer::Value(n) => {
-            let s = t.s;
-            landed(b, roots(spread(k, s, n, t.mean)), alpha)
-        }
-        Answer::Refused(n) => tip::refused_step(n),
-    }
-}
-
-// Once the scale is known; it is worked before the norm: its NaN is met first.
-fn scaled(b: Branch, scale: Answer, t: Trial, alpha: f64) -> Stepped
-    ensures { λ r. ⌜ r ≡ scaledOf b scale t alpha ⌝ }
-{
-    match scale {
-        Answer::Value(k) => {
-            if numbers::is_number(k) {
-                normed(b, k, square_root::sqrt_on_path(t.squares), t, alpha)
-            } else {
-                tip::refused_step(3)
-            }
-        }
-        Answer::Refused(n) => tip::refused_step(n),
+    match square_root::sqrt_on_path(e[0]) {
+        Answer::Value(x) => match square_root::sqrt_on_path(e[1]) {
+            Answer::Value(y) => match square_root::sqrt_on_path(e[2]) {
+                Answer::Value(z) => {
+                    let sigma = [x, y, z];
+                    Stepped {
+                        branch: b,
+                        sigma,
+                        alpha,
+                    }
+                }
+                Answer::Refused(n) => refused_step(n),
+            },
+            Answer::Refused(n) => refused_step(n),
+        },
+        Answer::Refused(n) => refused_step(n),
     }
 }
 
 impl NaccPlasticity {
-    fn ratio(self, t: Trial) -> f64
-        ensures { λ r. ⌜ r ≡ ratioOf self t ⌝ }
+    // All singular values alike, at the tip whose volume is x.
+    pub(crate) fn tip(self, b: Branch, x: f64, j: f64, alpha: f64) -> Stepped
+        ensures { λ r. ⌜ r ≡ asBranch b (result (tipWalk self (num x) j alpha)) ⌝ }
     {
-        -self.y1(t.p, t.p0) / self.y0()
-    }
-
-    fn over_mu(self, power: Answer) -> Answer
-        ensures { λ r. ⌜ r ≡ overMu self power ⌝ }
-    {
-        match power {
-            Answer::Value(w) => Answer::Value(w / self.mu),
-            Answer::Refused(n) => Answer::Refused(n),
+        match thirds::cbrt_on_path(x) {
+            Answer::Value(e) => {
+                let sigma = [e, e, e];
+                if self.hardening_enabled {
+                    match logarithm::ln_on_path(j / x) {
+                        Answer::Value(l) => Stepped {
+                            branch: b,
+                            sigma,
+                            alpha: alpha + l,
+                        },
+                        Answer::Refused(n) => refused_step(n),
+                    }
+                } else {
+                    Stepped {
+                        branch: b,
+                        sigma,
+                        alpha,
+                    }
+                }
+            }
+            Answer::Refused(n) => refused_step(n),
         }
     }
 
-    // The root of -y1 / y0 times j to the power 2/3 over mu.
-    fn scale(self, t: Trial) -> Answer
-        ensures { λ r. ⌜ r ≡ scaleOf self t ⌝ }
+    pub(crate) fn y0(self) -> f64
+        ensures { λ r. ⌜ r ≡ value (y0 self) ⌝ }
     {
-        hardening::times(
-            square_root::sqrt_on_path(self.ratio(t)),
-            self.over_mu(thirds::cbrt_squared_on_path(t.j)),
-        )
+        (1.0 + 2.0 * self.cohesion) * ((6.0 - 3.0) / 2.0)
     }
 
-    // Once the new alpha is known.
-    fn alphaed(self, b: Branch, alpha: Answer, t: Trial) -> Stepped
-        ensures { λ r. ⌜ r ≡ alphaedOf self b alpha t ⌝ }
+    pub(crate) fn y1(self, t: Trial) -> f64
+        ensures { λ r. ⌜ r ≡ value (y1 self t) ⌝ }
     {
-        match alpha {
-            Answer::Value(a) => scaled(b, self.scale(t), t, a),
-            Answer::Refused(n) => tip::refused_step(n),
+        self.friction * self.friction * (t.p + self.cohesion * t.p0) * (t.p - t.p0)
+    }
+
+    // Onto the surface, once the new alpha is known.
+    fn land(self, b: Branch, t: Trial, alpha: f64) -> Stepped
+        ensures { λ r. ⌜ r ≡ asBranch b (result (landWalk self t alpha)) ⌝ }
+    {
+        match square_root::sqrt_on_path(-self.y1(t) / self.y0()) {
+            Answer::Value(r) => match thirds::cbrt_squared_on_path(t.j) {
+                Answer::Value(w) => {
+                    let k = r * (w / self.mu);
+                    if numbers::is_number(k) {
+                        match square_root::sqrt_on_path(t.squares) {
+                            Answer::Value(norm) => {
+                                let s = t.s;
+                                let e = spread(k, s, norm, t.mean);
+                                if tensor::row_number(e) {
+                                    roots(b, e, alpha)
+                                } else {
+                                    refused_step(3)
+                                }
+                            }
+                            Answer::Refused(n) => refused_step(n),
+                        }
+                    } else {
+                        refused_step(3)
+                    }
+                }
+                Answer::Refused(n) => refused_step(n),
+            },
+            Answer::Refused(n) => refused_step(n),
         }
     }
 
     // The hardening step comes first.
     pub(crate) fn surface(self, b: Branch, t: Trial, alpha: f64) -> Stepped
-        ensures { λ r. ⌜ r ≡ surfaceOf self b t alpha ⌝ }
+        requires { ⌜ settled self t ≡ true ⌝ }
+        ensures { λ r. ⌜ r ≡ asBranch b (result (surfaceWalk self t alpha)) ⌝ }
     {
-        self.alphaed(b, self.hardened(t, alpha), t)
+        match self.hardened(t, alpha) {
+            Answer::Value(a) => self.land(b, t, a),
+            Answer::Refused(n) => refused_step(n),
+        }
     }
 }

@@ -1,11 +1,9 @@
-// The branch worked, the projection as a call by itself, and the update of one particle.
+// The projection as a call by itself, and the update of one particle.
 use crate::Branch;
 use crate::NaccPlasticity;
 use crate::Projected;
+use crate::Results;
 use crate::Stepped;
-use crate::Trial;
-use crate::tip;
-use answers::Answer;
 use plasticity::Outcome;
 use plasticity::Scalars;
 use plasticity::State;
@@ -13,8 +11,11 @@ use plasticity::Updated;
 use tensor::Rows;
 ghost use mathlib.Core.Path.{_≡_};
 ghost use mathlib.Core.Bool.{true};
+ghost use Rattle.numbers.specs.Floats.{finite};
 ghost use Rattle.plasticity.specs.State.{inputsFinite};
-ghost use Rattle.plasticity_nacc.specs.Nacc.{workedOf, triedOf, poweredOf, pressedOf, stepsOf, refusedProjection, recomposedOf, projectedOf, projectionInputs, projectOf, stateOf, storedOf, naccRun, naccUpdate};
+ghost use Rattle.walk.specs.Walk.{result};
+ghost use Rattle.walk.specs.Update.{updatedOf};
+ghost use Rattle.plasticity_nacc.specs.Nacc.{outcomeOf, resultsOf, refusedProjection, recomposedOf, byBranch, projectedOf, projectInputs, projectCall, stateOf, storedBy, runWalk, naccUpdate};
 
 fn refused_projection(n: u8) -> Projected
     ensures { λ r. ⌜ r ≡ refusedProjection n ⌝ }
@@ -59,7 +60,7 @@ fn recomposed(
 
 // F is recomposed, but inside the yield surface as it came.
 fn projected(q: Stepped, f: Rows, u: [[f64; 3]; 3], vt: [[f64; 3]; 3]) -> Projected
-    ensures { λ r. ⌜ r ≡ projectedOf q f u vt ⌝ }
+    ensures { λ r. ⌜ r ≡ byBranch (q .branch) (q .sigma) (q .alpha) f u vt ⌝ }
 {
     let b = q.branch;
     let sigma = q.sigma;
@@ -96,7 +97,7 @@ fn state_of(f: Rows, sigma: [f64; 3], alpha: f64, s: State) -> State
 
 // F, sigma and alpha are stored; inside the yield surface the state is as it came, alpha too.
 fn stored(q: Projected, s: State) -> Updated
-    ensures { λ r. ⌜ r ≡ storedOf q s ⌝ }
+    ensures { λ r. ⌜ r ≡ storedBy (q .branch) (q .f) (q .sigma) (q .alpha) s ⌝ }
 {
     let b = q.branch;
     let f = q.f;
@@ -122,64 +123,30 @@ fn stored(q: Projected, s: State) -> Updated
     }
 }
 
+// Whether the values are new; alpha is the amount.
+fn outcome_of(b: Branch, alpha: f64) -> Outcome
+    ensures { λ r. ⌜ r ≡ outcomeOf b alpha ⌝ }
+{
+    match b {
+        Branch::Upper(_, _) => Outcome::Stored(alpha),
+        Branch::Lower(_, _) => Outcome::Stored(alpha),
+        Branch::Inside(_, _) => Outcome::Untouched,
+        Branch::Surface(_, _) => Outcome::Stored(alpha),
+        Branch::Refused(n) => Outcome::Refused(n),
+    }
+}
+
+fn handed_out(q: Projected) -> Results
+    ensures { λ r. ⌜ r ≡ resultsOf q ⌝ }
+{
+    let b = q.branch;
+    let f = q.f;
+    let sigma = q.sigma;
+    let outcome = outcome_of(b, q.alpha);
+    Results { outcome, f, sigma }
+}
+
 impl NaccPlasticity {
-    // The branch worked.
-    fn worked(self, b: Branch, t: Trial, sigma: [f64; 3], alpha: f64) -> Stepped
-        ensures { λ r. ⌜ r ≡ workedOf self b t sigma alpha ⌝ }
-    {
-        match b {
-            Branch::Upper(x, y) => {
-                self.tip(Branch::Upper(x, y), self.volume_square(t.p0), t.j, alpha)
-            }
-            Branch::Lower(x, y) => {
-                self.tip(Branch::Lower(x, y), self.lower_square(t.p0), t.j, alpha)
-            }
-            Branch::Inside(x, y) => Stepped {
-                branch: Branch::Inside(x, y),
-                sigma,
-                alpha,
-            },
-            Branch::Surface(x, y) => self.surface(Branch::Surface(x, y), t, alpha),
-            Branch::Refused(n) => tip::refused_step(n),
-        }
-    }
-
-    fn tried(self, t: Trial, sigma: [f64; 3], alpha: f64) -> Stepped
-        ensures { λ r. ⌜ r ≡ triedOf self t sigma alpha ⌝ }
-    {
-        self.worked(self.choose(t), t, sigma, alpha)
-    }
-
-    // Once j to the power -2/3 is known.
-    fn powered(self, power: Answer, p0: f64, j: f64, sigma: [f64; 3], alpha: f64) -> Stepped
-        ensures { λ r. ⌜ r ≡ poweredOf self power p0 j sigma alpha ⌝ }
-    {
-        match power {
-            Answer::Value(w) => self.tried(self.trial(w, p0, j, sigma), sigma, alpha),
-            Answer::Refused(n) => tip::refused_step(n),
-        }
-    }
-
-    // Once p0 is known.
-    fn pressed(self, p0: Answer, sigma: [f64; 3], alpha: f64) -> Stepped
-        ensures { λ r. ⌜ r ≡ pressedOf self p0 sigma alpha ⌝ }
-    {
-        match p0 {
-            Answer::Value(x) => {
-                let j = tensor::product(sigma);
-                self.powered(thirds::inv_cbrt_squared_on_path(j), x, j, sigma, alpha)
-            }
-            Answer::Refused(n) => tip::refused_step(n),
-        }
-    }
-
-    // The steps in the law's order: p0, the power of j, the trial state, the branch.
-    fn steps(self, sigma: [f64; 3], alpha: f64) -> Stepped
-        ensures { λ r. ⌜ r ≡ stepsOf self sigma alpha ⌝ }
-    {
-        self.pressed(self.p0_on_path(alpha), sigma, alpha)
-    }
-
     fn projection_inputs(
         self,
         f: [[f64; 3]; 3],
@@ -188,7 +155,7 @@ impl NaccPlasticity {
         vt: [[f64; 3]; 3],
         alpha: f64,
     ) -> bool
-        ensures { λ r. ⌜ r ≡ projectionInputs self f u sigma vt alpha ⌝ }
+        ensures { λ r. ⌜ r ≡ projectInputs self f u sigma vt alpha ⌝ }
     {
         self.parameters_finite()
             & tensor::mat_finite(f)
@@ -198,8 +165,8 @@ impl NaccPlasticity {
             & numbers::is_finite(alpha)
     }
 
-    // The projection of F, given with its U, sigma and V^T.
-    pub fn project_deformation_gradient(
+    // The projection by itself, with its branch.
+    fn projected_by_itself(
         self,
         f: [[f64; 3]; 3],
         u: [[f64; 3]; 3],
@@ -207,7 +174,7 @@ impl NaccPlasticity {
         vt: [[f64; 3]; 3],
         alpha: f64,
     ) -> Projected
-        ensures { λ r. ⌜ r ≡ projectOf self f u sigma vt alpha ⌝ }
+        ensures { λ r. ⌜ r ≡ projectedOf (result (projectCall self f u sigma vt alpha)) ⌝ }
     {
         if self.projection_inputs(f, u, sigma, vt, alpha) {
             if self.moduli_finite() {
@@ -220,8 +187,23 @@ impl NaccPlasticity {
         }
     }
 
+    // The projection of F, given with its U, sigma and V^T.
+    pub fn project_deformation_gradient(
+        self,
+        f: [[f64; 3]; 3],
+        u: [[f64; 3]; 3],
+        sigma: [f64; 3],
+        vt: [[f64; 3]; 3],
+        alpha: f64,
+    ) -> Results
+        ensures { λ r. ⌜ r ≡ resultsOf (projectedOf (result (projectCall self f u sigma vt alpha))) ⌝ }
+    {
+        handed_out(self.projected_by_itself(f, u, sigma, vt, alpha))
+    }
+
     fn run(self, u: [[f64; 3]; 3], vt: [[f64; 3]; 3], s: State) -> Updated
-        ensures { λ r. ⌜ r ≡ naccRun self u vt s ⌝ }
+        requires { ⌜ finite (s .scalars .alpha) ≡ true ⌝ }
+        ensures { λ r. ⌜ r ≡ updatedOf s (result (runWalk self u vt s)) ⌝ }
     {
         let sigma = s.sigma;
         let f = s.f;

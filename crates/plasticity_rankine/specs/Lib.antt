@@ -1,3 +1,4 @@
+pub mod Law
 pub mod Sorting
 pub mod Projection
 pub mod Rankine

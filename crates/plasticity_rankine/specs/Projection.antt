@@ -1,20 +1,22 @@
--- The Rankine projection on log strains (document 01, section 5; plasticity_rankine.rs): c <= b <= a, their sum S in index order, the strength s.
-use mathlib.Core.Bool.{Bool, cond, _&&_}
-use mathlib.Core.List.{List}
+-- The Rankine projection on log strains (RULES, section 5; plasticity_rankine.rs, `update_particle`). The steps: 4, 5 and 6 the tests,
+-- 10 the results of a call by itself.
+use mathlib.Core.List.{List, [], _∷_, _++_}
 use Prim.Native.Nat.{ℕ}
-use lib.Ieee as Ieee
 use lib.Ieee.{Float, binary64, ofBits}
-use Rattle.answers.specs.Refusals.{noNumber}
-use Rattle.numbers.specs.Floats.{finite, isNumber}
-use Rattle.tensor.specs.Matrix.{add, sub, mul, div, zero, sumOf}
-use Rattle.tensor.specs.Finite.{rowFinite}
-use Rattle.tensor.specs.Answer.{zeroRow}
+use Rattle.tensor.specs.Matrix.{three}
+use Rattle.tensor.specs.Answer.{zeroRow, answeredVector, refusedVector}
+use Rattle.tensor.specs.declared.VectorAnswer.{VectorAnswer}
+use Rattle.walk.specs.Expr.{Expr, num, _+_, _-_, _*_, _/_, value, values, nums}
+use Rattle.walk.specs.Walk.{Walk, at-most, inputs, branch, results, end, _then_, Ended, given, refused, result}
+use Rattle.walk.specs.Matrix.{sum}
 use Rattle.plasticity_rankine.specs.declared.Branch.{Branch}
 use Rattle.plasticity_rankine.specs.declared.Branch.the-variants.{Untouched, One, Two, All, Refused}
 use Rattle.plasticity_rankine.specs.declared.Projected.{Projected}
+use Rattle.plasticity_rankine.specs.declared.RankineArguments.{RankineArguments}
 use Rattle.plasticity_rankine.specs.declared.RankinePlasticity.{RankinePlasticity}
 use Rattle.plasticity_rankine.specs.declared.Sorted.{Sorted}
-use Rattle.plasticity_rankine.specs.Sorting.{sortedOf, orderOf, arrangeOf, restoreOf}
+use Rattle.plasticity_rankine.specs.Law.{lawOf, parametersOf, argumentsFloats, moduli}
+use Rattle.plasticity_rankine.specs.Sorting.{orderOf, arrangeOf, restoredOf}
 
 abbrev pub two : Float
 two = ofBits binary64 0x4000_0000_0000_0000
@@ -22,68 +24,120 @@ two = ofBits binary64 0x4000_0000_0000_0000
 abbrev pub thrice : Float
 thrice = ofBits binary64 0x4008_0000_0000_0000
 
--- the left sides of the three tests: lambda S + 2mu a, (2mu + lambda) b + lambda (S - a), (2mu + 3lambda) c
-unfoldable pub firstSide : RankinePlasticity → Float → Float → Float
-firstSide p S a = add (mul (p .lambda) S) (mul (mul two (p .mu)) a)
+-- ---- the formulas: c <= b <= a are the strains, S their sum in index order, s the softened strength
+-- the left sides of the three tests
+abbrev pub firstSide : RankinePlasticity → Expr → Expr → Expr
+firstSide p S a = num (p .lambda) * S + num two * num (p .mu) * a
 
-unfoldable pub secondSide : RankinePlasticity → Float → Float → Float → Float
-secondSide p S a b = add (mul (add (mul two (p .mu)) (p .lambda)) b) (mul (p .lambda) (sub S a))
+abbrev pub secondSide : RankinePlasticity → Expr → Expr → Expr → Expr
+secondSide p S a b = (num two * num (p .mu) + num (p .lambda)) * b + num (p .lambda) * (S - a)
 
-unfoldable pub thirdSide : RankinePlasticity → Float → Float
-thirdSide p c = mul (add (mul two (p .mu)) (mul thrice (p .lambda))) c
+abbrev pub thirdSide : RankinePlasticity → Expr → Expr
+thirdSide p c = (num two * num (p .mu) + num thrice * num (p .lambda)) * c
 
 -- what a becomes, what a and b become, what all become
-unfoldable pub backOne : RankinePlasticity → Float → Float → Float → Float
-backOne p s S a = div (sub s (mul (p .lambda) (sub S a))) (add (mul two (p .mu)) (p .lambda))
+abbrev pub backOne : RankinePlasticity → Expr → Expr → Expr → Expr
+backOne p s S a = (s - num (p .lambda) * (S - a)) / (num two * num (p .mu) + num (p .lambda))
 
-unfoldable pub backTwo : RankinePlasticity → Float → Float → Float → Float → Float
-backTwo p s S a b =
-    div (sub s (mul (p .lambda) (sub (sub S a) b))) (add (mul two (p .mu)) (mul two (p .lambda)))
+abbrev pub backTwo : RankinePlasticity → Expr → Expr → Expr → Expr → Expr
+backTwo p s S a b = (s - num (p .lambda) * (S - a - b)) / (num two * num (p .mu) + num two * num (p .lambda))
 
-unfoldable pub backAll : RankinePlasticity → Float → Float
-backAll p s = div s (add (mul two (p .mu)) (mul thrice (p .lambda)))
+abbrev pub backAll : RankinePlasticity → Expr → Expr
+backAll p s = s / (num two * num (p .mu) + num thrice * num (p .lambda))
 
--- a test of x <= s: a NaN compares false and would be lost, so it is refused by 3 first
-abbrev pub tested : Float → Float → Branch → Branch → Branch
-tested x s holds fails = cond (isNumber x) (cond (Ieee.le x s) holds fails) (Refused noNumber)
+-- ---- where it ends: how many strains move, with the two numbers last compared, and the strains after it in index order. A NaN in these is
+-- in what is asked next
+pub data Way : Type 0 where
+  none-moves : Float → Float → Way
+  one-moves : Float → Float → Way
+  two-move : Float → Float → Way
+  all-move : Float → Float → Way
 
--- the branch, with the two numbers last compared
-unfoldable pub lastChoice : RankinePlasticity → Float → Float → Branch
-lastChoice p s c = tested (thirdSide p c) s (Two (thirdSide p c) s) (All (thirdSide p c) s)
+pub record Moved : Type 0 where
+  pub way : Way
+  pub strains : List Expr
 
-unfoldable pub nextChoice : RankinePlasticity → Float → Float → Sorted → Branch
-nextChoice p s S r =
-    tested (secondSide p S (r .high) (r .mid)) s (One (secondSide p S (r .high) (r .mid)) s) (lastChoice p s (r .low))
+-- strains that stand in the order k
+abbrev pub ends : Way → List ℕ → List Expr → Walk Moved
+ends w k l = end (record { way = w; strains = restoredOf k l })
 
-unfoldable pub choiceOf : RankinePlasticity → Float → Float → Sorted → Branch
-choiceOf p s S r = tested (firstSide p S (r .high)) s (Untouched (firstSide p S (r .high)) s) (nextChoice p s S r)
+-- ---- the tests, on the strains e that stand sorted in r
+-- "Else if (2mu + 3lambda) c <= s, a and b become .. Else all become s/(2mu + 3lambda)."
+unfoldable pub thirdWalk : RankinePlasticity → List ℕ → List Float → Sorted → Expr → Walk Moved
+thirdWalk p k e r s =
+    let a = num (r .high) in
+    let b = num (r .mid) in
+    let c = num (r .low) in
+    branch 6 (at-most (thirdSide p c) s)
+    (ends (two-move (value (thirdSide p c)) (value s)) k (three c (backTwo p s (sum e) a b) (backTwo p s (sum e) a b)))
+    (ends (all-move (value (thirdSide p c)) (value s)) k (three (backAll p s) (backAll p s) (backAll p s)))
 
--- the branch worked; zeros stand beside a refusal
-abbrev pub returnedOf : RankinePlasticity → Float → Float → Sorted → Branch → Sorted
-returnedOf p s S r (Untouched x y) = r
-returnedOf p s S r (One x y) = sortedOf (r .low) (r .mid) (backOne p s S (r .high))
-returnedOf p s S r (Two x y) = sortedOf (r .low) (backTwo p s S (r .high) (r .mid)) (backTwo p s S (r .high) (r .mid))
-returnedOf p s S r (All x y) = sortedOf (backAll p s) (backAll p s) (backAll p s)
-returnedOf p s S r (Refused n) = sortedOf zero zero zero
+-- "Else if (2mu + lambda) b + lambda(S - a) <= s, a becomes (s - lambda(S - a))/(2mu + lambda)."
+unfoldable pub secondWalk : RankinePlasticity → List ℕ → List Float → Sorted → Expr → Walk Moved
+secondWalk p k e r s =
+    let a = num (r .high) in
+    let b = num (r .mid) in
+    let c = num (r .low) in
+    branch 5 (at-most (secondSide p (sum e) a b) s)
+    (ends (one-moves (value (secondSide p (sum e) a b)) (value s)) k (three c b (backOne p s (sum e) a)))
+    (thirdWalk p k e r s)
 
-unfoldable pub projectedOf : RankinePlasticity → List Float → Float → Projected
-projectedOf p e s =
-    let k = orderOf e in
-    let b = choiceOf p s (sumOf e) (arrangeOf k e) in
-    record { branch = b; strains = restoreOf k (returnedOf p s (sumOf e) (arrangeOf k e) b) }
+-- "if lambda S + 2mu a <= s, untouched."
+unfoldable pub firstWalk : RankinePlasticity → List ℕ → List Float → Sorted → Expr → Walk Moved
+firstWalk p k e r s =
+    let a = num (r .high) in
+    branch 4 (at-most (firstSide p (sum e) a) s)
+    (end (record { way = none-moves (value (firstSide p (sum e) a)) (value s); strains = nums e }))
+    (secondWalk p k e r s)
 
--- ---- the projection as a call by itself (section 6: 1 for an input, 3 for the moduli, then 3 for the results)
-abbrev pub parametersFinite : RankinePlasticity → Bool
-parametersFinite p = finite (p .«tensile_strength») && finite (p .«softening_rate»)
+-- "sorted upwards; equal ones keep index order"
+abbrev pub projectWalk : RankinePlasticity → List Float → Expr → Walk Moved
+projectWalk p e s = firstWalk p (orderOf e) e (arrangeOf (orderOf e) e) s
 
-abbrev pub moduliFinite : RankinePlasticity → Bool
-moduliFinite p = finite (p .lambda) && finite (p .mu)
+-- ---- the projection as a call by itself, of a law and of the arguments of `new`
+abbrev pub returnedWalk : Moved → Walk (List Float)
+returnedWalk q = results 10 (q .strains ∷ []) (end (values (q .strains)))
+
+unfoldable pub callFloats : List Float → List Float → Float → List Float
+callFloats l e s = l ++ (e ++ (s ∷ []))
+
+unfoldable pub projectCall : RankinePlasticity → List Float → Float → Walk (List Float)
+projectCall p e s = inputs (callFloats (parametersOf p) e s) (moduli p (projectWalk p e (num s) then returnedWalk))
+
+unfoldable pub argumentsCall : RankineArguments → List Float → Float → Walk (List Float)
+argumentsCall a e s = inputs (callFloats (argumentsFloats a) e s) (moduli (lawOf a) (projectWalk (lawOf a) e (num s) then returnedWalk))
+
+-- ---- as the code hands it on: zeros stand beside a refusal
+abbrev pub branchOf : Way → Branch
+branchOf (none-moves x y) = Untouched x y
+branchOf (one-moves x y) = One x y
+branchOf (two-move x y) = Two x y
+branchOf (all-move x y) = All x y
 
 abbrev pub refusedStrains : ℕ → Projected
 refusedStrains n = record { branch = Refused n; strains = zeroRow }
 
-unfoldable pub projectOf : RankinePlasticity → List Float → Float → Projected
-projectOf p e s =
-    cond (parametersFinite p && rowFinite e && finite s)
-    (cond (moduliFinite p) (cond (rowFinite (projectedOf p e s .strains)) (projectedOf p e s) (refusedStrains 3)) (refusedStrains 3))
-    (refusedStrains 1)
+abbrev pub movedOf : Ended Moved → Projected
+movedOf (given q) = record { branch = branchOf (q .way); strains = values (q .strains) }
+movedOf (refused n) = refusedStrains n
+
+abbrev pub projectedOf : RankinePlasticity → List Float → Float → Projected
+projectedOf p e s = movedOf (result (projectWalk p e (num s)))
+
+abbrev pub vectorOf : Ended (List Float) → VectorAnswer
+vectorOf (given v) = record { refusal = 0; vector = v }
+vectorOf (refused n) = refusedVector n
+
+-- the strains, or the refusal that the branch carries
+abbrev pub byBranch : Branch → List Float → VectorAnswer
+byBranch (Untouched x y) e = answeredVector e
+byBranch (One x y) e = answeredVector e
+byBranch (Two x y) e = answeredVector e
+byBranch (All x y) e = answeredVector e
+byBranch (Refused n) e = refusedVector n
+
+abbrev pub projectOf : RankinePlasticity → List Float → Float → VectorAnswer
+projectOf p e s = vectorOf (result (projectCall p e s))
+
+abbrev pub argumentsProject : RankineArguments → List Float → Float → VectorAnswer
+argumentsProject a e s = vectorOf (result (argumentsCall a e s))

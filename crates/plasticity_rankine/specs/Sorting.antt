@@ -1,4 +1,4 @@
--- Strains sorted upwards and put back, over however many axes (document 01, section 5: "equal ones keep index order").
+-- Strains sorted upwards and put back, over however many axes (RULES, section 5: "equal ones keep index order").
 use mathlib.Core.Bool.{cond}
 use mathlib.Core.List.{List, [], _∷_, map, reverse}
 use Prim.Native.Nat.{ℕ, zero, suc}
@@ -28,14 +28,14 @@ orderOf e = reverse (downOf e (length e))
 abbrev pub arrangedOf : List ℕ → List Float → List Float
 arrangedOf ks e = map (λ k. getD e k nan) ks
 
--- strains that stand in an order of indexes, each put at its index in e
-abbrev pub putOf : List ℕ → List Float → List Float → List Float
+-- entries that stand in an order of indexes, each put at its index in e
+abbrev pub putOf : {A : Type 0} → List ℕ → List A → List A → List A
 putOf (k ∷ ks) (v ∷ vs) e = putOf ks vs (set e k v)
 putOf (k ∷ ks) [] e = e
 putOf [] vs e = e
 
 -- back in index order
-abbrev pub restoredOf : List ℕ → List Float → List Float
+abbrev pub restoredOf : {A : Type 0} → List ℕ → List A → List A
 restoredOf ks vs = putOf ks vs vs
 
 -- ---- three axes

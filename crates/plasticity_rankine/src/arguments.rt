@@ -1,12 +1,16 @@
+// The law of its arguments.
 use crate::Made;
 use crate::RankineArguments;
 use crate::RankinePlasticity;
 use plasticity::State;
 use plasticity::Updated;
+use tensor::VectorAnswer;
 ghost use mathlib.Core.Path.{_≡_};
 ghost use mathlib.Core.Bool.{true};
 ghost use Rattle.plasticity.specs.State.{inputsFinite};
-ghost use Rattle.plasticity_rankine.specs.Rankine.{argumentsOf, lawOf, elasticFinite, argumentsFinite, madeOf, argumentsUpdate};
+ghost use Rattle.plasticity_rankine.specs.Law.{argumentsOf, lawOf, elasticFinite, argumentsFinite, madeOf};
+ghost use Rattle.plasticity_rankine.specs.Projection.{argumentsProject};
+ghost use Rattle.plasticity_rankine.specs.Rankine.{argumentsUpdate};
 
 impl RankineArguments {
     // The law with the Lamé parameters of these arguments.
@@ -72,6 +76,17 @@ impl RankineArguments {
             self.law().update_tested(u, vt, s)
         } else {
             plasticity::refuse(answers::NOT_FINITE, s)
+        }
+    }
+
+    // The projection by the law that `new` makes of these arguments: log strains and the softened strength are given.
+    pub fn project(self, strains: [f64; 3], s: f64) -> VectorAnswer
+        ensures { λ r. ⌜ r ≡ argumentsProject self strains s ⌝ }
+    {
+        if self.elastic_finite() {
+            self.law().project(strains, s)
+        } else {
+            tensor::refused_vector(answers::NOT_FINITE)
         }
     }
 }

@@ -1,8 +1,7 @@
-// Rankine: log strains are returned to the tensile surface (plasticity_rankine.rs; document 01, section 5).
+// Rankine: log strains are returned to the tensile surface (plasticity_rankine.rs; RULES, section 5).
 mod arguments;
 mod projection;
 mod sorting;
-mod steps;
 mod update;
 
 // The law with its moduli, which come from `new`.
@@ -44,8 +43,8 @@ pub struct Sorted {
     pub high: f64,
 }
 
-// How many strains move, with the two numbers last compared; or the refusal's number.
-pub enum Branch {
+// How many strains move, with the two numbers last compared, which need not be finite; or the refusal's number.
+enum Branch {
     Untouched(f64, f64),
     One(f64, f64),
     Two(f64, f64),
@@ -54,13 +53,7 @@ pub enum Branch {
 }
 
 // The branch taken and the strains after it, in index order; zeros beside a refusal.
-pub struct Projected {
-    pub branch: Branch,
-    pub strains: [f64; 3],
-}
-
-// Three numbers, or the refusal's number.
-pub enum Triple {
-    Values(f64, f64, f64),
-    Refused(u8),
+struct Projected {
+    branch: Branch,
+    strains: [f64; 3],
 }

@@ -1,11 +1,19 @@
+// The projection: the branch taken and worked. A NaN would compare false: it is refused before each test that is made.
 use crate::Branch;
 use crate::Projected;
+use crate::Rank;
 use crate::RankinePlasticity;
 use crate::Sorted;
 use crate::sorting;
+use tensor::VectorAnswer;
 ghost use mathlib.Core.Path.{_≡_};
-ghost use Rattle.plasticity_rankine.specs.Sorting.{sortedOf};
-ghost use Rattle.plasticity_rankine.specs.Projection.{firstSide, secondSide, thirdSide, backOne, backTwo, backAll, lastChoice, nextChoice, choiceOf, returnedOf, projectedOf, parametersFinite, moduliFinite, refusedStrains, projectOf};
+ghost use mathlib.Core.Bool.{true};
+ghost use Rattle.numbers.specs.Floats.{isNumber};
+ghost use Rattle.walk.specs.Expr.{num, value};
+ghost use Rattle.walk.specs.Walk.{result};
+ghost use Rattle.plasticity_rankine.specs.Law.{parametersFinite, moduliFinite};
+ghost use Rattle.plasticity_rankine.specs.Sorting.{indexesOf};
+ghost use Rattle.plasticity_rankine.specs.Projection.{firstSide, secondSide, thirdSide, backOne, backTwo, backAll, thirdWalk, secondWalk, refusedStrains, movedOf, projectedOf, byBranch, projectOf};
 
 fn refused_strains(n: u8) -> Projected
     ensures { λ r. ⌜ r ≡ refusedStrains n ⌝ }
@@ -17,122 +25,127 @@ fn refused_strains(n: u8) -> Projected
     }
 }
 
+// The results are returned where all are finite; the numbers compared stay here.
+fn returned(q: Projected) -> VectorAnswer
+    ensures { λ r. ⌜ r ≡ byBranch (q .branch) (q .strains) ⌝ }
+{
+    let e = q.strains;
+    let b = q.branch;
+    match b {
+        Branch::Untouched(_, _) => tensor::answered_vector(e),
+        Branch::One(_, _) => tensor::answered_vector(e),
+        Branch::Two(_, _) => tensor::answered_vector(e),
+        Branch::All(_, _) => tensor::answered_vector(e),
+        Branch::Refused(n) => tensor::refused_vector(n),
+    }
+}
+
 impl RankinePlasticity {
     // The left sides of the three tests.
     fn first_side(self, sum: f64, a: f64) -> f64
-        ensures { λ r. ⌜ r ≡ firstSide self sum a ⌝ }
+        ensures { λ r. ⌜ r ≡ value (firstSide self (num sum) (num a)) ⌝ }
     {
         self.lambda * sum + 2.0 * self.mu * a
     }
 
     fn second_side(self, sum: f64, a: f64, b: f64) -> f64
-        ensures { λ r. ⌜ r ≡ secondSide self sum a b ⌝ }
+        ensures { λ r. ⌜ r ≡ value (secondSide self (num sum) (num a) (num b)) ⌝ }
     {
         (2.0 * self.mu + self.lambda) * b + self.lambda * (sum - a)
     }
 
     fn third_side(self, c: f64) -> f64
-        ensures { λ r. ⌜ r ≡ thirdSide self c ⌝ }
+        ensures { λ r. ⌜ r ≡ value (thirdSide self (num c)) ⌝ }
     {
         (2.0 * self.mu + 3.0 * self.lambda) * c
     }
 
     // What the highest strain becomes, what the two highest become, what all become.
     fn back_one(self, s: f64, sum: f64, a: f64) -> f64
-        ensures { λ r. ⌜ r ≡ backOne self s sum a ⌝ }
+        ensures { λ r. ⌜ r ≡ value (backOne self (num s) (num sum) (num a)) ⌝ }
     {
         (s - self.lambda * (sum - a)) / (2.0 * self.mu + self.lambda)
     }
 
     fn back_two(self, s: f64, sum: f64, a: f64, b: f64) -> f64
-        ensures { λ r. ⌜ r ≡ backTwo self s sum a b ⌝ }
+        ensures { λ r. ⌜ r ≡ value (backTwo self (num s) (num sum) (num a) (num b)) ⌝ }
     {
         (s - self.lambda * (sum - a - b)) / (2.0 * self.mu + 2.0 * self.lambda)
     }
 
     fn back_all(self, s: f64) -> f64
-        ensures { λ r. ⌜ r ≡ backAll self s ⌝ }
+        ensures { λ r. ⌜ r ≡ value (backAll self (num s)) ⌝ }
     {
         s / (2.0 * self.mu + 3.0 * self.lambda)
     }
 
     // The third test.
-    fn choose_last(self, s: f64, c: f64) -> Branch
-        ensures { λ r. ⌜ r ≡ lastChoice self s c ⌝ }
+    fn two_or_all(self, k: Rank, e: [f64; 3], r: Sorted, s: f64) -> Projected
+        requires { ⌜ isNumber s ≡ true ⌝ }
+        ensures { λ q. ⌜ q ≡ movedOf (result (thirdWalk self (indexesOf k) e r (num s))) ⌝ }
     {
-        let x = self.third_side(c);
-        if numbers::is_number(x) {
-            if x <= s {
-                Branch::Two(x, s)
+        let third = self.third_side(r.low);
+        if numbers::is_number(third) {
+            if third <= s {
+                let x = self.back_two(s, tensor::sum(e), r.high, r.mid);
+                Projected {
+                    branch: Branch::Two(third, s),
+                    strains: sorting::restore(k, sorting::sorted(r.low, x, x)),
+                }
             } else {
-                Branch::All(x, s)
+                let x = self.back_all(s);
+                Projected {
+                    branch: Branch::All(third, s),
+                    strains: sorting::restore(k, sorting::sorted(x, x, x)),
+                }
             }
         } else {
-            Branch::Refused(answers::NO_NUMBER)
+            refused_strains(answers::NO_NUMBER)
         }
     }
 
     // The second test, where the first failed.
-    fn choose_next(self, s: f64, sum: f64, r: Sorted) -> Branch
-        ensures { λ x. ⌜ x ≡ nextChoice self s sum r ⌝ }
+    fn one_or_more(self, k: Rank, e: [f64; 3], r: Sorted, s: f64) -> Projected
+        requires { ⌜ isNumber s ≡ true ⌝ }
+        ensures { λ q. ⌜ q ≡ movedOf (result (secondWalk self (indexesOf k) e r (num s))) ⌝ }
     {
-        let x = self.second_side(sum, r.high, r.mid);
-        if numbers::is_number(x) {
-            if x <= s {
-                Branch::One(x, s)
+        let sum = tensor::sum(e);
+        let second = self.second_side(sum, r.high, r.mid);
+        if numbers::is_number(second) {
+            if second <= s {
+                let x = self.back_one(s, sum, r.high);
+                Projected {
+                    branch: Branch::One(second, s),
+                    strains: sorting::restore(k, sorting::sorted(r.low, r.mid, x)),
+                }
             } else {
-                self.choose_last(s, r.low)
+                self.two_or_all(k, e, r, s)
             }
         } else {
-            Branch::Refused(answers::NO_NUMBER)
+            refused_strains(answers::NO_NUMBER)
         }
     }
 
-    // The branch. A NaN would compare false: it is refused before each test that is made.
-    fn choose(self, s: f64, sum: f64, r: Sorted) -> Branch
-        ensures { λ x. ⌜ x ≡ choiceOf self s sum r ⌝ }
-    {
-        let x = self.first_side(sum, r.high);
-        if numbers::is_number(x) {
-            if x <= s {
-                Branch::Untouched(x, s)
-            } else {
-                self.choose_next(s, sum, r)
-            }
-        } else {
-            Branch::Refused(answers::NO_NUMBER)
-        }
-    }
-
-    // The branch worked.
-    fn returned(self, s: f64, sum: f64, r: Sorted, b: Branch) -> Sorted
-        ensures { λ x. ⌜ x ≡ returnedOf self s sum r b ⌝ }
-    {
-        match b {
-            Branch::Untouched(_, _) => r,
-            Branch::One(_, _) => { sorting::sorted(r.low, r.mid, self.back_one(s, sum, r.high)) }
-            Branch::Two(_, _) => {
-                let x = self.back_two(s, sum, r.high, r.mid);
-                sorting::sorted(r.low, x, x)
-            }
-            Branch::All(_, _) => {
-                let x = self.back_all(s);
-                sorting::sorted(x, x, x)
-            }
-            Branch::Refused(_) => sorting::sorted(0.0, 0.0, 0.0),
-        }
-    }
-
-    // The projection of strains in index order, at any strength.
+    // The projection of strains in index order, at any strength that is a number.
     pub(crate) fn projected(self, e: [f64; 3], s: f64) -> Projected
-        ensures { λ r. ⌜ r ≡ projectedOf self e s ⌝ }
+        requires { ⌜ isNumber s ≡ true ⌝ }
+        ensures { λ q. ⌜ q ≡ projectedOf self e s ⌝ }
     {
         let k = sorting::rank(e);
-        let sum = tensor::sum(e);
         let r = sorting::arrange(k, e);
-        let b = self.choose(s, sum, r);
-        let strains = sorting::restore(k, self.returned(s, sum, r, b));
-        Projected { branch: b, strains }
+        let first = self.first_side(tensor::sum(e), r.high);
+        if numbers::is_number(first) {
+            if first <= s {
+                Projected {
+                    branch: Branch::Untouched(first, s),
+                    strains: e,
+                }
+            } else {
+                self.one_or_more(k, e, r, s)
+            }
+        } else {
+            refused_strains(answers::NO_NUMBER)
+        }
     }
 
     pub(crate) fn parameters_finite(self) -> bool
@@ -148,23 +161,19 @@ impl RankinePlasticity {
     }
 
     // The projection as a call by itself: log strains and the softened strength are given.
-    pub fn project(self, strains: [f64; 3], s: f64) -> Projected
+    pub fn project(self, strains: [f64; 3], s: f64) -> VectorAnswer
         ensures { λ r. ⌜ r ≡ projectOf self strains s ⌝ }
     {
-        if self.parameters_finite() & tensor::row_finite(strains) & numbers::is_finite(s) {
-            if self.moduli_finite() {
-                let q = self.projected(strains, s);
-                let new = q.strains;
-                if tensor::row_finite(new) {
-                    q
-                } else {
-                    refused_strains(3)
-                }
+        let given = self.parameters_finite() & tensor::row_finite(strains) & numbers::is_finite(s);
+        let moduli = self.moduli_finite();
+        if given {
+            if moduli {
+                returned(self.projected(strains, s))
             } else {
-                refused_strains(3)
+                tensor::refused_vector(answers::NO_NUMBER)
             }
         } else {
-            refused_strains(1)
+            tensor::refused_vector(answers::NOT_FINITE)
         }
     }
 }

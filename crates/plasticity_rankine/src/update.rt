@@ -1,14 +1,21 @@
+// The update of one particle.
 use crate::Branch;
+use crate::Projected;
 use crate::RankinePlasticity;
-use crate::Triple;
-use crate::steps;
+use answers::Answer;
 use plasticity::Outcome;
+use plasticity::Scalars;
 use plasticity::State;
 use plasticity::Updated;
 ghost use mathlib.Core.Path.{_≡_};
-ghost use mathlib.Core.Bool.{true};
+ghost use mathlib.Core.Bool.{true, _&&_};
+ghost use Rattle.numbers.specs.Floats.{finite};
 ghost use Rattle.plasticity.specs.State.{inputsFinite};
-ghost use Rattle.plasticity_rankine.specs.Rankine.{untouchedOf, rankineMoved, rankineBranch, rankineLogged, rankineRun, rankineUpdate};
+ghost use Rattle.walk.specs.Expr.{num, value, nums};
+ghost use Rattle.walk.specs.Walk.{result};
+ghost use Rattle.walk.specs.Update.{updatedOf};
+ghost use Rattle.plasticity_rankine.specs.Law.{parametersFinite};
+ghost use Rattle.plasticity_rankine.specs.Rankine.{untouchedOf, stateOf, storeWalk, expsWalk, movedWalk, softStrength, followedOf, runWalk, rankineUpdate};
 
 fn untouched(s: State) -> Updated
     ensures { λ r. ⌜ r ≡ untouchedOf s ⌝ }
@@ -19,8 +26,60 @@ fn untouched(s: State) -> Updated
     }
 }
 
+fn state_of(f: [[f64; 3]; 3], sigma: [f64; 3], h: f64, s: State) -> State
+    ensures { λ r. ⌜ r ≡ stateOf f sigma h s ⌝ }
+{
+    State {
+        f: tensor::to_rows(f),
+        sigma,
+        scalars: Scalars {
+            phase: s.scalars.phase,
+            plastic_determinant: s.scalars.plastic_determinant,
+            plastic_hardening: h,
+            elastic_hardening: s.scalars.elastic_hardening,
+            log_gain: s.scalars.log_gain,
+            alpha: s.scalars.alpha,
+        },
+    }
+}
+
+// The results are stored where all are finite.
+fn store(u: [[f64; 3]; 3], sigma: [f64; 3], vt: [[f64; 3]; 3], h: f64, s: State) -> Updated
+    ensures { λ r. ⌜ r ≡ updatedOf s (result (storeWalk u sigma vt (num h) s)) ⌝ }
+{
+    let f = tensor::recompose(u, sigma, vt);
+    if tensor::mat_finite(f) & tensor::row_finite(sigma) & numbers::is_finite(h) {
+        Updated {
+            state: state_of(f, sigma, h, s),
+            outcome: Outcome::Stored(h),
+        }
+    } else {
+        plasticity::refuse(answers::NO_NUMBER, s)
+    }
+}
+
+// Sigma is the exponentials of the strains.
+fn exps(e: [f64; 3], u: [[f64; 3]; 3], vt: [[f64; 3]; 3], h: f64, s: State) -> Updated
+    ensures { λ r. ⌜ r ≡ updatedOf s (result (expsWalk e u vt (num h) s)) ⌝ }
+{
+    match exponential::exp_on_path(e[0]) {
+        Answer::Value(x) => match exponential::exp_on_path(e[1]) {
+            Answer::Value(y) => match exponential::exp_on_path(e[2]) {
+                Answer::Value(z) => {
+                    let sigma = [x, y, z];
+                    store(u, sigma, vt, h, s)
+                }
+                Answer::Refused(n) => plasticity::refuse(n, s),
+            },
+            Answer::Refused(n) => plasticity::refuse(n, s),
+        },
+        Answer::Refused(n) => plasticity::refuse(n, s),
+    }
+}
+
 impl RankinePlasticity {
-    // Strains that moved: hardening, then exponentials, then F.
+    // Strains that moved: hardening, exponentials, F. A NaN in the new strains is in the norm. The minimum would hide one in
+    // the hardening: it is refused before.
     fn moved(
         self,
         old: [f64; 3],
@@ -29,54 +88,72 @@ impl RankinePlasticity {
         vt: [[f64; 3]; 3],
         s: State,
     ) -> Updated
-        ensures { λ r. ⌜ r ≡ rankineMoved self old new u vt s ⌝ }
+        requires { ⌜ finite (self .«tensile_strength») ≡ true ⌝ }
+        ensures { λ r. ⌜ r ≡ updatedOf s (result (movedWalk self old (nums new) u vt s)) ⌝ }
     {
-        let h = self.hardening(s.scalars.plastic_hardening, old, new);
-        steps::finish(h, steps::exps(new), u, vt, s)
+        match physics::norm_on_path(tensor::row_sub(old, new)) {
+            Answer::Value(norm) => {
+                let grown = s.scalars.plastic_hardening + self.softening_rate * norm;
+                if numbers::is_number(grown) {
+                    exps(new, u, vt, numbers::min(grown, self.tensile_strength), s)
+                } else {
+                    plasticity::refuse(answers::NO_NUMBER, s)
+                }
+            }
+            Answer::Refused(n) => plasticity::refuse(n, s),
+        }
     }
 
-    fn branch(
+    // Capped only where a strain moves.
+    fn followed(
         self,
-        b: Branch,
-        old: [f64; 3],
-        new: [f64; 3],
+        q: Projected,
+        e: [f64; 3],
         u: [[f64; 3]; 3],
         vt: [[f64; 3]; 3],
         s: State,
     ) -> Updated
-        ensures { λ r. ⌜ r ≡ rankineBranch b self old new u vt s ⌝ }
+        requires { ⌜ finite (self .«tensile_strength») ≡ true ⌝ }
+        ensures { λ r. ⌜ r ≡ followedOf (q .branch) self e (q .strains) u vt s ⌝ }
     {
+        let b = q.branch;
+        let new = q.strains;
         match b {
             Branch::Untouched(_, _) => untouched(s),
-            Branch::One(_, _) => self.moved(old, new, u, vt, s),
-            Branch::Two(_, _) => self.moved(old, new, u, vt, s),
-            Branch::All(_, _) => self.moved(old, new, u, vt, s),
+            Branch::One(_, _) => self.moved(e, new, u, vt, s),
+            Branch::Two(_, _) => self.moved(e, new, u, vt, s),
+            Branch::All(_, _) => self.moved(e, new, u, vt, s),
             Branch::Refused(n) => plasticity::refuse(n, s),
         }
     }
 
-    // Once the logarithms have answered.
-    fn logged(self, t: Triple, u: [[f64; 3]; 3], vt: [[f64; 3]; 3], s: State) -> Updated
-        ensures { λ r. ⌜ r ≡ rankineLogged t self u vt s ⌝ }
+    // The hardening starts from 1.
+    fn soft_strength(self, h: f64) -> f64
+        ensures { λ r. ⌜ r ≡ value (softStrength self h) ⌝ }
     {
-        match t {
-            Triple::Values(x, y, z) => {
-                let e = [x, y, z];
-                let q = self.projected(e, self.soft_strength(s.scalars.plastic_hardening));
-                let new = q.strains;
-                let b = q.branch;
-                self.branch(b, e, new, u, vt, s)
-            }
-            Triple::Refused(n) => plasticity::refuse(n, s),
-        }
+        self.tensile_strength - (h - 1.0)
     }
 
-    // The steps in the law's order: logarithms, branch, hardening, exponentials, recomposed F.
-    fn run(self, u: [[f64; 3]; 3], vt: [[f64; 3]; 3], s: State) -> Updated
-        ensures { λ r. ⌜ r ≡ rankineRun self u vt s ⌝ }
+    // The steps in the law's order: logarithms, branch, hardening, exponentials, recomposed F. Of finite inputs the softened
+    // strength is no NaN.
+    fn run(self, sigma: [f64; 3], u: [[f64; 3]; 3], vt: [[f64; 3]; 3], s: State) -> Updated
+        requires { ⌜ parametersFinite self && inputsFinite u vt s ≡ true ⌝ }
+        ensures { λ r. ⌜ r ≡ updatedOf s (result (runWalk self sigma u vt s)) ⌝ }
     {
-        let sigma = s.sigma;
-        self.logged(steps::logs(sigma), u, vt, s)
+        match logarithm::ln_on_path(sigma[0]) {
+            Answer::Value(x) => match logarithm::ln_on_path(sigma[1]) {
+                Answer::Value(y) => match logarithm::ln_on_path(sigma[2]) {
+                    Answer::Value(z) => {
+                        let e = [x, y, z];
+                        let soft = self.soft_strength(s.scalars.plastic_hardening);
+                        self.followed(self.projected(e, soft), e, u, vt, s)
+                    }
+                    Answer::Refused(n) => plasticity::refuse(n, s),
+                },
+                Answer::Refused(n) => plasticity::refuse(n, s),
+            },
+            Answer::Refused(n) => plasticity::refuse(n, s),
+        }
     }
 
     // The update of one particle: untouched, or F, sigma and the plastic hardening are new, or the state comes back as it
@@ -86,7 +163,8 @@ impl RankinePlasticity {
     {
         if self.parameters_finite() & plasticity::inputs_finite(u, vt, s) {
             if self.moduli_finite() {
-                self.run(u, vt, s)
+                let sigma = s.sigma;
+                self.run(sigma, u, vt, s)
             } else {
                 plasticity::refuse(answers::NO_NUMBER, s)
             }
@@ -102,7 +180,8 @@ impl RankinePlasticity {
     {
         if self.parameters_finite() {
             if self.moduli_finite() {
-                self.run(u, vt, s)
+                let sigma = s.sigma;
+                self.run(sigma, u, vt, s)
             } else {
                 plasticity::refuse(answers::NO_NUMBER, s)
             }

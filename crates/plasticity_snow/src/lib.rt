@@ -1,13 +1,16 @@
-// Snow: each singular value is clamped (plasticity_snow.rs; document 01, section 5).
+// Snow: each singular value is clamped (plasticity_snow.rs; RULES, section 5).
 use answers::Answer;
 use plasticity::Outcome;
 use plasticity::Scalars;
 use plasticity::State;
 use plasticity::Updated;
 ghost use mathlib.Core.Path.{_≡_};
-ghost use mathlib.Core.Bool.{true};
-ghost use Rattle.plasticity.specs.State.{inputsFinite, refused};
-ghost use Rattle.plasticity_snow.specs.Snow.{defaults, clampOf, clampedOf, determinantOf, exponentOf, parametersFinite, stateOf, snowStore, snowRun, snowUpdate};
+ghost use mathlib.Core.Bool.{true, _&&_};
+ghost use Rattle.plasticity.specs.State.{inputsFinite};
+ghost use Rattle.walk.specs.Expr.{num};
+ghost use Rattle.walk.specs.Walk.{result};
+ghost use Rattle.walk.specs.Update.{updatedOf};
+ghost use Rattle.plasticity_snow.specs.Snow.{defaults, clampOf, clampedOf, parametersFinite, stateOf, storeWalk, runWalk, snowUpdate};
 
 pub struct SnowPlasticity {
     pub min_epsilon: f64,
@@ -53,13 +56,6 @@ impl SnowPlasticity {
         ]
     }
 
-    // What the exponential is given.
-    fn exponent(self, determinant: f64) -> f64
-        ensures { λ r. ⌜ r ≡ exponentOf self determinant ⌝ }
-    {
-        self.hardening_coeff * (1.0 - determinant)
-    }
-
     pub fn parameters_finite(self) -> bool
         ensures { λ r. ⌜ r ≡ parametersFinite self ⌝ }
     {
@@ -68,18 +64,17 @@ impl SnowPlasticity {
             & numbers::is_finite(self.hardening_coeff)
     }
 
-    // The steps in the law's order: clamp, determinant, exponential, recomposed F.
+    // The steps in the law's order: clamp, determinant, exponential, recomposed F. Of finite inputs the clamp hides no NaN;
+    // one in the determinant is in what the exponential is given.
     fn run(self, u: [[f64; 3]; 3], vt: [[f64; 3]; 3], s: State) -> Updated
-        ensures { λ r. ⌜ r ≡ snowRun self u vt s ⌝ }
+        requires { ⌜ parametersFinite self && inputsFinite u vt s ≡ true ⌝ }
+        ensures { λ r. ⌜ r ≡ updatedOf s (result (runWalk self u vt s)) ⌝ }
     {
         let sigma = s.sigma;
         let new = self.project_deformation_gradient(sigma);
-        let d = determinant(s.scalars.plastic_determinant, sigma, new);
-        let h = exponential::exp_on_path(self.exponent(d));
-        match h {
-            Answer::Value(hardening) => {
-                store(tensor::recompose(u, new, vt), new, d, hardening, s)
-            }
+        let d = s.scalars.plastic_determinant * (tensor::product(sigma) / tensor::product(new));
+        match exponential::exp_on_path(self.hardening_coeff * (1.0 - d)) {
+            Answer::Value(h) => store(u, new, vt, d, h, s),
             Answer::Refused(n) => plasticity::refuse(n, s),
         }
     }
@@ -109,13 +104,6 @@ impl SnowPlasticity {
     }
 }
 
-// The plastic determinant times old product over new product.
-fn determinant(d: f64, old: [f64; 3], new: [f64; 3]) -> f64
-    ensures { λ r. ⌜ r ≡ determinantOf d old new ⌝ }
-{
-    d * (tensor::product(old) / tensor::product(new))
-}
-
 fn state_of(f: [[f64; 3]; 3], sigma: [f64; 3], d: f64, hardening: f64, s: State) -> State
     ensures { λ r. ⌜ r ≡ stateOf f sigma d hardening s ⌝ }
 {
@@ -134,13 +122,20 @@ fn state_of(f: [[f64; 3]; 3], sigma: [f64; 3], d: f64, hardening: f64, s: State)
 }
 
 // The results are stored where all are finite.
-fn store(f: [[f64; 3]; 3], sigma: [f64; 3], d: f64, hardening: f64, s: State) -> Updated
-    ensures { λ r. ⌜ r ≡ snowStore f sigma d hardening s ⌝ }
+fn store(
+    u: [[f64; 3]; 3],
+    sigma: [f64; 3],
+    vt: [[f64; 3]; 3],
+    d: f64,
+    hardening: f64,
+    s: State,
+) -> Updated
+    ensures { λ r. ⌜ r ≡ updatedOf s (result (storeWalk u sigma vt (num d) (num hardening) s)) ⌝ }
 {
+    let f = tensor::recompose(u, sigma, vt);
     if tensor::mat_finite(f)
         & tensor::row_finite(sigma)
-        & numbers::is_finite(d)
-        & numbers::is_finite(hardening)
+        & (numbers::is_finite(d) & numbers::is_finite(hardening))
     {
         Updated {
             state: state_of(f, sigma, d, hardening, s),

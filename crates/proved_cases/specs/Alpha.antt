@@ -1,4 +1,4 @@
--- What P12 of document 01, section 8, needs of the elementary functions: Drucker-Prager's slope at hardening 1 is a number,
+-- What P12 of RULES, section 8, needs of the elementary functions: Drucker-Prager's slope at hardening 1 is a number,
 -- and the root of 0 is 0, by computation.
 use mathlib.Core.Path.{_≡_, refl}
 use lib.Count.{leadingZeros}
@@ -12,13 +12,14 @@ use Rattle.fixed_point.specs.ToFloat.{toFloatOf}
 use Rattle.exponential.specs.Worked.{expOf, expBits, packOf, partOf, tailOf}
 use Rattle.sine.specs.Sine.{sinOf, differenceOf, plusOf, minusOf, eighthOf, nested, stepOf}
 use Rattle.tensor.specs.Matrix.{zero, one}
+use Rattle.walk.specs.Walk.{result, answerAs}
 use Rattle.plasticity_drucker_prager.specs.Law.{defaultsOf}
-use Rattle.plasticity_drucker_prager.specs.Alpha.{alphaOnPath, angledOf, sinedOf, rootedOf, slopeOf, angleOf, decayOf}
+use Rattle.plasticity_drucker_prager.specs.Alpha.{alphaWalk}
 
 pub root-zero : sqrtOf zero ≡ zero
 unfolding sqrtOf floorRoot rootIn mag L ofBits round size
 root-zero = refl
 
-pub slope : (l m : Float) → (a : Float) × (alphaOnPath (defaultsOf l m) one ≡ Value a)
-unfolding alphaOnPath angledOf sinedOf rootedOf slopeOf angleOf decayOf expOf expBits packOf partOf tailOf sinOf differenceOf plusOf minusOf eighthOf nested stepOf toFloatOf sqrtOf floorRoot rootIn mag L isNumber ofBits toBits round size Ieee.add Ieee.sub Ieee.mul Ieee.div Ieee.neg Ieee.le Ieee.lt Ieee.eq leadingZeros
+pub slope : (l m : Float) → (a : Float) × (answerAs (result (alphaWalk (defaultsOf l m) one)) ≡ Value a)
+unfolding alphaWalk expOf expBits packOf partOf tailOf sinOf differenceOf plusOf minusOf eighthOf nested stepOf toFloatOf sqrtOf floorRoot rootIn mag L isNumber ofBits toBits round size Ieee.add Ieee.sub Ieee.mul Ieee.div Ieee.neg Ieee.le Ieee.lt Ieee.eq leadingZeros
 slope l m = (_, refl)

@@ -1,4 +1,4 @@
--- Document 01, section 8, line by line: the twelve cases over the definitions that the contracts cite, proved by computation.
+-- RULES, section 8, line by line: the twelve cases over the definitions that the contracts cite, proved by computation.
 use mathlib.Core.Bool.{true}
 use mathlib.Core.List.{List}
 use mathlib.Core.Path.{_≡_}

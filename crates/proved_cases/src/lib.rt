@@ -1,1 +1,1 @@
-// No code: document 01, section 8, as one statement in specs/.
+// No code: RULES, section 8, as one statement in specs/.

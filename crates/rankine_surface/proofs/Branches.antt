@@ -11,6 +11,7 @@ use Rattle.exact.specs.Integers.{n, _≤ᶻ_, abs, abs-+, abs-neg, abs-pos, *-p
 use Rattle.exact.specs.Ring.{ring, var, con, _:+_, _:-_, _:*_}
 use Rattle.exact.specs.Value.{val, abs-val}
 use Rattle.exact.specs.OrderLe.{le-val}
+use Rattle.walk.specs.Expr.{num, value}
 use Rattle.plasticity_rankine.specs.declared.RankinePlasticity.{RankinePlasticity}
 use Rattle.plasticity_rankine.specs.declared.Sorted.{Sorted}
 use Rattle.plasticity_rankine.specs.Sorting.{sortedOf}
@@ -300,8 +301,7 @@ module _ {law : RankinePlasticity} {s : Float} (g : Fair law s) where
       }
 
   module _ {e0 e1 e2 : Float} {r : Sorted} (d : Upwards e0 e1 e2 r) where
-    pub untouched : T (le (firstSide law (e0 ⊕ e1 ⊕ e2) (r .high)) s) → Held law s r
-    unfolding firstSide
+    pub untouched : T (le (value (firstSide law (num (e0 ⊕ e1 ⊕ e2)) (num (r .high)))) s) → Held law s r
     untouched h =
         let K = modulus law * L in
         let x = val (r .low) in
@@ -323,26 +323,23 @@ module _ {law : RankinePlasticity} {s : Float} (g : Fair law s) where
     some : 0 < mag (law .mu)
     some = omega (arith, mu-least, L-pos)
 
-    pub one-back : T (le (secondSide law (e0 ⊕ e1 ⊕ e2) (r .high) (r .mid)) s)
-        → OnYield law s (sortedOf (r .low) (r .mid) (backOne law s (e0 ⊕ e1 ⊕ e2) (r .high)))
-    unfolding secondSide backOne
+    pub one-back : T (le (value (secondSide law (num (e0 ⊕ e1 ⊕ e2)) (num (r .high)) (num (r .mid)))) s)
+        → OnYield law s (sortedOf (r .low) (r .mid) (value (backOne law (num s) (num (e0 ⊕ e1 ⊕ e2)) (num (r .high)))))
     one-back h =
         yields (d .low .fine) (d .mid .fine) (q1 d .fine)
         (one-moved (mag (law .mu)) (mag (law .lambda)) (modulus law * L) 309 (val (r .low)) (val (r .mid))
         (val ((s ⊖ (law .lambda) ⊗ (e0 ⊕ e1 ⊕ e2 ⊖ r .high)) ⊘ (two ⊗ (law .mu) ⊕ (law .lambda)))) (val s *ℤ pos L) some (q1 d .near) tt (tested (t2-on d) tt h)
         (d .low-mid))
 
-    pub two-back : T (le (thirdSide law (r .low)) s)
-        → OnYield law s (sortedOf (r .low) (backTwo law s (e0 ⊕ e1 ⊕ e2) (r .high) (r .mid)) (backTwo law s (e0 ⊕ e1 ⊕ e2) (r .high) (r .mid)))
-    unfolding thirdSide backTwo
+    pub two-back : T (le (value (thirdSide law (num (r .low)))) s)
+        → OnYield law s (sortedOf (r .low) (value (backTwo law (num s) (num (e0 ⊕ e1 ⊕ e2)) (num (r .high)) (num (r .mid)))) (value (backTwo law (num s) (num (e0 ⊕ e1 ⊕ e2)) (num (r .high)) (num (r .mid)))))
     two-back h =
         yields (d .low .fine) (q2 d .fine) (q2 d .fine)
         (two-moved (mag (law .mu)) (mag (law .lambda)) (modulus law * L) 238 (val (r .low))
         (val ((s ⊖ (law .lambda) ⊗ (e0 ⊕ e1 ⊕ e2 ⊖ r .high ⊖ r .mid)) ⊘ (two ⊗ (law .mu) ⊕ two ⊗ (law .lambda)))) (val s *ℤ pos L) some (q2 d .near) tt
         (tested (t3-on d) tt h))
 
-    pub all-back : OnYield law s (sortedOf (backAll law s) (backAll law s) (backAll law s))
-    unfolding backAll
+    pub all-back : OnYield law s (sortedOf (value (backAll law (num s))) (value (backAll law (num s))) (value (backAll law (num s))))
     all-back =
         yields (q3 d .fine) (q3 d .fine) (q3 d .fine)
         (all-moved (mag (law .mu)) (mag (law .lambda)) (modulus law * L) 118 (val (s ⊘ (two ⊗ (law .mu) ⊕ thrice ⊗ (law .lambda)))) (val s *ℤ pos L)

@@ -13,11 +13,14 @@ use Rattle.numbers.specs.Floats.{finite, isNumber}
 use Rattle.logarithm.specs.Worked as ln
 use Rattle.exponential.specs.Worked as exp
 use Rattle.physics.specs.Physics.{lambdaOf, shearModulusOf}
-use Rattle.tensor.specs.Matrix.{one, sumOf, dotOf, rowSubOf, scaledRowOf}
+use Rattle.tensor.specs.Matrix.{one, sumOf, dotOf, scaledRowOf}
+use Rattle.walk.specs.Matrix as formula
+use Rattle.walk.specs.Update as walk
 use Rattle.plasticity_rankine.specs.declared.RankineArguments.{RankineArguments}
 use Rattle.plasticity_rankine.specs.Sorting.{orderOf}
-use Rattle.plasticity_rankine.specs.Projection.{firstSide, secondSide, thirdSide, backOne, backTwo, backAll, lastChoice, nextChoice, choiceOf, projectedOf}
-use Rattle.plasticity_rankine.specs.Rankine.{argumentsOf, lawOf, logsOf, expsOf, softStrengthOf, hardeningOf, rankineMoved, rankineLogged, rankineUpdate, argumentsUpdate}
+use Rattle.plasticity_rankine.specs.Law.{argumentsOf, lawOf}
+use Rattle.plasticity_rankine.specs.Projection.{thirdWalk, secondWalk, firstWalk}
+use Rattle.plasticity_rankine.specs.Rankine.{storeWalk, expsWalk, hardenWalk, movedWalk, wayWalk, strainedWalk, runWalk, floats, argumentsWalk}
 use Rattle.model.specs.declared.Model.the-variants.{Rankine}
 use Rattle.particles.specs.Plain.{updatedAt, recordLaw}
 use Rattle.sheet.specs.Sheet.{numberAt, wordOf, wordAt, wordsOf, parameterAt, parametersAt, recordsEnd, headerOf, readOf, roomOf}
@@ -25,7 +28,7 @@ use Rattle.sheet.specs.Spelling.{spellNumber, spellBytes, spellWords, spell}
 use Rattle.sheet_run.specs.Run.{frontOf}
 use Rattle.model.specs.Kinds as model
 use Rattle.model.specs.Fields.{modelOf}
-use Rattle.rankine_surface.specs.Surface.{Ranges}
+use Rattle.rankine_surface.specs.Surface.{Ranges, logsOf}
 use Rattle.rankine_surface.specs.Record.{Premises, softenedAt, firstTestAt, InsideAt, ReturnedAt, InPass, passFound}
 use Rattle.rankine_surface.specs.Sheet.{InSheet, SheetPremises, sheetFound}
 use Rattle.rankine_surface.proofs.Records.{pass-3}
@@ -58,7 +61,7 @@ abbrev Taken : ℕ → Type 0
 Taken x = Premises arguments (of x) (recordLaw (Rankine arguments) (of x) .outcome)
 
 taken : Taken two × Taken unit × T (not (firstTestAt arguments (of two))) × T (firstTestAt arguments (of unit))
-unfolding recordLaw updatedAt argumentsUpdate rankineUpdate rankineLogged rankineMoved hardeningOf softStrengthOf logsOf expsOf projectedOf choiceOf nextChoice lastChoice firstSide secondSide thirdSide backOne backTwo backAll orderOf lambdaOf shearModulusOf ln.lnOf ln.exponentOf ln.fractionOf ln.partOf exp.expOf exp.expBits exp.packOf exp.partOf exp.tailOf sqrtOf floorRoot rootIn mag val L fits finite isNumber ofBits toBits round size Ieee.add Ieee.sub Ieee.mul Ieee.div Ieee.neg Ieee.le Ieee.lt Ieee.eq sumOf dotOf rowSubOf scaledRowOf
+unfolding recordLaw updatedAt argumentsWalk floats walk.floatsOf runWalk strainedWalk firstWalk secondWalk thirdWalk wayWalk movedWalk hardenWalk expsWalk storeWalk logsOf formula.total formula.sum formula.entry orderOf lambdaOf shearModulusOf ln.lnOf ln.exponentOf ln.fractionOf ln.partOf exp.expOf exp.expBits exp.packOf exp.partOf exp.tailOf sqrtOf floorRoot rootIn mag val L fits finite isNumber ofBits toBits round size Ieee.add Ieee.sub Ieee.mul Ieee.div Ieee.neg Ieee.le Ieee.lt Ieee.eq sumOf dotOf scaledRowOf
 taken =
     let g : Ranges (lawOf arguments) (softenedAt arguments (of two)) = record { mu-low = lit≤ tt; mu-high = lit≤ tt; la-low = lit≤ tt; la-high = lit≤ tt; s-size = lit≤ tt } in (
       record { accepted = tt; ranges = g; s-finite = tt; strains = (lit≤ tt, (lit≤ tt, (lit≤ tt, tt))); strength = tt },

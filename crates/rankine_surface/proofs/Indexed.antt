@@ -2,9 +2,10 @@
 use mathlib.Core.Path.{_≡_, refl, sym, ap, _∙_, subst}
 use mathlib.Core.Logic.{inl, inr}
 use Prim.Native.Nat.{ℕ, _*_}
-use mathlib.Core.Bool.{Bool, true, false, not, cond}
+use mathlib.Core.Bool.{Bool, true, false, not, cond, _&&_}
 use mathlib.Core.List.{List, [], _∷_}
 use lib.Dec.{T}
+use lib.ListN.{length}
 use lib.IntN.{pos, _+ℤ_, _*ℤ_}
 use lib.Ieee.{Float, le}
 use Rattle.exact.specs.Units.{L, Fin64}
@@ -15,17 +16,19 @@ use Rattle.exact.specs.OrderLe.{le-val}
 use Rattle.exact.specs.Distances.{not-le-val}
 use Rattle.numbers.specs.Floats.{isNumber}
 use Rattle.tensor.specs.Matrix.{three, sumOf}
+use Rattle.walk.specs.Expr.{Expr, num, value, values, nums}
+use Rattle.walk.specs.Matrix as walk
+use Rattle.walk.specs.Walk.{Ended, given, refused, result}
 use Rattle.plasticity_rankine.specs.declared.RankinePlasticity.{RankinePlasticity}
 use Rattle.plasticity_rankine.specs.declared.Sorted.{Sorted}
 use Rattle.plasticity_rankine.specs.declared.Rank.{Rank}
 use Rattle.plasticity_rankine.specs.declared.Rank.the-variants as rank
-use Rattle.plasticity_rankine.specs.declared.Branch.{Branch}
-use Rattle.plasticity_rankine.specs.declared.Branch.the-variants.{Untouched, One, Two, All, Refused}
-use Rattle.plasticity_rankine.specs.Sorting.{orderOf, indexesOf, arrangeOf, restoreOf}
+use Rattle.plasticity_rankine.specs.Sorting.{orderOf, indexesOf, sortedOf, arrangeOf, restoredOf, restoreOf}
 use Rattle.plasticity_rankine.proofs.Orders.{rankOf, order-of-three}
-use Rattle.plasticity_rankine.specs.Projection.{firstSide, secondSide, thirdSide, lastChoice, nextChoice, choiceOf, returnedOf, projectedOf}
+use Rattle.plasticity_rankine.proofs.Laws.{restored}
+use Rattle.plasticity_rankine.specs.Projection.{firstSide, secondSide, thirdSide, backOne, backTwo, backAll, Way, none-moves, one-moves, two-move, all-move, Moved, thirdWalk, secondWalk, firstWalk, projectWalk}
 use Rattle.rankine_surface.specs.Axes.{Each, Some, total}
-use Rattle.rankine_surface.specs.Surface.{modulus, Under, Below, Reaches, Fair, Strain, Settled, OnSurface, firstTest}
+use Rattle.rankine_surface.specs.Surface.{modulus, Under, Below, Reaches, Fair, Strain, OnSurface, firstTest}
 use Rattle.rankine_surface.proofs.Branches.{Upwards, principal, Held, OnYield, untouched, one-back, two-back, all-back}
 
 -- ---- there and back
@@ -158,16 +161,43 @@ on-surface law s {k} d r y =
     }
 
 -- ---- the branch
-abbrev pub Moves : Branch → Type 0
-Moves (Refused n) = ⊥
-Moves (Untouched x y) = ⊥
-Moves (One x y) = Unit {0}
-Moves (Two x y) = Unit {0}
-Moves (All x y) = Unit {0}
+-- the strains as the walk ends with them
+sized : {k : List ℕ} → Order k → (r : Sorted) → length (restoreOf k r) ≡ 3
+sized R012 r = refl
+sized R021 r = refl
+sized R102 r = refl
+sized R120 r = refl
+sized R201 r = refl
+sized R210 r = refl
 
-pick : (F : Branch → Type 0) (n1 l1 n2 l2 n3 l3 : Bool) (A B C D : Branch) → T (not l1)
-    → Settled (cond n1 (cond l1 A (cond n2 (cond l2 B (cond n3 (cond l3 C D) (Refused 3))) (Refused 3))) (Refused 3))
-    → (T l2 → F B) → (T l3 → F C) → F D → F (cond n1 (cond l1 A (cond n2 (cond l2 B (cond n3 (cond l3 C D) (Refused 3))) (Refused 3))) (Refused 3))
+worth : (x y z : Float) (a b c : Expr)
+    → values (restoredOf (orderOf (three x y z)) (three a b c)) ≡ restoreOf (orderOf (three x y z)) (sortedOf (value a) (value b) (value c))
+worth x y z a b c = rw (order-of-three x y z) (restored (rankOf (le x y) (le y z) (le x z)) a b c)
+
+abbrev pub Moves : Way → Type 0
+Moves (none-moves x y) = ⊥
+Moves (one-moves x y) = Unit {0}
+Moves (two-move x y) = Unit {0}
+Moves (all-move x y) = Unit {0}
+
+-- not refused
+abbrev pub Given : Ended Moved → Type 0
+Given (given q) = Unit {0}
+Given (refused n) = ⊥
+
+pub record Back (law : RankinePlasticity) (s : Float) (q : Moved) : Type 0 where
+  pub moves : Moves (q .way)
+  pub axes : length (values (q .strains)) ≡ 3
+  pub on-surface : OnSurface law s (values (q .strains))
+
+-- strains moved to the surface
+abbrev pub Returns : RankinePlasticity → Float → Ended Moved → Type 0
+Returns law s (given q) = Back law s q
+Returns law s (refused n) = ⊥
+
+pick : (F : Ended Moved → Type 0) (n1 l1 n2 l2 n3 l3 : Bool) (A B C D : Ended Moved) → T (not l1)
+    → Given (cond n1 (cond l1 A (cond n2 (cond l2 B (cond n3 (cond l3 C D) (refused 3))) (refused 3))) (refused 3))
+    → (T l2 → F B) → (T l3 → F C) → F D → F (cond n1 (cond l1 A (cond n2 (cond l2 B (cond n3 (cond l3 C D) (refused 3))) (refused 3))) (refused 3))
 pick F false l1 n2 l2 n3 l3 A B C D h t b c d = absurd t
 pick F true true n2 l2 n3 l3 A B C D h t b c d = absurd h
 pick F true false false l2 n3 l3 A B C D h t b c d = absurd t
@@ -176,9 +206,21 @@ pick F true false true false false l3 A B C D h t b c d = absurd t
 pick F true false true false true true A B C D h t b c d = c tt
 pick F true false true false true false A B C D h t b c d = d
 
-record Moved (law : RankinePlasticity) (s S : Float) (r : Sorted) (b : Branch) : Type 0 where
-  moves : Moves b
-  yields : OnYield law s (returnedOf law s S r b)
+back : (law : RankinePlasticity) (s : Float) (w : Way) → Moves w → (x y z : Float) (a b c : Expr) → OnYield law s (sortedOf (value a) (value b) (value c))
+    → Back law s (record { way = w; strains = restoredOf (orderOf (three x y z)) (three a b c) })
+back law s w m x y z a b c f =
+    let r = sortedOf (value a) (value b) (value c) in
+    let e = sym (worth x y z a b c) in
+    record {
+      moves = m;
+      axes = subst (λ l. length l ≡ 3) e (sized (order x y z) r);
+      on-surface = subst (OnSurface law s) e (on-surface law s (order x y z) r f);
+    }
+
+kept : (n l : Bool) (q : Moved) (B : Ended Moved) → T l → Given (cond n (cond l (given q) B) (refused 3)) → cond n (cond l (given q) B) (refused 3) ≡ given q
+kept true true q B t h = refl
+kept true false q B t h = absurd t
+kept false l q B t h = absurd h
 
 module _ {law : RankinePlasticity} {s : Float} (g : Fair law s) (x y z : Float) (i : Each Strain (three x y z)) where
   -- where the first test holds
@@ -189,43 +231,40 @@ module _ {law : RankinePlasticity} {s : Float} (g : Fair law s) (x y z : Float) 
       let d = order x y z in
       subst (λ t. Each (Below law s t) t) (and-back d x y z) (below law s d (arrangeOf k (three x y z)) (untouched g (upwards x y z i) h))
 
-  moved : (r : Sorted) → Upwards x y z r → T (not (le (firstSide law (sumOf (three x y z)) (r .high)) s)) → Settled (choiceOf law s (sumOf (three x y z)) r)
-      → Moved law s (sumOf (three x y z)) r (choiceOf law s (sumOf (three x y z)) r)
-  unfolding sumOf choiceOf nextChoice lastChoice
-  moved r d h t =
-      let S = sumOf (three x y z) in
-      pick (Moved law s S r) (isNumber (firstSide law S (r .high))) (le (firstSide law S (r .high)) s) (isNumber (secondSide law S (r .high) (r .mid)))
-      (le (secondSide law S (r .high) (r .mid)) s) (isNumber (thirdSide law (r .low))) (le (thirdSide law (r .low)) s)
-      (Untouched (firstSide law S (r .high)) s) (One (secondSide law S (r .high) (r .mid)) s) (Two (thirdSide law (r .low)) s) (All (thirdSide law (r .low)) s)
-      h t
-      (λ l. record { moves = tt; yields = one-back g d l })
-      (λ l. record { moves = tt; yields = two-back g d l })
-      (record { moves = tt; yields = all-back g d })
-
   -- and where it fails
-  pub outside : T (not (firstTest law (three x y z) s))
-      → let k = orderOf (three x y z) in let r = arrangeOf k (three x y z) in let b = choiceOf law s (sumOf (three x y z)) r in Settled b
-      → Moves b × OnSurface law s (restoreOf k (returnedOf law s (sumOf (three x y z)) r b))
+  pub outside : T (not (firstTest law (three x y z) s)) → Given (result (projectWalk law (three x y z) (num s))) → Returns law s (result (projectWalk law (three x y z) (num s)))
+  unfolding sumOf walk.total walk.sum firstWalk secondWalk thirdWalk
   outside h t =
-      let k = orderOf (three x y z) in
-      let r = arrangeOf k (three x y z) in
-      let m = moved r (upwards x y z i) h t in
-      (m .moves, on-surface law s (order x y z) (returnedOf law s (sumOf (three x y z)) r (choiceOf law s (sumOf (three x y z)) r)) (m .yields))
+      let e = three x y z in
+      let k = orderOf e in
+      let r = arrangeOf k e in
+      let d = upwards x y z i in
+      let S = num (sumOf e) in
+      let a = num (r .high) in
+      let b = num (r .mid) in
+      let c = num (r .low) in
+      let first = value (firstSide law S a) in
+      let second = value (secondSide law S a b) in
+      let third = value (thirdSide law c) in
+      let two = backTwo law (num s) (walk.sum e) a b in
+      let all = backAll law (num s) in
+      pick (Returns law s) (isNumber first && isNumber s) (le first s) (isNumber second && isNumber s) (le second s) (isNumber third && isNumber s) (le third s)
+      (given (record { way = none-moves first s; strains = nums e }))
+      (given (record { way = one-moves second s; strains = restoredOf k (three c b (backOne law (num s) (walk.sum e) a)) }))
+      (given (record { way = two-move third s; strains = restoredOf k (three c two two) }))
+      (given (record { way = all-move third s; strains = restoredOf k (three all all all) }))
+      h t
+      (λ l. back law s (one-moves second s) tt x y z c b (backOne law (num s) (walk.sum e) a) (one-back g d l))
+      (λ l. back law s (two-move third s) tt x y z c two two (two-back g d l))
+      (back law s (all-move third s) tt x y z all all all (all-back g d))
 
-kept : (law : RankinePlasticity) (s S : Float) (r : Sorted) (n l : Bool) (x y : Float) (B : Branch) → T l
-    → Settled (cond n (cond l (Untouched x y) B) (Refused 3))
-    → returnedOf law s S r (cond n (cond l (Untouched x y) B) (Refused 3)) ≡ r
-kept law s S r true true x y B t h = refl
-kept law s S r true false x y B t h = absurd t
-kept law s S r false l x y B t h = absurd h
-
--- where the first test holds, the projection hands the strains back
-pub same : (law : RankinePlasticity) (s x y z : Float) → T (firstTest law (three x y z) s) → Settled (projectedOf law (three x y z) s .branch)
-    → projectedOf law (three x y z) s .strains ≡ three x y z
-unfolding projectedOf choiceOf
+-- where the first test holds, nothing moves
+pub same : (law : RankinePlasticity) (s x y z : Float) → let e = three x y z in T (firstTest law e s) → Given (result (projectWalk law e (num s)))
+    → result (projectWalk law e (num s)) ≡ given (record { way = none-moves (value (firstSide law (num (sumOf e)) (num (arrangeOf (orderOf e) e .high)))) s; strains = nums e })
+unfolding sumOf walk.total walk.sum firstWalk
 same law s x y z t h =
     let e = three x y z in
     let k = orderOf e in
     let r = arrangeOf k e in
-    let c = firstSide law (sumOf e) (r .high) in
-    ap (restoreOf k) (kept law s (sumOf e) r (isNumber c) (le c s) c s (nextChoice law s (sumOf e) r) t h) ∙ and-back (order x y z) x y z
+    let side = value (firstSide law (num (sumOf e)) (num (r .high))) in
+    kept (isNumber side && isNumber s) (le side s) (record { way = none-moves side s; strains = nums e }) (result (secondWalk law k e r (num s))) t h

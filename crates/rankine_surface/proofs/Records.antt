@@ -19,7 +19,8 @@ use Rattle.failure_maximum_stress.specs.declared.Verdict.{Verdict}
 use Rattle.failure_maximum_stress.specs.declared.Verdict.the-variants as verdict
 use Rattle.elasticity_corotated_linear.specs.declared.CorotatedLinearElasticity.{CorotatedLinearElasticity}
 use Rattle.plasticity_rankine.specs.declared.RankineArguments.{RankineArguments}
-use Rattle.plasticity_rankine.specs.Rankine.{rankineUpdate, lawOf, logsOf}
+use Rattle.plasticity_rankine.specs.Law.{lawOf}
+use Rattle.plasticity_rankine.specs.Rankine.{rankineUpdate}
 use Rattle.model.specs.declared.Model.the-variants.{Rankine}
 use Rattle.particles.specs.Plain.{updatedAt, kept, recordLaw}
 use Rattle.particles.specs.Pass.{recordAt}
@@ -27,7 +28,7 @@ use Rattle.particles.specs.Judged.{judgedAt, unlessRefused, failedLaw, byVerdic
 use Rattle.particles.proofs.PassLaws.{record-keeps}
 use Rattle.particles.proofs.JudgedLaws.{failure-keeps}
 use Rattle.rankine_surface.specs.Axes.{Each}
-use Rattle.rankine_surface.specs.Surface.{Accepted, F64, Small, Ranges, numbersOf, Inside, Returned, Demand3By}
+use Rattle.rankine_surface.specs.Surface.{Accepted, F64, Small, Ranges, numbersOf, logsOf, Inside, Returned, Demand3By}
 use Rattle.rankine_surface.specs.Record.{Premises, Found, foundOf, InsideAt, ReturnedAt, Demand3At, projectedAt, InPass, passFound, metBy, metAt}
 use Rattle.rankine_surface.proofs.Strains.{exps-f64}
 use Rattle.rankine_surface.proofs.Update.{demand-3-by}
@@ -68,7 +69,7 @@ pub record-3 : {a : RankineArguments} {r : List ℕ} → length r ≡ floats →
 unfolding recordLaw updatedAt
 record-3 {a} {r} k g =
     let d : Demand3By a (uAt r) (vtAt r) (stateAt r) =
-    demand-3-by (record { accepted = g .accepted; s-finite = g .s-finite; ranges = g .ranges; sigma = sigma-f64 r; strains = g .strains }) in
+    demand-3-by (record { accepted = g .accepted; s-finite = g .s-finite; ranges = g .ranges; axes = refl; sigma = sigma-f64 r; strains = g .strains }) in
     subst (λ (v : Updated). Demand3At a r (left a r v)) (sym (d .update))
     (record { holds = λ h. inside-at a r (d .law .holds h); fails = λ h. returned-at a r k (g .strength) (d .law .fails h) })
 

@@ -1,25 +1,27 @@
 -- What the logarithm and the exponential answer: our log strains of sigma are finite f64, and the new sigma are f64
-use mathlib.Core.Path.{_≡_, refl}
+use mathlib.Core.Path.{_≡_, refl, ap, _∙_}
 use mathlib.Core.Bool.{Bool, true, false, cond}
 use mathlib.Core.List.{List, [], _∷_}
-use Prim.Native.Nat.{ℕ, zero, suc}
-use lib.ListN.{getD}
-use lib.Ieee.{Float, nan, binary64, fits}
+use Prim.Native.Nat.{ℕ, suc}
+use lib.ListN.{length}
+use lib.Ieee.{Float, binary64}
 use lib.Ieee.Bits.{ofBits-fits}
 use Rattle.exact.specs.Units.{Fin64}
 use Rattle.numbers.specs.Floats.{isNumber}
-use Rattle.answers.specs.Range.{inRange, onPath}
+use Rattle.answers.specs.Range.{inRange}
 use Rattle.answers.specs.declared.Answer.{Answer}
 use Rattle.answers.specs.declared.Answer.the-variants.{Value, Refused}
-use Rattle.logarithm.specs.Worked as ln
-use Rattle.logarithm.specs.Ln.{lnRanged}
+use Rattle.logarithm.specs.Worked as logarithm
 use Rattle.logarithm.proofs.Laws.{ln-near}
-use Rattle.exponential.specs.Worked as exp
-use Rattle.exponential.specs.Exp.{expRanged}
+use Rattle.exponential.specs.Worked as exponential
 use Rattle.plasticity.specs.declared.State.{State}
-use Rattle.plasticity_rankine.specs.Rankine.{joinedOf, logsOf, expsOf}
+use Rattle.walk.specs.Expr.{Expr}
+use Rattle.walk.specs.Walk.{Function, exp, ln, answerOf, Walk, asks, end, Ended, given, refused, asked, result}
+use Rattle.walk.specs.Exact.{andThen}
+use Rattle.plasticity_rankine.specs.declared.RankinePlasticity.{RankinePlasticity}
+use Rattle.plasticity_rankine.specs.Rankine.{storeWalk, expsWalk, strainedWalk, runWalk}
 use Rattle.rankine_surface.specs.Axes.{Each}
-use Rattle.rankine_surface.specs.Surface.{numbersOf, logStrains, Small, Strain, F64}
+use Rattle.rankine_surface.specs.Surface.{numbersOf, logsOf, expsOf, logStrains, Small, Strain, F64}
 
 -- of an answer's value, if it has one
 abbrev Answers : (Float → Type 0) → Answer → Type 0
@@ -31,35 +33,87 @@ in-range F true true v h = h refl
 in-range F true false v h = tt
 in-range F false b v h = tt
 
-joined : (F : Float → Type 0) (a b c : Answer) → Answers F a → Answers F b → Answers F c → Each F (numbersOf (joinedOf a b c))
-joined F (Value x) (Value y) (Value z) h k l = (h, (k, (l, tt)))
-joined F (Value x) (Value y) (Refused n) h k l = tt
-joined F (Value x) (Refused n) c h k l = tt
-joined F (Refused n) b c h k l = tt
+-- each entry of what is asked of a list
+module _ (F : Float → Type 0) (n : ℕ) (f : Function) where
+  each-by : (k : Float → Ended (List Float)) → ((v : Float) → F v → Each F (numbersOf (k v))) → (a : Answer) → Answers F a → Each F (numbersOf (asked a k))
+  each-by k h (Value v) q = h v q
+  each-by k h (Refused m) q = tt
 
-joined-at : (F : Float → Type 0) (g : ℕ → Answer) → ((i : ℕ) → Answers F (g i)) → Each F (numbersOf (joinedOf (g 0) (g 1) (g 2)))
-joined-at F g h = joined F (g 0) (g 1) (g 2) (h 0) (h 1) (h 2)
+  each : (l : List Float) (k : List Float → List Float) → Each (λ x. Answers F (answerOf f x)) l → ((vs : List Float) → Each F vs → Each F (k vs))
+      → Each F (numbersOf (result (asks n f l (λ vs. end (k vs)))))
+  each [] k h i = i [] tt
+  each (x ∷ l) k h i =
+      each-by (λ v. result (asks n f l (λ vs. end (k (v ∷ vs))))) (λ v q. each l (λ vs. k (v ∷ vs)) (h .1) (λ vs j. i (v ∷ vs) (q, j))) (answerOf f x) (h .0)
 
-ln-fine : (x : Float) → F64 x → Answers Fin64 (onPath x (lnRanged x))
-ln-fine x f = in-range Fin64 (isNumber x) (inRange ln.low ln.high x) (ln.lnOf x) (λ r. ln-near x f r .fine)
+ln-fine : (x : Float) → F64 x → Answers Fin64 (answerOf ln x)
+ln-fine x f = in-range Fin64 (isNumber x) (inRange logarithm.low logarithm.high x) (logarithm.lnOf x) (λ r. ln-near x f r .fine)
 
-exp-f64 : (x : Float) → Answers F64 (onPath x (expRanged x))
-unfolding exp.expOf
-exp-f64 x = in-range F64 (isNumber x) (inRange exp.low exp.high x) (exp.expOf x) (λ r. ofBits-fits binary64 _)
+exp-f64 : (x : Float) → Answers F64 (answerOf exp x)
+unfolding exponential.expOf
+exp-f64 x = in-range F64 (isNumber x) (inRange exponential.low exponential.high x) (exponential.expOf x) (λ r. ofBits-fits binary64 _)
 
-entry : (l : List Float) (i : ℕ) → Each F64 l → F64 (getD l i nan)
-unfolding fits
-entry [] i h = tt
-entry (x ∷ l) zero h = h .0
-entry (x ∷ l) (suc i) h = entry l i (h .1)
+of-each : (F G : Float → Type 0) → ((x : Float) → F x → G x) → (l : List Float) → Each F l → Each G l
+of-each F G f [] h = tt
+of-each F G f (x ∷ l) h = (f x (h .0), of-each F G f l (h .1))
+
+of-all : (G : Float → Type 0) → ((x : Float) → G x) → (l : List Float) → Each G l
+of-all G f [] = tt
+of-all G f (x ∷ l) = (f x, of-all G f l)
 
 logs-fine : (sigma : List Float) → Each F64 sigma → Each Fin64 (numbersOf (logsOf sigma))
 unfolding logsOf
-logs-fine sigma h = joined-at Fin64 (λ i. onPath (getD sigma i nan) (lnRanged (getD sigma i nan))) (λ i. ln-fine (getD sigma i nan) (entry sigma i h))
+logs-fine sigma h = each Fin64 2 ln sigma (λ vs. vs) (of-each F64 (λ x. Answers Fin64 (answerOf ln x)) ln-fine sigma h) (λ vs i. i)
 
 pub exps-f64 : (e : List Float) → Each F64 (numbersOf (expsOf e))
 unfolding expsOf
-exps-f64 e = joined-at F64 (λ i. onPath (getD e i nan) (expRanged (getD e i nan))) (λ i. exp-f64 (getD e i nan))
+exps-f64 e = each F64 9 exp e (λ vs. vs) (of-all (λ x. Answers F64 (answerOf exp x)) exp-f64 e) (λ vs i. i)
+
+-- as many as are asked
+abbrev pub Sized : ℕ → Ended (List Float) → Type 0
+Sized m (given l) = length l ≡ m
+Sized m (refused n) = Unit {0}
+
+module _ (n m : ℕ) (f : Function) where
+  many-by : (k : Float → Ended (List Float)) → ((v : Float) → Sized m (k v)) → (a : Answer) → Sized m (asked a k)
+  many-by k h (Value v) = h v
+  many-by k h (Refused r) = tt
+
+  many : (l : List Float) (k : List Float → List Float) → ((vs : List Float) → length vs ≡ length l → length (k vs) ≡ m) → Sized m (result (asks n f l (λ vs. end (k vs))))
+  many [] k h = h [] refl
+  many (x ∷ l) k h =
+      many-by (λ v. result (asks n f l (λ vs. end (k (v ∷ vs))))) (λ v. many l (λ vs. k (v ∷ vs)) (λ vs e. h (v ∷ vs) (ap suc e))) (answerOf f x)
+
+pub logs-sized : (sigma : List Float) (m : ℕ) → length sigma ≡ m → Sized m (logsOf sigma)
+unfolding logsOf
+logs-sized sigma m h = many 2 m ln sigma (λ vs. vs) (λ vs e. e ∙ h)
+
+pub exps-sized : (e : List Float) (m : ℕ) → length e ≡ m → Sized m (expsOf e)
+unfolding expsOf
+exps-sized l m h = many 9 m exp l (λ vs. vs) (λ vs e. e ∙ h)
+
+-- ---- what is asked of a list, and what follows
+module _ {A : Type 0} (n : ℕ) (f : Function) (g : List Float → Walk A) where
+  abbrev on : Ended (List Float) → Ended A
+  on t = andThen t (λ vs. result (g vs))
+
+  follows-by : (k : Float → Ended A) (m : Float → Ended (List Float)) → ((v : Float) → k v ≡ on (m v)) → (a : Answer) → asked a k ≡ on (asked a m)
+  follows-by k m h (Value v) = h v
+  follows-by k m h (Refused r) = refl
+
+  follows : (l : List Float) (k : List Float → List Float) → result (asks n f l (λ vs. g (k vs))) ≡ on (result (asks n f l (λ vs. end (k vs))))
+  follows [] k = refl
+  follows (x ∷ l) k =
+      follows-by (λ v. result (asks n f l (λ vs. g (k (v ∷ vs))))) (λ v. result (asks n f l (λ vs. end (k (v ∷ vs))))) (λ v. follows l (λ vs. k (v ∷ vs))) (answerOf f x)
+
+pub logs-then : (law : RankinePlasticity) (sigma : List Float) (u vt : List (List Float)) (st : State)
+    → result (runWalk law sigma u vt st) ≡ andThen (logsOf sigma) (λ e. result (strainedWalk law e u vt st))
+unfolding runWalk logsOf
+logs-then law sigma u vt st = follows 2 ln (λ e. strainedWalk law e u vt st) sigma (λ vs. vs)
+
+pub exps-then : (e : List Float) (u vt : List (List Float)) (h : Expr) (st : State)
+    → result (expsWalk e u vt h st) ≡ andThen (expsOf e) (λ sigma. result (storeWalk u sigma vt h st))
+unfolding expsWalk expsOf
+exps-then e u vt h st = follows 9 exp (λ sigma. storeWalk u sigma vt h st) e (λ vs. vs)
 
 both : (e : List Float) → Each Fin64 e → Each Small e → Each Strain e
 both [] f s = tt

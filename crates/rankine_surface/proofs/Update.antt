@@ -3,7 +3,7 @@ use mathlib.Core.Path.{_≡_, refl, sym, ap, _∙_, subst}
 use mathlib.Core.List.{List}
 use mathlib.Core.Bool.{Bool, true, false, not, cond, _&&_, _||_}
 use lib.Dec.{T}
-use lib.ListN.{length}
+use lib.ListN.{length, getD}
 use lib.Ieee.{Float, nan, inf, fin, binary64, lt, eq, le, fits}
 use lib.Ieee.Fits.{and-l, and-r, add-fits, sub-fits, div-fits}
 use Rattle.exact.specs.Units.{Fin64}
@@ -13,47 +13,52 @@ use Rattle.answers.specs.declared.Answer.the-variants as answers
 use Rattle.numbers.proofs.Laws.{eq-self, finite-is}
 use Rattle.physics.specs.Physics.{lambdaOf, shearModulusOf}
 use Rattle.physics.specs.Norm.{normOf}
-use Rattle.tensor.specs.Matrix.{add, mul, three, sumOf, rowSubOf, recomposeOf}
+use Rattle.tensor.specs.Axes.{allOf, entries}
+use Rattle.tensor.specs.Matrix.{add, mul, three, rowSubOf, recomposeOf}
 use Rattle.tensor.specs.Finite.{rowFinite, matFinite}
-use Rattle.plasticity.specs.State.{inputsFinite, refused}
+use Rattle.plasticity.specs.State as state
+use Rattle.plasticity.specs.State.{inputsFinite}
 use Rattle.plasticity.specs.declared.Outcome.the-variants as outcome
 use Rattle.plasticity.specs.declared.State.{State}
 use Rattle.plasticity.specs.declared.Updated.{Updated}
-use Rattle.plasticity_rankine.specs.declared.Branch.{Branch}
-use Rattle.plasticity_rankine.specs.declared.Branch.the-variants as branch
-use Rattle.plasticity_rankine.specs.declared.Projected.{Projected}
+use Rattle.walk.specs.Expr.{Expr, num, value, values}
+use Rattle.walk.specs.Walk.{Walk, _then_, Ended, given, refused, asked, result}
+use Rattle.walk.specs.Exact.{andThen, result-then}
+use Rattle.walk.specs.Matrix.{values-nums}
+use Rattle.walk.specs.Update.{Change, updatedOf}
 use Rattle.plasticity_rankine.specs.declared.RankineArguments.{RankineArguments}
 use Rattle.plasticity_rankine.specs.declared.RankinePlasticity.{RankinePlasticity}
-use Rattle.plasticity_rankine.specs.declared.Triple.{Triple}
-use Rattle.plasticity_rankine.specs.declared.Triple.the-variants.{Values, Refused}
-use Rattle.plasticity_rankine.specs.Sorting.{orderOf, arrangeOf}
-use Rattle.plasticity_rankine.specs.Projection.{firstSide, nextChoice, choiceOf, projectedOf, parametersFinite, moduliFinite, refusedStrains, projectOf}
-use Rattle.plasticity_rankine.specs.Rankine.{logsOf, expsOf, softStrengthOf, grownOf, hardeningOf, stateOf, rankineFinish, rankineMoved, untouchedOf, rankineBranch, rankineLogged, rankineRun, rankineUpdate, lawOf, elasticFinite, argumentsUpdate}
+use Rattle.plasticity_rankine.specs.Law.{lawOf, parametersOf, elasticFinite, parametersFinite, moduliFinite, moduli}
+use Rattle.plasticity_rankine.specs.Projection.{Way, none-moves, one-moves, two-move, all-move, Moved, projectWalk, returnedWalk, callFloats, projectCall, movedOf, projectedOf, vectorOf, projectOf}
+use Rattle.plasticity_rankine.specs.Rankine.{stateOf, storeWalk, expsWalk, hardenWalk, movedWalk, wayWalk, strainedWalk, runWalk, floats, rankineWalk, untouchedOf, rankineUpdate, argumentsUpdate}
+use Rattle.plasticity_rankine.proofs.Laws.{inputs-law, arguments-law, moved-law, harden-law, store-law}
+use Rattle.plasticity_rankine.proofs.Reason.{vector-given}
 use Rattle.rankine_surface.specs.Axes.{Each}
-use Rattle.rankine_surface.specs.Surface.{Accepted, numbersOf, logStrains, softened, Below, Ranges, Fair, Strain, F64, Taken, TakenBy, firstTest, Inside, OnSurface, Returned, Demand3, Demand3By, Settled, Projects}
-use Rattle.rankine_surface.proofs.Indexed.{Moves, inside, outside, same}
-use Rattle.rankine_surface.proofs.Strains.{strained}
+use Rattle.rankine_surface.specs.Surface.{Accepted, numbersOf, logsOf, expsOf, logStrains, softened, projectedStrains, Below, Ranges, Fair, Strain, F64, Taken, TakenBy, firstTest, Inside, OnSurface, Returned, Demand3, Demand3By, Settled, Projects}
+use Rattle.rankine_surface.proofs.Indexed.{Given, Moves, Returns, inside, outside, same}
+use Rattle.rankine_surface.proofs.Strains.{Sized, logs-sized, exps-sized, logs-then, exps-then, strained}
 
 -- ---- a test that was not refused
 passed : {A : Type 0} (F : A → Type 0) (b : Bool) (X Y : A) → (F Y → ⊥) → F (cond b X Y) → T b × (cond b X Y ≡ X)
 passed F true X Y bad a = (tt, refl)
 passed F false X Y bad a = absurd (bad a)
 
-abbrev Took : Updated → Type 0
-Took v = Accepted (v .outcome)
+-- of a walk's answer
+abbrev Took : State → Ended Change → Type 0
+Took st x = Accepted (updatedOf st x .outcome)
 
-after : {X Y : Updated} → X ≡ Y → Accepted (X .outcome) → Accepted (Y .outcome)
-after q a = subst Took q a
+by : {A : Type 0} (F : A → Type 0) {x y : A} → x ≡ y → F x → F y
+by F q a = subst F q a
 
 module _ (law : RankinePlasticity) (u vt : List (List Float)) (st : State) where
   update-runs : Accepted (rankineUpdate law u vt st .outcome)
-      → T (parametersFinite law && inputsFinite u vt st) × T (moduliFinite law) × (rankineUpdate law u vt st ≡ rankineRun law u vt st)
-  unfolding rankineUpdate
+      → T (parametersFinite law && inputsFinite u vt st) × T (moduliFinite law) × (result (rankineWalk law u vt st) ≡ result (runWalk law (st .sigma) u vt st))
+  unfolding rankineWalk
   update-runs a =
-      let rest = cond (moduliFinite law) (rankineRun law u vt st) (refused 3 st) in
-      let first = passed Took (parametersFinite law && inputsFinite u vt st) rest (refused 1 st) (λ x. x) a in
-      let second = passed Took (moduliFinite law) (rankineRun law u vt st) (refused 3 st) (λ x. x) (after (first .1) a) in
-      (first .0, second .0, first .1 ∙ second .1)
+      let run = result (runWalk law (st .sigma) u vt st) in
+      let first = passed (Took st) (allOf finite (floats (parametersOf law) u vt st)) (cond (moduliFinite law) run (refused 3)) (refused 1) (λ x. x) a in
+      let second = passed (Took st) (moduliFinite law) run (refused 3) (λ x. x) (by (Took st) (first .1) a) in
+      (by T (inputs-law (parametersOf law) u vt st) (first .0), second .0, first .1 ∙ second .1)
 
 -- ---- the hardening is capped
 number : (x : Float) → T (finite x) → T (isNumber x)
@@ -61,6 +66,10 @@ unfolding finite isNumber
 number nan f = absurd f
 number (inf s) f = absurd f
 number (fin s m e) f = tt
+
+is-true : (b : Bool) → T b → b ≡ true
+is-true true t = refl
+is-true false t = absurd t
 
 or-right : (a b : Bool) → T b → T (a || b)
 or-right true b t = tt
@@ -105,111 +114,161 @@ record Done (law : RankinePlasticity) (v : Updated) (sigma : List Float) : Type 
   shape : v .state .sigma ≡ sigma
   axes : length sigma ≡ 3
 
-module _ (law : RankinePlasticity) (u vt : List (List Float)) (st : State) (old new : List Float) where
-  store-done : (h : Float) (t : Triple) → Capped law h → Accepted (rankineFinish (answers.Value h) t u vt st .outcome)
-      → Done law (rankineFinish (answers.Value h) t u vt st) (numbersOf t)
-  store-done h (Values x y z) l a =
-      let f = recomposeOf u (three x y z) vt in
-      let q =
-      passed Took (matFinite f && rowFinite (three x y z) && finite h) (record { state = stateOf f (three x y z) h st; outcome = outcome.Stored h })
-      (refused 3 st) (λ b. b) a in
-      subst (λ v. Done law v (three x y z)) (sym (q .1)) (record { hardening = h; stored = refl; written = refl; capped = l; shape = refl; axes = refl })
-  store-done h (Refused n) l a = absurd a
+module _ (law : RankinePlasticity) (u vt : List (List Float)) (st : State) (f : T (finite (law .«tensile_strength»))) where
+  store-done : (h : Float) (t : Ended (List Float)) → Sized 3 t → Capped law h
+      → let x = andThen t (λ sigma. result (storeWalk u sigma vt (num h) st)) in Took st x → Done law (updatedOf st x) (numbersOf t)
+  store-done h (given sigma) n l a =
+      let e = store-law u sigma vt (num h) st in
+      let m = recomposeOf u sigma vt in
+      let stored : Updated = record { state = stateOf m sigma h st; outcome = outcome.Stored h } in
+      let F : Updated → Type 0 = λ v. Accepted (v .outcome) in
+      let q = passed F ((matFinite m && rowFinite sigma) && finite h) stored (state.refused 3 st) (λ b. b) (by F e a) in
+      subst (λ v. Done law v sigma) (sym (e ∙ q .1)) (record { hardening = h; stored = refl; written = refl; capped = l; shape = refl; axes = n })
+  store-done h (refused n) i l a = absurd a
 
-  grown-done : (b : Bool) (h : Float) (t : Triple) → Capped law h
-      → Accepted (rankineFinish (cond b (answers.Value h) (answers.Refused 3)) t u vt st .outcome)
-      → Done law (rankineFinish (cond b (answers.Value h) (answers.Refused 3)) t u vt st) (numbersOf t)
-  grown-done true h t l a = store-done h t l a
-  grown-done false h t l a = absurd a
+  abbrev Doing : List Float → Ended Change → Type 0
+  Doing new x = Took st x → Done law (updatedOf st x) (numbersOf (expsOf new))
 
-  finish-done : (r : Answer) (t : Triple) → T (finite (law .«tensile_strength»))
-      → let g = grownOf law (st .scalars .«plastic_hardening») r in Accepted (rankineFinish g t u vt st .outcome) → Done law (rankineFinish g t u vt st) (numbersOf t)
-  finish-done (answers.Value norm) t f a =
-      let y = add (st .scalars .«plastic_hardening») (mul (law .«softening_rate») norm) in
-      grown-done (isNumber y) (minOf y (law .«tensile_strength»)) t (at-most y (law .«tensile_strength») f, λ k. least-f64 y (law .«tensile_strength») (add-fits binary64 _ _) k) a
-  finish-done (answers.Refused n) t f a = absurd a
+  module _ (new : List Float) (n : length new ≡ 3) where
+    exps-done : (h : Float) → Capped law h → Doing new (result (expsWalk new u vt (num h) st))
+    exps-done h l = by (Doing new) (sym (exps-then new u vt (num h) st)) (store-done h (expsOf new) (exps-sized new 3 n) l)
 
-  moved-done : T (finite (law .«tensile_strength»)) → Accepted (rankineMoved law old new u vt st .outcome)
-      → Done law (rankineMoved law old new u vt st) (numbersOf (expsOf new))
-  unfolding rankineMoved hardeningOf
-  moved-done f a = finish-done (normOf (rowSubOf old new)) (expsOf new) f a
+    tested : (b : Bool) (x : Ended Change) → Doing new x → Doing new (cond b x (refused 3))
+    tested true x h = h
+    tested false x h = λ a. absurd a
 
-  -- ---- the branches
-  settled : (b : Branch) → Accepted (rankineBranch b law old new u vt st .outcome) → Settled b
-  settled (branch.Untouched x y) a = tt
-  settled (branch.One x y) a = tt
-  settled (branch.Two x y) a = tt
-  settled (branch.All x y) a = tt
-  settled (branch.Refused n) a = absurd a
+    harden-done : (norm : Float) → Doing new (result (hardenWalk law (num norm) new u vt st))
+    harden-done norm =
+        let c = law .«tensile_strength» in
+        let y = add (st .scalars .«plastic_hardening») (mul (law .«softening_rate») norm) in
+        by (Doing new) (sym (harden-law law u vt st norm new (is-true (finite c) f)))
+        (tested (isNumber y) (result (expsWalk new u vt (num (minOf y c)) st))
+        (exps-done (minOf y c) (at-most y c f, λ k. least-f64 y c (add-fits binary64 _ _) k)))
 
-  moves : (b : Branch) → Moves b → rankineBranch b law old new u vt st ≡ rankineMoved law old new u vt st
-  moves (branch.Untouched x y) m = absurd m
-  moves (branch.One x y) m = refl
-  moves (branch.Two x y) m = refl
-  moves (branch.All x y) m = refl
-  moves (branch.Refused n) m = absurd m
+    answered : (r : Answer) → Doing new (asked r (λ norm. result (hardenWalk law (num norm) new u vt st)))
+    answered (answers.Value norm) = harden-done norm
+    answered (answers.Refused m) = λ a. absurd a
 
-  stays : (a l : Bool) (x y : Float) (B : Branch) → T l
-      → Accepted (rankineBranch (cond a (cond l (branch.Untouched x y) B) (branch.Refused 3)) law old new u vt st .outcome)
-      → rankineBranch (cond a (cond l (branch.Untouched x y) B) (branch.Refused 3)) law old new u vt st ≡ untouchedOf st
-  stays true true x y B t a = refl
-  stays true false x y B t a = absurd t
-  stays false l x y B t a = absurd a
+  moved-done : (old : List Float) (new : List Expr) → length (values new) ≡ 3 → Doing (values new) (result (movedWalk law old new u vt st))
+  moved-done old new n = by (Doing (values new)) (sym (moved-law law u vt st old new)) (answered (values new) n (normOf (rowSubOf old (values new))))
 
--- ---- the two cases, of what the logarithms answered
-module _ (law : RankinePlasticity) (u vt : List (List Float)) (st : State) (g : Fair law (softened law st)) where
-  test-holds : (t : Triple) → let e = numbersOf t in Accepted (rankineLogged t law u vt st .outcome) → Each Strain e → T (firstTest law e (softened law st))
-      → (rankineLogged t law u vt st ≡ untouchedOf st) × Each (Below law (softened law st) e) e
-  unfolding rankineLogged projectedOf choiceOf softStrengthOf
-  test-holds (Values x y z) a i h =
-      let e = three x y z in
-      let s = softened law st in
-      let r = arrangeOf (orderOf e) e in
-      let c = firstSide law (sumOf e) (r .high) in
-      (stays law u vt st e (projectedOf law e s .strains) (isNumber c) (le c s) c s (nextChoice law s (sumOf e) r) h a, inside g x y z i h)
-  test-holds (Refused n) a i h = absurd a
+  -- ---- after the projection
+  abbrev after : List Float → Ended Moved → Ended Change
+  after e x = andThen x (λ q. result (wayWalk law (q .way) e (q .strains) u vt st))
 
-  test-fails : (t : Triple) → let new = projectedOf law (numbersOf t) (softened law st) .strains in T (finite (law .«tensile_strength»))
-      → Accepted (rankineLogged t law u vt st .outcome) → Each Strain (numbersOf t) → T (not (firstTest law (numbersOf t) (softened law st)))
-      → Done law (rankineLogged t law u vt st) (numbersOf (expsOf new)) × OnSurface law (softened law st) new
-  unfolding rankineLogged projectedOf softStrengthOf
-  test-fails (Values x y z) f a i h =
-      let e = three x y z in
-      let s = softened law st in
+  way-done : (w : Way) → Moves w → (e : List Float) (new : List Expr) → length (values new) ≡ 3 → Doing (values new) (result (wayWalk law w e new u vt st))
+  unfolding wayWalk
+  way-done (none-moves x y) m e new n = absurd m
+  way-done (one-moves x y) m e new n = moved-done e new n
+  way-done (two-move x y) m e new n = moved-done e new n
+  way-done (all-move x y) m e new n = moved-done e new n
+
+  returned-done : (s : Float) (e : List Float) (x : Ended Moved) → Returns law s x → Took st (after e x)
+      → Done law (updatedOf st (after e x)) (numbersOf (expsOf (movedOf x .strains))) × OnSurface law s (movedOf x .strains)
+  returned-done s e (given q) b a = (way-done (q .way) (b .moves) e (q .strains) (b .axes) a, b .on-surface)
+  returned-done s e (refused n) b a = absurd b
+
+  went-on : (e : List Float) (x : Ended Moved) → Took st (after e x) → Given x
+  went-on e (given q) a = tt
+  went-on e (refused n) a = absurd a
+
+  strains-run : (e : List Float) → Took st (result (strainedWalk law e u vt st))
+      → result (strainedWalk law e u vt st) ≡ after e (result (projectWalk law e (num (softened law st))))
+  unfolding strainedWalk
+  strains-run e a =
+      let w = projectWalk law e (num (softened law st)) in
+      let g : Moved → Walk Change = λ q. wayWalk law (q .way) e (q .strains) u vt st in
+      passed (Took st) (isNumber (softened law st)) (result (w then g)) (refused 3) (λ x. x) a .1 ∙ result-then w g
+
+  stays : (e : List Float) (x : Ended Moved) (a b : Float) (l : List Expr) → x ≡ given (record { way = none-moves a b; strains = l })
+      → updatedOf st (after e x) ≡ untouchedOf st
+  unfolding wayWalk
+  stays e x a b l q = ap (λ y. updatedOf st (after e y)) q
+
+-- ---- the two cases, of three strains
+of-three : (P : List Float → Type 0) → ((x y z : Float) → P (three x y z)) → (e : List Float) → length e ≡ 3 → P e
+of-three P f e h = subst P (entries nan e h) (f (getD e 0 nan) (getD e 1 nan) (getD e 2 nan))
+
+module _ (law : RankinePlasticity) (u vt : List (List Float)) (st : State) (f : T (finite (law .«tensile_strength»))) (g : Fair law (softened law st)) where
+  abbrev s : Float
+  s = softened law st
+
+  abbrev Holds : List Float → Ended Change → Type 0
+  Holds e v = Took st v → Each Strain e → T (firstTest law e s) → (updatedOf st v ≡ untouchedOf st) × Each (Below law s e) e
+
+  abbrev Fails : List Float → Ended Change → Type 0
+  Fails e v =
       let new = projectedOf law e s .strains in
-      let b = choiceOf law s (sumOf e) (arrangeOf (orderOf e) e) in
-      let o = outside g x y z i h (settled law u vt st e new b a) in
-      let q = moves law u vt st e new b (o .0) in
-      (subst (λ v. Done law v (numbersOf (expsOf new))) (sym q) (moved-done law u vt st e new f (after q a)), o .1)
-  test-fails (Refused n) f a i h = absurd a
+      Took st v → Each Strain e → T (not (firstTest law e s)) → Done law (updatedOf st v) (numbersOf (expsOf new)) × OnSurface law s new
+
+  test-holds : (x y z : Float) → Holds (three x y z) (result (strainedWalk law (three x y z) u vt st))
+  test-holds x y z a i h =
+      let e = three x y z in
+      let p = result (projectWalk law e (num s)) in
+      let q = strains-run law u vt st f e a in
+      let m = same law s x y z h (went-on law u vt st f e p (by (Took st) q a)) in
+      (ap (updatedOf st) q ∙ stays law u vt st f e p _ _ _ m, inside g x y z i h)
+
+  test-fails : (x y z : Float) → Fails (three x y z) (result (strainedWalk law (three x y z) u vt st))
+  test-fails x y z a i h =
+      let e = three x y z in
+      let p = result (projectWalk law e (num s)) in
+      let q = strains-run law u vt st f e a in
+      let b = by (Took st) q a in
+      let d = returned-done law u vt st f s e p (outside g x y z i h (went-on law u vt st f e p b)) b in
+      (subst (λ v. Done law (updatedOf st v) (numbersOf (expsOf (projectedOf law e s .strains)))) (sym q) (d .0), d .1)
+
+  -- of what the logarithms answered
+  abbrev logged : Ended (List Float) → Ended Change
+  logged t = andThen t (λ e. result (strainedWalk law e u vt st))
+
+  log-holds : (t : Ended (List Float)) → Sized 3 t → Holds (numbersOf t) (logged t)
+  log-holds (given e) n = of-three (λ l. Holds l (result (strainedWalk law l u vt st))) test-holds e n
+  log-holds (refused k) n = λ a. absurd a
+
+  log-fails : (t : Ended (List Float)) → Sized 3 t → Fails (numbersOf t) (logged t)
+  log-fails (given e) n = of-three (λ l. Fails l (result (strainedWalk law l u vt st))) test-fails e n
+  log-fails (refused k) n = λ a. absurd a
 
 -- ---- the theorem
 pub demand-3 : {law : RankinePlasticity} {u vt : List (List Float)} {st : State} → Taken law u vt st → Demand3 law u vt st
 demand-3 {law} {u} {vt} {st} g = record { holds = held; fails = failed }
   where
-    ran : T (parametersFinite law && inputsFinite u vt st) × T (moduliFinite law) × (rankineUpdate law u vt st ≡ rankineRun law u vt st)
+    logs : Ended (List Float)
+    logs = logsOf (st .sigma)
+
+    ran : T (parametersFinite law && inputsFinite u vt st) × T (moduliFinite law) × (result (rankineWalk law u vt st) ≡ result (runWalk law (st .sigma) u vt st))
     ran = update-runs law u vt st (g .accepted)
+
+    f : T (finite (law .«tensile_strength»))
+    f = and-l (finite (law .«tensile_strength»)) (finite (law .«softening_rate»)) (and-l (parametersFinite law) (inputsFinite u vt st) (ran .0))
+
+    whole : result (rankineWalk law u vt st) ≡ andThen logs (λ e. result (strainedWalk law e u vt st))
+    whole = ran .2 ∙ logs-then law (st .sigma) u vt st
+
+    took : Took st (andThen logs (λ e. result (strainedWalk law e u vt st)))
+    took = by (Took st) whole (g .accepted)
 
     strains : Each Strain (logStrains st)
     strains = strained st (g .sigma) (g .strains)
 
     held : T (firstTest law (logStrains st) (softened law st)) → Inside law u vt st
     held h =
-        let k = test-holds law u vt st (g .fair) (logsOf (st .sigma)) (after (ran .2) (g .accepted)) strains h in
-        record { untouched = ran .2 ∙ k .0; below = k .1 }
+        let k = log-holds law u vt st f (g .fair) logs (logs-sized (st .sigma) 3 (g .axes)) took strains h in
+        record { untouched = ap (updatedOf st) whole ∙ k .0; below = k .1 }
 
     failed : T (not (firstTest law (logStrains st) (softened law st))) → Returned law u vt st
     failed h =
-        let f = and-l (finite (law .«tensile_strength»)) (finite (law .«softening_rate»)) (and-l (parametersFinite law) (inputsFinite u vt st) (ran .0)) in
-        let k = test-fails law u vt st (g .fair) (logsOf (st .sigma)) f (after (ran .2) (g .accepted)) strains h in
+        let k = log-fails law u vt st f (g .fair) logs (logs-sized (st .sigma) 3 (g .axes)) took strains h in
         let d = k .0 in
+        let update : rankineUpdate law u vt st ≡ updatedOf st (andThen logs (λ e. result (strainedWalk law e u vt st))) = ap (updatedOf st) whole in
         record {
           hardening = d .hardening;
-          stored = ap (λ v. v .outcome) (ran .2) ∙ d .stored;
-          written = ap (λ v. v .state .scalars .«plastic_hardening») (ran .2) ∙ d .written;
+          stored = ap (λ v. v .outcome) update ∙ d .stored;
+          written = ap (λ v. v .state .scalars .«plastic_hardening») update ∙ d .written;
           capped = d .capped .0;
           f64 = d .capped .1;
-          sigma = ap (λ v. v .state .sigma) (ran .2) ∙ d .shape;
+          sigma = ap (λ v. v .state .sigma) update ∙ d .shape;
           axes = d .axes;
           on-surface = k .1;
         }
@@ -217,8 +276,10 @@ demand-3 {law} {u} {vt} {st} g = record { holds = held; fails = failed }
 -- an accepted update by the arguments of `new` is the update by the law that they make
 by-arguments : (a : RankineArguments) (u vt : List (List Float)) (st : State) → Accepted (argumentsUpdate a u vt st .outcome)
     → argumentsUpdate a u vt st ≡ rankineUpdate (lawOf a) u vt st
-unfolding argumentsUpdate
-by-arguments a u vt st h = passed Took (elasticFinite a) (rankineUpdate (lawOf a) u vt st) (refused 1 st) (λ x. x) h .1
+by-arguments a u vt st h =
+    let F : Updated → Type 0 = λ v. Accepted (v .outcome) in
+    let q = arguments-law a u vt st in
+    q ∙ passed F (elasticFinite a) (rankineUpdate (lawOf a) u vt st) (state.refused 1 st) (λ x. x) (by F q h) .1
 
 fine : (x : Float) → T (finite x) → T (fits binary64 x) → Fin64 x
 fine x f t = (rw (finite-is x) at f, t)
@@ -237,26 +298,45 @@ fair-by a s m f r =
 pub demand-3-by : {a : RankineArguments} {u vt : List (List Float)} {st : State} → TakenBy a u vt st → Demand3By a u vt st
 demand-3-by {a} {u} {vt} {st} g =
     let q = by-arguments a u vt st (g .accepted) in
-    let ok = after q (g .accepted) in
+    let ok = by (λ (v : Updated). Accepted (v .outcome)) q (g .accepted) in
     let s = softened (lawOf a) st in
     let f = fair-by a s (update-runs (lawOf a) u vt st ok .1) (fine s (g .s-finite) (sub-fits binary64 _ _)) (g .ranges) in
-    record { update = q; law = demand-3 (record { accepted = ok; fair = f; sigma = g .sigma; strains = g .strains }) }
+    record { update = q; law = demand-3 (record { accepted = ok; fair = f; axes = g .axes; sigma = g .sigma; strains = g .strains }) }
 
--- the projection as a call by itself
+-- ---- the projection as a call by itself
+abbrev Answered : Ended (List Float) → Type 0
+Answered (given v) = Unit {0}
+Answered (refused n) = ⊥
+
+handed : (b : Bool) (v : List Float) → Answered (cond b (given v) (refused 3)) → vectorOf (cond b (given v) (refused 3)) .vector ≡ v
+handed true v h = refl
+handed false v h = absurd h
+
+abbrev returned : Ended Moved → Ended (List Float)
+returned x = andThen x (λ q. result (returnedWalk q))
+
+settled : (x : Ended Moved) → Answered (returned x) → Given x × (vectorOf (returned x) .vector ≡ movedOf x .strains)
+settled (given q) h = (tt, handed (rowFinite (values (q .strains))) (values (q .strains)) h)
+settled (refused n) h = absurd h
+
+upon : (law : RankinePlasticity) (s : Float) (x : Ended Moved) → Returns law s x → OnSurface law s (movedOf x .strains)
+upon law s (given q) b = b .on-surface
+upon law s (refused n) b = absurd b
+
 pub project-3 : {law : RankinePlasticity} {s : Float} → Fair law s → (x y z : Float) → Each Strain (three x y z)
-    → Settled (projectOf law (three x y z) s .branch) → Projects law (three x y z) s
-unfolding projectOf projectedOf
+    → Settled (projectOf law (three x y z) s) → Projects law (three x y z) s
+unfolding projectCall
 project-3 {law} {s} g x y z i h =
     let e = three x y z in
-    let q = projectedOf law e s in
-    let F : Projected → Type 0 = λ v. Settled (v .branch) in
-    let first =
-    passed F (parametersFinite law && rowFinite e && finite s)
-    (cond (moduliFinite law) (cond (rowFinite (q .strains)) q (refusedStrains 3)) (refusedStrains 3)) (refusedStrains 1) (λ x. x) h in
-    let h1 = subst F (first .1) h in
-    let second = passed F (moduliFinite law) (cond (rowFinite (q .strains)) q (refusedStrains 3)) (refusedStrains 3) (λ x. x) h1 in
-    let h2 = subst F (second .1) h1 in
-    let third = passed F (rowFinite (q .strains)) q (refusedStrains 3) (λ x. x) h2 in
-    let h3 = subst F (third .1) h2 in
-    let is = ap (λ v. v .strains) (first .1 ∙ second .1 ∙ third .1) in
-    record { holds = λ t. (is ∙ same law s x y z t h3, inside g x y z i t); fails = λ t. subst (OnSurface law s) (sym is) (outside g x y z i t h3 .1) }
+    let w = projectWalk law e (num s) in
+    let run = result (w then returnedWalk) in
+    let h0 = by Answered (sym (vector-given (projectCall law e s) h)) tt in
+    let first = passed Answered (allOf finite (callFloats (parametersOf law) e s)) (cond (moduliFinite law) run (refused 3)) (refused 1) (λ q. q) h0 in
+    let second = passed Answered (moduliFinite law) run (refused 3) (λ q. q) (by Answered (first .1) h0) in
+    let whole = first .1 ∙ second .1 ∙ result-then w returnedWalk in
+    let q = settled (result w) (by Answered whole h0) in
+    let is = ap (λ v. vectorOf v .vector) whole ∙ q .1 in
+    record {
+      holds = λ t. (is ∙ ap (λ v. movedOf v .strains) (same law s x y z t (q .0)) ∙ values-nums e, inside g x y z i t);
+      fails = λ t. subst (OnSurface law s) (sym is) (upon law s (result w) (outside g x y z i t (q .0)));
+    }

@@ -1,4 +1,4 @@
--- Demand 3 of a record and of a pass: what is found of a record afterwards, by its bits and its two answers (document 01, section 7).
+-- Demand 3 of a record and of a pass: what is found of a record afterwards, by its bits and its two answers (RULES, section 7).
 use mathlib.Core.Path.{_≡_}
 use mathlib.Core.Bool.{Bool, not}
 use mathlib.Core.List.{List}
@@ -17,12 +17,12 @@ use Rattle.failure_maximum_stress.specs.declared.Verdict.{Verdict}
 use Rattle.failure_maximum_stress.specs.declared.Verdict.the-variants as verdict
 use Rattle.elasticity_corotated_linear.specs.declared.CorotatedLinearElasticity.{CorotatedLinearElasticity}
 use Rattle.plasticity_rankine.specs.declared.RankineArguments.{RankineArguments}
-use Rattle.plasticity_rankine.specs.Rankine.{lawOf, expsOf}
+use Rattle.plasticity_rankine.specs.Law.{lawOf}
 use Rattle.model.specs.declared.Model.{Model}
 use Rattle.particles.specs.Pass.{Worked, codeOf, valueOf, recordAt, wellSized, passRecords, passAnswers}
 use Rattle.particles.specs.Judged.{judgedAt}
 use Rattle.rankine_surface.specs.Axes.{Each}
-use Rattle.rankine_surface.specs.Surface.{Accepted, Ranges, Small, F64, Below, OnSurface, numbersOf, logStrains, softened, firstTest, projectedStrains}
+use Rattle.rankine_surface.specs.Surface.{Accepted, Ranges, Small, F64, Below, OnSurface, numbersOf, expsOf, logStrains, softened, firstTest, projectedStrains}
 
 -- our logarithms of the record's sigma, and the softened strength s
 abbrev pub strainsAt : List ℕ → List Float
@@ -60,7 +60,7 @@ pub record Found : Type 0 where
 abbrev pub foundOf : Worked → Found
 foundOf w = record { code = codeOf (w .outcome); value = valueOf (w .outcome); after = w .after }
 
--- the answers are document 01's numbers of the outcome o
+-- the answers are RULES' numbers of the outcome o
 abbrev pub Says : Outcome → Found → Type 0
 Says o f = (f .code ≡ codeOf o) × (f .value ≡ valueOf o)
 

@@ -1,4 +1,4 @@
--- Demand 3 of a sheet that is run with a room for its records and one for their answers (document 01, section 7). The law's arguments
+-- Demand 3 of a sheet that is run with a room for its records and one for their answers (RULES, section 7). The law's arguments
 -- and the records are what the sheet's bytes spell, so that the office's words are all that is taken.
 use mathlib.Core.Path.{_≡_}
 use mathlib.Core.List.{List}
@@ -7,7 +7,7 @@ use lib.Dec.{T}
 use lib.ListN.{getD}
 use Rattle.numbers.specs.Floats.{finite}
 use Rattle.plasticity_rankine.specs.declared.RankineArguments.{RankineArguments}
-use Rattle.plasticity_rankine.specs.Rankine.{lawOf}
+use Rattle.plasticity_rankine.specs.Law.{lawOf}
 use Rattle.model.specs.declared.Model.the-variants.{Rankine}
 use Rattle.model.specs.Fields.{rankineOf}
 use Rattle.particles.specs.Plain.{recordLaw}

@@ -13,19 +13,19 @@ use Rattle.exact.specs.Units.{L, mag, Fin64}
 use Rattle.exact.specs.Integers.{_≤ᶻ_}
 use Rattle.exact.specs.Value.{val}
 use Rattle.numbers.specs.Floats.{finite}
-use Rattle.tensor.specs.Matrix.{sub, one, three, sumOf}
+use Rattle.tensor.specs.Matrix.{sub, one, sumOf}
+use Rattle.tensor.specs.declared.VectorAnswer.{VectorAnswer}
 use Rattle.plasticity.specs.declared.Outcome.{Outcome}
 use Rattle.plasticity.specs.declared.Outcome.the-variants.{Untouched, Stored, Refused}
 use Rattle.plasticity.specs.declared.State.{State}
-use Rattle.plasticity_rankine.specs.declared.Branch.{Branch}
-use Rattle.plasticity_rankine.specs.declared.Branch.the-variants as branch
+use Rattle.walk.specs.Expr.{num, value}
+use Rattle.walk.specs.Walk.{exp, ln, asks, end, Ended, given, refused, result}
 use Rattle.plasticity_rankine.specs.declared.RankineArguments.{RankineArguments}
 use Rattle.plasticity_rankine.specs.declared.RankinePlasticity.{RankinePlasticity}
-use Rattle.plasticity_rankine.specs.declared.Triple.{Triple}
-use Rattle.plasticity_rankine.specs.declared.Triple.the-variants as triple
+use Rattle.plasticity_rankine.specs.Law.{lawOf}
 use Rattle.plasticity_rankine.specs.Sorting.{orderOf, arrangeOf}
 use Rattle.plasticity_rankine.specs.Projection.{firstSide, projectedOf, projectOf}
-use Rattle.plasticity_rankine.specs.Rankine.{logsOf, expsOf, untouchedOf, rankineUpdate, lawOf, argumentsUpdate}
+use Rattle.plasticity_rankine.specs.Rankine.{untouchedOf, rankineUpdate, argumentsUpdate}
 use Rattle.rankine_surface.specs.Axes.{Each, Some, total}
 
 -- ---- exact stresses
@@ -84,9 +84,16 @@ Accepted (Stored a) = Unit {0}
 Accepted (Refused n) = ⊥
 
 -- the numbers of an answer; none beside a refusal
-abbrev pub numbersOf : Triple → List Float
-numbersOf (triple.Values x y z) = three x y z
-numbersOf (triple.Refused n) = []
+abbrev pub numbersOf : Ended (List Float) → List Float
+numbersOf (given l) = l
+numbersOf (refused n) = []
+
+-- our logarithms and exponentials of each entry, asked as the update asks them
+unfoldable pub logsOf : List Float → Ended (List Float)
+logsOf sigma = result (asks 2 ln sigma (λ e. end e))
+
+unfoldable pub expsOf : List Float → Ended (List Float)
+expsOf e = result (asks 9 exp e (λ sigma. end sigma))
 
 -- our logarithms of sigma
 abbrev pub logStrains : State → List Float
@@ -96,10 +103,12 @@ logStrains st = numbersOf (logsOf (st .sigma))
 abbrev pub softened : RankinePlasticity → State → Float
 softened p st = sub (p .«tensile_strength») (sub (st .scalars .«plastic_hardening») one)
 
--- not refused, the ranges of the moduli and of s, and log strains in -4 to 4: that these are finite f64 is the logarithm's own law
+-- not refused, the ranges of the moduli and of s, three f64 as sigma, as the code's array is, and log strains in -4 to 4: that these are
+-- finite f64 is the logarithm's own law
 pub record Taken (p : RankinePlasticity) (u vt : List (List Float)) (st : State) : Type 0 where
   pub accepted : Accepted (rankineUpdate p u vt st .outcome)
   pub fair : Fair p (softened p st)
+  pub axes : length (st .sigma) ≡ 3
   pub sigma : Each F64 (st .sigma)
   pub strains : Each Small (logStrains st)
 
@@ -108,12 +117,13 @@ pub record TakenBy (a : RankineArguments) (u vt : List (List Float)) (st : State
   pub accepted : Accepted (argumentsUpdate a u vt st .outcome)
   pub s-finite : T (finite (softened (lawOf a) st))
   pub ranges : Ranges (lawOf a) (softened (lawOf a) st)
+  pub axes : length (st .sigma) ≡ 3
   pub sigma : Each F64 (st .sigma)
   pub strains : Each Small (logStrains st)
 
 -- the first yield test: lambda S + 2mu a <= s in floats
 abbrev pub firstTest : RankinePlasticity → List Float → Float → Bool
-firstTest p e s = Ieee.le (firstSide p (sumOf e) (arrangeOf (orderOf e) e .high)) s
+firstTest p e s = Ieee.le (value (firstSide p (num (sumOf e)) (num (arrangeOf (orderOf e) e .high)))) s
 
 -- ---- what is promised
 -- where the test holds: the state is handed back as it came, and no stress is above
@@ -150,13 +160,9 @@ pub record Demand3By (a : RankineArguments) (u vt : List (List Float)) (st : Sta
   pub law : Demand3 (lawOf a) u vt st
 
 -- ---- the projection as a call by itself, where it refuses nothing
-abbrev pub Settled : Branch → Type 0
-Settled (branch.Untouched x y) = Unit {0}
-Settled (branch.One x y) = Unit {0}
-Settled (branch.Two x y) = Unit {0}
-Settled (branch.All x y) = Unit {0}
-Settled (branch.Refused n) = ⊥
+abbrev pub Settled : VectorAnswer → Type 0
+Settled v = v .refusal ≡ 0
 
 pub record Projects (p : RankinePlasticity) (e : List Float) (s : Float) : Type 0 where
-  pub holds : T (firstTest p e s) → (projectOf p e s .strains ≡ e) × Each (Below p s e) e
-  pub fails : T (not (firstTest p e s)) → OnSurface p s (projectOf p e s .strains)
+  pub holds : T (firstTest p e s) → (projectOf p e s .vector ≡ e) × Each (Below p s e) e
+  pub fails : T (not (firstTest p e s)) → OnSurface p s (projectOf p e s .vector)

@@ -1,4 +1,4 @@
-// A reader keeps the lent sheet and a reading place in it (document 01, section 7). Its functions are thin: each takes it
+// A reader keeps the lent sheet and a reading place in it (RULES, section 7). Its functions are thin: each takes it
 // apart and calls the crate `sheet` on the slice and the place.
 use sheet::Header;
 use sheet::Number;

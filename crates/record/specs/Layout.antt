@@ -1,4 +1,4 @@
--- The record (document 01, section 7): F, U, sigma, V^T by rows, then phase, plastic determinant, plastic hardening,
+-- The record (RULES, section 7): F, U, sigma, V^T by rows, then phase, plastic determinant, plastic hardening,
 -- elastic hardening, log gain and alpha, each float as its bits. All offsets stand here.
 use mathlib.Core.Bool.{Bool}
 use mathlib.Core.List.{List, [], _∷_}

@@ -1,4 +1,4 @@
-// A record: its floats as bits in a lent list (document 01, section 7). The layout stands here alone.
+// A record: its floats as bits in a lent list (RULES, section 7). The layout stands here alone.
 mod finite;
 mod total;
 

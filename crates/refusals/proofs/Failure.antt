@@ -1,18 +1,24 @@
--- The law with failure: the verdict's gate, and the record with phase 0.0 after it. Assumes nothing.
+-- The law with failure answers a record as its walk does: the verdict, and the record with phase 0.0 after it. Assumes nothing.
 use mathlib.Core.Path.{_≡_, refl, sym, ap, _∙_}
 use mathlib.Core.Logic.{_⊎_, inl, inr, ⊎-elim, _↔_}
 use mathlib.Core.Bool.{Bool, true, false, cond, _&&_, false≢true}
-use mathlib.Core.List.{List, [], _∷_}
-use mathlib.Core.Option.{Option}
-use Prim.Native.Nat.{ℕ, zero, suc}
-use lib.ListN.{getD, set}
-use lib.Ieee.{binary64, ofBits, toBits}
+use mathlib.Core.List.{List, [], _∷_, _++_}
+use Prim.Native.Nat.{ℕ}
 use Rattle.numbers.specs.Floats.{finite}
 use Rattle.numbers.proofs.Laws.{and-both}
+use Rattle.tensor.specs.Axes.{allOf}
 use Rattle.tensor.specs.Matrix as matrix
 use Rattle.tensor.specs.Finite.{rowFinite}
 use Rattle.plasticity.specs.State.{inputsFinite}
-use Rattle.record.specs.Layout.{floatAt, uAt, vtAt, stateAt, bits, putPhase}
+use Rattle.plasticity.specs.declared.Outcome.{Outcome}
+use Rattle.plasticity.specs.declared.Outcome.the-variants as outcome
+use Rattle.plasticity.specs.declared.State.{State}
+use Rattle.walk.specs.Expr.{nums}
+use Rattle.walk.specs.Walk.{results, Ended, given, refused, result}
+use Rattle.walk.specs.Matrix.{values-nums}
+use Rattle.walk.specs.Every.{all-append}
+use Rattle.walk.specs.Update.{Change, untouched, stored, updatedOf, floats-finite}
+use Rattle.record.specs.Layout.{uAt, vtAt, stateAt, putPhase}
 use Rattle.failure_maximum_stress.specs.declared.MaximumStressFailure.{MaximumStressFailure}
 use Rattle.failure_maximum_stress.specs.declared.Verdict.{Verdict}
 use Rattle.failure_maximum_stress.specs.declared.Verdict.the-variants.{No, Yes, Refused}
@@ -20,104 +26,121 @@ use Rattle.failure_maximum_stress.specs.Failure.{limitsFinite, exceedsOf, verdi
 use Rattle.elasticity_corotated_linear.specs.declared.CorotatedLinearElasticity.{CorotatedLinearElasticity}
 use Rattle.elasticity_corotated_linear.specs.Law.{lawFinite}
 use Rattle.model.specs.declared.Model.{Model}
+use Rattle.model.specs.declared.Model.the-variants.{Snow, Rankine, DruckerPrager, Nacc}
 use Rattle.model.specs.Model.{modelFinite}
 use Rattle.particles.specs.Plain.{recordLaw}
 use Rattle.particles.specs.Judged.{verdictOn, judgedInputs, judgedOf, judgedAt, failedLaw, byVerdict, failureLaw}
-use Rattle.refusals.specs.Path.{Met, all-finite}
-use Rattle.refusals.specs.Refusals.{FailureInput, RecordNotFinite, pathOf, stressesOf, failurePath, Refuses}
-use Rattle.refusals.proofs.First.{firstOf, refusalOf}
-use Rattle.refusals.proofs.Inputs.{one-fails, left-fails, right-fails, no-both, decide, inputs-hold, places, inputs, limits}
-use Rattle.refusals.proofs.Gate.{Gated, runs, stops}
-use Rattle.refusals.proofs.Updates.{record-gate, outcome-numbers}
+use Rattle.refusals.specs.Refusals.{SomeNotFinite, RecordNotFinite, parametersOf, recordFloats, recordSteps, failureOf, stressesOf, judged, failureWalk, failurePath, Refuses}
+use Rattle.refusals.proofs.Inner.{steps-inner}
+use Rattle.refusals.proofs.Inputs.{some-append, phased}
+use Rattle.refusals.proofs.Updates.{outcome-numbers, record-walked, input-places}
 
--- ---- the record with phase 0.0
-zero-finite : finite (ofBits binary64 (bits matrix.zero)) ≡ true
-unfolding finite ofBits toBits
-zero-finite = refl
+-- ---- the inputs
+parameters : (m : Model) → allOf finite (parametersOf m) ≡ modelFinite m
+parameters (Snow p) = refl
+parameters (Rankine a) = refl
+parameters (DruckerPrager p) = refl
+parameters (Nacc a) = refl
 
-written : (r : List ℕ) (i v k : ℕ) → (getD (set r i v) k 0 ≡ v) ⊎ (getD (set r i v) k 0 ≡ getD r k 0)
-written [] i v k = inr refl
-written (x ∷ r) zero v zero = inl refl
-written (x ∷ r) zero v (suc k) = inr refl
-written (x ∷ r) (suc i) v zero = inr refl
-written (x ∷ r) (suc i) v (suc k) = written r i v k
+five : (a b c d e : Bool) → a && b && c && d && e ≡ (a && b) && (c && d && e)
+five true true c d e = refl
+five true false c d e = refl
+five false b c d e = refl
 
-abbrev test : List ℕ → Bool
-test r = inputsFinite (uAt r) (vtAt r) (stateAt r)
+ordered : (l e m i : Bool) → (l && e) && (m && i) ≡ m && l && e && i
+ordered true true true i = refl
+ordered true true false i = refl
+ordered true false true i = refl
+ordered true false false i = refl
+ordered false e true i = refl
+ordered false e false i = refl
 
-phased : (r : List ℕ) → test r ≡ true → test (putPhase r matrix.zero) ≡ true
-phased r t = ⊎-elim (λ q. q) (λ q. absurd (never (places (putPhase r matrix.zero) .0 q))) (decide (test (putPhase r matrix.zero)))
-  where
-    never : RecordNotFinite (putPhase r matrix.zero) → ⊥
-    never (k, h, q) =
-        let same : (n : ℕ) → getD (putPhase r matrix.zero) k 0 ≡ n → finite (ofBits binary64 n) ≡ true → ⊥ =
-        λ n e f. no-both (finite (floatAt (putPhase r matrix.zero) k)) (ap (λ (x : ℕ). finite (ofBits binary64 x)) e ∙ f) q in
-        ⊎-elim (λ e. same (bits matrix.zero) e zero-finite) (λ e. same (getD r k 0) e (inputs-hold r t k h)) (written r 30 (bits matrix.zero) k)
+record-inputs : (m : Model) (r : List ℕ) → allOf finite (parametersOf m ++ recordFloats r) ≡ modelFinite m && allOf finite (recordFloats r)
+record-inputs m r = all-append finite (parametersOf m) (recordFloats r) ∙ ap (λ b. b && allOf finite (recordFloats r)) (parameters m)
 
--- ---- the law
+-- ---- the outcome is the answer's, whatever the state
+same : (s t : State) (x : Ended Change) → updatedOf s x .outcome ≡ updatedOf t x .outcome
+same s t (given untouched) = refl
+same s t (given (stored new a)) = refl
+same s t (refused n) = refl
+
+taken : (b : Bool) (x y : Ended Change) → b ≡ true → cond b x y ≡ x
+taken true x y q = refl
+taken false x y q = absurd (false≢true q)
+
 both : (a b : Bool) → a ≡ true → b ≡ true → a && b ≡ true
 both true b p q = q
 both false b p q = p
 
-after-gate : {ok : Bool} {path : List Met} {o : Option ℕ} → Gated ok path o → ok ≡ true → o ≡ firstOf path
-after-gate (runs t l) q = l
-after-gate {ok} (stops f e) q = absurd (no-both ok q f)
+-- a record whose inputs are finite is worked by the steps
+run : (m : Model) (r : List ℕ) (s : State) → modelFinite m ≡ true → allOf finite (recordFloats r) ≡ true → recordLaw m r .outcome ≡ updatedOf s (result (recordSteps m r)) .outcome
+run m r s p q =
+    record-walked m r
+    ∙ ap (λ x. updatedOf (stateAt r) x .outcome) (taken (allOf finite (parametersOf m ++ recordFloats r)) (result (recordSteps m r)) (refused 1) (record-inputs m r ∙ both (modelFinite m) (allOf finite (recordFloats r)) p q))
+    ∙ same (stateAt r) s (result (recordSteps m r))
 
--- by the verdict: finite stresses, and then the law on the record or on the record with phase 0.0
-module _ (m : Model) (r : List ℕ) where
-  abbrev phase-zero : List ℕ
-  phase-zero = putPhase r matrix.zero
+module _ (m : Model) (r : List ℕ) (s : State) where
+  abbrev zeroed : List ℕ
+  zeroed = putPhase r matrix.zero
 
-  judged : (limits row over : Bool) → limits ≡ true → refusalOf (recordLaw m r .outcome) ≡ firstOf (pathOf m r)
-      → refusalOf (recordLaw m phase-zero .outcome) ≡ firstOf (pathOf m phase-zero)
-      → refusalOf (byVerdict (cond row (cond (limits && row) (cond over Yes No) (Refused 1)) (Refused 3)) m r .outcome)
-      ≡ firstOf (all-finite row ∷ pathOf m (cond over phase-zero r))
-  unfolding firstOf failedLaw
-  judged true true true q e f = f
-  judged true true false q e f = e
-  judged true false over q e f = refl
-  judged false row over q e f = absurd (false≢true q)
+  -- by the verdict: finite stresses, and then the steps on the record or on the record with phase 0.0
+  verdict : (limits row over : Bool) → limits ≡ true → recordLaw m r .outcome ≡ updatedOf s (result (recordSteps m r)) .outcome
+      → recordLaw m zeroed .outcome ≡ updatedOf s (result (recordSteps m zeroed)) .outcome
+      → byVerdict (cond row (cond (limits && row) (cond over Yes No) (Refused 1)) (Refused 3)) m r .outcome
+      ≡ updatedOf s (cond row (result (recordSteps m (cond over zeroed r))) (refused 3)) .outcome
+  unfolding failedLaw
+  verdict true true true q e f = f
+  verdict true true false q e f = e
+  verdict true false over q e f = refl
+  verdict false row over q e f = absurd (false≢true q)
 
-  first : (j : Bool) (v : Verdict) (path : List Met) → (j ≡ true → refusalOf (byVerdict v m r .outcome) ≡ firstOf path)
-      → Gated j path (refusalOf (byVerdict (cond j v (Refused 1)) m r .outcome))
-  first true v path f = runs refl (f refl)
-  first false v path f = stops refl refl
+  first : (j : Bool) (v : Verdict) (y : Ended Change) → (j ≡ true → byVerdict v m r .outcome ≡ updatedOf s y .outcome)
+      → byVerdict (cond j v (Refused 1)) m r .outcome ≡ updatedOf s (cond j y (refused 1)) .outcome
+  first true v y f = f refl
+  first false v y f = refl
 
 module _ (m : Model) (l : MaximumStressFailure) (e : CorotatedLinearElasticity) (r : List ℕ) where
-  ok : Bool
+  abbrev ok : Bool
   ok = judgedInputs m l e (uAt r) (vtAt r) (stateAt r)
 
-  gate : Gated ok (failurePath m l e r) (refusalOf (failureLaw m l e r .outcome))
-  unfolding failureLaw judgedAt judgedOf verdictOf ok
-  gate = first m r ok (verdictOn l (stressesOf e r)) (failurePath m l e r) run
-    where
-      run : ok ≡ true → refusalOf (byVerdict (verdictOn l (stressesOf e r)) m r .outcome) ≡ firstOf (failurePath m l e r)
-      run q =
-          let a = and-both (modelFinite m && limitsFinite l && lawFinite e) (test r) q in
-          let b = and-both (modelFinite m && limitsFinite l) (lawFinite e) (a .0) in
-          let c = and-both (modelFinite m) (limitsFinite l) (b .0) in
-          let z = putPhase r matrix.zero in
-          judged m r (limitsFinite l) (rowFinite (stressesOf e r)) (exceedsOf l (stressesOf e r)) (c .1)
-          (after-gate (record-gate m r) (both (modelFinite m) (test r) (c .0) (a .1)))
-          (after-gate (record-gate m z) (both (modelFinite m) (test z) (c .0) (phased r (a .1))))
+  all-inputs : allOf finite (failureOf l e ++ (parametersOf m ++ recordFloats r)) ≡ ok
+  all-inputs =
+      all-append finite (failureOf l e) (parametersOf m ++ recordFloats r)
+      ∙ rw (record-inputs m r, floats-finite (uAt r) (vtAt r) (stateAt r), five (finite (l .«max_principal_stress»)) (finite (l .«max_shear_stress»)) (finite (e .«cfl_coeff»)) (finite (e .lambda)) (finite (e .mu)))
+      (ordered (limitsFinite l) (lawFinite e) (modelFinite m) (inputsFinite (uAt r) (vtAt r) (stateAt r)))
 
-  ok-is : (m l e i : Bool) → m && l && e && i ≡ (l && e) && (m && i)
-  ok-is true l e i = refl
-  ok-is false l e i = sym (right-fails (l && e) false refl)
+  abbrev law : Ended Change
+  law = result (recordSteps m (judged l e r))
 
-  all : (ok ≡ false) ↔ FailureInput m l e r
-  unfolding ok
-  all = (forth, back)
-    where
-      same : ok ≡ (limitsFinite l && lawFinite e) && (modelFinite m && test r)
-      same = ok-is (modelFinite m) (limitsFinite l) (lawFinite e) (test r)
+  stresses : result (results 0 (nums (stressesOf e r) ∷ []) (recordSteps m (judged l e r))) ≡ cond (rowFinite (stressesOf e r)) law (refused 3)
+  stresses = rw (values-nums (stressesOf e r))
 
-      forth : ok ≡ false → FailureInput m l e r
-      forth q = ⊎-elim (λ f. inl (limits l e .0 f)) (λ f. inr (inputs m r .0 f)) (one-fails (limitsFinite l && lawFinite e) (modelFinite m && test r) (sym same ∙ q))
+  run-by : ok ≡ true → byVerdict (verdictOn l (stressesOf e r)) m r .outcome ≡ updatedOf (stateAt r) (cond (rowFinite (stressesOf e r)) law (refused 3)) .outcome
+  unfolding verdictOf
+  run-by q =
+      let test = inputsFinite (uAt r) (vtAt r) (stateAt r) in
+      let a = and-both (modelFinite m && limitsFinite l && lawFinite e) test q in
+      let b = and-both (modelFinite m && limitsFinite l) (lawFinite e) (a .0) in
+      let c = and-both (modelFinite m) (limitsFinite l) (b .0) in
+      let t = floats-finite (uAt r) (vtAt r) (stateAt r) ∙ a .1 in
+      verdict m r (stateAt r) (limitsFinite l) (rowFinite (stressesOf e r)) (exceedsOf l (stressesOf e r)) (c .1) (run m r (stateAt r) (c .0) t)
+      (run m (putPhase r matrix.zero) (stateAt r) (c .0) (phased r t))
 
-      back : FailureInput m l e r → ok ≡ false
-      back (inl s) = same ∙ left-fails (limitsFinite l && lawFinite e) (modelFinite m && test r) (limits l e .1 s)
-      back (inr s) = same ∙ right-fails (limitsFinite l && lawFinite e) (modelFinite m && test r) (inputs m r .1 s)
+  walked : failureLaw m l e r .outcome ≡ updatedOf (stateAt r) (result (failureWalk m l e r)) .outcome
+  unfolding failureLaw judgedAt judgedOf
+  walked =
+      first m r (stateAt r) ok (verdictOn l (stressesOf e r)) (cond (rowFinite (stressesOf e r)) law (refused 3)) run-by
+      ∙ rw (all-inputs, stresses)
 
-  pub failure-refuses : Refuses (failureLaw m l e r .outcome) (FailureInput m l e r) (failurePath m l e r)
-  failure-refuses = outcome-numbers (failureLaw m l e r .outcome) gate all
+  pub failure-refuses : Refuses (failureLaw m l e r .outcome) (failurePath m l e r)
+  failure-refuses =
+      let r' = judged l e r in
+      outcome-numbers (stateAt r) (failureLaw m l e r .outcome) (failureOf l e ++ (parametersOf m ++ recordFloats r))
+      (results 0 (nums (stressesOf e r) ∷ []) (recordSteps m r')) (steps-inner m (uAt r') (vtAt r') (stateAt r')) walked
+
+  pub failure-one : (failureLaw m l e r .outcome ≡ outcome.Refused 1) ↔ (SomeNotFinite (failureOf l e) ⊎ (SomeNotFinite (parametersOf m) ⊎ RecordNotFinite r))
+  failure-one =
+      let w = some-append (failureOf l e) (parametersOf m ++ recordFloats r) in (
+        λ q. ⊎-elim (λ p. inl p) (λ p. inr (input-places m r .0 p)) (w .0 (failure-refuses .one .0 q)),
+        λ q. failure-refuses .one .1 (w .1 (⊎-elim (λ p. inl p) (λ p. inr (input-places m r .1 p)) q)),
+      )

@@ -1,41 +1,43 @@
--- Section 6 of the calls that make a law, work one update by it, or project by themselves.
-use mathlib.Core.Path.{_≡_, refl, ap, _∙_}
-use mathlib.Core.Bool.{Bool, false, cond, _&&_}
-use mathlib.Core.List.{List, [], _∷_}
+-- Section 6 of the calls that make a law, work one update by it, or project by themselves. Assumes nothing.
+use mathlib.Core.Path.{_≡_, refl, ap}
+use mathlib.Core.Bool.{Bool, true, false, cond, _&&_}
+use mathlib.Core.List.{List, [], _∷_, _++_}
 use mathlib.Core.Option.{Option, some, none}
-use Prim.Native.Nat.{ℕ, suc}
-use lib.Ieee.{Float, ofBits}
+use Prim.Native.Nat.{ℕ}
+use lib.Ieee.{Float}
 use Rattle.numbers.specs.Floats.{finite}
+use Rattle.answers.specs.Range.{onPath}
+use Rattle.answers.specs.Answer.{pairOf}
 use Rattle.answers.specs.declared.Answer.{Answer}
 use Rattle.answers.specs.declared.Answer.the-variants as answers
-use Rattle.exact.specs.RootOf.{sqrtOf}
-use Rattle.sine.specs.Sine.{sinOf}
-use Rattle.tensor.specs.Matrix.{div, zero, rowsOf}
-use Rattle.tensor.specs.Finite.{rowFinite}
-use Rattle.tensor.specs.declared.Rows.{Rows}
-use Rattle.physics.specs.Physics.{lameOf, lambdaOf, shearModulusOf}
-use Rattle.answers.specs.Answer.{pairOf}
 use Rattle.answers.specs.declared.Pair.{Pair}
 use Rattle.answers.specs.declared.Pair.the-variants as pair
+use Rattle.sine.specs.Sine.{sinRanged}
+use Rattle.square_root.specs.Sqrt.{sqrtRanged}
+use Rattle.tensor.specs.Axes.{allOf}
+use Rattle.tensor.specs.Matrix.{div, rowsOf}
+use Rattle.physics.specs.Physics.{lameOf, lambdaOf, shearModulusOf}
+use Rattle.plasticity.specs.declared.Outcome.the-variants as outcome
 use Rattle.plasticity.specs.declared.State.{State}
-use Rattle.plasticity_rankine.specs.declared.Branch as rankine-branch-type
-use Rattle.plasticity_rankine.specs.declared.Branch.the-variants as rankine-branch
+use Rattle.walk.specs.Expr.{num}
+use Rattle.walk.specs.Numbers.{as-outcome}
+use Rattle.walk.specs.Walk.{Walk, inputs, end, _then_, Ended, given, refused, result}
+use Rattle.walk.specs.Exact.{path}
+use Rattle.walk.specs.Update.{floatsOf, refusalOf}
+use Rattle.walk.specs.Answers.{refusalIn}
 use Rattle.plasticity_rankine.specs.declared.Made as rankine-made-type
 use Rattle.plasticity_rankine.specs.declared.Made.the-variants as rankine-made
 use Rattle.plasticity_rankine.specs.declared.RankineArguments.{RankineArguments}
 use Rattle.plasticity_rankine.specs.declared.RankinePlasticity.{RankinePlasticity}
+use Rattle.plasticity_rankine.specs.Law as rankine-law
 use Rattle.plasticity_rankine.specs.Projection as rankine-projection
 use Rattle.plasticity_rankine.specs.Rankine as rankine
-use Rattle.plasticity_drucker_prager.specs.declared.Branch as drucker-branch-type
-use Rattle.plasticity_drucker_prager.specs.declared.Branch.the-variants as drucker-branch
 use Rattle.plasticity_drucker_prager.specs.declared.DruckerPragerPlasticity.{DruckerPragerPlasticity}
 use Rattle.plasticity_drucker_prager.specs.declared.Made as drucker-made-type
 use Rattle.plasticity_drucker_prager.specs.declared.Made.the-variants as drucker-made
-use Rattle.plasticity_drucker_prager.specs.declared.Projected as drucker-projected
 use Rattle.plasticity_drucker_prager.specs.Law as drucker-prager
+use Rattle.plasticity_drucker_prager.specs.Alpha.{dim}
 use Rattle.plasticity_drucker_prager.specs.Projection as drucker-projection
-use Rattle.plasticity_nacc.specs.declared.Branch as nacc-branch-type
-use Rattle.plasticity_nacc.specs.declared.Branch.the-variants as nacc-branch
 use Rattle.plasticity_nacc.specs.declared.Made as nacc-made-type
 use Rattle.plasticity_nacc.specs.declared.Made.the-variants as nacc-made
 use Rattle.plasticity_nacc.specs.declared.NaccArguments.{NaccArguments}
@@ -54,19 +56,15 @@ use Rattle.elasticity_corotated_linear.specs.Law as corotated
 use Rattle.eos_monaghan_sph.specs.declared.Made as monaghan-made-type
 use Rattle.eos_monaghan_sph.specs.declared.Made.the-variants as monaghan-made
 use Rattle.eos_monaghan_sph.specs.Pressure as monaghan
-use Rattle.refusals.specs.Path.{all-finite, sin, root}
-use Rattle.refusals.specs.RankinePath.{projectionPath}
-use Rattle.refusals.specs.DruckerPragerPath.{projectedPath}
-use Rattle.refusals.specs.NaccPath.{naccPath}
-use Rattle.refusals.specs.Refusals.{Numbers}
-use Rattle.refusals.specs.Laws.{moduliPath, frictionPath, rankineProjection, druckerResults, projectedState, Laws}
-use Rattle.refusals.proofs.First.{firstOf, refusalOf, differ, nothing}
-use Rattle.refusals.proofs.Walk.{sin-met, root-met, finite-met}
-use Rattle.refusals.proofs.Gate.{gated, told}
-use Rattle.refusals.proofs.Rankine.{tests-met}
-use Rattle.refusals.proofs.DruckerPrager.{Consumes, projected-met}
-use Rattle.refusals.proofs.Nacc.{nacc-met}
-use Rattle.refusals.proofs.Updates.{gate, rankine-gate, nacc-gate, outcome-numbers}
+use Rattle.model.specs.declared.Model.{Model}
+use Rattle.model.specs.Model.{modelUpdate}
+use Rattle.refusals.specs.Refusals.{Numbers, Refuses, parametersOf, stepsOf, walkOf}
+use Rattle.refusals.specs.Calls.{Beside}
+use Rattle.refusals.specs.Laws.{moduliWalk, plainWalk, rankineNew, naccNew, naccAngled, Laws}
+use Rattle.refusals.proofs.Inner.{inner-then, steps-inner, rankine-project, rankine-inner, drucker-project, nacc-project, nacc-inner}
+use Rattle.refusals.proofs.Numbers.{differ, nothing, told}
+use Rattle.refusals.proofs.Answers.{after, tested, entered, asked, ended-beside}
+use Rattle.refusals.proofs.Updates.{outcome-numbers, walked}
 
 -- ---- `new` and `with_m`
 abbrev neo-number : neo-made-type.Made → Option ℕ
@@ -77,13 +75,15 @@ neo-back : (x : neo-made-type.Made) (n : ℕ) → neo-number x ≡ some n → x 
 neo-back (neo-made.Law p) n e = absurd (nothing n e)
 neo-back (neo-made.Refused m) n e = ap neo-made.Refused (differ e)
 
-neo-gives : (young poisson : Float) → Numbers (λ n. neo-hookean.newOf young poisson ≡ neo-made.Refused n) (finite young && finite poisson ≡ false) (moduliPath young poisson)
-unfolding neo-hookean.newOf neo-hookean.fromLame firstOf
+neo-gives : (young poisson : Float) → Numbers (λ n. neo-hookean.newOf young poisson ≡ neo-made.Refused n) (path (moduliWalk young poisson))
+unfolding neo-hookean.newOf neo-hookean.fromLame
 neo-gives young poisson =
     let m = lameOf young poisson in
-    told neo-number neo-made.Refused (λ n. refl) neo-back (neo-hookean.newOf young poisson)
-    (gated neo-number (finite young && finite poisson) (neo-hookean.fromLame m) (neo-made.Refused 1)
-    (finite-met neo-number (finite (m .lambda) && finite (m .mu)) (neo-made.Law (neo-hookean.lawOf m)) (neo-made.Refused 3) [] refl refl) refl)
+    let l = young ∷ poisson ∷ [] in
+    let w = after (moduliWalk young poisson) in
+    told neo-number neo-made.Refused (λ n. refl) neo-back (neo-hookean.newOf young poisson) l w tt
+    (entered neo-number l (finite young && finite poisson) refl (neo-hookean.fromLame m) (neo-made.Refused 1) w
+    (tested neo-number 3 (finite (m .lambda) && finite (m .mu)) (neo-made.Law (neo-hookean.lawOf m)) (neo-made.Refused 3) (given (m .lambda)) refl refl) refl)
 
 abbrev corotated-number : corotated-made-type.Made → Option ℕ
 corotated-number (corotated-made.Law p) = none
@@ -93,31 +93,35 @@ corotated-back : (x : corotated-made-type.Made) (n : ℕ) → corotated-number x
 corotated-back (corotated-made.Law p) n e = absurd (nothing n e)
 corotated-back (corotated-made.Refused m) n e = ap corotated-made.Refused (differ e)
 
-corotated-gives : (young poisson : Float) → Numbers (λ n. corotated.newOf young poisson ≡ corotated-made.Refused n) (finite young && finite poisson ≡ false) (moduliPath young poisson)
-unfolding corotated.newOf corotated.fromLame firstOf
+corotated-gives : (young poisson : Float) → Numbers (λ n. corotated.newOf young poisson ≡ corotated-made.Refused n) (path (moduliWalk young poisson))
+unfolding corotated.newOf corotated.fromLame
 corotated-gives young poisson =
     let m = lameOf young poisson in
-    told corotated-number corotated-made.Refused (λ n. refl) corotated-back (corotated.newOf young poisson)
-    (gated corotated-number (finite young && finite poisson) (corotated.fromLame m) (corotated-made.Refused 1)
-    (finite-met corotated-number (finite (m .lambda) && finite (m .mu)) (corotated-made.Law (corotated.lawOf m)) (corotated-made.Refused 3) [] refl refl) refl)
+    let l = young ∷ poisson ∷ [] in
+    let w = after (moduliWalk young poisson) in
+    told corotated-number corotated-made.Refused (λ n. refl) corotated-back (corotated.newOf young poisson) l w tt
+    (entered corotated-number l (finite young && finite poisson) refl (corotated.fromLame m) (corotated-made.Refused 1) w
+    (tested corotated-number 3 (finite (m .lambda) && finite (m .mu)) (corotated-made.Law (corotated.lawOf m)) (corotated-made.Refused 3) (given (m .lambda)) refl refl) refl)
 
-abbrev drucker-made-number : drucker-made-type.Made → Option ℕ
-drucker-made-number (drucker-made.Law p) = none
-drucker-made-number (drucker-made.Refused n) = some n
+abbrev drucker-number : drucker-made-type.Made → Option ℕ
+drucker-number (drucker-made.Law p) = none
+drucker-number (drucker-made.Refused n) = some n
 
-drucker-made-back : (x : drucker-made-type.Made) (n : ℕ) → drucker-made-number x ≡ some n → x ≡ drucker-made.Refused n
-drucker-made-back (drucker-made.Law p) n e = absurd (nothing n e)
-drucker-made-back (drucker-made.Refused m) n e = ap drucker-made.Refused (differ e)
+drucker-back : (x : drucker-made-type.Made) (n : ℕ) → drucker-number x ≡ some n → x ≡ drucker-made.Refused n
+drucker-back (drucker-made.Law p) n e = absurd (nothing n e)
+drucker-back (drucker-made.Refused m) n e = ap drucker-made.Refused (differ e)
 
-drucker-gives : (young poisson : Float) → Numbers (λ n. drucker-prager.newOf young poisson ≡ drucker-made.Refused n) (finite young && finite poisson ≡ false) (moduliPath young poisson)
-unfolding drucker-prager.madeOf firstOf
+drucker-gives : (young poisson : Float) → Numbers (λ n. drucker-prager.newOf young poisson ≡ drucker-made.Refused n) (path (moduliWalk young poisson))
+unfolding drucker-prager.madeOf
 drucker-gives young poisson =
-    let l = lambdaOf young poisson in
-    let m = shearModulusOf young poisson in
-    let F : Pair → Option ℕ = λ x. drucker-made-number (drucker-prager.madeOf x) in
-    told drucker-made-number drucker-made.Refused (λ n. refl) drucker-made-back (drucker-prager.newOf young poisson)
-    (gated F (finite young && finite poisson) (pairOf l m) (pair.Refused 1)
-    (finite-met F (finite l && finite m) (pair.Values l m) (pair.Refused 3) [] refl refl) refl)
+    let lambda = lambdaOf young poisson in
+    let mu = shearModulusOf young poisson in
+    let T : Pair → Option ℕ = λ x. drucker-number (drucker-prager.madeOf x) in
+    let l = young ∷ poisson ∷ [] in
+    let w = after (moduliWalk young poisson) in
+    told drucker-number drucker-made.Refused (λ n. refl) drucker-back (drucker-prager.newOf young poisson) l w tt
+    (entered T l (finite young && finite poisson) refl (pairOf lambda mu) (pair.Refused 1) w
+    (tested T 3 (finite lambda && finite mu) (pair.Values lambda mu) (pair.Refused 3) (given lambda) refl refl) refl)
 
 abbrev monaghan-number : monaghan-made-type.Made → Option ℕ
 monaghan-number (monaghan-made.Law p) = none
@@ -128,11 +132,12 @@ monaghan-back (monaghan-made.Law p) n e = absurd (nothing n e)
 monaghan-back (monaghan-made.Refused m) n e = ap monaghan-made.Refused (differ e)
 
 monaghan-gives : (pressure : Float) (gamma : ℕ) (viscosity : Float)
-    → Numbers (λ n. monaghan.newOf pressure gamma viscosity ≡ monaghan-made.Refused n) (finite pressure && finite viscosity ≡ false) []
-unfolding monaghan.newOf firstOf
+    → Numbers (λ n. monaghan.newOf pressure gamma viscosity ≡ monaghan-made.Refused n) (path (plainWalk pressure viscosity))
+unfolding monaghan.newOf
 monaghan-gives pressure gamma viscosity =
-    told monaghan-number monaghan-made.Refused (λ n. refl) monaghan-back (monaghan.newOf pressure gamma viscosity)
-    (gated monaghan-number (finite pressure && finite viscosity) _ (monaghan-made.Refused 1) refl refl)
+    let l = pressure ∷ viscosity ∷ [] in
+    told monaghan-number monaghan-made.Refused (λ n. refl) monaghan-back (monaghan.newOf pressure gamma viscosity) l (end pressure) tt
+    (entered monaghan-number l (finite pressure && finite viscosity) refl _ (monaghan-made.Refused 1) (end pressure) refl refl)
 
 abbrev limits-number : limits-made-type.Made → Option ℕ
 limits-number (limits-made.Limits p) = none
@@ -142,182 +147,158 @@ limits-back : (x : limits-made-type.Made) (n : ℕ) → limits-number x ≡ some
 limits-back (limits-made.Limits p) n e = absurd (nothing n e)
 limits-back (limits-made.Refused m) n e = ap limits-made.Refused (differ e)
 
-limits-gives : (principal shear : Float) → Numbers (λ n. limitsOf principal shear ≡ limits-made.Refused n) (finite principal && finite shear ≡ false) []
-unfolding limitsOf firstOf
+limits-gives : (principal shear : Float) → Numbers (λ n. limitsOf principal shear ≡ limits-made.Refused n) (path (plainWalk principal shear))
+unfolding limitsOf
 limits-gives principal shear =
-    told limits-number limits-made.Refused (λ n. refl) limits-back (limitsOf principal shear) (gated limits-number (finite principal && finite shear) _ (limits-made.Refused 1) refl refl)
+    let l = principal ∷ shear ∷ [] in
+    told limits-number limits-made.Refused (λ n. refl) limits-back (limitsOf principal shear) l (end principal) tt
+    (entered limits-number l (finite principal && finite shear) refl _ (limits-made.Refused 1) (end principal) refl refl)
 
-abbrev rankine-made-number : rankine-made-type.Made → Option ℕ
-rankine-made-number (rankine-made.Law p) = none
-rankine-made-number (rankine-made.Refused n) = some n
+abbrev rankine-number : rankine-made-type.Made → Option ℕ
+rankine-number (rankine-made.Law p) = none
+rankine-number (rankine-made.Refused n) = some n
 
-rankine-made-back : (x : rankine-made-type.Made) (n : ℕ) → rankine-made-number x ≡ some n → x ≡ rankine-made.Refused n
-rankine-made-back (rankine-made.Law p) n e = absurd (nothing n e)
-rankine-made-back (rankine-made.Refused m) n e = ap rankine-made.Refused (differ e)
+rankine-back : (x : rankine-made-type.Made) (n : ℕ) → rankine-number x ≡ some n → x ≡ rankine-made.Refused n
+rankine-back (rankine-made.Law p) n e = absurd (nothing n e)
+rankine-back (rankine-made.Refused m) n e = ap rankine-made.Refused (differ e)
 
-rankine-gives : (a : RankineArguments)
-    → Numbers (λ n. rankine.madeOf a ≡ rankine-made.Refused n) (rankine.elasticFinite a && rankine-projection.parametersFinite (rankine.lawOf a) ≡ false)
-    (all-finite (rankine-projection.moduliFinite (rankine.lawOf a)) ∷ [])
-unfolding rankine.madeOf firstOf
+in-pairs : (a b c d : Bool) → a && b && c && d ≡ (a && b) && (c && d)
+in-pairs true true c d = refl
+in-pairs true false c d = refl
+in-pairs false b c d = refl
+
+rankine-gives : (a : RankineArguments) → Numbers (λ n. rankine-law.madeOf a ≡ rankine-made.Refused n) (path (rankineNew a))
+unfolding rankine-law.madeOf
 rankine-gives a =
-    let p = rankine.lawOf a in
-    let ok = rankine-projection.moduliFinite p in
-    told rankine-made-number rankine-made.Refused (λ n. refl) rankine-made-back (rankine.madeOf a)
-    (gated rankine-made-number (rankine.elasticFinite a && rankine-projection.parametersFinite p) (cond ok (rankine-made.Law p) (rankine-made.Refused 3)) (rankine-made.Refused 1)
-    (finite-met rankine-made-number ok (rankine-made.Law p) (rankine-made.Refused 3) [] refl refl) refl)
+    let p = rankine-law.lawOf a in
+    let ok = rankine-law.moduliFinite p in
+    let l = rankine-law.argumentsFloats a in
+    let w = after (rankineNew a) in
+    told rankine-number rankine-made.Refused (λ n. refl) rankine-back (rankine-law.madeOf a) l w tt
+    (entered rankine-number l (rankine-law.elasticFinite a && rankine-law.parametersFinite p)
+    (in-pairs (finite (a .«young_modulus»)) (finite (a .«poisson_ratio»)) (finite (a .«tensile_strength»)) (finite (a .«softening_rate»)))
+    (cond ok (rankine-made.Law p) (rankine-made.Refused 3)) (rankine-made.Refused 1) w
+    (tested rankine-number 3 ok (rankine-made.Law p) (rankine-made.Refused 3) (given (a .«young_modulus»)) refl refl) refl)
 
-abbrev nacc-made-number : nacc-made-type.Made → Option ℕ
-nacc-made-number (nacc-made.Law p) = none
-nacc-made-number (nacc-made.Refused n) = some n
+abbrev nacc-number : nacc-made-type.Made → Option ℕ
+nacc-number (nacc-made.Law p) = none
+nacc-number (nacc-made.Refused n) = some n
 
-nacc-made-back : (x : nacc-made-type.Made) (n : ℕ) → nacc-made-number x ≡ some n → x ≡ nacc-made.Refused n
-nacc-made-back (nacc-made.Law p) n e = absurd (nothing n e)
-nacc-made-back (nacc-made.Refused m) n e = ap nacc-made.Refused (differ e)
+nacc-back : (x : nacc-made-type.Made) (n : ℕ) → nacc-number x ≡ some n → x ≡ nacc-made.Refused n
+nacc-back (nacc-made.Law p) n e = absurd (nothing n e)
+nacc-back (nacc-made.Refused m) n e = ap nacc-made.Refused (differ e)
+
+exchanged : (y n c x m : Bool) → y && n && c && x && m ≡ (y && n) && (x && c && m)
+exchanged true true true true m = refl
+exchanged true true true false m = refl
+exchanged true true false true m = refl
+exchanged true true false false m = refl
+exchanged true false c x m = refl
+exchanged false n c x m = refl
 
 module _ (a : NaccArguments) where
   abbrev q : NaccPlasticity
   q = nacc-law.lawOf a
 
-  abbrev tested : Bool
-  tested = nacc-law.elasticFinite a && nacc-law.parametersFinite q
+  abbrev l : List Float
+  l = nacc-law.argumentsFloats a
 
-  with-m-gives : Numbers (λ n. nacc-law.madeOf a ≡ nacc-made.Refused n) (tested ≡ false) (all-finite (nacc-law.moduliFinite q) ∷ [])
-  unfolding nacc-law.madeOf firstOf
+  abbrev ok : Bool
+  ok = nacc-law.elasticFinite a && nacc-law.parametersFinite q
+
+  all-inputs : allOf finite l ≡ ok
+  all-inputs = exchanged (finite (a .«young_modulus»)) (finite (a .«poisson_ratio»)) (finite (a .cohesion)) (finite (a .«hardening_factor»)) (finite (a .m))
+
+  with-m-gives : Numbers (λ n. nacc-law.madeOf a ≡ nacc-made.Refused n) (path (naccNew a))
+  unfolding nacc-law.madeOf
   with-m-gives =
-      told nacc-made-number nacc-made.Refused (λ n. refl) nacc-made-back (nacc-law.madeOf a)
-      (gated nacc-made-number tested (cond (nacc-law.moduliFinite q) (nacc-made.Law q) (nacc-made.Refused 3)) (nacc-made.Refused 1)
-      (finite-met nacc-made-number (nacc-law.moduliFinite q) (nacc-made.Law q) (nacc-made.Refused 3) [] refl refl) refl)
+      let w = after (naccNew a) in
+      told nacc-number nacc-made.Refused (λ n. refl) nacc-back (nacc-law.madeOf a) l w tt
+      (entered nacc-number l ok all-inputs (cond (nacc-law.moduliFinite q) (nacc-made.Law q) (nacc-made.Refused 3)) (nacc-made.Refused 1) w
+      (tested nacc-number 3 (nacc-law.moduliFinite q) (nacc-made.Law q) (nacc-made.Refused 3) (given (a .m)) refl refl) refl)
 
-  new-gives : Numbers (λ n. nacc-law.angledOf (nacc-law.madeOf a) ≡ nacc-made.Refused n) (tested ≡ false) (frictionPath a)
-  unfolding nacc-law.madeOf nacc-law.angledOf nacc-law.framedOf nacc-law.frictionSined nacc-law.frictionRooted firstOf
+  new-gives : Numbers (λ n. nacc-law.angledOf (nacc-law.madeOf a) ≡ nacc-made.Refused n) (path (naccAngled a))
+  unfolding nacc-law.madeOf nacc-law.angledOf nacc-law.framedOf nacc-law.frictionSined nacc-law.frictionRooted nacc-law.frictionOf
   new-gives =
       let third = div nacc-law.two nacc-law.dim in
-      let x = a .m in
-      let m = nacc-law.frictionOf (sqrtOf third) (sinOf x) in
-      let end = all-finite (finite m) ∷ [] in
-      let F : nacc-made-type.Made → Option ℕ = λ y. nacc-made-number (nacc-law.angledOf y) in
-      let G : Answer → Option ℕ = λ e. nacc-made-number (nacc-law.framedOf q e) in
-      told nacc-made-number nacc-made.Refused (λ n. refl) nacc-made-back (nacc-law.angledOf (nacc-law.madeOf a))
-      (gated F tested (cond (nacc-law.moduliFinite q) (nacc-made.Law q) (nacc-made.Refused 3)) (nacc-made.Refused 1)
-      (finite-met F (nacc-law.moduliFinite q) (nacc-made.Law q) (nacc-made.Refused 3) (sin x ∷ root third ∷ end)
-      (sin-met (λ e. G (nacc-law.frictionSined e)) (λ n. refl) x (root third ∷ end)
-      (root-met (λ e. G (nacc-law.frictionRooted e (sinOf x))) (λ n. refl) third end
-      (finite-met G (finite m) (answers.Value m) (answers.Refused 3) [] refl refl))) refl) refl)
+      let w = after (naccAngled a) in
+      let T : nacc-made-type.Made → Option ℕ = λ y. nacc-number (nacc-law.angledOf y) in
+      let G : Answer → Option ℕ = λ e. nacc-number (nacc-law.framedOf q e) in
+      told nacc-number nacc-made.Refused (λ n. refl) nacc-back (nacc-law.angledOf (nacc-law.madeOf a)) l w (λ s r. tt)
+      (entered T l ok all-inputs (cond (nacc-law.moduliFinite q) (nacc-made.Law q) (nacc-made.Refused 3)) (nacc-made.Refused 1) w
+      (tested T 3 (nacc-law.moduliFinite q) (nacc-made.Law q) (nacc-made.Refused 3) _
+      (asked (λ e. G (nacc-law.frictionSined e)) (λ n. refl) (onPath (a .m) (sinRanged (a .m))) _ (λ s.
+      asked (λ e. G (nacc-law.frictionRooted e s)) (λ n. refl) (onPath third (sqrtRanged third)) _ (λ r.
+      tested G 3 (finite (nacc-law.frictionOf r s)) (answers.Value (nacc-law.frictionOf r s)) (answers.Refused 3) (given (nacc-law.frictionOf r s)) refl refl))) refl) refl)
+
+-- ---- one update
+module _ (u vt : List (List Float)) (s : State) where
+  updates : (m : Model) → Refuses (modelUpdate m u vt s .outcome) (path (walkOf m u vt s))
+  updates m = outcome-numbers s (modelUpdate m u vt s .outcome) (parametersOf m ++ floatsOf u vt s) (stepsOf m u vt s) (steps-inner m u vt s) (ap (λ v. v .outcome) (walked m u vt s))
+
+  rankine-updates : (p : RankinePlasticity) → Refuses (rankine.rankineUpdate p u vt s .outcome) (path (rankine.rankineWalk p u vt s))
+  unfolding rankine.rankineWalk
+  rankine-updates p =
+      outcome-numbers s (rankine.rankineUpdate p u vt s .outcome) (rankine.floats (rankine-law.parametersOf p) u vt s) (rankine-law.moduli p (rankine.runWalk p (s .sigma) u vt s))
+      (rankine-inner u vt s p) refl
+
+  nacc-updates : (p : NaccPlasticity) → Refuses (nacc.naccUpdate p u vt s .outcome) (path (nacc.naccWalk p u vt s))
+  unfolding nacc.naccWalk
+  nacc-updates p =
+      outcome-numbers s (nacc.naccUpdate p u vt s .outcome) (nacc.floats (nacc-law.parametersOf p) u vt s) (nacc.moduli p (nacc.runWalk p u vt s)) (nacc-inner p u vt s) refl
 
 -- ---- a projection
-abbrev rankine-branch-number : rankine-branch-type.Branch → Option ℕ
-rankine-branch-number (rankine-branch.Untouched x y) = none
-rankine-branch-number (rankine-branch.One x y) = none
-rankine-branch-number (rankine-branch.Two x y) = none
-rankine-branch-number (rankine-branch.All x y) = none
-rankine-branch-number (rankine-branch.Refused n) = some n
+module _ (e : List Float) (s : Float) where
+  projects : (l : List Float) (p : RankinePlasticity)
+      → Beside (rankine-projection.vectorOf (result (inputs l (rankine-law.moduli p (rankine-projection.projectWalk p e (num s) then rankine-projection.returnedWalk)))) .refusal)
+      (path (inputs l (rankine-law.moduli p (rankine-projection.projectWalk p e (num s) then rankine-projection.returnedWalk))))
+  projects l p =
+      ended-beside (λ x. rankine-projection.vectorOf x .refusal) (λ v. refl) (λ n. refl) l (rankine-law.moduli p (rankine-projection.projectWalk p e (num s) then rankine-projection.returnedWalk))
+      (inner-then (rankine-projection.projectWalk p e (num s)) rankine-projection.returnedWalk (rankine-project p e (num s)) (λ x. tt))
 
-rankine-branch-back : (x : rankine-branch-type.Branch) (n : ℕ) → rankine-branch-number x ≡ some n → x ≡ rankine-branch.Refused n
-rankine-branch-back (rankine-branch.Untouched x y) n e = absurd (nothing n e)
-rankine-branch-back (rankine-branch.One x y) n e = absurd (nothing n e)
-rankine-branch-back (rankine-branch.Two x y) n e = absurd (nothing n e)
-rankine-branch-back (rankine-branch.All x y) n e = absurd (nothing n e)
-rankine-branch-back (rankine-branch.Refused m) n e = ap rankine-branch.Refused (differ e)
+  rankine-projects : (p : RankinePlasticity) → Beside (rankine-projection.projectOf p e s .refusal) (path (rankine-projection.projectCall p e s))
+  unfolding rankine-projection.projectCall
+  rankine-projects p = projects (rankine-projection.callFloats (rankine-law.parametersOf p) e s) p
 
-rankine-projects : (p : RankinePlasticity) (e : List Float) (s : Float)
-    → Numbers (λ n. rankine-projection.projectOf p e s .branch ≡ rankine-branch.Refused n) (rankine-projection.parametersFinite p && rowFinite e && finite s ≡ false)
-    (rankineProjection p e s)
-unfolding rankine-projection.projectOf rankine-projection.projectedOf firstOf
-rankine-projects p e s =
-    let q = rankine-projection.projectedOf p e s in
-    let three = rankine-projection.refusedStrains 3 in
-    let ok = rankine-projection.moduliFinite p in
-    let fine = rowFinite (q .strains) in
-    let tests = projectionPath p e s [] in
-    told rankine-branch-number rankine-branch.Refused (λ n. refl) rankine-branch-back (rankine-projection.projectOf p e s .branch)
-    (gated (λ x. rankine-branch-number (x .branch)) (rankine-projection.parametersFinite p && rowFinite e && finite s) (cond ok (cond fine q three) three) (rankine-projection.refusedStrains 1)
-    (finite-met (λ x. rankine-branch-number (x .branch)) ok (cond fine q three) three (all-finite fine ∷ tests)
-    (finite-met (λ x. rankine-branch-number (x .branch)) fine q three tests
-    (tests-met p rankine-branch-number [] (λ x y. refl) (λ x y. refl) (λ x y. refl) (λ x y. refl) refl s _ _) refl) refl) refl)
+  arguments-project : (a : RankineArguments) → Beside (rankine-projection.argumentsProject a e s .refusal) (path (rankine-projection.argumentsCall a e s))
+  unfolding rankine-projection.argumentsCall
+  arguments-project a = projects (rankine-projection.callFloats (rankine-law.argumentsFloats a) e s) (rankine-law.lawOf a)
 
-abbrev drucker-branch-number : drucker-branch-type.Branch → Option ℕ
-drucker-branch-number (drucker-branch.Isotropic x y) = none
-drucker-branch-number (drucker-branch.Expanding x y) = none
-drucker-branch-number (drucker-branch.Inside x y) = none
-drucker-branch-number (drucker-branch.Surface x y z) = none
-drucker-branch-number (drucker-branch.Refused n) = some n
+drucker-way : (w : drucker-projection.Way) (dq : Float) → refusalOf (drucker-projection.outcomeOf (drucker-projection.branchOf w) dq) ≡ none
+drucker-way (drucker-projection.isotropic d) dq = refl
+drucker-way (drucker-projection.expanding x) dq = refl
+drucker-way (drucker-projection.inside x) dq = refl
+drucker-way (drucker-projection.surface x norm) dq = refl
 
-drucker-branch-back : (x : drucker-branch-type.Branch) (n : ℕ) → drucker-branch-number x ≡ some n → x ≡ drucker-branch.Refused n
-drucker-branch-back (drucker-branch.Isotropic x y) n e = absurd (nothing n e)
-drucker-branch-back (drucker-branch.Expanding x y) n e = absurd (nothing n e)
-drucker-branch-back (drucker-branch.Inside x y) n e = absurd (nothing n e)
-drucker-branch-back (drucker-branch.Surface x y z) n e = absurd (nothing n e)
-drucker-branch-back (drucker-branch.Refused m) n e = ap drucker-branch.Refused (differ e)
-
-abbrev given-back : drucker-projected.Projected → Option ℕ
-given-back q = drucker-branch-number (drucker-projection.returnedProjection q .branch)
-
--- the zeros beside a refusal are finite
-handed : (n : ℕ) → given-back (drucker-projection.refusedProjection (suc n)) ≡ some (suc n)
-unfolding drucker-projection.returnedProjection finite ofBits
-handed n = refl
-
-result : (b : drucker-branch-type.Branch) (v : List Float) (dq : Float) → drucker-branch-number b ≡ none
-    → given-back (record { branch = b; sigma = v; dq = dq }) ≡ firstOf (druckerResults v dq)
-unfolding drucker-projection.returnedProjection firstOf
-result b v dq e =
-    finite-met (λ q. drucker-branch-number (q .branch)) (rowFinite v && finite dq) (record { branch = b; sigma = v; dq = dq }) (drucker-projection.refusedProjection 3) [] e refl
+drucker-told : (x : Ended drucker-projection.Returned) → refusalOf (drucker-projection.resultsOf (drucker-projection.projectedOf x) .outcome) ≡ refusalIn x
+drucker-told (given q) = drucker-way (q .way) (q .dq)
+drucker-told (refused n) = refl
 
 drucker-projects : (p : DruckerPragerPlasticity) (sigma : List Float) (gain alpha : Float)
-    → Numbers (λ n. drucker-projection.projectOf p sigma gain alpha .branch ≡ drucker-branch.Refused n)
-    (drucker-prager.parametersFinite p && rowFinite sigma && finite gain && finite alpha ≡ false)
-    (projectedPath p sigma gain alpha (druckerResults sigma zero) druckerResults)
-unfolding drucker-projection.projectOf
+    → Numbers (λ n. drucker-projection.resultsOf (drucker-projection.projectedOf (result (drucker-projection.projectCall dim p sigma gain alpha))) .outcome ≡ outcome.Refused n)
+    (path (drucker-projection.projectCall dim p sigma gain alpha))
+unfolding drucker-projection.projectCall drucker-projection.returnedWalk
 drucker-projects p sigma gain alpha =
-    told drucker-branch-number drucker-branch.Refused (λ n. refl) drucker-branch-back (drucker-projection.projectOf p sigma gain alpha .branch)
-    (gated (λ q. drucker-branch-number (q .branch)) (drucker-prager.parametersFinite p && rowFinite sigma && finite gain && finite alpha)
-    (drucker-projection.returnedProjection (drucker-projection.projectedOf p sigma gain alpha)) (drucker-projection.refusedProjection 1)
-    (projected-met p sigma given-back (druckerResults sigma zero) druckerResults consumes gain alpha) refl)
-  where
-    consumes : Consumes sigma given-back (druckerResults sigma zero) druckerResults
-    consumes =
-        record {
-          on = handed;
-          isotropic = λ x y v dq. result (drucker-branch.Isotropic x y) v dq refl;
-          expanding = λ x y v dq. result (drucker-branch.Expanding x y) v dq refl;
-          surface = λ x y z v dq. result (drucker-branch.Surface x y z) v dq refl;
-          within = λ x y. result (drucker-branch.Inside x y) sigma zero refl;
-        }
+    let w = drucker-projection.projectWalk dim p sigma gain alpha in
+    told refusalOf outcome.Refused (λ n. refl) as-outcome _ (drucker-projection.projectFloats p sigma gain alpha) (w then drucker-projection.returnedWalk)
+    (inner-then w drucker-projection.returnedWalk (drucker-project p dim sigma alpha gain) (λ x. tt)) (drucker-told (result (drucker-projection.projectCall dim p sigma gain alpha)))
 
-abbrev nacc-branch-number : nacc-branch-type.Branch → Option ℕ
-nacc-branch-number (nacc-branch.Upper x y) = none
-nacc-branch-number (nacc-branch.Lower x y) = none
-nacc-branch-number (nacc-branch.Inside x y) = none
-nacc-branch-number (nacc-branch.Surface x y) = none
-nacc-branch-number (nacc-branch.Refused n) = some n
+nacc-way : (w : nacc.Way) (alpha : Float) → refusalOf (nacc.outcomeOf (nacc.branchOf w) alpha) ≡ none
+nacc-way (nacc.upper x y) alpha = refl
+nacc-way (nacc.lower x y) alpha = refl
+nacc-way (nacc.inside x y) alpha = refl
+nacc-way (nacc.surface x y) alpha = refl
 
-nacc-branch-back : (x : nacc-branch-type.Branch) (n : ℕ) → nacc-branch-number x ≡ some n → x ≡ nacc-branch.Refused n
-nacc-branch-back (nacc-branch.Upper x y) n e = absurd (nothing n e)
-nacc-branch-back (nacc-branch.Lower x y) n e = absurd (nothing n e)
-nacc-branch-back (nacc-branch.Inside x y) n e = absurd (nothing n e)
-nacc-branch-back (nacc-branch.Surface x y) n e = absurd (nothing n e)
-nacc-branch-back (nacc-branch.Refused m) n e = ap nacc-branch.Refused (differ e)
-
--- the update hands a projection's refusal on
-handed-on : (b : nacc-branch-type.Branch) (f : Rows) (sigma : List Float) (alpha : Float) (s : State) → nacc-branch-number b ≡ refusalOf (nacc.storedBy b f sigma alpha s .outcome)
-handed-on (nacc-branch.Upper x y) f sigma alpha s = refl
-handed-on (nacc-branch.Lower x y) f sigma alpha s = refl
-handed-on (nacc-branch.Inside x y) f sigma alpha s = refl
-handed-on (nacc-branch.Surface x y) f sigma alpha s = refl
-handed-on (nacc-branch.Refused n) f sigma alpha s = refl
+nacc-told : (x : Ended nacc.Result) → refusalOf (nacc.resultsOf (nacc.projectedOf x) .outcome) ≡ refusalIn x
+nacc-told (given q) = nacc-way (q .way) (q .shape .alpha)
+nacc-told (refused n) = refl
 
 nacc-projects : (p : NaccPlasticity) (f u : List (List Float)) (sigma : List Float) (vt : List (List Float)) (alpha : Float)
-    → Numbers (λ n. nacc.projectOf p f u sigma vt alpha .branch ≡ nacc-branch.Refused n) (nacc.projectionInputs p f u sigma vt alpha ≡ false)
-    (all-finite (nacc-law.moduliFinite p) ∷ naccPath p u vt (projectedState f sigma alpha))
-unfolding nacc.projectOf nacc.naccRun nacc.storedOf
+    → Numbers (λ n. nacc.resultsOf (nacc.projectedOf (result (nacc.projectCall p f u sigma vt alpha))) .outcome ≡ outcome.Refused n) (path (nacc.projectCall p f u sigma vt alpha))
+unfolding nacc.projectCall
 nacc-projects p f u sigma vt alpha =
-    let s = projectedState f sigma alpha in
-    let ok = nacc-law.moduliFinite p in
-    let x = nacc.projectedOf (nacc.stepsOf p sigma alpha) (rowsOf f) u vt in
-    told nacc-branch-number nacc-branch.Refused (λ n. refl) nacc-branch-back (nacc.projectOf p f u sigma vt alpha .branch)
-    (gated (λ y. nacc-branch-number (y .branch)) (nacc.projectionInputs p f u sigma vt alpha) (cond ok x (nacc.refusedProjection 3)) (nacc.refusedProjection 1)
-    (finite-met (λ y. nacc-branch-number (y .branch)) ok x (nacc.refusedProjection 3) (naccPath p u vt s)
-    (handed-on (x .branch) (x .f) (x .sigma) (x .alpha) s ∙ nacc-met p u vt s) refl) refl)
+    told refusalOf outcome.Refused (λ n. refl) as-outcome _ (nacc.projectFloats p f u sigma vt alpha)
+    (nacc.moduli p (nacc.projectWalk p (rowsOf f) u sigma vt alpha)) (nacc-project p (rowsOf f) u sigma vt alpha) (nacc-told (result (nacc.projectCall p f u sigma vt alpha)))
 
 -- ---- all of them
 pub laws : Laws
@@ -331,10 +312,11 @@ laws =
       rankine-new = rankine-gives;
       nacc-with-m = with-m-gives;
       nacc-new = new-gives;
-      update = λ m u vt s. outcome-numbers _ (gate m u vt s) (λ q. q, λ q. q);
-      rankine-update = λ p u vt s. outcome-numbers _ (rankine-gate u vt s p) (λ q. q, λ q. q);
-      nacc-update = λ p u vt s. outcome-numbers _ (nacc-gate u vt s p) (λ q. q, λ q. q);
-      rankine-project = rankine-projects;
+      update = λ m u vt s. updates u vt s m;
+      rankine-update = λ p u vt s. rankine-updates u vt s p;
+      nacc-update = λ p u vt s. nacc-updates u vt s p;
+      rankine-project = λ p e s. rankine-projects e s p;
+      rankine-arguments-project = λ a e s. arguments-project e s a;
       drucker-project = drucker-projects;
       nacc-project = nacc-projects;
     }

@@ -1,11 +1,7 @@
-pub mod First
-pub mod Walk
-pub mod Snow
-pub mod Rankine
-pub mod DruckerPrager
-pub mod Nacc
+pub mod Inner
+pub mod Numbers
 pub mod Inputs
-pub mod Gate
+pub mod Answers
 pub mod Updates
 pub mod Failure
 pub mod Passes

@@ -17,10 +17,10 @@ use Rattle.particles.specs.declared.failure.FailureCounts.{FailureCounts}
 use Rattle.particles.specs.declared.failure.PassedWithFailure.the-variants as failure-pass
 use Rattle.particles.specs.Pass.{Worked, codeOf, valueOf, recordAt, answers, wellSized, passAnswers}
 use Rattle.particles.proofs.PassLaws.{answers-length}
+use Rattle.walk.specs.Exact.{Met}
 use Rattle.sheet_run.proofs.Parts.{taken, sized, quotient, well}
-use Rattle.refusals.specs.Path.{Met}
 use Rattle.refusals.specs.Refusals.{Refuses, Answers, Sized, Eight, Pass}
-use Rattle.refusals.proofs.Gate.{transfer}
+use Rattle.refusals.proofs.Numbers.{transfer}
 use Rattle.refusals.proofs.Inputs.{no-both, decide}
 
 -- ---- 8
@@ -93,8 +93,8 @@ refused-by (Refused n) e = refl
 answered : (o : Outcome) (n : ℕ) → ((codeOf o ≡ 2) × (valueOf o ≡ n)) ↔ (o ≡ Refused n)
 answered o n = (λ p. refused-by o (p .0) ∙ ap Refused (p .1), λ e. (ap codeOf e, ap valueOf e))
 
-answers-of : {bad : Type 0} {path : List Met} (o : Outcome) → Refuses o bad path → (a : List ℕ) (i : ℕ)
-    → getD a (i * 2) 0 ≡ codeOf o → getD a (i * 2 + 1) 0 ≡ valueOf o → Answers a i bad path
+answers-of : {ms : List Met} (o : Outcome) → Refuses o ms → (a : List ℕ) (i : ℕ)
+    → getD a (i * 2) 0 ≡ codeOf o → getD a (i * 2 + 1) 0 ≡ valueOf o → Answers a i ms
 answers-of o r a i c v = transfer (λ n. (to n, from n)) r
   where
     to : (n : ℕ) → (getD a (i * 2) 0 ≡ 2) × (getD a (i * 2 + 1) 0 ≡ n) → o ≡ Refused n
@@ -103,11 +103,11 @@ answers-of o r a i c v = transfer (λ n. (to n, from n)) r
     from : (n : ℕ) → o ≡ Refused n → (getD a (i * 2) 0 ≡ 2) × (getD a (i * 2 + 1) 0 ≡ n)
     from n e = let q = answered o n .1 e in (c ∙ q .0, v ∙ q .1)
 
-pub pass-refuses : (law : List ℕ → Worked) (bad : List ℕ → Type 0) (path : List ℕ → List Met) (R : ℕ → Type 0) (xs out : List ℕ)
-    → ((r : List ℕ) → Refuses (law r .outcome) (bad r) (path r)) → Eight R xs out → Pass law bad path R xs out
-pass-refuses law bad path R xs out f e = record { eight = e; records = records }
+pub pass-refuses : (law : List ℕ → Worked) (ms : List ℕ → List Met) (R : ℕ → Type 0) (xs out : List ℕ)
+    → ((r : List ℕ) → Refuses (law r .outcome) (ms r)) → Eight R xs out → Pass law ms R xs out
+pass-refuses law ms R xs out f e = record { eight = e; records = records }
   where
-    records : (k : ℕ) → Sized xs out k → (i : ℕ) → i < k → Answers (passAnswers law xs out) i (bad (recordAt xs i)) (path (recordAt xs i))
+    records : (k : ℕ) → Sized xs out k → (i : ℕ) → i < k → Answers (passAnswers law xs out) i (ms (recordAt xs i))
     records k s i h =
         let q : passAnswers law xs out ≡ answers law xs k =
         taken (wellSized xs out) (answers law xs (length xs / floats)) out (well xs out k s) ∙ ap (answers law xs) (quotient xs out k (s .0)) in

@@ -1,182 +1,154 @@
--- Section 6 of the calls that give a number, two numbers, a matrix or a verdict: bad says that an input isn't finite, by the test
--- that the contract cites. Proved in proofs/Calls.
+-- Section 6 of the calls that give a number, two numbers, a matrix or a verdict. Proved in proofs/Calls. ok is the contract's test of the
+-- call's floats l. A call that is no walk in its own crate has one here: what its contract works, in its order.
 use mathlib.Core.Path.{_≡_}
-use mathlib.Core.Bool.{Bool, false, cond, _&&_}
-use mathlib.Core.List.{List, [], _∷_}
-use Prim.Native.Nat.{_<_}
+use mathlib.Core.Bool.{Bool, cond}
+use mathlib.Core.List.{List, [], _∷_, _++_}
+use Prim.Native.Nat.{ℕ, _<_}
 use lib.Ieee as Ieee
 use lib.Ieee.{Float}
 use Rattle.numbers.specs.Floats.{finite, maxOf, minOf}
-use Rattle.answers.specs.Answer.{answeredOf, given}
-use Rattle.numbers.specs.Power.{powiOf}
-use Rattle.answers.specs.declared.Answer.{Answer}
-use Rattle.answers.specs.declared.Answer.the-variants as answers
-use Rattle.exact.specs.RootOf.{sqrtOf}
-use Rattle.exponential.specs.Worked.{expOf}
-use Rattle.logarithm.specs.Worked.{lnOf}
-use Rattle.sine.specs.Sine.{sinOf}
-use Rattle.thirds.specs.Thirds.{invCbrtOf, invCbrtSquaredOf}
-use Rattle.tensor.specs.Matrix.{add, sub, mul, div, zero, one, detOf}
-use Rattle.tensor.specs.Finite.{rowFinite, matFinite}
-use Rattle.tensor.specs.Number.{matNumber}
-use Rattle.tensor.specs.Inverse.{inverseTransposeOf}
-use Rattle.tensor.specs.Answer.{answered, answeredVector, givenMatrix, givenVector}
-use Rattle.tensor.specs.Decomposed.{tensorFinite, answeredTensor, givenTensor}
-use Rattle.tensor.specs.declared.DecomposedTensor.{DecomposedTensor}
-use Rattle.tensor.specs.declared.MatrixAnswer.{MatrixAnswer}
-use Rattle.physics.specs.Physics.{two}
-use Rattle.answers.specs.Answer.{pairOf, givenPair}
-use Rattle.physics.specs.Quadratic.{discriminantOf, solveQuadraticOf}
+use Rattle.answers.specs.Answer.{answeredOf, given, pairOf, givenPair}
 use Rattle.answers.specs.declared.Pair.{Pair}
 use Rattle.answers.specs.declared.Pair.the-variants as pair
+use Rattle.tensor.specs.Axes.{allOf}
+use Rattle.tensor.specs.Matrix as tensor
+use Rattle.tensor.specs.Matrix.{detOf, ofRows}
+use Rattle.tensor.specs.Answer.{answered, answeredVector, givenMatrix, givenVector}
+use Rattle.tensor.specs.Decomposed.{answeredTensor, givenTensor}
+use Rattle.tensor.specs.declared.DecomposedTensor.{DecomposedTensor}
+use Rattle.tensor.specs.declared.MatrixAnswer.{MatrixAnswer}
+use Rattle.numbers.specs.Constants.{two, four}
+use Rattle.physics.specs.Quadratic.{solveQuadraticOf}
+use Rattle.walk.specs.Expr.{Expr, num, neg, _+_, _-_, _*_, _/_, value, values, nums}
+use Rattle.walk.specs.Walk.{Walk, root, flag, inputs, ask, work, split, results, end, result, answerAs}
+use Rattle.walk.specs.Exact.{Met, path}
+use Rattle.walk.specs.Every.{flat}
+use Rattle.walk.specs.Tensor.{worth, rows}
+use Rattle.walk.specs.Answers.{returned, returnedMatrix}
 use Rattle.plasticity_drucker_prager.specs.declared.DruckerPragerPlasticity.{DruckerPragerPlasticity}
-use Rattle.plasticity_drucker_prager.specs.Law as drucker-prager
-use Rattle.plasticity_drucker_prager.specs.Alpha.{decayOf, angleOf, slopeOf, alphaOf}
+use Rattle.plasticity_drucker_prager.specs.Alpha.{alphaCall}
 use Rattle.failure_maximum_stress.specs.declared.MaximumStressFailure.{MaximumStressFailure}
 use Rattle.failure_maximum_stress.specs.declared.Verdict.the-variants as verdict
-use Rattle.failure_maximum_stress.specs.Failure.{limitsFinite, verdictOf}
+use Rattle.failure_maximum_stress.specs.Failure.{verdictOf}
 use Rattle.elasticity_neo_hookean.specs.declared.NeoHookeanElasticity.{NeoHookeanElasticity}
-use Rattle.elasticity_neo_hookean.specs.Law as neo-hookean
 use Rattle.elasticity_neo_hookean.specs.Stress as neo-stress
 use Rattle.elasticity_neo_hookean.specs.Energy as neo-energy
 use Rattle.elasticity_corotated_linear.specs.declared.CorotatedLinearElasticity.{CorotatedLinearElasticity}
-use Rattle.elasticity_corotated_linear.specs.Law as corotated
 use Rattle.elasticity_corotated_linear.specs.Stress as corotated-stress
 use Rattle.elasticity_corotated_linear.specs.Energy as corotated-energy
 use Rattle.eos_monaghan_sph.specs.declared.MonaghanSphEos.{MonaghanSphEos}
 use Rattle.eos_monaghan_sph.specs.Pressure as monaghan
 use Rattle.eos_monaghan_sph.specs.Stress as monaghan-stress
 use Rattle.eos_monaghan_sph.specs.Timestep as monaghan-timestep
-use Rattle.refusals.specs.Path.{Met, number, all-numbers, all-finite, exp, ln, sin, root, thirdPower}
-use Rattle.refusals.specs.Refusals.{Numbers}
+use Rattle.refusals.specs.Refusals.{Numbers, Gives}
 
-abbrev pub Gives : Answer → Bool → List Met → Type 0
-Gives e ok path = Numbers (λ n. e ≡ answers.Refused n) (ok ≡ false) path
+abbrev pub GivesPair : Pair → List Met → Type 0
+GivesPair e ms = Numbers (λ n. e ≡ pair.Refused n) ms
 
-abbrev pub GivesPair : Pair → Bool → List Met → Type 0
-GivesPair e ok path = Numbers (λ n. e ≡ pair.Refused n) (ok ≡ false) path
+-- the refusal stands beside the matrix or the vector, 0 where there is none
+abbrev pub Beside : ℕ → List Met → Type 0
+Beside refusal ms = Numbers (λ n. (0 < n) × (refusal ≡ n)) ms
 
--- the refusal stands beside the matrix, 0 where there is none
-abbrev pub GivesMatrix : MatrixAnswer → Bool → List Met → Type 0
-GivesMatrix a ok path = Numbers (λ n. (0 < n) × (a .refusal ≡ n)) (ok ≡ false) path
+-- ---- a result with nothing met before it
+abbrev pub pairWalk : List Float → Expr → Expr → Walk Float
+pairWalk l a b = inputs l (results 1 ((a ∷ b ∷ []) ∷ []) (end (value a)))
 
--- ---- neo-Hookean: k and the matrices, the power of j, the logarithm of j in an energy, the result
-module _ (p : NeoHookeanElasticity) (h : Float) (f : List (List Float)) where
-  abbrev pub neoStressPath : Float → List Met
-  neoStressPath phase =
+abbrev pub vectorWalk : List Float → List Expr → Walk (List Float)
+vectorWalk l v = inputs l (results 1 (v ∷ []) (end (values v)))
+
+abbrev pub tensorWalk : List Float → DecomposedTensor → Walk DecomposedTensor
+tensorWalk l t = inputs l (results 1 (rows (ofRows (t .«deviatoric_part»))) (results 1 ((num (t .«spherical_part») ∷ []) ∷ []) (end t)))
+
+-- ---- `solve_quadratic`
+abbrev pub quadraticWalk : Float → Float → Float → Walk Float
+quadraticWalk a b c =
+    inputs (a ∷ b ∷ c ∷ []) (ask 1 root (num b * num b - num four * num a * num c) (λ s.
+    results 2 (((neg (num b) + s) / (num two * num a) ∷ (neg (num b) - s) / (num two * num a) ∷ []) ∷ []) (end (value s))))
+
+-- ---- the verdict: after 1 there is nothing to refuse
+abbrev pub verdictWalk : MaximumStressFailure → List Float → Walk (List Float)
+verdictWalk l s = inputs (l .«max_principal_stress» ∷ l .«max_shear_stress» ∷ s) (end s)
+
+-- ---- corotated
+module _ (p : CorotatedLinearElasticity) where
+  abbrev pub corotatedFloats : List Float
+  corotatedFloats = p .«cfl_coeff» ∷ p .lambda ∷ p .mu ∷ []
+
+  abbrev pub corotatedStress : Float → Float → List (List Float) → List (List Float) → List Float → List (List Float) → Walk (List (List Float))
+  corotatedStress phase h f u s vt =
+      inputs (corotatedFloats ++ (phase ∷ h ∷ (flat f ++ (flat u ++ (s ++ flat vt))))) (returnedMatrix 1 (rows (corotated-stress.stressOf p phase h f u s vt)))
+
+  abbrev pub corotatedEnergy : List Float → Float → Walk Float
+  corotatedEnergy s h = inputs (corotatedFloats ++ (s ++ (h ∷ []))) (returned 1 (num (corotated-energy.energyOf p s h)))
+
+  abbrev pub corotatedPos : List (List Float) → List Float → Float → Walk Float
+  corotatedPos f s h =
       let j = detOf f in
-      let k = neo-hookean.bulkOf p h in
-      let b = neo-hookean.cauchyGreenOf f in
-      let shear = neo-stress.shearStress p h (invCbrtSquaredOf j) b in
-      number k ∷ all-numbers (matNumber b) ∷ thirdPower j
-      ∷ all-finite (matFinite (neo-stress.splitSum (neo-hookean.phaseCoeffOf phase) j shear (neo-stress.volumetricStress j k))) ∷ []
+      let deviatoric = corotated-energy.deviatoricEnergy p (corotated-stress.positiveOf (corotated-stress.lessOneOf s)) h in
+      inputs (corotatedFloats ++ (flat f ++ (s ++ (h ∷ [])))) (work 1 (num (corotated-energy.sphericalEnergy p j h)) (λ spherical.
+      returned 2 (num (cond (Ieee.lt j tensor.one) deviatoric (tensor.add deviatoric (value spherical))))))
 
-  abbrev pub neoFpkPath : List Met
-  neoFpkPath =
-      let j = detOf f in
-      let k = neo-hookean.bulkOf p h in
-      let g = inverseTransposeOf f j in
-      let b = neo-hookean.cauchyGreenOf f in
-      number k ∷ all-numbers (matNumber g) ∷ all-numbers (matNumber b) ∷ thirdPower j
-      ∷ all-finite (matFinite (neo-stress.fpkOf p h j k (invCbrtSquaredOf j) g b)) ∷ []
+-- ---- Monaghan's step: the velocity's root
+module _ (velocity : List Float) (width : Float) where
+  abbrev pub otherWalk : Walk Float
+  otherWalk = ask 6 root (num (monaghan-timestep.speedSquareOf velocity)) (λ s. returned 7 (num width / s))
 
-  abbrev pub neoEnergyPath : Float → List Met
-  neoEnergyPath phase =
-      let j = detOf f in
-      let k = neo-energy.kappaOf p h in
-      let volumetric = neo-energy.volumetricEnergy k (powiOf j 2) (lnOf j) in
-      number k ∷ thirdPower j ∷ ln j
-      ∷ all-finite (finite (neo-energy.energySum (neo-hookean.phaseCoeffOf phase) j (neo-energy.deviatoricEnergy p h (invCbrtOf j) f) volumetric)) ∷ []
+  abbrev pub smallerWalk : Float → Walk Float
+  smallerWalk step = ask 6 root (num (monaghan-timestep.speedSquareOf velocity)) (λ s. returned 7 (num (minOf step (tensor.div width (value s)))))
 
-  abbrev pub neoPosPath : Float → List Met
-  neoPosPath phase =
-      let j = detOf f in
-      let k = neo-hookean.bulkOf p h in
-      let b = neo-hookean.cauchyGreenOf f in
-      let deviatoric = neo-energy.posDeviatoric p h (invCbrtSquaredOf j) b in
-      let volumetric = neo-energy.volumetricEnergy k (mul j j) (lnOf j) in
-      number k ∷ all-numbers (matNumber b) ∷ thirdPower j ∷ ln j ∷ number volumetric
-      ∷ all-finite (finite (cond (Ieee.lt j one) (mul deviatoric (neo-hookean.phaseCoeffOf phase)) (mul (add deviatoric volumetric) phase))) ∷ []
+  abbrev pub steppedWalk : Float → Float → Walk Float
+  steppedWalk lead a = ask 4 root (num a) (λ r. work 5 (num lead * r) (λ step. smallerWalk (value step)))
+
+  -- "where the single-particle root's argument is negative, or NaN .., the other step is the answer"
+  abbrev pub singleWalk : Float → Float → Walk Float
+  singleWalk lead a = split 4 (flag (Ieee.le tensor.zero a)) (steppedWalk lead a) otherWalk
 
 -- ---- Monaghan: the ratio and the pressure before its bound; then the result
 module _ (law : MonaghanSphEos) (mass volume density : Float) where
-  abbrev pub unbounded : Float
-  unbounded = monaghan.unboundedOf law (monaghan.ratioOf mass volume density)
+  abbrev pub monaghanFloats : List Float
+  monaghanFloats = law .pressure0 ∷ law .viscosity ∷ law .«max_neg_pressure» ∷ mass ∷ volume ∷ density ∷ []
 
-  abbrev pub bounded : Float
-  bounded = maxOf unbounded (Ieee.neg (law .«max_neg_pressure»))
+  abbrev pub pressed : {A : Type 0} → (Float → Walk A) → Walk A
+  pressed k =
+      work 1 (num (monaghan.ratioOf mass volume density)) (λ ratio.
+      work 2 (num (monaghan.unboundedOf law (value ratio))) (λ x.
+      k (maxOf (value x) (Ieee.neg (law .«max_neg_pressure»)))))
 
-  abbrev pub pressed : List Met → List Met
-  pressed ms = number (monaghan.ratioOf mass volume density) ∷ number unbounded ∷ ms
+  abbrev pub pressureWalk : Walk Float
+  pressureWalk = inputs monaghanFloats (pressed (λ p. returned 3 (num p)))
 
-  -- "where the single-particle root's argument is negative, or NaN .., the other step is the answer"
-  abbrev pub timestepPath : Float → List Float → Float → List Met
-  timestepPath j velocity width =
-      let lead = div width j in
-      let a = monaghan-timestep.argumentOf j (div mass volume) bounded in
-      let v = monaghan-timestep.speedSquareOf velocity in
-      let step = mul lead (sqrtOf a) in
-      let other = div width (sqrtOf v) in
-      pressed
-      (number lead
-      ∷ cond (Ieee.le zero a) (root a ∷ number step ∷ root v ∷ all-finite (finite (minOf step other)) ∷ []) (root v ∷ all-finite (finite other) ∷ []))
+  abbrev pub monaghanStress : Float → List (List Float) → Walk (List (List Float))
+  monaghanStress det gradient =
+      inputs (monaghanFloats ++ (det ∷ flat gradient)) (pressed (λ p. returnedMatrix 3 (rows (monaghan-stress.stressOf law det p gradient))))
 
-abbrev pub alphaPath : DruckerPragerPlasticity → Float → List Met
-alphaPath p q =
-    let x = angleOf p q (expOf (decayOf p q)) in
-    let third = div drucker-prager.two drucker-prager.dim in
-    let alpha = slopeOf (sqrtOf third) (sinOf x) in
-    exp (decayOf p q) ∷ sin x ∷ root third ∷ number alpha ∷ all-finite (finite alpha) ∷ []
-
-abbrev pub quadraticPath : Float → Float → Float → List Met
-quadraticPath a b c =
-    let d = discriminantOf a b c in
-    let s = sqrtOf d in
-    root d ∷ all-finite (finite (div (add (Ieee.neg b) s) (mul two a)) && finite (div (sub (Ieee.neg b) s) (mul two a))) ∷ []
-
-abbrev pub posPath : CorotatedLinearElasticity → List (List Float) → List Float → Float → List Met
-posPath p f s h =
-    let j = detOf f in
-    let deviatoric = corotated-energy.deviatoricEnergy p (corotated-stress.positiveOf (corotated-stress.lessOneOf s)) h in
-    let spherical = corotated-energy.sphericalEnergy p j h in
-    number spherical ∷ all-finite (finite (cond (Ieee.lt j one) deviatoric (add deviatoric spherical))) ∷ []
+  abbrev pub timestepWalk : Float → List Float → Float → Walk Float
+  timestepWalk j velocity width =
+      inputs (monaghanFloats ++ (j ∷ (velocity ++ (width ∷ []))))
+      (pressed (λ p. work 3 (num width / num j) (λ lead. singleWalk velocity width (value lead) (monaghan-timestep.argumentOf j (tensor.div mass volume) p))))
 
 pub record Calls : Type 0 where
-  -- a result with nothing met before it: `inv_exact`, the moduli, `phase_coeff`, `spherical_part`; `lame_lambda_mu`;
-  -- the tensor parts, `DecomposedTensor`'s calls
-  pub one-number : (ok : Bool) (x : Float) → Gives (given ok (answeredOf x)) ok (all-finite (finite x) ∷ [])
-  pub two-numbers : (ok : Bool) (x y : Float) → GivesPair (givenPair ok (pairOf x y)) ok (all-finite (finite x && finite y) ∷ [])
-  pub matrix : (ok : Bool) (m : List (List Float)) → GivesMatrix (givenMatrix ok (answered m)) ok (all-finite (matFinite m) ∷ [])
-  pub vector : (ok : Bool) (v : List Float) → Numbers (λ n. (0 < n) × (givenVector ok (answeredVector v) .refusal ≡ n)) (ok ≡ false) (all-finite (rowFinite v) ∷ [])
-  pub tensor : (ok : Bool) (t : DecomposedTensor)
-      → Numbers (λ n. (0 < n) × (givenTensor ok (answeredTensor t) .refusal ≡ n)) (ok ≡ false) (all-finite (tensorFinite t) ∷ [])
-  pub quadratic : (a b c : Float) → GivesPair (solveQuadraticOf a b c) (finite a && finite b && finite c) (quadraticPath a b c)
-  pub alpha : (p : DruckerPragerPlasticity) (q : Float) → Gives (alphaOf p q) (drucker-prager.parametersFinite p && finite q) (alphaPath p q)
-  -- after 1 there is nothing to refuse
-  pub verdicts : (l : MaximumStressFailure) (s : List Float) → Numbers (λ n. verdictOf l s ≡ verdict.Refused n) (limitsFinite l && rowFinite s ≡ false) []
+  -- `inv_exact`, the moduli, `phase_coeff`, `spherical_part`; `lame_lambda_mu`; the tensor parts, `DecomposedTensor`'s calls
+  pub one-number : (l : List Float) (ok : Bool) → allOf finite l ≡ ok → (e : Expr) → Gives (given ok (answeredOf (value e))) (path (inputs l (returned 1 e)))
+  pub two-numbers : (l : List Float) (ok : Bool) → allOf finite l ≡ ok → (a b : Expr) → GivesPair (givenPair ok (pairOf (value a) (value b))) (path (pairWalk l a b))
+  pub matrix : (l : List Float) (ok : Bool) → allOf finite l ≡ ok → (m : List (List Expr)) → Beside (givenMatrix ok (answered (worth m)) .refusal) (path (inputs l (returnedMatrix 1 m)))
+  pub vector : (l : List Float) (ok : Bool) → allOf finite l ≡ ok → (v : List Expr) → Beside (givenVector ok (answeredVector (values v)) .refusal) (path (vectorWalk l v))
+  pub tensor : (l : List Float) (ok : Bool) → allOf finite l ≡ ok → (t : DecomposedTensor) → Beside (givenTensor ok (answeredTensor t) .refusal) (path (tensorWalk l t))
+  pub quadratic : (a b c : Float) → GivesPair (solveQuadraticOf a b c) (path (quadraticWalk a b c))
+  pub alpha : (p : DruckerPragerPlasticity) (q : Float) → Gives (answerAs (result (alphaCall p q))) (path (alphaCall p q))
+  pub verdicts : (l : MaximumStressFailure) (s : List Float) → Numbers (λ n. verdictOf l s ≡ verdict.Refused n) (path (verdictWalk l s))
   pub neo-kirchhoff : (p : NeoHookeanElasticity) (phase h : Float) (f : List (List Float))
-      → GivesMatrix (neo-stress.kirchhoffStress p phase h f) (neo-hookean.lawFinite p && finite phase && finite h && matFinite f) (neoStressPath p h f phase)
-  pub neo-fpk : (p : NeoHookeanElasticity) (f : List (List Float)) (h : Float)
-      → GivesMatrix (neo-stress.fpkStress p f h) (neo-hookean.lawFinite p && matFinite f && finite h) (neoFpkPath p h f)
+      → Beside (neo-stress.kirchhoffStress p phase h f .refusal) (path (neo-stress.kirchhoffWalk p phase h f))
+  pub neo-fpk : (p : NeoHookeanElasticity) (f : List (List Float)) (h : Float) → Beside (neo-stress.fpkStress p f h .refusal) (path (neo-stress.fpkWalk p f h))
   pub neo-energy-density : (p : NeoHookeanElasticity) (phase h : Float) (f : List (List Float))
-      → Gives (neo-energy.elasticEnergyDensity p phase h f) (neo-hookean.lawFinite p && finite phase && finite h && matFinite f) (neoEnergyPath p h f phase)
-  pub neo-pos-energy : (p : NeoHookeanElasticity) (phase h : Float) (f : List (List Float))
-      → Gives (neo-energy.posEnergy p phase h f) (neo-hookean.lawFinite p && finite phase && finite h && matFinite f) (neoPosPath p h f phase)
+      → Gives (neo-energy.elasticEnergyDensity p phase h f) (path (neo-energy.energyWalk p phase h f))
+  pub neo-pos-energy : (p : NeoHookeanElasticity) (phase h : Float) (f : List (List Float)) → Gives (neo-energy.posEnergy p phase h f) (path (neo-energy.posWalk p phase h f))
   pub corotated-kirchhoff : (p : CorotatedLinearElasticity) (phase h : Float) (f u : List (List Float)) (s : List Float) (vt : List (List Float))
-      → GivesMatrix (corotated-stress.kirchhoffStress p phase h f u s vt) (corotated-stress.stressInputs p phase h f u s vt)
-      (all-finite (matFinite (corotated-stress.stressOf p phase h f u s vt)) ∷ [])
-  pub corotated-energy-density : (p : CorotatedLinearElasticity) (s : List Float) (h : Float)
-      → Gives (corotated-energy.elasticEnergyDensity p s h) (corotated.lawFinite p && rowFinite s && finite h) (all-finite (finite (corotated-energy.energyOf p s h)) ∷ [])
+      → Beside (corotated-stress.kirchhoffStress p phase h f u s vt .refusal) (path (corotatedStress p phase h f u s vt))
+  pub corotated-energy-density : (p : CorotatedLinearElasticity) (s : List Float) (h : Float) → Gives (corotated-energy.elasticEnergyDensity p s h) (path (corotatedEnergy p s h))
   pub corotated-pos-energy : (p : CorotatedLinearElasticity) (f : List (List Float)) (s : List Float) (h : Float)
-      → Gives (corotated-energy.posEnergy p f s h) (corotated.lawFinite p && matFinite f && rowFinite s && finite h) (posPath p f s h)
-  pub pressure : (law : MonaghanSphEos) (mass volume density : Float)
-      → Gives (monaghan.pressureOf law mass volume density) (monaghan.inputsFinite law mass volume density)
-      (pressed law mass volume density (all-finite (finite (bounded law mass volume density)) ∷ []))
+      → Gives (corotated-energy.posEnergy p f s h) (path (corotatedPos p f s h))
+  pub pressure : (law : MonaghanSphEos) (mass volume density : Float) → Gives (monaghan.pressureOf law mass volume density) (path (pressureWalk law mass volume density))
   pub monaghan-kirchhoff : (law : MonaghanSphEos) (mass volume density det : Float) (gradient : List (List Float))
-      → GivesMatrix (monaghan-stress.kirchhoffStressOf law mass volume density det gradient)
-      (monaghan.inputsFinite law mass volume density && finite det && matFinite gradient)
-      (pressed law mass volume density (all-finite (matFinite (monaghan-stress.stressOf law det (bounded law mass volume density) gradient)) ∷ []))
+      → Beside (monaghan-stress.kirchhoffStressOf law mass volume density det gradient .refusal) (path (monaghanStress law mass volume density det gradient))
   pub timestep : (law : MonaghanSphEos) (j mass volume density : Float) (velocity : List Float) (width : Float)
-      → Gives (monaghan-timestep.timestepBoundOf law j mass volume density velocity width)
-      (monaghan.inputsFinite law mass volume density && finite j && rowFinite velocity && finite width)
-      (timestepPath law mass volume density j velocity width)
+      → Gives (monaghan-timestep.timestepBoundOf law j mass volume density velocity width) (path (timestepWalk law mass volume density j velocity width))

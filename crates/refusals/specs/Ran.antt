@@ -1,4 +1,4 @@
--- Section 6 of a sheet that is run with a room for its records and one for their answers (document 01, sections 6 and 7): 8 for the rooms,
+-- Section 6 of a sheet that is run with a room for its records and one for their answers (RULES, sections 6 and 7): 8 for the rooms,
 -- then the sheet's own numbers (`sheet` specs/Refused), and of each record of a sheet that is read what Refusals says. Proved in proofs/Ran.
 use mathlib.Core.Path.{_≡_}
 use mathlib.Core.Logic.{_↔_}
@@ -13,7 +13,7 @@ use Rattle.sheet.specs.Spelling.{Below}
 use Rattle.sheet.specs.Refused.{ReasonWithRoom}
 use Rattle.model.specs.Fields.{modelOf}
 use Rattle.sheet_run.specs.Run.{recordsIn, ranOf, ranAnswers}
-use Rattle.refusals.specs.Refusals.{Input, pathOf, Answers, Sized}
+use Rattle.refusals.specs.Refusals.{pathOf, Answers, Sized}
 
 module _ (s xs out : List ℕ) where
   -- what the sheet's header says, with the room's length
@@ -33,4 +33,4 @@ pub record Ran (s xs out : List ℕ) : Type 0 where
   -- s: bytes
   pub numbers : Below 256 s → (k : ℕ) → Sized xs out k → (n : ℕ) → (n ≡ 0 → ⊥) → (ranOf s xs out .refusal ≡ n) ↔ ReasonWithRoom s (length xs) n
   pub records : (k : ℕ) → Sized xs out k → header s xs out .refusal ≡ 0 → (i : ℕ) → i < header s xs out .count
-      → Answers (ranAnswers s xs out) i (Input (model s xs out) (recordOf s xs out i)) (pathOf (model s xs out) (recordOf s xs out i))
+      → Answers (ranAnswers s xs out) i (pathOf (model s xs out) (recordOf s xs out i))

@@ -1,25 +1,35 @@
--- Document 01, section 6, "When, and only then", over the definitions that the contracts cite. Proved in proofs/Table.
--- Path says what is met on a law's path, SnowPath, RankinePath, DruckerPragerPath and NaccPath which path each law takes; Calls and
--- Laws say the same of the calls by themselves, Ran of a sheet that is run. 4 to 7 are a sheet's: `sheet` specs/Refused.
+-- RULES, section 6, "When, and only then", over the definitions that the contracts cite. Proved in proofs/Table.
+-- Every law is a walk; what stops on its path is said in `walk` (specs/Numbers): 1 an input that isn't finite, 2 an argument outside
+-- section 3's range, 3 a NaN in any part of any formula there, or a modulus, a principal stress or a result that isn't finite.
+-- Calls and Laws say the same of the calls by themselves, Ran of a sheet that is run. 4 to 7 are a sheet's: `sheet` specs/Refused.
 use mathlib.Core.Path.{_≡_}
 use mathlib.Core.Logic.{_⊎_, _↔_}
-use mathlib.Core.Bool.{true, false, cond}
-use mathlib.Core.List.{List, [], _∷_}
+use mathlib.Core.Bool.{false, cond}
+use mathlib.Core.List.{List, [], _∷_, _++_}
 use Prim.Native.Nat.{ℕ, _+_, _*_, _≤_, _<_}
 use lib.ListN.{length, getD}
 use lib.Ieee.{Float}
 use Rattle.numbers.specs.Floats.{finite}
-use Rattle.answers.specs.Range.{inRange, ranged, bare}
+use Rattle.answers.specs.Range.{ranged, bare}
+use Rattle.answers.specs.declared.Answer.{Answer}
 use Rattle.answers.specs.declared.Answer.the-variants as answers
 use Rattle.plasticity.specs.declared.Outcome.{Outcome}
 use Rattle.plasticity.specs.declared.Outcome.the-variants.{Refused}
 use Rattle.plasticity.specs.declared.State.{State}
 use Rattle.tensor.specs.Matrix.{zero}
-use Rattle.tensor.specs.Finite.{rowFinite}
+use Rattle.walk.specs.Expr.{num, value, nums}
+use Rattle.walk.specs.Walk.{Function, lowOf, highOf, at, Walk, inputs, ask, results, end}
+use Rattle.walk.specs.Exact.{Met, input, argument, worked, tested, result-of, path}
+use Rattle.walk.specs.Update.{Change, floatsOf}
+use Rattle.walk.specs.Numbers.{Stops, Clear}
 use Rattle.record.specs.Layout.{floats, floatAt, uAt, vtAt, stateAt, putPhase}
-use Rattle.plasticity_rankine.specs.Projection as rankine-projection
+use Rattle.plasticity_snow.specs.Snow as snow
+use Rattle.plasticity_rankine.specs.Law as rankine-law
 use Rattle.plasticity_rankine.specs.Rankine as rankine
-use Rattle.plasticity_nacc.specs.Law as nacc
+use Rattle.plasticity_drucker_prager.specs.Law as drucker-prager-law
+use Rattle.plasticity_drucker_prager.specs.DruckerPrager as drucker-prager
+use Rattle.plasticity_nacc.specs.Law as nacc-law
+use Rattle.plasticity_nacc.specs.Nacc as nacc
 use Rattle.failure_maximum_stress.specs.Failure.{exceedsOf}
 use Rattle.failure_maximum_stress.specs.declared.MaximumStressFailure.{MaximumStressFailure}
 use Rattle.elasticity_corotated_linear.specs.declared.CorotatedLinearElasticity.{CorotatedLinearElasticity}
@@ -31,11 +41,6 @@ use Rattle.particles.specs.Plain.{recordLaw}
 use Rattle.particles.specs.Judged.{failureLaw}
 use Rattle.particles.specs.Pass.{Worked, recordAt, passed, passAnswers, passedWithFailure}
 use Rattle.particles.specs.Principal.{principalOf}
-use Rattle.refusals.specs.Path.{Met, all-finite, Outside, Arises, Stops, Clear}
-use Rattle.refusals.specs.SnowPath.{snowPath}
-use Rattle.refusals.specs.RankinePath.{rankinePath}
-use Rattle.refusals.specs.DruckerPragerPath.{druckerPath}
-use Rattle.refusals.specs.NaccPath.{naccPath}
 
 -- ---- 1: "an input float is NaN or infinite"
 abbrev pub NotFinite : Float → Type 0
@@ -45,60 +50,82 @@ abbrev pub SomeNotFinite : List Float → Type 0
 SomeNotFinite [] = ⊥
 SomeNotFinite (x ∷ l) = NotFinite x ⊎ SomeNotFinite l
 
+-- the floats that a path's first step tests
+abbrev pub inputsOf : List Met → List Float
+inputsOf [] = []
+inputsOf (input l ∷ ms) = l
+inputsOf (argument n f e ∷ ms) = []
+inputsOf (worked n es ∷ ms) = []
+inputsOf (tested n t ∷ ms) = []
+inputsOf (result-of n rows ∷ ms) = []
+
+-- ---- a call, of which R n says that it is refused by n, and the path that it takes
+pub record Numbers (R : ℕ → Type 0) (ms : List Met) : Type 0 where
+  pub refused : (n : ℕ) → R n ↔ Stops n ms
+  pub accepted : ((n : ℕ) → R n → ⊥) ↔ Clear ms
+  pub one : R 1 ↔ SomeNotFinite (inputsOf ms)
+  pub only : (n : ℕ) → R n → (1 ≤ n) × (n ≤ 3)
+
+-- as an outcome, as it stands in the answer list at record i, and as a number or a refusal
+abbrev pub Refuses : Outcome → List Met → Type 0
+Refuses o ms = Numbers (λ n. o ≡ Refused n) ms
+
+abbrev pub Answers : List ℕ → ℕ → List Met → Type 0
+Answers a i ms = Numbers (λ n. (getD a (i * 2) 0 ≡ 2) × (getD a (i * 2 + 1) 0 ≡ n)) ms
+
+abbrev pub Gives : Answer → List Met → Type 0
+Gives e ms = Numbers (λ n. e ≡ answers.Refused n) ms
+
+-- ---- a model's walk
 -- the parameters' floats
 abbrev pub parametersOf : Model → List Float
-parametersOf (Snow p) = p .«min_epsilon» ∷ p .«max_epsilon» ∷ p .«hardening_coeff» ∷ []
-parametersOf (Rankine a) = a .«young_modulus» ∷ a .«poisson_ratio» ∷ a .«tensile_strength» ∷ a .«softening_rate» ∷ []
-parametersOf (DruckerPrager p) = p .h0 ∷ p .h1 ∷ p .h2 ∷ p .h3 ∷ p .lambda ∷ p .mu ∷ p .«volume_correction» ∷ []
-parametersOf (Nacc a) = a .«young_modulus» ∷ a .«poisson_ratio» ∷ a .cohesion ∷ a .«hardening_factor» ∷ a .m ∷ []
+parametersOf (Snow p) = snow.parametersOf p
+parametersOf (Rankine a) = rankine-law.argumentsFloats a
+parametersOf (DruckerPrager p) = drucker-prager-law.parametersOf p
+parametersOf (Nacc a) = nacc-law.argumentsFloats a
 
--- the limits' and the corotated law's
+-- "1 is tested first, then the moduli by 3, then the steps"
+abbrev pub stepsOf : Model → List (List Float) → List (List Float) → State → Walk Change
+stepsOf (Snow p) u vt s = snow.runWalk p u vt s
+stepsOf (Rankine a) u vt s = rankine-law.moduli (rankine-law.lawOf a) (rankine.runWalk (rankine-law.lawOf a) (s .sigma) u vt s)
+stepsOf (DruckerPrager p) u vt s = drucker-prager.runWalk p u vt s
+stepsOf (Nacc a) u vt s = nacc.moduli (nacc-law.lawOf a) (nacc.runWalk (nacc-law.lawOf a) u vt s)
+
+abbrev pub walkOf : Model → List (List Float) → List (List Float) → State → Walk Change
+walkOf m u vt s = inputs (parametersOf m ++ floatsOf u vt s) (stepsOf m u vt s)
+
+-- on a record
+abbrev pub recordFloats : List ℕ → List Float
+recordFloats r = floatsOf (uAt r) (vtAt r) (stateAt r)
+
+abbrev pub recordSteps : Model → List ℕ → Walk Change
+recordSteps m r = stepsOf m (uAt r) (vtAt r) (stateAt r)
+
+abbrev pub pathOf : Model → List ℕ → List Met
+pathOf m r = path (walkOf m (uAt r) (vtAt r) (stateAt r))
+
+-- ---- with failure: "parameters and limits count as inputs of each record"
 abbrev pub failureOf : MaximumStressFailure → CorotatedLinearElasticity → List Float
 failureOf l e = l .«max_principal_stress» ∷ l .«max_shear_stress» ∷ e .«cfl_coeff» ∷ e .lambda ∷ e .mu ∷ []
 
--- one of the record's 36
-abbrev pub RecordNotFinite : List ℕ → Type 0
-RecordNotFinite r = (k : ℕ) × (k < floats) × NotFinite (floatAt r k)
-
--- "parameters and limits count as inputs of each record"
-abbrev pub Input : Model → List ℕ → Type 0
-Input m r = SomeNotFinite (parametersOf m) ⊎ RecordNotFinite r
-
-abbrev pub FailureInput : Model → MaximumStressFailure → CorotatedLinearElasticity → List ℕ → Type 0
-FailureInput m l e r = SomeNotFinite (failureOf l e) ⊎ Input m r
-
--- ---- 2 and 3, on the path that the law takes: "1 is tested first, then the moduli by 3, then the steps"
-abbrev pub modelPath : Model → List (List Float) → List (List Float) → State → List Met
-modelPath (Snow p) u vt s = snowPath p u vt s
-modelPath (Rankine a) u vt s = all-finite (rankine-projection.moduliFinite (rankine.lawOf a)) ∷ rankinePath (rankine.lawOf a) u vt s
-modelPath (DruckerPrager p) u vt s = druckerPath p u vt s
-modelPath (Nacc a) u vt s = all-finite (nacc.moduliFinite (nacc.lawOf a)) ∷ naccPath (nacc.lawOf a) u vt s
-
-unfoldable pub pathOf : Model → List ℕ → List Met
-pathOf m r = modelPath m (uAt r) (vtAt r) (stateAt r)
-
--- the principal stresses, then the law's path with phase 0.0 on a yes
 abbrev pub stressesOf : CorotatedLinearElasticity → List ℕ → List Float
 stressesOf e r = principalOf e (stateAt r .scalars .phase) (stateAt r .scalars .«elastic_hardening») (stateAt r .sigma)
 
+-- on a yes the law works the record with phase 0.0
+abbrev pub judged : MaximumStressFailure → CorotatedLinearElasticity → List ℕ → List ℕ
+judged l e r = cond (exceedsOf l (stressesOf e r)) (putPhase r zero) r
+
+-- the principal stresses are finite, and then the law's steps
+abbrev pub failureWalk : Model → MaximumStressFailure → CorotatedLinearElasticity → List ℕ → Walk Change
+failureWalk m l e r =
+    inputs (failureOf l e ++ (parametersOf m ++ recordFloats r)) (results 0 (nums (stressesOf e r) ∷ []) (recordSteps m (judged l e r)))
+
 abbrev pub failurePath : Model → MaximumStressFailure → CorotatedLinearElasticity → List ℕ → List Met
-failurePath m l e r =
-    all-finite (rowFinite (stressesOf e r)) ∷ pathOf m (cond (exceedsOf l (stressesOf e r)) (putPhase r zero) r)
+failurePath m l e r = path (failureWalk m l e r)
 
--- R n: refused by n, where bad says that an input isn't finite
-pub record Numbers (R : ℕ → Type 0) (bad : Type 0) (path : List Met) : Type 0 where
-  pub one : R 1 ↔ bad
-  pub two : R 2 ↔ ((bad → ⊥) × Stops Outside path)
-  pub three : R 3 ↔ ((bad → ⊥) × Stops Arises path)
-  pub only : (n : ℕ) → R n → (1 ≤ n) × (n ≤ 3)
-  pub accepted : ((n : ℕ) → R n → ⊥) ↔ ((bad → ⊥) × Clear path)
-
--- as an outcome, and as it stands in the answer list at record i
-abbrev pub Refuses : Outcome → Type 0 → List Met → Type 0
-Refuses o bad path = Numbers (λ n. o ≡ Refused n) bad path
-
-abbrev pub Answers : List ℕ → ℕ → Type 0 → List Met → Type 0
-Answers a i bad path = Numbers (λ n. (getD a (i * 2) 0 ≡ 2) × (getD a (i * 2 + 1) 0 ≡ n)) bad path
+-- ---- an elementary function by itself
+abbrev pub callPath : Function → Float → List Met
+callPath f x = path (inputs (x ∷ []) (ask 1 f (num x) (λ v. end (value v))))
 
 -- ---- 8: "a list length isn't a multiple of 36, or the answer list hasn't exactly two places a particle"
 abbrev pub Sized : List ℕ → List ℕ → ℕ → Type 0
@@ -110,22 +137,22 @@ pub record Eight (R : ℕ → Type 0) (xs out : List ℕ) : Type 0 where
   pub only-then : (n : ℕ) → R n → (n ≡ 8) × ((k : ℕ) → Sized xs out k → ⊥)
 
 -- a pass by a law: "8 .. come[s] before any record"; otherwise each answer is its record's
-pub record Pass (law : List ℕ → Worked) (bad : List ℕ → Type 0) (path : List ℕ → List Met) (R : ℕ → Type 0) (xs out : List ℕ) : Type 0 where
+pub record Pass (law : List ℕ → Worked) (ms : List ℕ → List Met) (R : ℕ → Type 0) (xs out : List ℕ) : Type 0 where
   pub eight : Eight R xs out
-  pub records : (k : ℕ) → Sized xs out k → (i : ℕ) → i < k → Answers (passAnswers law xs out) i (bad (recordAt xs i)) (path (recordAt xs i))
+  pub records : (k : ℕ) → Sized xs out k → (i : ℕ) → i < k → Answers (passAnswers law xs out) i (ms (recordAt xs i))
 
--- ---- 1 and 2 of a call that gives one number: "an argument outside section 3's range"
-pub record Bare (low high x v : Float) : Type 0 where
-  pub one : (bare x (ranged low high x v) ≡ answers.Refused 1) ↔ NotFinite x
-  pub two : (bare x (ranged low high x v) ≡ answers.Refused 2) ↔ ((finite x ≡ true) × (inRange low high x ≡ false))
-  pub only : (n : ℕ) → bare x (ranged low high x v) ≡ answers.Refused n → (1 ≤ n) × (n ≤ 2)
+-- ---- 1 by place: one of the record's 36
+abbrev pub RecordNotFinite : List ℕ → Type 0
+RecordNotFinite r = (k : ℕ) × (k < floats) × NotFinite (floatAt r k)
 
 -- ---- the table
 pub record Section6 : Type 0 where
-  pub law : (m : Model) (r : List ℕ) → Refuses (recordLaw m r .outcome) (Input m r) (pathOf m r)
-  pub failure-law : (m : Model) (l : MaximumStressFailure) (e : CorotatedLinearElasticity) (r : List ℕ)
-      → Refuses (failureLaw m l e r .outcome) (FailureInput m l e r) (failurePath m l e r)
-  pub the-pass : (m : Model) (xs out : List ℕ) → Pass (recordLaw m) (Input m) (pathOf m) (λ n. passed (recordLaw m) xs out ≡ pass.Refused n) xs out
+  pub law : (m : Model) (r : List ℕ) → Refuses (recordLaw m r .outcome) (pathOf m r)
+  pub law-one : (m : Model) (r : List ℕ) → (recordLaw m r .outcome ≡ Refused 1) ↔ (SomeNotFinite (parametersOf m) ⊎ RecordNotFinite r)
+  pub failure-law : (m : Model) (l : MaximumStressFailure) (e : CorotatedLinearElasticity) (r : List ℕ) → Refuses (failureLaw m l e r .outcome) (failurePath m l e r)
+  pub failure-one : (m : Model) (l : MaximumStressFailure) (e : CorotatedLinearElasticity) (r : List ℕ)
+      → (failureLaw m l e r .outcome ≡ Refused 1) ↔ (SomeNotFinite (failureOf l e) ⊎ (SomeNotFinite (parametersOf m) ⊎ RecordNotFinite r))
+  pub the-pass : (m : Model) (xs out : List ℕ) → Pass (recordLaw m) (pathOf m) (λ n. passed (recordLaw m) xs out ≡ pass.Refused n) xs out
   pub the-pass-with-failure : (m : Model) (l : MaximumStressFailure) (e : CorotatedLinearElasticity) (xs out : List ℕ)
-      → Pass (failureLaw m l e) (FailureInput m l e) (failurePath m l e) (λ n. passedWithFailure (failureLaw m l e) xs out ≡ failure-pass.Refused n) xs out
-  pub call : (low high x v : Float) → Bare low high x v
+      → Pass (failureLaw m l e) (failurePath m l e) (λ n. passedWithFailure (failureLaw m l e) xs out ≡ failure-pass.Refused n) xs out
+  pub call : (f : Function) (x : Float) → Gives (bare x (ranged (lowOf f) (highOf f) x (at f x))) (callPath f x)

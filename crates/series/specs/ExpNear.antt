@@ -1,4 +1,4 @@
--- What document 01, section 3, asks of the exponential: within 2^-45 of the exact value, times that value. The exact value at a signed
+-- What RULES, section 3, asks of the exponential: within 2^-45 of the exact value, times that value. The exact value at a signed
 -- fraction z / q is the series of NIST DLMF 4.2.19, and at a negative one the reciprocal.
 use mathlib.Core.Path.{_≡_, refl}
 use mathlib.Core.Bool.{false}

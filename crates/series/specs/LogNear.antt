@@ -1,4 +1,4 @@
--- What document 01, section 3, asks of the logarithm: within 2^-45 of the exact value, which is defined through the exponential.
+-- What RULES, section 3, asks of the logarithm: within 2^-45 of the exact value, which is defined through the exponential.
 use mathlib.Core.Path.{_≡_, refl, subst₂}
 use Prim.Native.Nat.{ℕ, suc, _+_, _-_, _*_, _^_, _≤_, _<_}
 use native.Mathlib.Nat.{mul-pos, mul-one, mul-comm, mul-le-mul-right, lt-of-lt-of-le, zero-lt-suc}

@@ -1,4 +1,4 @@
--- What document 01, section 3, asks of the sine: within 2^-45 of the exact value. The exact value of the sine at a is the series of NIST
+-- What RULES, section 3, asks of the sine: within 2^-45 of the exact value. The exact value of the sine at a is the series of NIST
 -- DLMF 4.19.1: where its terms fall, the sum up to any of them is within the next term of it.
 use Prim.Native.Nat.{ℕ, suc, _+_, _*_, _^_}
 use lib.Ieee.{Float, unlike}

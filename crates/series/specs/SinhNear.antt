@@ -1,4 +1,4 @@
--- What document 01, section 3, asks of the hyperbolic sine: within 2^-45 times (1 + the size of the exact value). The exact value is
+-- What RULES, section 3, asks of the hyperbolic sine: within 2^-45 times (1 + the size of the exact value). The exact value is
 -- sinh a = (E - 1 / E) / 2 with E = exp a (NIST DLMF 4.28.1), which grows with E; sinh (- a) = - sinh a.
 use mathlib.Core.Path.{_≡_}
 use Prim.Native.Nat.{ℕ, zero, suc, _+_, _-_, _*_, _^_, _≤_, _<_}

@@ -14,7 +14,7 @@ use Rattle.sheet.specs.declared.Word.{Word}
 use Rattle.sheet.specs.declared.Word.the-variants.{Read as Word·Read, Refused as Word·Refused}
 use Rattle.sheet.specs.declared.Parameters.{Parameters}
 
--- the refusals of a sheet in document 01, section 6
+-- the refusals of a sheet in RULES, section 6
 abbrev pub Refusal : ℕ → Type 0
 Refusal n = (4 ≤ n) × (n ≤ 7)
 

@@ -1,4 +1,4 @@
--- Each refusal of a sheet comes exactly where document 01, section 6, says: `headerOf` and `readOf` against specs/Refused.
+-- Each refusal of a sheet comes exactly where RULES, section 6, says: `headerOf` and `readOf` against specs/Refused.
 use mathlib.Core.Path.{_≡_, refl, sym, ap, _∙_, subst}
 use mathlib.Core.Logic.{_↔_, _⊎_, inl, inr}
 use mathlib.Core.Bool.{Bool, true, false, cond}

@@ -1,4 +1,4 @@
--- When a sheet is refused, and by which number (document 01, section 6): each reason in the words of that table, over the
+-- When a sheet is refused, and by which number (RULES, section 6): each reason in the words of that table, over the
 -- bytes as Spelling writes them. What stands before the place of a reason is good.
 use mathlib.Core.Path.{_≡_}
 use mathlib.Core.Bool.{Bool, true}

@@ -1,4 +1,4 @@
--- A sheet of bytes, read by place (document 01, sections 6 and 7): what is read, and the refusals 4 to 8 in reading order.
+-- A sheet of bytes, read by place (RULES, sections 6 and 7): what is read, and the refusals 4 to 8 in reading order.
 use mathlib.Core.Bool.{Bool, true, false, cond, _||_}
 use mathlib.Core.List.{List, [], _∷_, _++_}
 use Prim.Native.Nat.{ℕ, zero, suc, _+_, _*_, _-_, _%_}

@@ -1,4 +1,4 @@
--- The bytes of a sheet (document 01, section 7), from its model number, parameters, count and words, and which of these can
+-- The bytes of a sheet (RULES, section 7), from its model number, parameters, count and words, and which of these can
 -- be written: the format that a reading accepts, and all of it.
 use mathlib.Core.Path.{_≡_}
 use mathlib.Core.Bool.{Bool, true, cond}

@@ -1,4 +1,4 @@
-// A sheet of bytes, read by place (document 01, sections 6 and 7): the model and its parameters, the count, the records.
+// A sheet of bytes, read by place (RULES, sections 6 and 7): the model and its parameters, the count, the records.
 // Numbers come in groups of seven bits, low group first; floats as 8 bytes, low byte first, and pass as bits.
 mod fields;
 mod groups;

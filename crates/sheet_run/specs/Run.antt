@@ -1,4 +1,4 @@
--- A sheet from its bytes to its answers (document 01, sections 6 and 7).
+-- A sheet from its bytes to its answers (RULES, sections 6 and 7).
 use mathlib.Core.Bool.{cond}
 use mathlib.Core.List.{List, _++_}
 use Prim.Native.Nat.{ℕ, _*_}

@@ -1,4 +1,4 @@
-// A sheet from its bytes to its answers: read, then passed (document 01, section 7).
+// A sheet from its bytes to its answers: read, then passed (RULES, section 7).
 use particles::Counts;
 use particles::Passed;
 use sheet::Header;

@@ -1,4 +1,4 @@
--- The sine is as near as document 01, section 3, asks: sin-near. And exactly 0 at 0: sin-zero. Assumes nothing.
+-- The sine is as near as RULES, section 3, asks: sin-near. And exactly 0 at 0: sin-zero. Assumes nothing.
 use mathlib.Core.Path.{_≡_, refl, sym, ap, subst, subst₂}
 use mathlib.Core.Bool.{Bool, true, false, not, cond}
 use Prim.Native.Nat.{ℕ, zero, suc, _+_, _-_, _*_, _^_, _≤_, _<_}

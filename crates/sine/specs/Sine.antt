@@ -45,7 +45,7 @@ minusOf v = nested (square (square v)) minuses * square v / 2 ^ 64 * v / 2 ^ 64
 unfoldable pub differenceOf : ℕ → ℕ → Bool → Float
 differenceOf a c s = cond (leb c a) (toFloatOf (a - c) 54 s) (toFloatOf (c - a) 54 (not s))
 
--- the ends of the range (document 01, section 3): -8 and 8
+-- the ends of the range (RULES, section 3): -8 and 8
 abbrev pub low : Float
 low = neg (ofBits binary64 0x4020_0000_0000_0000)
 

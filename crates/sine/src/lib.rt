@@ -1,4 +1,4 @@
-// The sine of every number from -8 to 8, within 2^-45 (document 01, section 3), by its own series in whole numbers.
+// The sine of every number from -8 to 8, within 2^-45 (RULES, section 3), by its own series in whole numbers.
 use answers::Answer;
 ghost use mathlib.Core.Path.{_≡_};
 ghost use mathlib.Core.Bool.{true};

@@ -1,4 +1,4 @@
-// The program: reads a sheet on standard input and prints it with its answers (document 01, section 7).
+// The program: reads a sheet on standard input and prints it with its answers (RULES, section 7).
 use libc::STDIN_FILENO;
 use lines::Input;
 

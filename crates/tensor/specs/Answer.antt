@@ -1,4 +1,4 @@
--- What a call that gives a matrix or a vector answers (document 01, section 6: a number to be returned isn't finite, 3). Zeros stand beside a refusal.
+-- What a call that gives a matrix or a vector answers (RULES, section 6: a number to be returned isn't finite, 3). Zeros stand beside a refusal.
 use mathlib.Core.Bool.{Bool, cond}
 use mathlib.Core.List.{List}
 use Prim.Native.Nat.{ℕ}

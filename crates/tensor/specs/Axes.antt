@@ -1,4 +1,4 @@
--- Lists with an entry for each axis, however many axes. Sums and products go by rising index, from the left (document 01, section 4):
+-- Lists with an entry for each axis, however many axes. Sums and products go by rising index, from the left (RULES, section 4):
 -- nothing stands before the first entry, since 0.0 + -0.0 is no -0.0.
 use mathlib.Core.Bool.{Bool, true, _&&_}
 use mathlib.Core.Path.{_≡_, refl, ap, _∙_}

@@ -1,4 +1,4 @@
--- Whether all entries are neither a NaN nor an infinity (document 01, section 6, number 1).
+-- Whether all entries are neither a NaN nor an infinity (RULES, section 6, number 1).
 use mathlib.Core.Bool.{Bool, _&&_}
 use mathlib.Core.List.{List}
 use lib.Ieee.{Float}

@@ -1,4 +1,4 @@
--- The inverse of the transpose (document 01, section 4: "the cofactors over F's determinant (at 0 the identity)").
+-- The inverse of the transpose (RULES, section 4: "the cofactors over F's determinant (at 0 the identity)").
 use mathlib.Core.Bool.{cond}
 use mathlib.Core.List.{List, []}
 use lib.ListN.{getD}

@@ -1,4 +1,4 @@
--- Matrices of three rows of three, as lists of rows, with the orders of document 01, section 4.
+-- Matrices of three rows of three, as lists of rows, with the orders of RULES, section 4.
 use mathlib.Core.List.{List, [], _∷_, map}
 use Prim.Native.Nat.{ℕ, suc}
 use lib.ListN.{getD}

@@ -1,4 +1,4 @@
--- Whether no entry is a NaN (document 01, section 6, number 3).
+-- Whether no entry is a NaN (RULES, section 6, number 3).
 use mathlib.Core.Bool.{Bool}
 use mathlib.Core.List.{List}
 use lib.Ieee.{Float}

@@ -1,4 +1,4 @@
-// DecomposedTensor's calls with document 01's refusals (section 6): an input that isn't finite is 1, then a result that
+// DecomposedTensor's calls with RULES' refusals (section 6): an input that isn't finite is 1, then a result that
 // isn't finite 3. Those of the same names in `plain` refuse nothing.
 use crate::DecomposedAnswer;
 use crate::DecomposedTensor;

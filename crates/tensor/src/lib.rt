@@ -1,4 +1,4 @@
-// Matrices of three rows of three, by value, with the orders of document 01, section 4: the laws' own steps, which refuse
+// Matrices of three rows of three, by value, with the orders of RULES, section 4: the laws' own steps, which refuse
 // nothing. DecomposedTensor (lib.rs): module `plain` has the text's functions as they stand, the methods refuse.
 mod answer;
 mod decomposed;

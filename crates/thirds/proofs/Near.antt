@@ -1,4 +1,4 @@
--- The powers of a third are as near as document 01, section 3, asks (cbrt-near and the like), and exactly 1 at 1. Assumes nothing.
+-- The powers of a third are as near as RULES, section 3, asks (cbrt-near and the like), and exactly 1 at 1. Assumes nothing.
 use mathlib.Core.Path.{_≡_, refl, sym, ap, subst}
 use mathlib.Core.Bool.{true, false}
 use Prim.Native.Nat.{ℕ, _*_, _^_, _≤_, _<_}
@@ -51,7 +51,7 @@ module _ (x : Float) (f : T (fits binary64 x)) (r : inRange low high x ≡ true)
   unfolding cbrtSquaredOf
   between-of-square = squared-between (cbrtOf x) (root-of-x .fine) between-of-x
 
-  -- ---- as document 01 asks
+  -- ---- as RULES asks
   pub cbrt-near : CbrtNear x (cbrtOf x)
   cbrt-near = from-46-to-45 (mag x) L (cbrtOf x) (from-48-to-46 (mag x) L (cbrtOf x) root-of-x)
 

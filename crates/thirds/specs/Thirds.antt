@@ -1,4 +1,4 @@
--- The powers 1/3, 2/3, -1/3 and -2/3 as worked (document 01, section 3): the cube root, its square, and their inverses.
+-- The powers 1/3, 2/3, -1/3 and -2/3 as worked (RULES, section 3): the cube root, its square, and their inverses.
 use lib.Ieee as Ieee
 use lib.Ieee.{Float, binary64, ofBits, toBits}
 use Rattle.numbers.specs.Power.{one}

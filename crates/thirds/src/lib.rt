@@ -1,4 +1,4 @@
-// The powers 1/3, 2/3, -1/3 and -2/3 of a number from 2^-60 to 2^60 (document 01, section 3).
+// The powers 1/3, 2/3, -1/3 and -2/3 of a number from 2^-60 to 2^60 (RULES, section 3).
 mod root;
 
 use answers::Answer;

@@ -1,4 +1,4 @@
--- `elasticity_neo_hookean::from_lame` answers `fromLame m`.
+-- The moduli, then the law.
 use Rattle.elasticity_neo_hookean.specs.Law.{fromLame}
 use borrow.Author.Needs.{needs}
 use Rattle.elasticity_neo_hookean.proofs.from_lame.Statement.{statement}

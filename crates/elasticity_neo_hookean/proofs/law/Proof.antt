@@ -1,4 +1,4 @@
--- `elasticity_neo_hookean::law` answers `lawOf m`.
+-- The law with the default coefficient.
 use Rattle.elasticity_neo_hookean.specs.Law.{lawOf}
 use mathlib.Core.Path.{refl}
 use Rattle.elasticity_neo_hookean.proofs.law.Statement.{statement}

@@ -1,26 +1,29 @@
--- `elasticity_neo_hookean::NeoHookeanElasticity::kirchhoff_stress` answers `kirchhoffStress self phase hardening f`.
-use Rattle.elasticity_neo_hookean.specs.Stress.{kirchhoffStress}
+-- The inputs, then the steps.
 use borrow.Author.Needs.{needs}
+use Rattle.elasticity_neo_hookean.specs.Stress.{kirchhoffWalk}
+use Rattle.elasticity_neo_hookean.proofs.Laws.{inputs-law}
 use Rattle.elasticity_neo_hookean.proofs.NeoHookeanElasticity.kirchhoff_stress.Statement.{
   statement,
 }
 use Rattle.elasticity_neo_hookean.proofs.NeoHookeanElasticity.kirchhoff_stress.Tie as tie
 
 returns : tie.Need-returns
-unfolding kirchhoffStress
+unfolding kirchhoffWalk
 returns c =
-    let t0 = simp (c .before .before .before .before .before .before .mat-finite .ensures, c .before .before .before .before .before .before .before .is-finite2 .ensures, c .before .before .before .before .before .before .before .before .is-finite .ensures, c .before .before .before .before .before .before .before .before .before .law-finite .ensures) at (c .before .before .before .before .before .if1 .taken) in
-    simp (c .kirchhoff-steps .ensures, c .before .cauchy-green-strain .ensures, c .before .before .bulk .ensures, c .before .before .before .determinant .ensures, c .before .before .before .before .phase-coeff .ensures, c .before .before .before .before .before .before .mat-finite .ensures, c .before .before .before .before .before .before .before .is-finite2 .ensures, c .before .before .before .before .before .before .before .before .is-finite .ensures, c .before .before .before .before .before .before .before .before .before .law-finite .ensures, t0)
+    let c1 = c .before in
+    let c2 = c1 .before in
+    let t0 = simp (c2 .inputs-finite .ensures) at (c1 .if1 .taken) in
+    simp (c .kirchhoff .ensures, t0, inputs-law)
 
 returns-2 : tie.Need-returns-2
-unfolding kirchhoffStress
+unfolding kirchhoffWalk
 returns-2 c =
-    let t0 = simp (c .before .before .mat-finite .ensures, c .before .before .before .is-finite2 .ensures, c .before .before .before .before .is-finite .ensures, c .before .before .before .before .before .law-finite .ensures) at (c .before .if1 .left) in
-    simp (c .refused-matrix .ensures, c .before .before .mat-finite .ensures, c .before .before .before .is-finite2 .ensures, c .before .before .before .before .is-finite .ensures, c .before .before .before .before .before .law-finite .ensures, t0)
+    let c1 = c .before in
+    let c2 = c1 .before in
+    let t0 = simp (c2 .inputs-finite .ensures) at (c1 .if1 .left) in
+    simp (c .refused-matrix .ensures, t0, inputs-law)
 
 pub kirchhoff-stress-spec : {M : Type 1} → statement M
 kirchhoff-stress-spec =
     tie.close
-    (tie.spec (λ c κs. search needs) (λ c κs. search needs) (λ c κs. search needs) (λ c κs. search needs)
-    (λ c κs. search needs) (λ c κs. search needs) (λ c κs. search needs) (λ c κs. search needs)
-    (λ c κs. search needs) (λ c κs. search needs) returns returns-2)
+    (tie.spec (λ c κs. search needs) (λ c κs. search needs) (λ c κs. search needs) returns returns-2)

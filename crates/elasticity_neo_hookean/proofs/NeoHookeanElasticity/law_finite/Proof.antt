@@ -1,4 +1,4 @@
--- `elasticity_neo_hookean::NeoHookeanElasticity::law_finite` answers `lawFinite self`.
+-- The test of the law's floats.
 use borrow.Author.Needs.{needs}
 use Rattle.elasticity_neo_hookean.proofs.NeoHookeanElasticity.law_finite.Statement.{
   statement,
@@ -7,7 +7,9 @@ use Rattle.elasticity_neo_hookean.proofs.NeoHookeanElasticity.law_finit
 
 returns : tie.Need-returns
 returns c =
-    simp (c .is-finite3 .ensures, c .before .is-finite2 .ensures, c .before .before .is-finite .ensures)
+    let c1 = c .before in
+    let c2 = c1 .before in
+    simp (c .is-finite3 .ensures, c1 .is-finite2 .ensures, c2 .is-finite .ensures)
 
 pub law-finite-spec : {M : Type 1} → statement M
 law-finite-spec =

@@ -1,4 +1,4 @@
--- `elasticity_neo_hookean::NeoHookeanElasticity::new` answers `newOf young poisson`.
+-- The arguments, then the moduli.
 use Rattle.elasticity_neo_hookean.specs.Law.{newOf}
 use borrow.Author.Needs.{needs}
 use Rattle.elasticity_neo_hookean.proofs.NeoHookeanElasticity.new.Statement.{statement}

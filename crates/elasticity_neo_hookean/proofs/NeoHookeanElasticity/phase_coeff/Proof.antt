@@ -1,6 +1,7 @@
--- `elasticity_neo_hookean::NeoHookeanElasticity::phase_coeff` answers `phaseCoeff phase`.
-use Rattle.elasticity_neo_hookean.specs.Law.{phaseCoeff}
+-- The coefficient of a phase: 1 of the phase, 3 of the result.
 use borrow.Author.Needs.{needs}
+use Rattle.walk.specs.Answers.{returned-law}
+use Rattle.elasticity_neo_hookean.specs.Law.{phaseCoeff}
 use Rattle.elasticity_neo_hookean.proofs.NeoHookeanElasticity.phase_coeff.Statement.{
   statement,
 }
@@ -9,14 +10,18 @@ use Rattle.elasticity_neo_hookean.proofs.NeoHookeanElasticity.phase_coe
 returns : tie.Need-returns
 unfolding phaseCoeff
 returns c =
-    let t0 = simp (c .before .before .before .is-finite .ensures) at (c .before .before .if1 .taken) in
-    simp (c .answered .ensures, c .before .phase-coeff .ensures, c .before .before .before .is-finite .ensures, t0)
+    let c1 = c .before in
+    let c2 = c1 .before in
+    let c3 = c2 .before in
+    let t0 = simp (c3 .is-finite .ensures) at (c2 .if1 .taken) in
+    simp (c .answered .ensures, c1 .phase-coeff .ensures, t0, returned-law)
 
 returns-2 : tie.Need-returns-2
 unfolding phaseCoeff
 returns-2 c =
-    let t0 = simp (c .before .is-finite .ensures) at (c .if1 .left) in
-    simp (c .before .is-finite .ensures, t0)
+    let c1 = c .before in
+    let t0 = simp (c1 .is-finite .ensures) at (c .if1 .left) in
+    simp (t0)
 
 pub phase-coeff-spec : {M : Type 1} → statement M
 phase-coeff-spec =

@@ -1,25 +1,28 @@
--- `elasticity_neo_hookean::NeoHookeanElasticity::pos_energy` answers `posEnergy self phase hardening f`.
-use Rattle.elasticity_neo_hookean.specs.Energy.{posEnergy}
+-- The inputs, then the steps.
 use borrow.Author.Needs.{needs}
+use Rattle.elasticity_neo_hookean.specs.Energy.{posWalk}
+use Rattle.elasticity_neo_hookean.proofs.Laws.{inputs-law}
 use Rattle.elasticity_neo_hookean.proofs.NeoHookeanElasticity.pos_energy.Statement.{
   statement,
 }
 use Rattle.elasticity_neo_hookean.proofs.NeoHookeanElasticity.pos_energy.Tie as tie
 
 returns : tie.Need-returns
-unfolding posEnergy
+unfolding posWalk
 returns c =
-    let t0 = simp (c .before .before .before .before .before .mat-finite .ensures, c .before .before .before .before .before .before .is-finite2 .ensures, c .before .before .before .before .before .before .before .is-finite .ensures, c .before .before .before .before .before .before .before .before .law-finite .ensures) at (c .before .before .before .before .if1 .taken) in
-    simp (c .pos-steps .ensures, c .before .cauchy-green-strain .ensures, c .before .before .bulk .ensures, c .before .before .before .determinant .ensures, c .before .before .before .before .before .mat-finite .ensures, c .before .before .before .before .before .before .is-finite2 .ensures, c .before .before .before .before .before .before .before .is-finite .ensures, c .before .before .before .before .before .before .before .before .law-finite .ensures, t0)
+    let c1 = c .before in
+    let c2 = c1 .before in
+    let t0 = simp (c2 .inputs-finite .ensures) at (c1 .if1 .taken) in
+    simp (c .pos .ensures, t0, inputs-law)
 
 returns-2 : tie.Need-returns-2
-unfolding posEnergy
+unfolding posWalk
 returns-2 c =
-    let t0 = simp (c .before .mat-finite .ensures, c .before .before .is-finite2 .ensures, c .before .before .before .is-finite .ensures, c .before .before .before .before .law-finite .ensures) at (c .if1 .left) in
-    simp (c .before .mat-finite .ensures, c .before .before .is-finite2 .ensures, c .before .before .before .is-finite .ensures, c .before .before .before .before .law-finite .ensures, t0)
+    let c1 = c .before in
+    let t0 = simp (c1 .inputs-finite .ensures) at (c .if1 .left) in
+    simp (t0, inputs-law)
 
 pub pos-energy-spec : {M : Type 1} → statement M
 pos-energy-spec =
     tie.close
-    (tie.spec (λ c κs. search needs) (λ c κs. search needs) (λ c κs. search needs) (λ c κs. search needs)
-    (λ c κs. search needs) (λ c κs. search needs) (λ c κs. search needs) (λ c κs. search needs) returns returns-2)
+    (tie.spec (λ c κs. search needs) (λ c κs. search needs) returns returns-2)

@@ -1,13 +1,12 @@
--- `elasticity_neo_hookean::energy::deviatoric_energy` answers `deviatoricEnergy p hardening w f`.
-use Rattle.elasticity_neo_hookean.specs.Energy.{deviatoricEnergy}
+-- The deviatoric energy as its formula has it.
 use borrow.Author.Needs.{needs}
+use Rattle.walk.specs.Tensor.{value-trace, worth-rows}
 use Rattle.elasticity_neo_hookean.proofs.energy.deviatoric_energy.Statement.{statement}
 use Rattle.elasticity_neo_hookean.proofs.energy.deviatoric_energy.Tie as tie
 
 returns : tie.Need-returns
-unfolding deviatoricEnergy
 returns c =
-    simp (c .stretch .ensures)
+    simp (c .trace .ensures, value-trace, worth-rows)
 
 pub deviatoric-energy-spec : {M : Type 1} → statement M
 deviatoric-energy-spec =

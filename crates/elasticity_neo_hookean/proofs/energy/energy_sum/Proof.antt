@@ -1,21 +1,21 @@
--- `elasticity_neo_hookean::energy::energy_sum` answers `energySum c j dev vol`.
-use Rattle.elasticity_neo_hookean.specs.Energy.{energySum}
+-- The two parts of the energy, added on either side of j = 1.
+use borrow.Author.Needs.{needs}
 use Rattle.elasticity_neo_hookean.proofs.energy.energy_sum.Statement.{statement}
 use Rattle.elasticity_neo_hookean.proofs.energy.energy_sum.Tie as tie
 
 returns : tie.Need-returns
-unfolding energySum
 returns c =
-    let t0 = c .if1 .taken in
-    simp (t0)
+    let c1 = c .before in
+    let t0 = c1 .if1 .taken in
+    simp (c .answered .ensures, t0)
 
 returns-2 : tie.Need-returns-2
-unfolding energySum
 returns-2 c =
-    let t0 = c .if1 .left in
-    simp (t0)
+    let c1 = c .before in
+    let t0 = c1 .if1 .left in
+    simp (c .answered2 .ensures, t0)
 
 pub energy-sum-spec : {M : Type 1} → statement M
 energy-sum-spec =
     tie.close
-    (tie.spec returns returns-2)
+    (tie.spec (λ c κs. search needs) (λ c κs. search needs) returns returns-2)

@@ -1,13 +1,12 @@
--- `elasticity_neo_hookean::energy::pos_deviatoric` answers `posDeviatoric p hardening w b`.
-use Rattle.elasticity_neo_hookean.specs.Energy.{posDeviatoric}
+-- The deviatoric part of `pos_energy` as its formula has it.
 use borrow.Author.Needs.{needs}
+use Rattle.walk.specs.Tensor.{value-trace, worth-rows}
 use Rattle.elasticity_neo_hookean.proofs.energy.pos_deviatoric.Statement.{statement}
 use Rattle.elasticity_neo_hookean.proofs.energy.pos_deviatoric.Tie as tie
 
 returns : tie.Need-returns
-unfolding posDeviatoric
 returns c =
-    simp (c .trace .ensures)
+    simp (c .trace .ensures, value-trace, worth-rows)
 
 pub pos-deviatoric-spec : {M : Type 1} → statement M
 pos-deviatoric-spec =

@@ -1,31 +1,22 @@
--- `elasticity_neo_hookean::energy::pos_sum` answers `posSum phase j dev vol`.
-use Rattle.elasticity_neo_hookean.specs.Energy.{posSum}
+-- The parts of `pos_energy` on either side of j = 1.
 use borrow.Author.Needs.{needs}
 use Rattle.elasticity_neo_hookean.proofs.energy.pos_sum.Statement.{statement}
 use Rattle.elasticity_neo_hookean.proofs.energy.pos_sum.Tie as tie
 
 returns : tie.Need-returns
-unfolding posSum
 returns c =
-    let t0 = c .before .before .if2 .taken in
-    let t1 = simp (c .before .before .before .before .is-number .ensures) at (c .before .before .before .if1 .taken) in
-    simp (c .answered .ensures, c .before .phase-coeff .ensures, c .before .before .before .before .is-number .ensures, t0, t1)
+    let c1 = c .before in
+    let c2 = c1 .before in
+    let t0 = c2 .if1 .taken in
+    simp (c .answered .ensures, c1 .phase-coeff .ensures, t0)
 
 returns-2 : tie.Need-returns-2
-unfolding posSum
 returns-2 c =
-    let t0 = c .before .if2 .left in
-    let t1 = simp (c .before .before .before .is-number .ensures) at (c .before .before .if1 .taken) in
-    simp (c .answered2 .ensures, c .before .before .before .is-number .ensures, t0, t1)
-
-returns-3 : tie.Need-returns-3
-unfolding posSum
-returns-3 c =
-    let t0 = simp (c .before .is-number .ensures) at (c .if1 .left) in
-    simp (c .before .is-number .ensures, t0)
+    let c1 = c .before in
+    let t0 = c1 .if1 .left in
+    simp (c .answered2 .ensures, t0)
 
 pub pos-sum-spec : {M : Type 1} → statement M
 pos-sum-spec =
     tie.close
-    (tie.spec (λ c κs. search needs) (λ c κs. search needs) (λ c κs. search needs) (λ c κs. search needs) returns
-    returns-2 returns-3)
+    (tie.spec (λ c κs. search needs) (λ c κs. search needs) (λ c κs. search needs) returns returns-2)

@@ -1,13 +1,12 @@
--- `elasticity_neo_hookean::stress::fpk_volumetric` answers `fpkVolumetric j k g`.
-use Rattle.elasticity_neo_hookean.specs.Stress.{fpkVolumetric}
+-- The volumetric part of the first Piola-Kirchhoff stress as its formula has it.
 use borrow.Author.Needs.{needs}
+use Rattle.walk.specs.Tensor.{worth-scaled, worth-rows}
 use Rattle.elasticity_neo_hookean.proofs.stress.fpk_volumetric.Statement.{statement}
 use Rattle.elasticity_neo_hookean.proofs.stress.fpk_volumetric.Tie as tie
 
 returns : tie.Need-returns
-unfolding fpkVolumetric
 returns c =
-    simp (c .mat-scale .ensures)
+    simp (c .mat-scale .ensures, worth-scaled, worth-rows)
 
 pub fpk-volumetric-spec : {M : Type 1} → statement M
 fpk-volumetric-spec =

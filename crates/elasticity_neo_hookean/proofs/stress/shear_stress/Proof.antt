@@ -1,13 +1,13 @@
--- `elasticity_neo_hookean::stress::shear_stress` answers `shearStress p hardening w b`.
-use Rattle.elasticity_neo_hookean.specs.Stress.{shearStress}
+-- The deviatoric part of both stresses as its formula has it.
 use borrow.Author.Needs.{needs}
+use Rattle.walk.specs.Tensor.{worth-scaled, worth-deviatoric, worth-rows}
 use Rattle.elasticity_neo_hookean.proofs.stress.shear_stress.Statement.{statement}
 use Rattle.elasticity_neo_hookean.proofs.stress.shear_stress.Tie as tie
 
 returns : tie.Need-returns
-unfolding shearStress
 returns c =
-    simp (c .mat-scale .ensures, c .before .before .deviatoric-part .ensures)
+    let c2 = c .before .before in
+    simp (c .mat-scale .ensures, c2 .deviatoric-part .ensures, worth-scaled, worth-deviatoric, worth-rows)
 
 pub shear-stress-spec : {M : Type 1} → statement M
 shear-stress-spec =

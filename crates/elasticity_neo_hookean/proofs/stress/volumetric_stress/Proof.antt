@@ -1,13 +1,12 @@
--- `elasticity_neo_hookean::stress::volumetric_stress` answers `volumetricStress j k`.
-use Rattle.elasticity_neo_hookean.specs.Stress.{volumetricStress}
+-- The volumetric part of the Kirchhoff stress as its formula has it.
 use borrow.Author.Needs.{needs}
+use Rattle.walk.specs.Tensor.{worth-identity}
 use Rattle.elasticity_neo_hookean.proofs.stress.volumetric_stress.Statement.{statement}
 use Rattle.elasticity_neo_hookean.proofs.stress.volumetric_stress.Tie as tie
 
 returns : tie.Need-returns
-unfolding volumetricStress
 returns c =
-    simp (c .identity-times .ensures)
+    simp (c .identity-times .ensures, worth-identity)
 
 pub volumetric-stress-spec : {M : Type 1} → statement M
 volumetric-stress-spec =

@@ -1,25 +1,27 @@
 -- `plasticity_drucker_prager::DruckerPragerPlasticity::update_particle` answers `druckerUpdate self u vt s`.
-use Rattle.plasticity_drucker_prager.specs.DruckerPrager.{druckerUpdate}
 use borrow.Author.Needs.{needs}
-use Rattle.plasticity_drucker_prager.proofs.DruckerPragerPlasticity.update_particle.Statement.{
-  statement,
-}
+use Rattle.plasticity_drucker_prager.proofs.Laws.{inputs-law}
+use Rattle.plasticity_drucker_prager.specs.DruckerPrager.{druckerWalk}
+use Rattle.plasticity_drucker_prager.proofs.DruckerPragerPlasticity.update_particle.Statement.{statement}
 use Rattle.plasticity_drucker_prager.proofs.DruckerPragerPlasticity.update_particle.Tie as tie
 
 returns : tie.Need-returns
-unfolding druckerUpdate
+unfolding druckerWalk
 returns c =
-    let t0 = simp (c .before .before .inputs-finite .ensures, c .before .before .before .parameters-finite .ensures) at (c .before .if1 .taken) in
-    simp (c .run .ensures, t0)
+    let c1 = c .before in
+    let c2 = c1 .before in
+    let c3 = c2 .before in
+    let t0 = simp (c2 .inputs-finite .ensures, c3 .parameters-finite .ensures) at (c1 .if1 .taken) in
+    simp (c .run .ensures, t0, inputs-law)
 
 returns-2 : tie.Need-returns-2
-unfolding druckerUpdate
+unfolding druckerWalk
 returns-2 c =
-    let t0 = simp (c .before .before .inputs-finite .ensures, c .before .before .before .parameters-finite .ensures) at (c .before .if1 .left) in
-    simp (c .refuse .ensures, t0)
+    let c1 = c .before in
+    let c2 = c1 .before in
+    let c3 = c2 .before in
+    let t0 = simp (c2 .inputs-finite .ensures, c3 .parameters-finite .ensures) at (c1 .if1 .left) in
+    simp (c .refuse .ensures, t0, inputs-law)
 
 pub update-particle-spec : {M : Type 1} → statement M
-update-particle-spec =
-    tie.close
-    (tie.spec (λ c κs. search needs) (λ c κs. search needs) (λ c κs. search needs) (λ c κs. search needs) returns
-    returns-2)
+update-particle-spec = tie.close (tie.spec (λ c κs. search needs) (λ c κs. search needs) (λ c κs. search needs) (λ c κs. search needs) returns returns-2)

@@ -1,23 +1,22 @@
--- `plasticity_drucker_prager::update::store` answers `druckerStore f sigma d hardening gain dq s`.
-use Rattle.plasticity_drucker_prager.specs.DruckerPrager.{druckerStore}
+-- `plasticity_drucker_prager::update::store` answers `updatedOf s (result (storeWalk u sigma vt (num d) (num hardening) (num gain) dq s))`.
 use borrow.Author.Needs.{needs}
+use Rattle.plasticity_drucker_prager.proofs.Laws.{store-law}
 use Rattle.plasticity_drucker_prager.proofs.update.store.Statement.{statement}
 use Rattle.plasticity_drucker_prager.proofs.update.store.Tie as tie
 
 returns : tie.Need-returns
-unfolding druckerStore
 returns c =
-    let t0 = simp (c .before .before .is-finite3 .ensures, c .before .before .before .is-finite2 .ensures, c .before .before .before .before .is-finite .ensures, c .before .before .before .before .before .row-finite .ensures, c .before .before .before .before .before .before .mat-finite .ensures) at (c .before .if1 .taken) in
-    simp (c .state-of .ensures, t0)
+    let b = c .before .before in
+    let f = b .before .before .before .before .before .recompose .ensures in
+    let t0 = simp (b .is-finite3 .ensures, b .before .is-finite2 .ensures, b .before .before .is-finite .ensures, b .before .before .before .row-finite .ensures, b .before .before .before .before .mat-finite .ensures, f) at (c .before .if1 .taken) in
+    simp (c .state-of .ensures, f, store-law, t0)
 
 returns-2 : tie.Need-returns-2
-unfolding druckerStore
 returns-2 c =
-    let t0 = simp (c .before .before .is-finite3 .ensures, c .before .before .before .is-finite2 .ensures, c .before .before .before .before .is-finite .ensures, c .before .before .before .before .before .row-finite .ensures, c .before .before .before .before .before .before .mat-finite .ensures) at (c .before .if1 .left) in
-    simp (c .refuse .ensures, t0)
+    let b = c .before .before in
+    let f = b .before .before .before .before .before .recompose .ensures in
+    let t0 = simp (b .is-finite3 .ensures, b .before .is-finite2 .ensures, b .before .before .is-finite .ensures, b .before .before .before .row-finite .ensures, b .before .before .before .before .mat-finite .ensures, f) at (c .before .if1 .left) in
+    simp (c .refuse .ensures, store-law, t0)
 
 pub store-spec : {M : Type 1} → statement M
-store-spec =
-    tie.close
-    (tie.spec (λ c κs. search needs) (λ c κs. search needs) (λ c κs. search needs) (λ c κs. search needs)
-    (λ c κs. search needs) (λ c κs. search needs) (λ c κs. search needs) returns returns-2)
+store-spec = tie.close (tie.spec (λ c κs. search needs) (λ c κs. search needs) (λ c κs. search needs) (λ c κs. search needs) (λ c κs. search needs) (λ c κs. search needs) (λ c κs. search needs) (λ c κs. search needs) returns returns-2)

@@ -1,20 +1,27 @@
--- `plasticity_nacc::NaccPlasticity::hardened` answers `hardenedOf self t alpha`.
-use Rattle.plasticity_nacc.specs.Hardening.{hardenedOf}
+-- `plasticity_nacc::NaccPlasticity::hardened` answers `answerAs (result (hardenedWalk self t alpha))`.
 use borrow.Author.Needs.{needs}
+use Rattle.plasticity_nacc.proofs.Laws.{harden-law}
 use Rattle.plasticity_nacc.proofs.NaccPlasticity.hardened.Statement.{statement}
 use Rattle.plasticity_nacc.proofs.NaccPlasticity.hardened.Tie as tie
 
 returns : tie.Need-returns
-unfolding hardenedOf
 returns c =
-    let t0 = simp (c .before .before .hardens .ensures) at (c .before .if1 .taken) in
-    simp (c .hardening-step .ensures, t0)
+    let c1 = c .before in
+    let c2 = c1 .before in
+    let c3 = c2 .before in
+    let a = c3 .args in
+    let law = harden-law (a .self) (a .t) (a .alpha) (c3 .pre) in
+    let t0 = simp (c2 .hardens .ensures) at (c1 .if1 .taken) in
+    simp (c .hardening-step .ensures, t0, law)
 
 returns-2 : tie.Need-returns-2
-unfolding hardenedOf
 returns-2 c =
-    let t0 = simp (c .before .hardens .ensures) at (c .if1 .left) in
-    simp (t0)
+    let c1 = c .before in
+    let c2 = c1 .before in
+    let a = c2 .args in
+    let law = harden-law (a .self) (a .t) (a .alpha) (c2 .pre) in
+    let t0 = simp (c1 .hardens .ensures) at (c .if1 .left) in
+    simp (t0, law)
 
 pub hardened-spec : {M : Type 1} → statement M
 hardened-spec =

@@ -1,13 +1,14 @@
--- `plasticity_nacc::NaccPlasticity::run` answers `naccRun self u vt s`.
-use Rattle.plasticity_nacc.specs.Nacc.{naccRun}
+-- `plasticity_nacc::NaccPlasticity::run` answers `updatedOf s (result (runWalk self u vt s))`.
 use borrow.Author.Needs.{needs}
+use Rattle.plasticity_nacc.proofs.Laws.{run-law, project-law}
 use Rattle.plasticity_nacc.proofs.NaccPlasticity.run.Statement.{statement}
 use Rattle.plasticity_nacc.proofs.NaccPlasticity.run.Tie as tie
 
 returns : tie.Need-returns
-unfolding naccRun
 returns c =
-    simp (c .stored .ensures, c .before .projected .ensures, c .before .before .steps .ensures)
+    let c1 = c .before in
+    let c2 = c1 .before in
+    simp (c .stored .ensures, c1 .projected .ensures, c2 .steps .ensures, run-law, project-law)
 
 pub run-spec : {M : Type 1} → statement M
 run-spec =

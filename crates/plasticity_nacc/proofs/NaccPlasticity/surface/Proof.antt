@@ -1,15 +1,27 @@
--- `plasticity_nacc::NaccPlasticity::surface` answers `surfaceOf self b t alpha`.
-use Rattle.plasticity_nacc.specs.Surface.{surfaceOf}
+-- `plasticity_nacc::NaccPlasticity::surface` answers `asBranch b (result (surfaceWalk self t alpha))`.
 use borrow.Author.Needs.{needs}
+use Rattle.walk.specs.Exact.{number-then}
+use Rattle.plasticity_nacc.specs.Nacc.{surfaceWalk}
 use Rattle.plasticity_nacc.proofs.NaccPlasticity.surface.Statement.{statement}
 use Rattle.plasticity_nacc.proofs.NaccPlasticity.surface.Tie as tie
 
 returns : tie.Need-returns
-unfolding surfaceOf
+unfolding surfaceWalk
 returns c =
-    simp (c .alphaed .ensures, c .before .hardened .ensures)
+    let c2 = c .before .before in
+    let c4 = c2 .before .before in
+    let t0 = simp (c4 .hardened .ensures) at (c2 .a .given .1) in
+    simp (c .land .ensures, t0, number-then)
+
+returns-2 : tie.Need-returns-2
+unfolding surfaceWalk
+returns-2 c =
+    let c2 = c .before .before in
+    let c4 = c2 .before .before in
+    let t0 = simp (c4 .hardened .ensures) at (c2 .n .given .1) in
+    simp (c .refused-step .ensures, t0, number-then)
 
 pub surface-spec : {M : Type 1} → statement M
 surface-spec =
     tie.close
-    (tie.spec (λ c κs. search needs) (λ c κs. search needs) returns)
+    (tie.spec (λ c κs. search needs) (λ c. search needs) (λ c κs. search needs) (λ c. search needs) (λ c κs. search needs) returns returns-2)

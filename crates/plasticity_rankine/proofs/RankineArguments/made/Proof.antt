@@ -1,6 +1,6 @@
 -- `plasticity_rankine::RankineArguments::made` answers `madeOf self`.
 use borrow.Author.Needs.{needs}
-use Rattle.plasticity_rankine.specs.Rankine.{madeOf}
+use Rattle.plasticity_rankine.specs.Law.{madeOf}
 use Rattle.plasticity_rankine.proofs.RankineArguments.made.Statement.{statement}
 use Rattle.plasticity_rankine.proofs.RankineArguments.made.Tie as tie
 

@@ -1,20 +1,23 @@
--- `plasticity_rankine::RankineArguments::update_particle` answers `argumentsUpdate self u vt s`.
+-- The arguments of `new` are tested, and then the law that they make.
 use borrow.Author.Needs.{needs}
-use Rattle.plasticity_rankine.specs.Rankine.{argumentsUpdate}
+use Rattle.plasticity_rankine.proofs.Laws.{arguments-law}
 use Rattle.plasticity_rankine.proofs.RankineArguments.update_particle.Statement.{statement}
 use Rattle.plasticity_rankine.proofs.RankineArguments.update_particle.Tie as tie
 
 returns : tie.Need-returns
-unfolding argumentsUpdate
 returns c =
-    let t0 = simp (c .before .before .before .elastic-finite .ensures) at (c .before .before .if1 .taken) in
-    simp (c .update-particle .ensures, c .before .law .ensures, c .before .before .before .elastic-finite .ensures, t0)
+    let c1 = c .before in
+    let c2 = c1 .before in
+    let c3 = c2 .before in
+    let t0 = simp (c3 .elastic-finite .ensures) at (c2 .if1 .taken) in
+    simp (c .update-particle .ensures, c1 .law .ensures, t0, arguments-law)
 
 returns-2 : tie.Need-returns-2
-unfolding argumentsUpdate
 returns-2 c =
-    let t0 = simp (c .before .before .elastic-finite .ensures) at (c .before .if1 .left) in
-    simp (c .refuse .ensures, c .before .before .elastic-finite .ensures, t0)
+    let c1 = c .before in
+    let c2 = c1 .before in
+    let t0 = simp (c2 .elastic-finite .ensures) at (c1 .if1 .left) in
+    simp (c .refuse .ensures, t0, arguments-law)
 
 pub update-particle-spec : {M : Type 1} → statement M
 update-particle-spec =

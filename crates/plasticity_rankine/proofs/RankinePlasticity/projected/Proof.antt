@@ -1,16 +1,53 @@
--- `plasticity_rankine::RankinePlasticity::projected` answers `projectedOf self e s`.
+-- The first test, on the strains as sorted: a side that is a number is compared as the walk compares it.
 use borrow.Author.Needs.{needs}
-use Rattle.plasticity_rankine.specs.Projection.{projectedOf}
+use Rattle.walk.specs.Matrix.{value-sum, values-nums}
+use Rattle.plasticity_rankine.specs.Projection.{firstWalk}
 use Rattle.plasticity_rankine.proofs.RankinePlasticity.projected.Statement.{statement}
 use Rattle.plasticity_rankine.proofs.RankinePlasticity.projected.Tie as tie
 
 returns : tie.Need-returns
-unfolding projectedOf
+unfolding firstWalk
 returns c =
-    simp (c .restore .ensures, c .before .returned .ensures, c .before .before .choose .ensures, c .before .before .before .arrange .ensures, c .before .before .before .before .sum .ensures, c .before .before .before .before .before .rank .ensures)
+    let c1 = c .before in
+    let c2 = c1 .before in
+    let c3 = c2 .before in
+    let c4 = c3 .before in
+    let c5 = c4 .before in
+    let c6 = c5 .before in
+    let c7 = c6 .before in
+    let t0 = simp (c2 .is-number .ensures, c3 .first-side .ensures, c4 .sum .ensures, c5 .arrange .ensures, c6 .rank .ensures) at (c1 .if1 .taken) in
+    let t1 = simp (c3 .first-side .ensures, c4 .sum .ensures, c5 .arrange .ensures, c6 .rank .ensures) at (c .if2 .taken) in
+    simp (c3 .first-side .ensures, c4 .sum .ensures, c5 .arrange .ensures, c6 .rank .ensures, t0, t1, c7 .pre, value-sum, values-nums)
+
+returns-2 : tie.Need-returns-2
+unfolding firstWalk
+returns-2 c =
+    let c1 = c .before in
+    let c2 = c1 .before in
+    let c3 = c2 .before in
+    let c4 = c3 .before in
+    let c5 = c4 .before in
+    let c6 = c5 .before in
+    let c7 = c6 .before in
+    let c8 = c7 .before in
+    let t0 = simp (c3 .is-number .ensures, c4 .first-side .ensures, c5 .sum .ensures, c6 .arrange .ensures, c7 .rank .ensures) at (c2 .if1 .taken) in
+    let t1 = simp (c4 .first-side .ensures, c5 .sum .ensures, c6 .arrange .ensures, c7 .rank .ensures) at (c1 .if2 .left) in
+    simp (c .one-or-more .ensures, c6 .arrange .ensures, c7 .rank .ensures, t0, t1, c8 .pre, value-sum)
+
+returns-3 : tie.Need-returns-3
+unfolding firstWalk
+returns-3 c =
+    let c1 = c .before in
+    let c2 = c1 .before in
+    let c3 = c2 .before in
+    let c4 = c3 .before in
+    let c5 = c4 .before in
+    let c6 = c5 .before in
+    let t0 = simp (c2 .is-number .ensures, c3 .first-side .ensures, c4 .sum .ensures, c5 .arrange .ensures, c6 .rank .ensures) at (c1 .if1 .left) in
+    simp (c .refused-strains .ensures, t0, value-sum)
 
 pub projected-spec : {M : Type 1} → statement M
 projected-spec =
     tie.close
     (tie.spec (λ c κs. search needs) (λ c κs. search needs) (λ c κs. search needs) (λ c κs. search needs)
-    (λ c κs. search needs) (λ c κs. search needs) returns)
+    (λ c κs. search needs) (λ c κs. search needs) (λ c κs. search needs) returns returns-2 returns-3)

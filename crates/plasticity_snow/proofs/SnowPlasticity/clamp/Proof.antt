@@ -5,7 +5,8 @@ use Rattle.plasticity_snow.proofs.SnowPlasticity.clamp.Tie as tie
 
 returns : tie.Need-returns
 returns c =
-    simp (c .min .ensures, c .before .before .max .ensures)
+    let c2 = c .before .before in
+    simp (c .min .ensures, c2 .max .ensures)
 
 pub clamp-spec : {M : Type 1} → statement M
 clamp-spec =

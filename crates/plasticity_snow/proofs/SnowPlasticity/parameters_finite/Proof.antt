@@ -5,7 +5,9 @@ use Rattle.plasticity_snow.proofs.SnowPlasticity.parameters_finite.Tie 
 
 returns : tie.Need-returns
 returns c =
-    simp (c .is-finite3 .ensures, c .before .is-finite2 .ensures, c .before .before .is-finite .ensures)
+    let c1 = c .before in
+    let c2 = c1 .before in
+    simp (c .is-finite3 .ensures, c1 .is-finite2 .ensures, c2 .is-finite .ensures)
 
 pub parameters-finite-spec : {M : Type 1} → statement M
 parameters-finite-spec =

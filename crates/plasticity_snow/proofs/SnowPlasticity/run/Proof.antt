@@ -1,43 +1,41 @@
--- `plasticity_snow::SnowPlasticity::run` answers `snowRun self u vt s`.
+-- `plasticity_snow::SnowPlasticity::run` answers `updatedOf s (result (runWalk self u vt s))`.
 use borrow.Author.Needs.{needs}
-use Rattle.plasticity_snow.specs.Snow.{snowRun}
+use Rattle.walk.specs.Matrix.{value-product}
+use Rattle.plasticity_snow.specs.Snow.{hardenWalk}
+use Rattle.plasticity_snow.proofs.Laws.{run-law, store-law}
 use Rattle.plasticity_snow.proofs.SnowPlasticity.run.Statement.{statement}
 use Rattle.plasticity_snow.proofs.SnowPlasticity.run.Tie as tie
-use Rattle.plasticity_snow.proofs.SnowPlasticity.run.Reads as reads
-use Rattle.plasticity_snow.proofs.SnowPlasticity.run.Lts as lts
-use Rattle.exponential.proofs.exp_on_path.Reads as exp-on-path-reads
-use Rattle.plasticity.proofs.refuse.Reads as refuse-reads
-use Rattle.plasticity_snow.proofs.SnowPlasticity.exponent.Reads as exponent-reads
-use Rattle.plasticity_snow.proofs.SnowPlasticity.project_deformation_gradient.Reads as project-deformation-gradient-reads
-use Rattle.plasticity_snow.proofs.determinant.Reads as determinant-reads
-use Rattle.plasticity_snow.proofs.store.Reads as store-reads
-use Rattle.tensor.proofs.recompose.Reads as recompose-reads
 
--- src/lib.rt:67:5
 returns : tie.Need-returns
-unfolding snowRun
+unfolding hardenWalk
 returns c =
-    let b = c .before .before .before .before .before in
-    let d = b .before .before .determinant .ensures in
-    let n = b .before .before .before .project-deformation-gradient .ensures in
-    let x = b .before .exponent .ensures in
-    let t = simp (b .exp-on-path .ensures, x, d, n) at (c .before .before .before .h .given .1) in
-    simp (c .store .ensures, c .before .recompose .ensures, d, n, t)
+    let c2 = c .before .before in
+    let c4 = c2 .before .before in
+    let c7 = c4 .before .before .before in
+    let c8 = c7 .before in
+    let c9 = c8 .before in
+    let c11 = c9 .before .before in
+    let a = c11 .args in
+    let law = run-law (a .self) (a .u) (a .vt) (a .s) (c11 .pre) in
+    let t0 = simp (c4 .exp-on-path .ensures, c7 .product2 .ensures, c8 .product .ensures, c9 .project-deformation-gradient .ensures) at (c2 .h .given .1) in
+    simp (c .store .ensures, c4 .exp-on-path .ensures, c7 .product2 .ensures, c8 .product .ensures, c9 .project-deformation-gradient .ensures, t0, law, value-product, store-law)
 
--- src/lib.rt:67:5
 returns-2 : tie.Need-returns-2
-unfolding snowRun
+unfolding hardenWalk
 returns-2 c =
-    let b = c .before .before .before .before in
-    let d = b .before .before .determinant .ensures in
-    let n = b .before .before .before .project-deformation-gradient .ensures in
-    let x = b .before .exponent .ensures in
-    let t = simp (b .exp-on-path .ensures, x, d, n) at (c .before .before .h2 .given .1) in
-    simp (c .refuse .ensures, t)
+    let c2 = c .before .before in
+    let c4 = c2 .before .before in
+    let c7 = c4 .before .before .before in
+    let c8 = c7 .before in
+    let c9 = c8 .before in
+    let c11 = c9 .before .before in
+    let a = c11 .args in
+    let law = run-law (a .self) (a .u) (a .vt) (a .s) (c11 .pre) in
+    let t0 = simp (c4 .exp-on-path .ensures, c7 .product2 .ensures, c8 .product .ensures, c9 .project-deformation-gradient .ensures) at (c2 .n .given .1) in
+    simp (c .refuse .ensures, c4 .exp-on-path .ensures, c7 .product2 .ensures, c8 .product .ensures, c9 .project-deformation-gradient .ensures, t0, law, value-product, store-law)
 
 pub run-spec : {M : Type 1} → statement M
 run-spec =
     tie.close
-    (tie.spec (λ c κs. search needs) (λ c κs. search needs) (λ c κs. search needs) (λ c κs. search needs)
-    (λ c. search needs) (λ c κs. search needs) (λ c κs. search needs) (λ c. search needs) (λ c κs. search needs)
-    returns returns-2)
+    (tie.spec (λ c κs. search needs) (λ c κs. search needs) (λ c κs. search needs) (λ c κs. search needs) (λ c. search needs) (λ c κs. search needs)
+    (λ c. search needs) (λ c κs. search needs) returns returns-2)

@@ -1,0 +1,187 @@
+-- What is handed from one piece of the walk to the next, as the code hands it on; and the tests that meet no NaN.
+use mathlib.Core.Bool.{Bool, true, false, cond, _&&_}
+use mathlib.Core.List.{List, [], _∷_, _++_}
+use mathlib.Core.Path.{_≡_, refl, ap, _∙_}
+use lib.Ieee as Ieee
+use lib.Ieee.{Float, ofBits}
+use Rattle.numbers.specs.Floats.{finite, isNumber, maxOf}
+use Rattle.tensor.specs.Axes.{allOf}
+use Rattle.tensor.specs.Matrix as tensor
+use Rattle.tensor.specs.Matrix.{recomposeOf, rowsOf}
+use Rattle.tensor.specs.Finite.{rowFinite, matFinite, rowsFinite}
+use Rattle.tensor.specs.declared.Rows.{Rows}
+use Rattle.plasticity.specs.State as law
+use Rattle.plasticity.specs.State.{inputsFinite, stateFinite, scalarsFinite}
+use Rattle.plasticity.specs.declared.State.{State}
+use Rattle.plasticity.specs.declared.Updated.{Updated}
+use Rattle.walk.specs.Expr.{num, neg, value, zero-number}
+use Rattle.walk.specs.Walk.{Walk, end, _then_, holds, Ended, given, refused, result}
+use Rattle.walk.specs.Number.{finite-number, neg-number, add-number, sub-number, finite-sub, picked-number, zero-finite}
+use Rattle.walk.specs.Exact.{andThen, result-then}
+use Rattle.walk.specs.Every.{and-left, and-right, flat, all-append, all-flat}
+use Rattle.walk.specs.Steps.{most-answers, when-answers}
+use Rattle.walk.specs.Matrix.{value-entry, values-nums}
+use Rattle.walk.specs.Update.{Change, updatedOf, inputs-finite}
+use Rattle.plasticity_nacc.specs.declared.Branch.the-variants.{Lower}
+use Rattle.plasticity_nacc.specs.declared.NaccArguments.{NaccArguments}
+use Rattle.plasticity_nacc.specs.declared.NaccPlasticity.{NaccPlasticity}
+use Rattle.plasticity_nacc.specs.declared.Projected.{Projected}
+use Rattle.plasticity_nacc.specs.declared.Stepped.{Stepped}
+use Rattle.plasticity_nacc.specs.declared.Trial.{Trial}
+use Rattle.plasticity_nacc.specs.Law.{small, lawOf, parametersOf, argumentsFloats, elasticFinite, parametersFinite}
+use Rattle.plasticity_nacc.specs.Formulas as of
+use Rattle.plasticity_nacc.specs.Nacc.{Way, upper, lower, inside, surface, Shape, Landed, Result, sizeOf, tipWalk, hardenWalk, conditions, hardenedWalk, settled, ends, pressWalk, stepsWalk, recomposedWalk, wayWalk, projectWalk, moduli, projectInputs, projectFloats, changeOf, runWalk, floats, naccWalk, argumentsWalk, branchOf, asBranch, steppedOf, refusedProjection, projectedOf, recomposedOf, byBranch, storedBy, naccUpdate}
+
+pub small-finite : finite small ≡ true
+unfolding finite ofBits
+small-finite = refl
+
+pub small-number : isNumber small ≡ true
+unfolding isNumber ofBits
+small-number = refl
+
+pub size-number : (v : Float) → isNumber v ≡ true → isNumber (sizeOf v) ≡ true
+size-number v h = picked-number (Ieee.le v tensor.zero) (tensor.sub tensor.zero v) v (finite-sub tensor.zero v zero-finite h) h
+
+-- the maximum of a finite alpha meets no NaN
+pub steps-law : (p : NaccPlasticity) (sigma : List Float) (alpha : Float) → finite alpha ≡ true
+    → result (stepsWalk p sigma alpha) ≡ result (pressWalk p (num (maxOf (Ieee.neg alpha) tensor.zero)) sigma alpha)
+unfolding stepsWalk
+steps-law p sigma alpha h =
+    most-answers 2 (neg (num alpha)) of.zero (λ m. pressWalk p m sigma alpha) (neg-number alpha ∙ finite-number alpha h) zero-number
+
+-- nor do the four conditions, once the branches are tested
+pub harden-law : (p : NaccPlasticity) (t : Trial) (alpha : Float) → settled p t ≡ true
+    → result (hardenedWalk p t alpha) ≡ cond (allOf holds (conditions p t)) (result (hardenWalk p t alpha)) (given alpha)
+unfolding hardenedWalk
+harden-law p t alpha h =
+    let low = value (of.low p (num (t .p0))) in
+    let two = and-left (isNumber (t .p0) && isNumber (t .p)) (isNumber low) h in
+    let a = and-left (isNumber (t .p0)) (isNumber (t .p)) two in
+    let b = and-right (isNumber (t .p0)) (isNumber (t .p)) two in
+    let c = and-right (isNumber (t .p0) && isNumber (t .p)) (isNumber low) h in
+    when-answers 13 (conditions p t) (hardenWalk p t alpha) (end alpha)
+    (simp (a, b, small-number, sub-number (t .p0) small a small-finite, add-number low small c small-finite))
+
+pub pressures : (t : Trial) → isNumber (t .p0) && (isNumber (t .squares) && isNumber (t .p)) ≡ true → isNumber (t .p0) && isNumber (t .p) ≡ true
+pressures t h =
+    rw (and-left (isNumber (t .p0)) (isNumber (t .squares) && isNumber (t .p)) h)
+    (and-right (isNumber (t .squares)) (isNumber (t .p)) (and-right (isNumber (t .p0)) (isNumber (t .squares) && isNumber (t .p)) h))
+
+-- ---- one piece after the other
+ended : (w : Way) (x : Ended Shape) → steppedOf (andThen x (λ q. result (ends w q))) ≡ asBranch (branchOf w) x
+ended w (given q) = refl
+ended w (refused n) = refl
+
+pub shape-then : (w : Way) (v : Walk Shape) → steppedOf (result (v then ends w)) ≡ asBranch (branchOf w) (result v)
+shape-then w v = ap steppedOf (result-then v (ends w)) ∙ ended w (result v)
+
+-- at the lower tip
+pub lower-law : (p : NaccPlasticity) (t : Trial) (alpha x : Float)
+    → steppedOf (result (tipWalk p (num x) (t .j) alpha then ends (lower (t .p) (value (of.low p (num (t .p0)))))))
+    ≡ asBranch (Lower (t .p) (value (of.low p (num (t .p0))))) (result (tipWalk p (num x) (t .j) alpha))
+lower-law p t alpha x = shape-then (lower (t .p) (value (of.low p (num (t .p0))))) (tipWalk p (num x) (t .j) alpha)
+
+kept : (q : Result) (b : Bool) → projectedOf (cond b (given q) (refused 3)) ≡ cond b (projectedOf (given q)) (refusedProjection 3)
+kept q true = refl
+kept q false = refl
+
+recomposed-law : (w : Way) (u : List (List Float)) (q : Shape) (vt : List (List Float)) → projectedOf (result (recomposedWalk w u q vt)) ≡ recomposedOf (branchOf w) u (q .sigma) vt (q .alpha)
+unfolding recomposedWalk recomposedOf
+recomposed-law w u q vt =
+    let f = recomposeOf u (q .sigma) vt in
+    simp (value-entry, values-nums) (kept (record { way = w; f = rowsOf f; shape = q }) ((matFinite f && rowFinite (q .sigma)) && finite (q .alpha)))
+
+module _ (f : Rows) (u vt : List (List Float)) where
+  way-law : (w : Way) (q : Shape) → projectedOf (result (wayWalk w q f u vt)) ≡ byBranch (branchOf w) (q .sigma) (q .alpha) f u vt
+  unfolding wayWalk
+  way-law (upper x y) q = recomposed-law (upper x y) u q vt
+  way-law (lower x y) q = recomposed-law (lower x y) u q vt
+  way-law (inside x y) q = refl
+  way-law (surface x y) q = recomposed-law (surface x y) u q vt
+
+  -- as the code goes by the branch
+  abbrev pub byStep : Stepped → Projected
+  byStep q = byBranch (q .branch) (q .sigma) (q .alpha) f u vt
+
+  followed : (x : Ended Landed) → projectedOf (andThen x (λ q. result (wayWalk (q .way) (q .shape) f u vt))) ≡ byStep (steppedOf x)
+  followed (given q) = way-law (q .way) (q .shape)
+  followed (refused n) = refl
+
+  pub project-law : (p : NaccPlasticity) (sigma : List Float) (alpha : Float) → projectedOf (result (projectWalk p f u sigma vt alpha)) ≡ byStep (steppedOf (result (stepsWalk p sigma alpha)))
+  unfolding projectWalk
+  project-law p sigma alpha =
+      ap projectedOf (result-then (stepsWalk p sigma alpha) (λ q. wayWalk (q .way) (q .shape) f u vt)) ∙ followed (result (stepsWalk p sigma alpha))
+
+module _ (s : State) where
+  abbrev pub byProjection : Projected → Updated
+  byProjection q = storedBy (q .branch) (q .f) (q .sigma) (q .alpha) s
+
+  changed : (w : Way) (f : Rows) (q : Shape) → updatedOf s (given (changeOf w f q s)) ≡ storedBy (branchOf w) f (q .sigma) (q .alpha) s
+  changed (upper x y) f q = refl
+  changed (lower x y) f q = refl
+  changed (inside x y) f q = refl
+  changed (surface x y) f q = refl
+
+  stores : (x : Ended Result) → updatedOf s (andThen x (λ q. given (changeOf (q .way) (q .f) (q .shape) s))) ≡ byProjection (projectedOf x)
+  stores (given q) = changed (q .way) (q .f) (q .shape)
+  stores (refused n) = refl
+
+  pub run-law : (p : NaccPlasticity) (u vt : List (List Float)) → updatedOf s (result (runWalk p u vt s)) ≡ byProjection (projectedOf (result (projectWalk p (s .f) u (s .sigma) vt (s .scalars .alpha))))
+  unfolding runWalk
+  run-law p u vt =
+      let w = projectWalk p (s .f) u (s .sigma) vt (s .scalars .alpha) in
+      ap (updatedOf s) (result-then w (λ q. end (changeOf (q .way) (q .f) (q .shape) s))) ∙ stores (result w)
+
+-- ---- the inputs
+pub inputs-law : (l : List Float) (u vt : List (List Float)) (s : State) → allOf finite (floats l u vt s) ≡ allOf finite l && inputsFinite u vt s
+unfolding floats
+inputs-law l u vt s = inputs-finite l u vt s
+
+pub alpha-finite : (u vt : List (List Float)) (s : State) → inputsFinite u vt s ≡ true → finite (s .scalars .alpha) ≡ true
+alpha-finite u vt s h =
+    let before = finite (s .scalars .phase) && finite (s .scalars .«plastic_determinant») && finite (s .scalars .«plastic_hardening») && finite (s .scalars .«elastic_hardening») && finite (s .scalars .«log_gain») in
+    and-right before (finite (s .scalars .alpha))
+    (and-right (rowsFinite (s .f) && rowFinite (s .sigma)) (scalarsFinite (s .scalars)) (and-right (matFinite u && matFinite vt) (stateFinite s) h))
+
+leftwards : (a b c d e f : Bool) → a && (b && (c && (d && (e && f)))) ≡ a && b && c && d && e && f
+leftwards true true true true e f = refl
+leftwards true true true false e f = refl
+leftwards true true false d e f = refl
+leftwards true false c d e f = refl
+leftwards false b c d e f = refl
+
+pub project-inputs : (p : NaccPlasticity) (f u : List (List Float)) (sigma : List Float) (vt : List (List Float)) (alpha : Float)
+    → allOf finite (projectFloats p f u sigma vt alpha) ≡ projectInputs p f u sigma vt alpha
+unfolding projectFloats
+project-inputs p f u sigma vt alpha =
+    let last = alpha ∷ [] in
+    all-append finite (parametersOf p) (flat f ++ (flat u ++ (sigma ++ (flat vt ++ last))))
+    ∙ rw (all-append finite (flat f) (flat u ++ (sigma ++ (flat vt ++ last))), all-append finite (flat u) (sigma ++ (flat vt ++ last)), all-append finite sigma (flat vt ++ last), all-append finite (flat vt) last, all-flat finite f, all-flat finite u, all-flat finite vt)
+    (leftwards (parametersFinite p) (matFinite f) (matFinite u) (rowFinite sigma) (matFinite vt) (finite alpha))
+
+-- the arguments' own test, and then the law's
+twice : (s : State) (y n c x m i : Bool) (w : Ended Change)
+    → updatedOf s (cond ((y && n && c && x && m) && i) w (refused 1)) ≡ cond (y && n) (updatedOf s (cond ((x && c && m) && i) w (refused 1))) (law.refused 1 s)
+twice s true true true true m i w = refl
+twice s true true true false m i w = refl
+twice s true true false true m i w = refl
+twice s true true false false m i w = refl
+twice s true false c x m i w = refl
+twice s false n c x m i w = refl
+
+pub arguments-law : (a : NaccArguments) (u vt : List (List Float)) (s : State)
+    → updatedOf s (result (argumentsWalk a u vt s)) ≡ cond (elasticFinite a) (naccUpdate (lawOf a) u vt s) (law.refused 1 s)
+unfolding argumentsWalk naccWalk
+arguments-law a u vt s =
+    rw (inputs-law (argumentsFloats a) u vt s, inputs-law (parametersOf (lawOf a)) u vt s)
+    (twice s (finite (a .«young_modulus»)) (finite (a .«poisson_ratio»)) (finite (a .cohesion)) (finite (a .«hardening_factor»)) (finite (a .m)) (inputsFinite u vt s)
+    (result (moduli (lawOf a) (runWalk (lawOf a) u vt s))))
+
+-- alpha is one of them
+pub project-alpha : (p : NaccPlasticity) (f u : List (List Float)) (sigma : List Float) (vt : List (List Float)) (alpha : Float)
+    → projectInputs p f u sigma vt alpha ≡ true → finite alpha ≡ true
+project-alpha p f u sigma vt alpha h = and-right (parametersFinite p && matFinite f && matFinite u && rowFinite sigma && matFinite vt) (finite alpha) h
+
+pub run-alpha : (p : NaccPlasticity) (u vt : List (List Float)) (s : State) → parametersFinite p && inputsFinite u vt s ≡ true → finite (s .scalars .alpha) ≡ true
+run-alpha p u vt s h = alpha-finite u vt s (and-right (parametersFinite p) (inputsFinite u vt s) h)

@@ -1,0 +1,123 @@
+// The trial state and the branch that it takes. A NaN would compare false: it is refused before each test that is made.
+use crate::Branch;
+use crate::NaccPlasticity;
+use crate::Stepped;
+use crate::Trial;
+use crate::surface;
+use answers::Answer;
+ghost use mathlib.Core.Path.{_≡_};
+ghost use mathlib.Core.Bool.{true, _&&_};
+ghost use Rattle.numbers.specs.Floats.{finite, isNumber};
+ghost use Rattle.walk.specs.Walk.{result};
+ghost use Rattle.plasticity_nacc.specs.Formulas.{trialOf};
+ghost use Rattle.plasticity_nacc.specs.Nacc.{steppedOf, settled, yieldWalk, lowerWalk, branchWalk, stepsWalk};
+
+impl NaccPlasticity {
+    // Between the tips.
+    fn yielded(self, t: Trial, sigma: [f64; 3], alpha: f64) -> Stepped
+        requires { ⌜ settled self t ≡ true ⌝ }
+        ensures { λ r. ⌜ r ≡ steppedOf (result (yieldWalk self t sigma alpha)) ⌝ }
+    {
+        let y = self.y0() * t.squares + self.y1(t);
+        if numbers::is_number(y) {
+            if y < 0.0001 {
+                Stepped {
+                    branch: Branch::Inside(y, 0.0001),
+                    sigma,
+                    alpha,
+                }
+            } else {
+                self.surface(Branch::Surface(y, 0.0001), t, alpha)
+            }
+        } else {
+            surface::refused_step(3)
+        }
+    }
+
+    // Not above the upper tip.
+    fn lowered(self, t: Trial, sigma: [f64; 3], alpha: f64) -> Stepped
+        requires { ⌜ isNumber (t .p0) && isNumber (t .p) ≡ true ⌝ }
+        ensures { λ r. ⌜ r ≡ steppedOf (result (lowerWalk self t sigma alpha)) ⌝ }
+    {
+        let low = -self.cohesion * t.p0;
+        if numbers::is_number(low) {
+            if t.p < low {
+                match square_root::sqrt_on_path(2.0 * self.cohesion * t.p0 / self.kappa + 1.0) {
+                    Answer::Value(x) => self.tip(Branch::Lower(t.p, low), x, t.j, alpha),
+                    Answer::Refused(n) => surface::refused_step(n),
+                }
+            } else {
+                self.yielded(t, sigma, alpha)
+            }
+        } else {
+            surface::refused_step(3)
+        }
+    }
+
+    // The branch of a trial state whose pressures are numbers.
+    fn branched(self, t: Trial, sigma: [f64; 3], alpha: f64) -> Stepped
+        requires { ⌜ isNumber (t .p0) && (isNumber (t .squares) && isNumber (t .p)) ≡ true ⌝ }
+        ensures { λ r. ⌜ r ≡ steppedOf (result (branchWalk self t sigma alpha)) ⌝ }
+    {
+        if t.p > t.p0 {
+            match square_root::sqrt_on_path(self.volume_square(t.p0)) {
+                Answer::Value(x) => self.tip(Branch::Upper(t.p, t.p0), x, t.j, alpha),
+                Answer::Refused(n) => surface::refused_step(n),
+            }
+        } else {
+            self.lowered(t, sigma, alpha)
+        }
+    }
+
+    // w is j to the power -2/3.
+    fn trial(self, w: f64, p0: f64, j: f64, sigma: [f64; 3]) -> Trial
+        ensures { λ r. ⌜ r ≡ trialOf self w p0 j sigma ⌝ }
+    {
+        let x = sigma[0];
+        let y = sigma[1];
+        let z = sigma[2];
+        let mean = (x * x + y * y + z * z) / 3.0;
+        let a = self.mu * w * (x * x - mean);
+        let b = self.mu * w * (y * y - mean);
+        let c = self.mu * w * (z * z - mean);
+        let s = [a, b, c];
+        Trial {
+            p0,
+            j,
+            mean,
+            s,
+            squares: a * a + b * b + c * c,
+            p: -(self.kappa / 2.0 * (j - 1.0 / j)) * j,
+        }
+    }
+
+    // The steps in the law's order: p0, the power of j, the trial state, the branch. Alpha is finite: the maximum hides no
+    // NaN.
+    pub(crate) fn steps(self, sigma: [f64; 3], alpha: f64) -> Stepped
+        requires { ⌜ finite alpha ≡ true ⌝ }
+        ensures { λ r. ⌜ r ≡ steppedOf (result (stepsWalk self sigma alpha)) ⌝ }
+    {
+        match exponential::sinh_on_path(self.hardening_factor * numbers::max(-alpha, 0.0)) {
+            Answer::Value(x) => {
+                let p0 = self.kappa * (0.00001 + x);
+                if numbers::is_number(p0) {
+                    let j = tensor::product(sigma);
+                    match thirds::inv_cbrt_squared_on_path(j) {
+                        Answer::Value(w) => {
+                            let t = self.trial(w, p0, j, sigma);
+                            if numbers::is_number(t.squares) & numbers::is_number(t.p) {
+                                self.branched(t, sigma, alpha)
+                            } else {
+                                surface::refused_step(3)
+                            }
+                        }
+                        Answer::Refused(n) => surface::refused_step(n),
+                    }
+                } else {
+                    surface::refused_step(3)
+                }
+            }
+            Answer::Refused(n) => surface::refused_step(n),
+        }
+    }
+}

@@ -1,0 +1,202 @@
+-- What is handed from one piece of the walk to the next, as the code hands it on; and the tests that meet no NaN.
+use mathlib.Core.Bool.{Bool, true, false, cond, _&&_}
+use mathlib.Core.List.{List, [], _∷_, _++_}
+use mathlib.Core.Path.{_≡_, refl, sym, ap, _∙_}
+use lib.ListN.{length, getD}
+use lib.Ieee.{Float, nan, ofBits}
+use Rattle.numbers.specs.Floats.{finite, isNumber, minOf}
+use Rattle.tensor.specs.Axes.{allOf, pairwise, of-one}
+use Rattle.tensor.specs.Matrix.{add, sub, mul, one, three, dotOf, rowSubOf, recomposeOf}
+use Rattle.tensor.specs.Finite.{rowFinite, matFinite, rowsFinite}
+use Rattle.tensor.specs.Answer.{answeredVector, refusedVector}
+use Rattle.tensor.specs.declared.VectorAnswer.{VectorAnswer}
+use Rattle.physics.specs.Norm.{normOf}
+use Rattle.plasticity.specs.State as law
+use Rattle.plasticity.specs.State.{inputsFinite, stateFinite, scalarsFinite}
+use Rattle.plasticity.specs.declared.Outcome.the-variants.{Stored}
+use Rattle.plasticity.specs.declared.State.{State}
+use Rattle.walk.specs.Expr.{Expr, num, _-_, value, values, nums}
+use Rattle.walk.specs.Walk.{Walk, _then_, Ended, given, refused, asked, result}
+use Rattle.walk.specs.Number.{finite-number, sub-number, finite-sub}
+use Rattle.walk.specs.Exact.{andThen, result-then}
+use Rattle.walk.specs.Every.{and-left, and-right, all-append}
+use Rattle.walk.specs.Steps.{least-answers}
+use Rattle.walk.specs.Matrix.{dots, value-dots, value-entry, values-nums}
+use Rattle.walk.specs.Update.{Change, stored, updatedOf, inputs-finite}
+use Rattle.plasticity_rankine.specs.declared.Rank.{Rank}
+use Rattle.plasticity_rankine.specs.declared.Rank.the-variants.{R012, R021, R102, R120, R201, R210}
+use Rattle.plasticity_rankine.specs.declared.RankineArguments.{RankineArguments}
+use Rattle.plasticity_rankine.specs.declared.RankinePlasticity.{RankinePlasticity}
+use Rattle.plasticity_rankine.specs.Law.{lawOf, parametersOf, argumentsFloats, elasticFinite, parametersFinite, moduli}
+use Rattle.plasticity_rankine.specs.Sorting.{indexesOf, restoredOf}
+use Rattle.plasticity_rankine.specs.Projection.{Way, none-moves, one-moves, two-move, all-move, Moved, projectWalk, returnedWalk, callFloats, projectCall, argumentsCall, branchOf, movedOf, projectedOf, vectorOf, byBranch, projectOf, argumentsProject}
+use Rattle.plasticity_rankine.specs.Rankine.{stateOf, storeWalk, expsWalk, hardenWalk, movedWalk, wayWalk, softStrength, strainedWalk, runWalk, floats, rankineWalk, argumentsWalk, followedOf, rankineUpdate}
+
+-- ---- the inputs
+pub inputs-law : (l : List Float) (u vt : List (List Float)) (s : State) → allOf finite (floats l u vt s) ≡ allOf finite l && inputsFinite u vt s
+unfolding floats
+inputs-law l u vt s = inputs-finite l u vt s
+
+leftwards : (a b c : Bool) → a && (b && c) ≡ a && b && c
+leftwards true b c = refl
+leftwards false b c = refl
+
+pub call-law : (l e : List Float) (s : Float) → allOf finite (callFloats l e s) ≡ allOf finite l && rowFinite e && finite s
+unfolding callFloats
+call-law l e s = all-append finite l (e ++ (s ∷ [])) ∙ rw (all-append finite e (s ∷ [])) (leftwards (allOf finite l) (rowFinite e) (finite s))
+
+-- the arguments' own test, and then the law's
+twice : {A B : Type 0} (f : Ended A → B) (y n x m i : Bool) (w : Ended A)
+    → f (cond ((y && n && x && m) && i) w (refused 1)) ≡ cond (y && n) (f (cond ((x && m) && i) w (refused 1))) (f (refused 1))
+twice f true true true m i w = refl
+twice f true true false m i w = refl
+twice f true false x m i w = refl
+twice f false n x m i w = refl
+
+pub arguments-law : (a : RankineArguments) (u vt : List (List Float)) (s : State)
+    → updatedOf s (result (argumentsWalk a u vt s)) ≡ cond (elasticFinite a) (rankineUpdate (lawOf a) u vt s) (law.refused 1 s)
+unfolding argumentsWalk rankineWalk
+arguments-law a u vt s =
+    rw (inputs-law (argumentsFloats a) u vt s, inputs-law (parametersOf (lawOf a)) u vt s)
+    (twice (updatedOf s) (finite (a .«young_modulus»)) (finite (a .«poisson_ratio»)) (finite (a .«tensile_strength»)) (finite (a .«softening_rate»)) (inputsFinite u vt s)
+    (result (moduli (lawOf a) (runWalk (lawOf a) (s .sigma) u vt s))))
+
+pub arguments-call : (a : RankineArguments) (e : List Float) (s : Float)
+    → argumentsProject a e s ≡ cond (elasticFinite a) (projectOf (lawOf a) e s) (refusedVector 1)
+unfolding argumentsCall projectCall callFloats
+arguments-call a e s =
+    let t = e ++ (s ∷ []) in
+    rw (all-append finite (argumentsFloats a) t, all-append finite (parametersOf (lawOf a)) t)
+    (twice vectorOf (finite (a .«young_modulus»)) (finite (a .«poisson_ratio»)) (finite (a .«tensile_strength»)) (finite (a .«softening_rate»)) (allOf finite t)
+    (result (moduli (lawOf a) (projectWalk (lawOf a) e (num s) then returnedWalk))))
+
+-- ---- of finite inputs: the strength is finite, and the softened one is a number
+pub strength-finite : (p : RankinePlasticity) (u vt : List (List Float)) (s : State) → parametersFinite p && inputsFinite u vt s ≡ true → finite (p .«tensile_strength») ≡ true
+strength-finite p u vt s h = and-left (finite (p .«tensile_strength»)) (finite (p .«softening_rate»)) (and-left (parametersFinite p) (inputsFinite u vt s) h)
+
+hardening-finite : (u vt : List (List Float)) (s : State) → inputsFinite u vt s ≡ true → finite (s .scalars .«plastic_hardening») ≡ true
+hardening-finite u vt s h =
+    let x = s .scalars in
+    let three = finite (x .phase) && finite (x .«plastic_determinant») && finite (x .«plastic_hardening») in
+    let four = three && finite (x .«elastic_hardening») in
+    let all = and-right (rowsFinite (s .f) && rowFinite (s .sigma)) (scalarsFinite x) (and-right (matFinite u && matFinite vt) (stateFinite s) h) in
+    and-right (finite (x .phase) && finite (x .«plastic_determinant»)) (finite (x .«plastic_hardening»))
+    (and-left three (finite (x .«elastic_hardening»)) (and-left four (finite (x .«log_gain»)) (and-left (four && finite (x .«log_gain»)) (finite (x .alpha)) all)))
+
+one-finite : finite one ≡ true
+unfolding finite ofBits
+one-finite = refl
+
+pub soft-number : (p : RankinePlasticity) (u vt : List (List Float)) (s : State) → parametersFinite p && inputsFinite u vt s ≡ true
+    → isNumber (value (softStrength p (s .scalars .«plastic_hardening»))) ≡ true
+soft-number p u vt s h =
+    let x = s .scalars .«plastic_hardening» in
+    let f = hardening-finite u vt s (and-right (parametersFinite p) (inputsFinite u vt s) h) in
+    finite-sub (p .«tensile_strength») (sub x one) (strength-finite p u vt s h) (sub-number x one (finite-number x f) one-finite)
+
+-- ---- the strains in index order
+pub restored : (k : Rank) (x y z : Expr) → values (restoredOf (indexesOf k) (three x y z)) ≡ restoredOf (indexesOf k) (three (value x) (value y) (value z))
+restored R012 x y z = refl
+restored R021 x y z = refl
+restored R102 x y z = refl
+restored R120 x y z = refl
+restored R201 x y z = refl
+restored R210 x y z = refl
+
+-- ---- the projection is returned
+kept : (b : Bool) (v : List Float) → vectorOf (cond b (given v) (refused 3)) ≡ cond b (record { refusal = 0; vector = v }) (refusedVector 3)
+kept true v = refl
+kept false v = refl
+
+by-way : (w : Way) (e : List Float) → answeredVector e ≡ byBranch (branchOf w) e
+by-way (none-moves x y) e = refl
+by-way (one-moves x y) e = refl
+by-way (two-move x y) e = refl
+by-way (all-move x y) e = refl
+
+returns : (x : Ended Moved) → vectorOf (andThen x (λ q. result (returnedWalk q))) ≡ byBranch (movedOf x .branch) (movedOf x .strains)
+unfolding answeredVector
+returns (given q) = kept (rowFinite (values (q .strains))) (values (q .strains)) ∙ by-way (q .way) (values (q .strains))
+returns (refused n) = refl
+
+pub returned-law : (p : RankinePlasticity) (e : List Float) (s : Float)
+    → vectorOf (result (projectWalk p e (num s) then returnedWalk)) ≡ byBranch (projectedOf p e s .branch) (projectedOf p e s .strains)
+returned-law p e s = ap vectorOf (result-then (projectWalk p e (num s)) returnedWalk) ∙ returns (result (projectWalk p e (num s)))
+
+-- ---- strains that moved
+values-change : (a b : List Expr) → values (pairwise _-_ a b) ≡ pairwise sub (values a) (values b)
+values-change [] b = refl
+values-change (x ∷ a) [] = refl
+values-change (x ∷ a) (y ∷ b) = ap (λ t. sub (value x) (value y) ∷ t) (values-change a b)
+
+change-law : (old : List Float) (new : List Expr) → values (pairwise _-_ (nums old) new) ≡ rowSubOf old (values new)
+unfolding rowSubOf
+change-law old new = values-change (nums old) new ∙ ap (λ l. pairwise sub l (values new)) (values-nums old)
+
+module _ (p : RankinePlasticity) (u vt : List (List Float)) (s : State) where
+  pub moved-law : (old : List Float) (new : List Expr)
+      → result (movedWalk p old new u vt s) ≡ asked (normOf (rowSubOf old (values new))) (λ norm. result (hardenWalk p (num norm) (values new) u vt s))
+  unfolding movedWalk
+  moved-law old new =
+      let change = pairwise _-_ (nums old) new in
+      rw (value-dots change change, change-law old new)
+
+  numbers-moved : (old : List Float) (new : List Expr) → result (movedWalk p old new u vt s) ≡ result (movedWalk p old (nums (values new)) u vt s)
+  numbers-moved old new = moved-law old new ∙ sym (moved-law old (nums (values new)) ∙ rw (values-nums (values new)))
+
+  same : (b : Bool) (x y : Ended Change) → (b ≡ true → x ≡ y) → cond b x (refused 3) ≡ cond b y (refused 3)
+  same true x y h = h refl
+  same false x y h = refl
+
+  pub harden-law : (norm : Float) (e : List Float) → finite (p .«tensile_strength») ≡ true
+      → let grown = add (s .scalars .«plastic_hardening») (mul (p .«softening_rate») norm) in
+      result (hardenWalk p (num norm) e u vt s) ≡ cond (isNumber grown) (result (expsWalk e u vt (num (minOf grown (p .«tensile_strength»))) s)) (refused 3)
+  unfolding hardenWalk
+  harden-law norm e h =
+      let grown = add (s .scalars .«plastic_hardening») (mul (p .«softening_rate») norm) in
+      let strength = p .«tensile_strength» in
+      same (isNumber grown) _ (result (expsWalk e u vt (num (minOf grown strength)) s))
+      (λ i. least-answers 8 (num grown) (num strength) (λ h. expsWalk e u vt h s) i (finite-number strength h))
+
+  -- ---- the projection is followed by its branch
+  way-law : (w : Way) (old : List Float) (new : List Expr) → updatedOf s (result (wayWalk p w old new u vt s)) ≡ followedOf (branchOf w) p old (values new) u vt s
+  unfolding wayWalk
+  way-law (none-moves x y) old new = refl
+  way-law (one-moves x y) old new = ap (updatedOf s) (numbers-moved old new)
+  way-law (two-move x y) old new = ap (updatedOf s) (numbers-moved old new)
+  way-law (all-move x y) old new = ap (updatedOf s) (numbers-moved old new)
+
+  follows : (old : List Float) (x : Ended Moved)
+      → updatedOf s (andThen x (λ q. result (wayWalk p (q .way) old (q .strains) u vt s))) ≡ followedOf (movedOf x .branch) p old (movedOf x .strains) u vt s
+  follows old (given q) = way-law (q .way) old (q .strains)
+  follows old (refused n) = refl
+
+  pub strained-law : (e : List Float) → let soft = value (softStrength p (s .scalars .«plastic_hardening»)) in isNumber soft ≡ true
+      → updatedOf s (result (strainedWalk p e u vt s)) ≡ followedOf (projectedOf p e soft .branch) p e (projectedOf p e soft .strains) u vt s
+  unfolding strainedWalk
+  strained-law e h =
+      let w = projectWalk p e (num (value (softStrength p (s .scalars .«plastic_hardening»)))) in
+      simp h (ap (updatedOf s) (result-then w (λ q. wayWalk p (q .way) e (q .strains) u vt s)) ∙ follows e (result w))
+
+-- ---- three axes: each entry is read by its index
+pub exps-whole : (e : List Float) (u vt : List (List Float)) (h : Float) (s : State) → length e ≡ 3
+    → updatedOf s (result (expsWalk (three (getD e 0 nan) (getD e 1 nan) (getD e 2 nan)) u vt (num h) s)) ≡ updatedOf s (result (expsWalk e u vt (num h) s))
+exps-whole e u vt h s = of-one (λ l. updatedOf s (result (expsWalk l u vt (num h) s))) nan e
+
+pub run-whole : (p : RankinePlasticity) (sigma : List Float) (u vt : List (List Float)) (s : State) → length sigma ≡ 3
+    → updatedOf s (result (runWalk p (three (getD sigma 0 nan) (getD sigma 1 nan) (getD sigma 2 nan)) u vt s)) ≡ updatedOf s (result (runWalk p sigma u vt s))
+run-whole p sigma u vt s = of-one (λ l. updatedOf s (result (runWalk p l u vt s))) nan sigma
+
+-- ---- the results as the code tests them
+stores : (s new : State) (h : Float) (b : Bool) → updatedOf s (cond b (given (stored new h)) (refused 3)) ≡ cond b (record { state = new; outcome = Stored h }) (law.refused 3 s)
+stores s new h true = refl
+stores s new h false = refl
+
+pub store-law : (u : List (List Float)) (sigma : List Float) (vt : List (List Float)) (h : Expr) (s : State)
+    → updatedOf s (result (storeWalk u sigma vt h s))
+    ≡ cond ((matFinite (recomposeOf u sigma vt) && rowFinite sigma) && finite (value h))
+    (record { state = stateOf (recomposeOf u sigma vt) sigma (value h) s; outcome = Stored (value h) }) (law.refused 3 s)
+unfolding storeWalk
+store-law u sigma vt h s =
+    let f = recomposeOf u sigma vt in
+    simp (value-entry, values-nums) (stores s (stateOf f sigma (value h) s) (value h) ((matFinite f && rowFinite sigma) && finite (value h)))

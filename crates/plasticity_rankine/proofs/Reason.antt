@@ -1,0 +1,192 @@
+-- When the law refuses (RULES, section 6), and why it moved (ticket 8), both read off its walk.
+use mathlib.Core.Bool.{true, false}
+use mathlib.Core.List.{List, [], _∷_, map}
+use mathlib.Core.Logic.{inl, inr, _↔_}
+use mathlib.Core.Option.{Option, some, none}
+use mathlib.Core.Path.{_≡_, refl, sym, ap, _∙_}
+use Prim.Native.Nat.{ℕ, suc}
+use native.Mathlib.Omega.{arith}
+use lib.Ieee.{Float}
+use Rattle.tensor.specs.Matrix.{three}
+use Rattle.plasticity.specs.declared.Outcome.the-variants.{Refused}
+use Rattle.plasticity.specs.declared.State.{State}
+use Rattle.walk.specs.Expr.{Expr, num, value, values, nums}
+use Rattle.walk.specs.Matrix.{sum}
+use Rattle.walk.specs.Walk.{Function, ln, exp, at, at-most, Walk, asks, end, _then_, given, result}
+use Rattle.walk.specs.Exact.{Met, input, argument, worked, tested, result-of, path, final, first, Refusal, answer, exactly, last, lastFrom, Reason}
+use Rattle.walk.specs.Reason.{final-then, last-then, Told, branch-told, Branchless, quiet, branchless-asks}
+use Rattle.walk.specs.Numbers.{unsound, Stops, Clear, first-stops, first-clear, refused-when, accepted-when}
+use Rattle.walk.specs.Update.{Change, refusalOf, numberOf}
+use Rattle.plasticity_rankine.specs.declared.RankineArguments.{RankineArguments}
+use Rattle.plasticity_rankine.specs.declared.RankinePlasticity.{RankinePlasticity}
+use Rattle.plasticity_rankine.specs.declared.Sorted.{Sorted}
+use Rattle.plasticity_rankine.specs.Sorting.{orderOf, arrangeOf}
+use Rattle.plasticity_rankine.specs.Projection.{firstSide, secondSide, thirdSide, backOne, backTwo, backAll, Way, none-moves, one-moves, two-move, all-move, Moved, ends, thirdWalk, secondWalk, firstWalk, projectWalk, projectCall, argumentsCall, vectorOf, projectOf, argumentsProject}
+use Rattle.plasticity_rankine.specs.Rankine.{storeWalk, expsWalk, hardenWalk, movedWalk, wayWalk, softStrength, strainedWalk, runWalk, rankineWalk, argumentsWalk, rankineUpdate, argumentsUpdate}
+
+-- ---- the refusal
+pub rankine-refused : (p : RankinePlasticity) (u vt : List (List Float)) (s : State) (n : ℕ) → (rankineUpdate p u vt s .outcome ≡ Refused n) ↔ Stops n (path (rankineWalk p u vt s))
+rankine-refused p u vt s n = refused-when s (rankineWalk p u vt s) n
+
+pub rankine-accepted : (p : RankinePlasticity) (u vt : List (List Float)) (s : State) → (refusalOf (rankineUpdate p u vt s .outcome) ≡ none) ↔ Clear (path (rankineWalk p u vt s))
+rankine-accepted p u vt s = accepted-when s (rankineWalk p u vt s)
+
+pub arguments-refused : (a : RankineArguments) (u vt : List (List Float)) (s : State) (n : ℕ) → (argumentsUpdate a u vt s .outcome ≡ Refused n) ↔ Stops n (path (argumentsWalk a u vt s))
+arguments-refused a u vt s n = refused-when s (argumentsWalk a u vt s) n
+
+pub arguments-accepted : (a : RankineArguments) (u vt : List (List Float)) (s : State) → (refusalOf (argumentsUpdate a u vt s .outcome) ≡ none) ↔ Clear (path (argumentsWalk a u vt s))
+arguments-accepted a u vt s = accepted-when s (argumentsWalk a u vt s)
+
+-- of a call that answers a vector, 0 where it refuses nothing
+abbrev codeOf : Option ℕ → ℕ
+codeOf none = 0
+codeOf (some n) = n
+
+told : (o : Option Refusal) (v : List Float) → vectorOf (answer o v) .refusal ≡ codeOf (numberOf o)
+told none v = refl
+told (some r) v = refl
+
+some-none : (n : ℕ) → _≡_ {A = Option ℕ} (some n) none → ⊥
+some-none n e = let z : _≡_ {A = ℕ} 0 1 = cc in omega arith
+
+number : (o : Option ℕ) (n : ℕ) → codeOf o ≡ suc n → o ≡ some (suc n)
+number none n e = absurd (omega arith)
+number (some m) n e = ap some e
+
+-- no refusal has the number 0
+positive : (m : Met) → unsound m ≡ 0 → ⊥
+positive (input l) e = omega arith
+positive (argument n f x) e = omega arith
+positive (worked n es) e = omega arith
+positive (tested n t) e = omega arith
+positive (result-of n rows) e = omega arith
+
+no-stop : (ms : List Met) → Stops 0 ms → ⊥
+no-stop [] q = q
+no-stop (m ∷ ms) (inl (inl q)) = let e = q .2 in omega arith
+no-stop (m ∷ ms) (inl (inr q)) = positive m (q .1)
+no-stop (m ∷ ms) (inr q) = no-stop ms (q .1)
+
+nothing : (ms : List Met) (o : Option ℕ) → numberOf (first ms) ≡ o → codeOf o ≡ 0 → o ≡ none
+nothing ms none h e = refl
+nothing ms (some n) h e = absurd (no-stop ms (first-stops ms 0 .0 (h ∙ ap some e)))
+
+given-by : (o : Option Refusal) (v : List Float) → numberOf o ≡ none → answer o v ≡ given v
+given-by none v e = refl
+given-by (some r) v e = absurd (some-none (r .number) e)
+
+module _ (w : Walk (List Float)) where
+  code : vectorOf (result w) .refusal ≡ codeOf (numberOf (first (path w)))
+  code = ap (λ x. vectorOf x .refusal) (exactly w) ∙ told (first (path w)) (final w)
+
+  vector-refused : (n : ℕ) → (vectorOf (result w) .refusal ≡ suc n) ↔ Stops (suc n) (path w)
+  vector-refused n = (
+    λ e. first-stops (path w) (suc n) .0 (number (numberOf (first (path w))) n (sym code ∙ e)),
+    λ q. code ∙ ap codeOf (first-stops (path w) (suc n) .1 q),
+  )
+
+  vector-accepted : (vectorOf (result w) .refusal ≡ 0) ↔ Clear (path w)
+  vector-accepted = (
+    λ e. first-clear (path w) .0 (nothing (path w) (numberOf (first (path w))) refl (sym code ∙ e)),
+    λ q. code ∙ ap codeOf (first-clear (path w) .1 q),
+  )
+
+  pub vector-given : vectorOf (result w) .refusal ≡ 0 → result w ≡ given (final w)
+  vector-given e = exactly w ∙ given-by (first (path w)) (final w) (nothing (path w) (numberOf (first (path w))) refl (sym code ∙ e))
+
+pub project-refused : (p : RankinePlasticity) (e : List Float) (s : Float) (n : ℕ) → (projectOf p e s .refusal ≡ suc n) ↔ Stops (suc n) (path (projectCall p e s))
+project-refused p e s n = vector-refused (projectCall p e s) n
+
+pub project-accepted : (p : RankinePlasticity) (e : List Float) (s : Float) → (projectOf p e s .refusal ≡ 0) ↔ Clear (path (projectCall p e s))
+project-accepted p e s = vector-accepted (projectCall p e s)
+
+pub arguments-project-refused : (a : RankineArguments) (e : List Float) (s : Float) (n : ℕ) → (argumentsProject a e s .refusal ≡ suc n) ↔ Stops (suc n) (path (argumentsCall a e s))
+arguments-project-refused a e s n = vector-refused (argumentsCall a e s) n
+
+pub arguments-project-accepted : (a : RankineArguments) (e : List Float) (s : Float) → (argumentsProject a e s .refusal ≡ 0) ↔ Clear (path (argumentsCall a e s))
+arguments-project-accepted a e s = vector-accepted (argumentsCall a e s)
+
+-- ---- the reason
+abbrev pub reasonOf : Way → Reason
+reasonOf (none-moves side s) = record { test = 4; compares = side ∷ s ∷ []; held = true }
+reasonOf (one-moves side s) = record { test = 5; compares = side ∷ s ∷ []; held = true }
+reasonOf (two-move side s) = record { test = 6; compares = side ∷ s ∷ []; held = true }
+reasonOf (all-move side s) = record { test = 6; compares = side ∷ s ∷ []; held = false }
+
+abbrev R : Moved → Reason
+R q = reasonOf (q .way)
+
+module _ (p : RankinePlasticity) (k : List ℕ) (e : List Float) (r : Sorted) (s : Expr) where
+  abbrev a : Expr
+  a = num (r .high)
+
+  abbrev b : Expr
+  b = num (r .mid)
+
+  abbrev c : Expr
+  c = num (r .low)
+
+  third-told : (o : Option Reason) → Told R o (thirdWalk p k e r s)
+  unfolding thirdWalk
+  third-told o =
+      let side = thirdSide p c in
+      branch-told R 6 (at-most side s) (ends (two-move (value side) (value s)) k (three c (backTwo p s (sum e) a b) (backTwo p s (sum e) a b)))
+      (ends (all-move (value side) (value s)) k (three (backAll p s) (backAll p s) (backAll p s))) o (λ h. refl) (λ h. refl)
+
+  second-told : (o : Option Reason) → Told R o (secondWalk p k e r s)
+  unfolding secondWalk
+  second-told o =
+      let side = secondSide p (sum e) a b in
+      branch-told R 5 (at-most side s) (ends (one-moves (value side) (value s)) k (three c b (backOne p s (sum e) a))) (thirdWalk p k e r s) o (λ h. refl)
+      (λ h. third-told (some (record { test = 5; compares = value side ∷ value s ∷ []; held = false })))
+
+  first-told : (o : Option Reason) → Told R o (firstWalk p k e r s)
+  unfolding firstWalk
+  first-told o =
+      let side = firstSide p (sum e) a in
+      branch-told R 4 (at-most side s) (end (record { way = none-moves (value side) (value s); strains = nums e })) (secondWalk p k e r s) o (λ h. refl)
+      (λ h. second-told (some (record { test = 4; compares = value side ∷ value s ∷ []; held = false })))
+
+-- no test counts after the projection
+module _ (p : RankinePlasticity) (old : List Float) (new : List Expr) (u vt : List (List Float)) (s : State) where
+  moved-branchless : Branchless (movedWalk p old new u vt s)
+  unfolding movedWalk hardenWalk expsWalk storeWalk
+  moved-branchless = λ norm l h. branchless-asks 9 exp (values new) (λ sigma. storeWalk u sigma vt h s) (λ vs. tt)
+
+  way-branchless : (w : Way) → Branchless (wayWalk p w old new u vt s)
+  unfolding wayWalk
+  way-branchless (none-moves x y) = tt
+  way-branchless (one-moves x y) = moved-branchless
+  way-branchless (two-move x y) = moved-branchless
+  way-branchless (all-move x y) = moved-branchless
+
+asks-last : {A : Type 0} (n : ℕ) (f : Function) (l : List Float) (k : List Float → Walk A) (o : Option Reason)
+    → lastFrom o (path (asks n f l k)) ≡ lastFrom o (path (k (map (at f) l)))
+asks-last n f [] k o = refl
+asks-last n f (x ∷ l) k o = asks-last n f l (λ vs. k (at f x ∷ vs)) o
+
+asks-final : {A : Type 0} (n : ℕ) (f : Function) (l : List Float) (k : List Float → Walk A) → final (asks n f l k) ≡ final (k (map (at f) l))
+asks-final n f [] k = refl
+asks-final n f (x ∷ l) k = asks-final n f l (λ vs. k (at f x ∷ vs))
+
+module _ (p : RankinePlasticity) (u vt : List (List Float)) (s : State) where
+  -- the log strains and the projection that the update works
+  abbrev pub strains : List Float
+  strains = map (at ln) (s .sigma)
+
+  abbrev pub projection : Walk Moved
+  projection = projectWalk p strains (num (value (softStrength p (s .scalars .«plastic_hardening»))))
+
+  abbrev W : Moved → Walk Change
+  W q = wayWalk p (q .way) strains (q .strains) u vt s
+
+  -- the last test and its numbers are the branch's, and that branch gives the stored record
+  pub rankine-reason : (last (path (rankineWalk p u vt s)) ≡ some (reasonOf (final projection .way))) × (final (rankineWalk p u vt s) ≡ final (W (final projection)))
+  unfolding rankineWalk runWalk strainedWalk
+  rankine-reason =
+      let q = final projection in (
+        asks-last 2 ln (s .sigma) (λ e. strainedWalk p e u vt s) none ∙ last-then projection W none
+            ∙ quiet (W q) (way-branchless p strains (q .strains) u vt s (q .way)) (lastFrom none (path projection))
+            ∙ first-told p (orderOf strains) strains (arrangeOf (orderOf strains) strains) (num (value (softStrength p (s .scalars .«plastic_hardening»)))) none,
+        asks-final 2 ln (s .sigma) (λ e. strainedWalk p e u vt s) ∙ final-then projection W,
+      )

@@ -1,0 +1,240 @@
+-- The inputs are tested once, before the steps: no step of a law tests inputs. Assumes nothing.
+use mathlib.Core.Bool.{Bool, true, false, cond}
+use mathlib.Core.List.{List, [], _∷_}
+use Prim.Native.Nat.{ℕ}
+use lib.Ieee.{Float}
+use Rattle.tensor.specs.declared.Rows.{Rows}
+use Rattle.plasticity.specs.declared.State.{State}
+use Rattle.walk.specs.Expr.{Expr, num, value, values}
+use Rattle.walk.specs.Walk.{Function, at, Test, holds, Walk, inputs, ask, asks, works, either, branch, split, when, results, end, _then_, picked}
+use Rattle.walk.specs.Exact.{Met, input, argument, worked, tested, result-of, path}
+use Rattle.plasticity_snow.specs.declared.SnowPlasticity.{SnowPlasticity}
+use Rattle.plasticity_snow.specs.Snow as snow
+use Rattle.plasticity_rankine.specs.declared.RankinePlasticity.{RankinePlasticity}
+use Rattle.plasticity_rankine.specs.Projection as rankine-projection
+use Rattle.plasticity_rankine.specs.Rankine as rankine
+use Rattle.plasticity_drucker_prager.specs.declared.DruckerPragerPlasticity.{DruckerPragerPlasticity}
+use Rattle.plasticity_drucker_prager.specs.Alpha as drucker-alpha
+use Rattle.plasticity_drucker_prager.specs.Projection as drucker-projection
+use Rattle.plasticity_drucker_prager.specs.DruckerPrager as drucker-prager
+use Rattle.plasticity_nacc.specs.declared.NaccPlasticity.{NaccPlasticity}
+use Rattle.plasticity_nacc.specs.declared.Trial.{Trial}
+use Rattle.plasticity_nacc.specs.Nacc as nacc
+use Rattle.model.specs.declared.Model.{Model}
+use Rattle.model.specs.declared.Model.the-variants.{Snow, Rankine, DruckerPrager, Nacc}
+use Rattle.refusals.specs.Refusals.{stepsOf}
+
+abbrev pub Inner : {A : Type 0} → Walk A → Type 0
+Inner (inputs l w) = ⊥
+Inner (ask n f e k) = (v : Expr) → Inner (k v)
+Inner (works n es k) = (vs : List Float) → Inner (k vs)
+Inner (either n t a b k) = (v : Expr) → Inner (k v)
+Inner (branch n t w v) = Inner w × Inner v
+Inner (split n t w v) = Inner w × Inner v
+Inner (results n rows w) = Inner w
+Inner (end a) = Unit {0}
+
+-- no input is met on its path
+abbrev pub Later : List Met → Type 0
+Later [] = Unit {0}
+Later (input l ∷ ms) = ⊥
+Later (argument n f e ∷ ms) = Later ms
+Later (worked n es ∷ ms) = Later ms
+Later (tested n t ∷ ms) = Later ms
+Later (result-of n rows ∷ ms) = Later ms
+
+fork : (b : Bool) (p q : List Met) → Later p → Later q → Later (cond b p q)
+fork true p q h i = h
+fork false p q h i = i
+
+pub later : {A : Type 0} (w : Walk A) → Inner w → Later (path w)
+later (inputs l w) h = absurd h
+later (ask n f e k) h = later (k (num (at f (value e)))) (h (num (at f (value e))))
+later (works n es k) h = later (k (values es)) (h (values es))
+later (either n t a b k) h = later (k (num (picked t a b))) (h (num (picked t a b)))
+later (branch n t w v) h = fork (holds t) (path w) (path v) (later w (h .0)) (later v (h .1))
+later (split n t w v) h = fork (holds t) (path w) (path v) (later w (h .0)) (later v (h .1))
+later (results n rows w) h = later w h
+later (end a) h = tt
+
+-- ---- walks made of others
+pub inner-then : {A B : Type 0} (w : Walk A) (g : A → Walk B) → Inner w → ((a : A) → Inner (g a)) → Inner (w then g)
+inner-then (inputs l w) g h i = absurd h
+inner-then (ask n f e k) g h i = λ v. inner-then (k v) g (h v) i
+inner-then (works n es k) g h i = λ vs. inner-then (k vs) g (h vs) i
+inner-then (either n t x y k) g h i = λ v. inner-then (k v) g (h v) i
+inner-then (branch n t w v) g h i = (inner-then w g (h .0) i, inner-then v g (h .1) i)
+inner-then (split n t w v) g h i = (inner-then w g (h .0) i, inner-then v g (h .1) i)
+inner-then (results n rows w) g h i = inner-then w g h i
+inner-then (end a) g h i = i a
+
+module _ {A : Type 0} where
+  inner-asks : (n : ℕ) (f : Function) (l : List Float) (k : List Float → Walk A) → ((vs : List Float) → Inner (k vs)) → Inner (asks n f l k)
+  inner-asks n f [] k h = h []
+  inner-asks n f (x ∷ l) k h = λ v. inner-asks n f l (λ vs. k (value v ∷ vs)) (λ vs. h (value v ∷ vs))
+
+  inner-when : (n : ℕ) (ts : List Test) (w v : Walk A) → Inner w → Inner v → Inner (when n ts w v)
+  inner-when n [] w v h i = h
+  inner-when n (t ∷ ts) w v h i = (inner-when n ts w v h i, i)
+
+  inner-clamps : (p : SnowPlasticity) (l : List Float) (k : List Float → Walk A) → ((vs : List Float) → Inner (k vs)) → Inner (snow.clamps p l k)
+  inner-clamps p [] k h = h []
+  inner-clamps p (x ∷ l) k h = λ y z. inner-clamps p l (λ vs. k (value z ∷ vs)) (λ vs. h (value z ∷ vs))
+
+module _ (u vt : List (List Float)) (s : State) where
+  -- ---- Snow
+  harden : (p : SnowPlasticity) (new : List Float) → Inner (snow.hardenWalk p new u vt s)
+  unfolding snow.hardenWalk snow.storeWalk
+  harden p new = λ h. tt
+
+  snow-inner : (p : SnowPlasticity) → Inner (snow.runWalk p u vt s)
+  unfolding snow.runWalk
+  snow-inner p = inner-clamps p (s .sigma) (λ new. snow.hardenWalk p new u vt s) (harden p)
+
+  -- ---- Rankine
+  rankine-moved : (p : RankinePlasticity) (old : List Float) (new : List Expr) → Inner (rankine.movedWalk p old new u vt s)
+  unfolding rankine.movedWalk rankine.hardenWalk rankine.expsWalk rankine.storeWalk
+  rankine-moved p old new = λ norm l h. inner-asks 9 _ (values new) _ (λ sigma. tt)
+
+  rankine-way : (p : RankinePlasticity) (w : rankine-projection.Way) (old : List Float) (new : List Expr) → Inner (rankine.wayWalk p w old new u vt s)
+  unfolding rankine.wayWalk
+  rankine-way p (rankine-projection.none-moves x y) old new = tt
+  rankine-way p (rankine-projection.one-moves x y) old new = rankine-moved p old new
+  rankine-way p (rankine-projection.two-move x y) old new = rankine-moved p old new
+  rankine-way p (rankine-projection.all-move x y) old new = rankine-moved p old new
+
+pub rankine-project : (p : RankinePlasticity) (e : List Float) (soft : Expr) → Inner (rankine-projection.projectWalk p e soft)
+unfolding rankine-projection.firstWalk rankine-projection.secondWalk rankine-projection.thirdWalk
+rankine-project p e soft = (tt, (tt, (tt, tt)))
+
+module _ (u vt : List (List Float)) (s : State) where
+  rankine-strained : (p : RankinePlasticity) (e : List Float) → Inner (rankine.strainedWalk p e u vt s)
+  unfolding rankine.strainedWalk
+  rankine-strained p e = λ l. inner-then (rankine-projection.projectWalk p e _) _ (rankine-project p e _) (λ q. rankine-way u vt s p (q .way) e (q .strains))
+
+  pub rankine-inner : (p : RankinePlasticity) → Inner (rankine.runWalk p (s .sigma) u vt s)
+  unfolding rankine.runWalk
+  rankine-inner p = inner-asks 2 _ (s .sigma) _ (rankine-strained p)
+
+-- ---- Drucker-Prager
+module _ (p : DruckerPragerPlasticity) where
+  pub alpha-inner : (q : Float) → Inner (drucker-alpha.alphaWalk p q)
+  unfolding drucker-alpha.alphaWalk
+  alpha-inner q = λ a b c l. tt
+
+  tip : (w : drucker-projection.Way) (e : List Float) → Inner (drucker-projection.tipWalk w e)
+  unfolding drucker-projection.tipWalk
+  tip w e = λ n. tt
+
+  surface : (g norm : Expr) (b : List Float) → Inner (drucker-projection.surfaceWalk g norm b)
+  unfolding drucker-projection.surfaceWalk
+  surface g norm b = inner-asks 15 _ b _ (λ sigma. tt)
+
+  module _ (dim : Expr) (sigma : List Float) (alpha : Float) where
+    yields : (e d : List Float) (trace : Expr) → Inner (drucker-projection.yieldWalk dim p sigma e d trace alpha)
+    unfolding drucker-projection.yieldWalk
+    yields e d trace = λ norm l. (tt, λ b. surface (num _) norm b)
+
+    strained : (e : List Float) → Inner (drucker-projection.strainedWalk dim p sigma e alpha)
+    unfolding drucker-projection.strainedWalk
+    strained e = λ l d. (tip _ e, (tip _ e, yields e d _))
+
+    pub drucker-project : (gain : Float) → Inner (drucker-projection.projectWalk dim p sigma gain alpha)
+    unfolding drucker-projection.projectWalk
+    drucker-project gain = inner-asks 6 _ sigma _ (λ logs e. strained e)
+
+  module _ (u vt : List (List Float)) (s : State) where
+    drucker-moved : (sigma : List Float) (dq : Float) → Inner (drucker-prager.movedWalk p sigma dq u vt s)
+    unfolding drucker-prager.movedWalk drucker-prager.storeWalk
+    drucker-moved sigma dq = λ a b c x y. tt
+
+    drucker-way : (w : drucker-projection.Way) (sigma : List Float) (dq : Float) → Inner (drucker-prager.wayWalk p w sigma dq u vt s)
+    unfolding drucker-prager.wayWalk
+    drucker-way (drucker-projection.isotropic x) sigma dq = drucker-moved sigma dq
+    drucker-way (drucker-projection.expanding x) sigma dq = drucker-moved sigma dq
+    drucker-way (drucker-projection.inside x) sigma dq = tt
+    drucker-way (drucker-projection.surface x norm) sigma dq = drucker-moved sigma dq
+
+    drucker-inner : Inner (drucker-prager.runWalk p u vt s)
+    unfolding drucker-prager.runWalk
+    drucker-inner =
+        let q = s .scalars .«plastic_hardening» in (
+          tt,
+          inner-then (drucker-alpha.alphaWalk p q) _ (alpha-inner q) (λ alpha.
+              inner-then (drucker-projection.projectWalk drucker-alpha.dim p (s .sigma) (s .scalars .«log_gain») alpha) _ (drucker-project drucker-alpha.dim (s .sigma) alpha (s .scalars .«log_gain»)) (λ x.
+              drucker-way (x .way) (x .sigma) (x .dq))),
+        )
+
+-- ---- NACC
+module _ (p : NaccPlasticity) where
+  nacc-tip : (x : Expr) (j alpha : Float) → Inner (nacc.tipWalk p x j alpha)
+  unfolding nacc.tipWalk
+  nacc-tip x j alpha = λ e. (λ l. tt, tt)
+
+  grow : (x : Expr) (j alpha : Float) → Inner (nacc.growWalk p x j alpha)
+  unfolding nacc.growWalk
+  grow x j alpha = λ a b c. (λ l. tt, tt)
+
+  cross : (t : Trial) (c : Expr) (d0 d1 alpha : Float) → Inner (nacc.crossWalk p t c d0 d1 alpha)
+  unfolding nacc.crossWalk
+  cross t c d0 d1 alpha = λ r l. (grow _ (t .j) alpha, grow _ (t .j) alpha)
+
+  module _ (t : Trial) (alpha : Float) where
+    hardens : Inner (nacc.hardenWalk p t alpha)
+    unfolding nacc.hardenWalk
+    hardens = λ l a b n d. cross t _ _ _ alpha
+
+    hardened : Inner (nacc.hardenedWalk p t alpha)
+    unfolding nacc.hardenedWalk
+    hardened = inner-when 13 (nacc.conditions p t) (nacc.hardenWalk p t alpha) (end alpha) hardens tt
+
+    lands : Inner (nacc.landWalk p t alpha)
+    unfolding nacc.landWalk nacc.rootsWalk
+    lands = λ r w k norm e. inner-asks 29 _ e _ (λ sigma. tt)
+
+  surfaces : (t : Trial) (alpha : Float) → Inner (nacc.surfaceWalk p t alpha)
+  unfolding nacc.surfaceWalk
+  surfaces t alpha = inner-then (nacc.hardenedWalk p t alpha) _ (hardened t alpha) (λ a. lands t a)
+
+  ended : (w : nacc.Way) (x : Walk nacc.Shape) → Inner x → Inner (x then nacc.ends w)
+  ended w x h = inner-then x (nacc.ends w) h (λ q. tt)
+
+  module _ (t : Trial) (sigma : List Float) (alpha : Float) where
+    nacc-yields : Inner (nacc.yieldWalk p t sigma alpha)
+    unfolding nacc.yieldWalk
+    nacc-yields = λ l. (tt, ended _ (nacc.surfaceWalk p t alpha) (surfaces t alpha))
+
+    lower : Inner (nacc.lowerWalk p t sigma alpha)
+    unfolding nacc.lowerWalk
+    lower = λ l. (λ x. ended _ (nacc.tipWalk p x (t .j) alpha) (nacc-tip x (t .j) alpha), nacc-yields)
+
+    branches : Inner (nacc.branchWalk p t sigma alpha)
+    unfolding nacc.branchWalk
+    branches = (λ x. ended _ (nacc.tipWalk p x (t .j) alpha) (nacc-tip x (t .j) alpha), lower)
+
+  nacc-steps : (sigma : List Float) (alpha : Float) → Inner (nacc.stepsWalk p sigma alpha)
+  unfolding nacc.stepsWalk nacc.pressWalk
+  nacc-steps sigma alpha = λ m x l w k. branches _ sigma alpha
+
+  nacc-way : (w : nacc.Way) (q : nacc.Shape) (f : Rows) (u vt : List (List Float)) → Inner (nacc.wayWalk w q f u vt)
+  unfolding nacc.wayWalk nacc.recomposedWalk
+  nacc-way (nacc.upper x y) q f u vt = tt
+  nacc-way (nacc.lower x y) q f u vt = tt
+  nacc-way (nacc.inside x y) q f u vt = tt
+  nacc-way (nacc.surface x y) q f u vt = tt
+
+  pub nacc-project : (f : Rows) (u : List (List Float)) (sigma : List Float) (vt : List (List Float)) (alpha : Float) → Inner (nacc.projectWalk p f u sigma vt alpha)
+  unfolding nacc.projectWalk
+  nacc-project f u sigma vt alpha = inner-then (nacc.stepsWalk p sigma alpha) _ (nacc-steps sigma alpha) (λ q. nacc-way (q .way) (q .shape) f u vt)
+
+  pub nacc-inner : (u vt : List (List Float)) (s : State) → Inner (nacc.runWalk p u vt s)
+  unfolding nacc.runWalk
+  nacc-inner u vt s =
+      inner-then (nacc.projectWalk p (s .f) u (s .sigma) vt (s .scalars .alpha)) _ (nacc-project (s .f) u (s .sigma) vt (s .scalars .alpha)) (λ q. tt)
+
+-- ---- the four models
+pub steps-inner : (m : Model) (u vt : List (List Float)) (s : State) → Inner (stepsOf m u vt s)
+steps-inner (Snow p) u vt s = snow-inner u vt s p
+steps-inner (Rankine a) u vt s = rankine-inner u vt s _
+steps-inner (DruckerPrager p) u vt s = drucker-inner p u vt s
+steps-inner (Nacc a) u vt s = nacc-inner _ u vt s

@@ -1,0 +1,121 @@
+-- What is said of a walk that begins with its inputs and tests none later. Assumes nothing.
+use mathlib.Core.Path.{_≡_, refl, sym, ap, _∙_}
+use mathlib.Core.Logic.{_⊎_, inl, inr, ⊎-elim, _↔_}
+use mathlib.Core.Bool.{Bool, true, false, cond, _&&_, true≢false, false≢true}
+use mathlib.Core.List.{List, [], _∷_}
+use mathlib.Core.Option.{Option, some, none}
+use Prim.Native.Nat.{ℕ, _≤_, _<_}
+use native.Mathlib.Omega.{arith}
+use lib.Ieee.{Float}
+use Rattle.numbers.specs.Floats.{finite}
+use Rattle.tensor.specs.Axes.{allOf}
+use Rattle.walk.specs.Expr.{num, value, values}
+use Rattle.walk.specs.Walk.{at, holds, Walk, inputs, ask, works, either, branch, split, results, end, picked, result}
+use Rattle.walk.specs.Exact.{Met, input, argument, worked, tested, result-of, path}
+use Rattle.walk.specs.Every.{every, all-every}
+use Rattle.walk.specs.Numbers as walk
+use Rattle.walk.specs.Numbers.{Stops, Clear}
+use Rattle.walk.specs.Answers.{refusalIn, refused-when, accepted-when}
+use Rattle.refusals.specs.Refusals.{SomeNotFinite, Numbers}
+use Rattle.refusals.proofs.Inner.{Inner, Later, later}
+
+-- ---- a list of floats
+pub one-fails : (a b : Bool) → a && b ≡ false → (a ≡ false) ⊎ (b ≡ false)
+one-fails true b q = inr q
+one-fails false b q = inl refl
+
+left-fails : (a b : Bool) → a ≡ false → a && b ≡ false
+left-fails true b q = absurd (true≢false q)
+left-fails false b q = refl
+
+right-fails : (a b : Bool) → b ≡ false → a && b ≡ false
+right-fails true b q = q
+right-fails false b q = refl
+
+every-fails : (l : List Float) → (every finite l ≡ false) ↔ SomeNotFinite l
+every-fails [] = (λ q. true≢false q, λ q. absurd q)
+every-fails (x ∷ l) = (
+  λ q. ⊎-elim (λ a. inl a) (λ a. inr (every-fails l .0 a)) (one-fails (finite x) (every finite l) q),
+  ⊎-elim (left-fails (finite x) (every finite l)) (λ q. right-fails (finite x) (every finite l) (every-fails l .1 q)),
+)
+
+pub not-finite : (l : List Float) → (allOf finite l ≡ false) ↔ SomeNotFinite l
+not-finite l = (λ q. every-fails l .0 (sym (all-every finite l) ∙ q), λ q. all-every finite l ∙ every-fails l .1 q)
+
+-- ---- what stops a path
+met-between : (m : Met) (n : ℕ) → walk.Refuses n m → (1 ≤ n) × (n ≤ 3)
+met-between m n (inl q) = let z = q .2 in omega arith
+met-between (input l) n (inr q) = let z = q .1 in omega arith
+met-between (argument k f e) n (inr q) = let z = q .1 in omega arith
+met-between (worked k es) n (inr q) = let z = q .1 in omega arith
+met-between (tested k t) n (inr q) = let z = q .1 in omega arith
+met-between (result-of k l) n (inr q) = let z = q .1 in omega arith
+
+between : (ms : List Met) (n : ℕ) → Stops n ms → (1 ≤ n) × (n ≤ 3)
+between [] n q = absurd q
+between (m ∷ ms) n (inl q) = met-between m n q
+between (m ∷ ms) n (inr q) = between ms n (q .1)
+
+three-one : {a b c : Type 0} → (a × b × _≡_ {A = ℕ} 2 1) ⊎ (c × _≡_ {A = ℕ} 3 1) → ⊥
+three-one (inl q) = let z = q .2 in omega arith
+three-one (inr q) = let z = q .1 in omega arith
+
+never-one : (ms : List Met) → Later ms → Stops 1 ms → ⊥
+never-one [] h q = q
+never-one (input l ∷ ms) h q = h
+never-one (argument k f e ∷ ms) h q = ⊎-elim three-one (λ p. never-one ms h (p .1)) q
+never-one (worked k es ∷ ms) h q = ⊎-elim three-one (λ p. never-one ms h (p .1)) q
+never-one (tested k t ∷ ms) h q = ⊎-elim three-one (λ p. never-one ms h (p .1)) q
+never-one (result-of k l ∷ ms) h q = ⊎-elim three-one (λ p. never-one ms h (p .1)) q
+
+stops-one : (l : List Float) (ms : List Met) → Later ms → Stops 1 (input l ∷ ms) ↔ SomeNotFinite l
+stops-one l ms h = (forth, λ q. inl (inr (not-finite l .1 q, refl)))
+  where
+    forth : Stops 1 (input l ∷ ms) → SomeNotFinite l
+    forth (inl (inl q)) = absurd (true≢false (q .1))
+    forth (inl (inr q)) = not-finite l .0 (q .0)
+    forth (inr q) = absurd (never-one ms h (q .1))
+
+-- ---- R n: refused by n, as the walk's answer tells
+pub differ : {m n : ℕ} → some m ≡ some n → m ≡ n
+differ e = cc
+
+pub nothing : (n : ℕ) → _≡_ {A = Option ℕ} none (some n) → ⊥
+nothing n e = let z : _≡_ {A = ℕ} 0 1 = cc in omega arith
+
+never-some : (o : Option ℕ) → ((n : ℕ) → o ≡ some n → ⊥) → o ≡ none
+never-some none f = refl
+never-some (some n) f = absurd (f n refl)
+
+pub numbers : {A : Type 0} {R : ℕ → Type 0} (l : List Float) (w : Walk A) → Inner w → ((n : ℕ) → R n ↔ (refusalIn (result (inputs l w)) ≡ some n))
+    → Numbers R (path (inputs l w))
+numbers {R = R} l w h r = record { refused = by; accepted = none-of; one = at-one; only = λ n q. between (path (inputs l w)) n (by n .0 q) }
+  where
+    by : (n : ℕ) → R n ↔ Stops n (path (inputs l w))
+    by n = (λ q. refused-when (inputs l w) n .0 (r n .0 q), λ q. r n .1 (refused-when (inputs l w) n .1 q))
+
+    none-of : ((n : ℕ) → R n → ⊥) ↔ Clear (path (inputs l w))
+    none-of = (
+      λ f. accepted-when (inputs l w) .0 (never-some (refusalIn (result (inputs l w))) (λ n e. f n (r n .1 e))),
+      λ c n q. nothing n (sym (accepted-when (inputs l w) .1 c) ∙ r n .0 q),
+    )
+
+    at-one : R 1 ↔ SomeNotFinite l
+    at-one =
+        let e = stops-one l (path w) (later w h) in
+        (λ q. e .0 (by 1 .0 q), λ q. by 1 .1 (e .1 q))
+
+-- an answer x of any kind: F tells its number, and `by n` is the refusal by n
+pub told : {A X : Type 0} (F : X → Option ℕ) (by : ℕ → X) → ((n : ℕ) → F (by n) ≡ some n) → ((x : X) (n : ℕ) → F x ≡ some n → x ≡ by n)
+    → (x : X) (l : List Float) (w : Walk A) → Inner w → F x ≡ refusalIn (result (inputs l w)) → Numbers (λ n. x ≡ by n) (path (inputs l w))
+told F by on back x l w h e = numbers l w h (λ n. (λ q. sym e ∙ ap F q ∙ on n, λ q. back x n (e ∙ q)))
+
+-- the same of another way to say that the call is refused by n
+pub transfer : {R Q : ℕ → Type 0} {ms : List Met} → ((n : ℕ) → R n ↔ Q n) → Numbers Q ms → Numbers R ms
+transfer w q =
+    record {
+      refused = λ n. (λ r. q .refused n .0 (w n .0 r), λ s. w n .1 (q .refused n .1 s));
+      accepted = (λ f. q .accepted .0 (λ n s. f n (w n .1 s)), λ c n r. q .accepted .1 c n (w n .0 r));
+      one = (λ r. q .one .0 (w 1 .0 r), λ b. w 1 .1 (q .one .1 b));
+      only = λ n r. q .only n (w n .0 r);
+    }

@@ -1,0 +1,13 @@
+pub mod Expr
+pub mod Number
+pub mod Walk
+pub mod Exact
+pub mod Every
+pub mod Steps
+pub mod Matrix
+pub mod Reason
+pub mod Update
+pub mod Tensor
+pub mod Answers
+pub mod Power
+pub mod Numbers

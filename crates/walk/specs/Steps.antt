@@ -1,0 +1,75 @@
+-- What the steps made of others answer where no NaN is met: maximum, minimum, and several tests at once.
+use mathlib.Core.Bool.{Bool, true, false, cond, _&&_}
+use mathlib.Core.List.{List, [], _∷_, map}
+use mathlib.Core.Path.{_≡_, refl, ap, sym, _∙_}
+use Prim.Native.Nat.{ℕ}
+use lib.Ieee as Ieee
+use lib.Ieee.{Float}
+use Rattle.answers.specs.Refusals.{outOfRange, noNumber}
+use Rattle.numbers.specs.Floats.{isNumber, maxOf, minOf}
+use Rattle.answers.specs.Range.{inRange}
+use Rattle.answers.specs.declared.Answer.{Answer}
+use Rattle.answers.specs.declared.Answer.the-variants as answers
+use Rattle.exact.specs.RootOf.{sqrtOf}
+use Rattle.tensor.specs.Axes.{allOf}
+use Rattle.tensor.specs.Matrix.{sub, zero}
+use Rattle.walk.specs.Expr.{Expr, num, value, zero-number}
+use Rattle.walk.specs.Number.{picked-number, finite-sub, zero-finite, root-number}
+use Rattle.walk.specs.Walk.{root, lowOf, highOf, answerOf, Walk, Test, holds, tellable, most, least, mosts, leasts, size, when, Ended, result}
+use Rattle.walk.specs.Every.{and-left, and-right, every, all-every}
+
+module _ {A : Type 0} where
+  pub most-answers : (n : ℕ) (a b : Expr) (k : Expr → Walk A) → isNumber (value a) ≡ true → isNumber (value b) ≡ true
+      → result (most n a b k) ≡ result (k (num (maxOf (value a) (value b))))
+  most-answers n a b k h i = simp (h, i, picked-number (Ieee.lt (value b) (value a)) (value a) (value b) h i)
+
+  pub least-answers : (n : ℕ) (a b : Expr) (k : Expr → Walk A) → isNumber (value a) ≡ true → isNumber (value b) ≡ true
+      → result (least n a b k) ≡ result (k (num (minOf (value a) (value b))))
+  least-answers n a b k h i = simp (h, i, picked-number (Ieee.lt (value a) (value b)) (value a) (value b) h i)
+
+  pub size-answers : (n : ℕ) (e : Expr) (k : Expr → Walk A) → isNumber (value e) ≡ true
+      → result (size n e k) ≡ result (k (num (cond (Ieee.le (value e) zero) (sub zero (value e)) (value e))))
+  size-answers n e k h =
+      simp (h, zero-number, picked-number (Ieee.le (value e) zero) (sub zero (value e)) (value e) (finite-sub zero (value e) zero-finite h) h)
+
+  pub mosts-answer : (n : ℕ) (l : List Float) (b : Expr) (k : List Float → Walk A) → every isNumber l ≡ true → isNumber (value b) ≡ true
+      → result (mosts n l b k) ≡ result (k (map (λ x. maxOf x (value b)) l))
+  mosts-answer n [] b k h i = refl
+  mosts-answer n (x ∷ l) b k h i =
+      most-answers n (num x) b (λ v. mosts n l b (λ vs. k (value v ∷ vs))) (and-left (isNumber x) (every isNumber l) h) i
+      ∙ mosts-answer n l b (λ vs. k (maxOf x (value b) ∷ vs)) (and-right (isNumber x) (every isNumber l) h) i
+
+  pub leasts-answer : (n : ℕ) (l : List Float) (b : Expr) (k : List Float → Walk A) → every isNumber l ≡ true → isNumber (value b) ≡ true
+      → result (leasts n l b k) ≡ result (k (map (λ x. minOf x (value b)) l))
+  leasts-answer n [] b k h i = refl
+  leasts-answer n (x ∷ l) b k h i =
+      least-answers n (num x) b (λ v. leasts n l b (λ vs. k (value v ∷ vs))) (and-left (isNumber x) (every isNumber l) h) i
+      ∙ leasts-answer n l b (λ vs. k (minOf x (value b) ∷ vs)) (and-right (isNumber x) (every isNumber l) h) i
+
+  forked : (a b : Bool) (x y : Ended A) → cond a (cond b x y) y ≡ cond (a && b) x y
+  forked true b x y = refl
+  forked false b x y = refl
+
+  tests : (n : ℕ) (ts : List Test) (w v : Walk A) → every tellable ts ≡ true → result (when n ts w v) ≡ cond (every holds ts) (result w) (result v)
+  tests n [] w v h = refl
+  tests n (t ∷ ts) w v h =
+      rw (and-left (tellable t) (every tellable ts) h, tests n ts w v (and-right (tellable t) (every tellable ts) h))
+      (forked (holds t) (every holds ts) (result w) (result v))
+
+  pub when-answers : (n : ℕ) (ts : List Test) (w v : Walk A) → allOf tellable ts ≡ true → result (when n ts w v) ≡ cond (allOf holds ts) (result w) (result v)
+  when-answers n ts w v h = rw (all-every holds ts) (tests n ts w v (sym (all-every tellable ts) ∙ h))
+
+-- ---- what a root answers is a number
+tells : Answer → Bool
+tells (answers.Value x) = isNumber x
+tells (answers.Refused n) = true
+
+told : (a b : Bool) (v : Float) → isNumber v ≡ true → tells (cond a (cond b (answers.Value v) (answers.Refused outOfRange)) (answers.Refused noNumber)) ≡ true
+unfolding tells
+told true true v h = h
+told true false v h = refl
+told false b v h = refl
+
+pub root-told : (w x : Float) → answerOf root w ≡ answers.Value x → isNumber x ≡ true
+unfolding tells
+root-told w x h = sym (ap tells h) ∙ told (isNumber w) (inRange (lowOf root) (highOf root) w) (sqrtOf w) (root-number w)
