@@ -1,45 +1,56 @@
 -- The corotated law's energies (RULES, section 5: "Energy takes the product of sigma, `pos_energy` the determinant of F").
-use mathlib.Core.Bool.{Bool, cond, _&&_}
-use mathlib.Core.List.{List, map}
-use lib.Ieee as Ieee
+use mathlib.Core.List.{List, [], _∷_, _++_, map}
 use lib.Ieee.{Float}
-use Rattle.answers.specs.Refusals.{noNumber}
-use Rattle.numbers.specs.Floats.{finite, isNumber}
-use Rattle.numbers.specs.Power.{powiOf}
-use Rattle.answers.specs.Answer.{answeredOf, given}
 use Rattle.answers.specs.declared.Answer.{Answer}
-use Rattle.answers.specs.declared.Answer.the-variants.{Refused}
-use Rattle.physics.specs.Physics.{two}
-use Rattle.tensor.specs.Matrix.{add, sub, mul, div, one, sumOf, dotOf, productOf, detOf}
-use Rattle.tensor.specs.Finite.{rowFinite, matFinite}
-use Rattle.elasticity_corotated_linear.specs.Law.{lawFinite}
-use Rattle.elasticity_corotated_linear.specs.Stress.{lessOneOf, positiveOf}
+use Rattle.walk.specs.Expr.{Expr, num, _+_, _-_, _*_, _/_}
+use Rattle.walk.specs.Walk.{Walk, less, inputs, work, works, mosts, split, result, answerAs}
+use Rattle.walk.specs.Every.{flat}
+use Rattle.walk.specs.Matrix.{total, product, dot}
+use Rattle.walk.specs.Tensor.{one, determinant}
+use Rattle.walk.specs.Power.{power}
+use Rattle.walk.specs.Answers.{returned}
+use Rattle.elasticity_corotated_linear.specs.Law.{floats}
+use Rattle.elasticity_corotated_linear.specs.Stress.{zero, two, lessOne}
 use Rattle.elasticity_corotated_linear.specs.declared.CorotatedLinearElasticity.{CorotatedLinearElasticity}
 
--- the squares by the integer power, summed by rising index
-unfoldable pub squaresOf : List Float → Float
-squaresOf e = sumOf (map (λ x. powiOf x 2) e)
+-- p is the law, h the elastic hardening, s is sigma, j the determinant of F.
 
-unfoldable pub energyOf : CorotatedLinearElasticity → List Float → Float → Float
-energyOf p s h =
-    add (mul (mul (p .mu) h) (squaresOf (lessOneOf s))) (mul (div (mul (p .lambda) h) two) (powiOf (sub (productOf s) one) 2))
+-- ---- elastic_energy_density: the squares by the integer power, summed by rising index
+abbrev pub squares : List Expr → Expr
+squares e = total (map (λ x. power x 2) e)
 
--- a NaN that arises is in the sum
-unfoldable pub elasticEnergyDensity : CorotatedLinearElasticity → List Float → Float → Answer
-elasticEnergyDensity p s h = given (lawFinite p && rowFinite s && finite h) (answeredOf (energyOf p s h))
+abbrev pub density : CorotatedLinearElasticity → List Float → Float → Expr
+density p s h =
+    let hardened-mu = num (p .mu) * num h in
+    let hardened-lambda = num (p .lambda) * num h in
+    hardened-mu * squares (lessOne s) + hardened-lambda / two * power (product s - one) 2
 
--- the squared norm of the positive part of sigma - 1
-unfoldable pub deviatoricEnergy : CorotatedLinearElasticity → List Float → Float → Float
-deviatoricEnergy p e h = mul (mul (p .mu) h) (dotOf e e)
+unfoldable pub energyWalk : CorotatedLinearElasticity → List Float → Float → Walk Float
+energyWalk p s h = inputs (floats p (s ++ (h ∷ []))) (returned 1 (density p s h))
 
-unfoldable pub sphericalEnergy : CorotatedLinearElasticity → Float → Float → Float
-sphericalEnergy p j h = mul (mul (div (mul (p .lambda) h) two) (sub j one)) (sub j one)
+abbrev pub elasticEnergyDensity : CorotatedLinearElasticity → List Float → Float → Answer
+elasticEnergyDensity p s h = answerAs (result (energyWalk p s h))
+
+-- ---- pos_energy: e is the positive part of sigma - 1
+abbrev pub posDevPart : CorotatedLinearElasticity → Float → List Float → Expr
+posDevPart p h e = num (p .mu) * num h * dot e e
+
+abbrev pub sphericalEnergy : CorotatedLinearElasticity → Float → Expr → Expr
+sphericalEnergy p h j = num (p .lambda) * num h / two * (j - one) * (j - one)
 
 -- below j = 1 the spherical part is worked and not used: its NaN is met all the same
-unfoldable pub posEnergyOf : Float → Float → Float → Answer
-posEnergyOf j dev sph = cond (isNumber sph) (answeredOf (cond (Ieee.lt j one) dev (add dev sph))) (Refused noNumber)
+unfoldable pub posSteps : CorotatedLinearElasticity → List (List Float) → List Float → Float → Walk Float
+posSteps p f s h =
+    work 1 (determinant f) (λ j.
+    works 2 (lessOne s) (λ e.
+    mosts 3 e zero (λ pos.
+    work 4 (sphericalEnergy p h j) (λ spherical.
+    split 5 (less j one)
+    (returned 6 (posDevPart p h pos))
+    (returned 6 (posDevPart p h pos + spherical))))))
 
-unfoldable pub posEnergy : CorotatedLinearElasticity → List (List Float) → List Float → Float → Answer
-posEnergy p f s h =
-    given (lawFinite p && matFinite f && rowFinite s && finite h)
-    (posEnergyOf (detOf f) (deviatoricEnergy p (positiveOf (lessOneOf s)) h) (sphericalEnergy p (detOf f) h))
+unfoldable pub posWalk : CorotatedLinearElasticity → List (List Float) → List Float → Float → Walk Float
+posWalk p f s h = inputs (floats p (flat f ++ s ++ (h ∷ []))) (posSteps p f s h)
+
+abbrev pub posEnergy : CorotatedLinearElasticity → List (List Float) → List Float → Float → Answer
+posEnergy p f s h = answerAs (result (posWalk p f s h))

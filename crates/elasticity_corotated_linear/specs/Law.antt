@@ -1,18 +1,28 @@
 -- The corotated law's own floats and its `new` (RULES, section 6; elasticity_corotated_linear.rs).
 use mathlib.Core.Bool.{Bool, true, cond, _&&_}
+use mathlib.Core.List.{List, [], _∷_, _++_}
 use lib.Ieee.{Float, binary64, ofBits}
 use Rattle.answers.specs.Refusals.{notFinite, noNumber}
 use Rattle.numbers.specs.Floats.{finite}
 use Rattle.physics.specs.Physics.{lameOf}
 use Rattle.physics.specs.declared.Lame.{Lame}
+use Rattle.tensor.specs.Axes.{allOf}
 use Rattle.elasticity_corotated_linear.specs.declared.CorotatedLinearElasticity.{CorotatedLinearElasticity}
 use Rattle.elasticity_corotated_linear.specs.declared.Made.{Made}
 use Rattle.elasticity_corotated_linear.specs.declared.Made.the-variants.{Law, Refused}
 
 -- the law's floats are inputs of each call
-abbrev pub lawFinite : CorotatedLinearElasticity → Bool
-lawFinite p = finite (p .«cfl_coeff») && finite (p .lambda) && finite (p .mu)
+abbrev pub parametersOf : CorotatedLinearElasticity → List Float
+parametersOf p = p .«cfl_coeff» ∷ p .lambda ∷ p .mu ∷ []
 
+abbrev pub lawFinite : CorotatedLinearElasticity → Bool
+lawFinite p = allOf finite (parametersOf p)
+
+-- the law's, then the call's
+unfoldable pub floats : CorotatedLinearElasticity → List Float → List Float
+floats p l = parametersOf p ++ l
+
+-- ---- `new`
 -- split on failure, coefficient 0.9
 unfoldable pub lawOf : Lame → CorotatedLinearElasticity
 lawOf m =

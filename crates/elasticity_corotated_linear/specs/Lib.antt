@@ -1,3 +1,4 @@
 pub mod Law
 pub mod Stress
+pub mod Principal
 pub mod Energy

@@ -1,61 +1,72 @@
 -- The corotated law's stress (RULES, section 5: "Phase exactly 1.0 takes the unsplit path; the tensile part is dropped only at phase 0.0 with the flag").
-use mathlib.Core.Bool.{Bool, cond, _&&_}
-use mathlib.Core.List.{List, map}
+use mathlib.Core.Bool.{cond, _&&_}
+use mathlib.Core.List.{List, [], _∷_, _++_, map}
 use lib.Ieee as Ieee
 use lib.Ieee.{Float}
-use Rattle.numbers.specs.Floats.{finite, maxOf, minOf}
-use Rattle.physics.specs.Physics.{two}
-use Rattle.tensor.specs.Matrix.{sub, mul, zero, one, detOf, mulOf, transposeOf, recomposeOf, matAddOf, matScaleOf, identityTimesOf}
-use Rattle.tensor.specs.Finite.{rowFinite, matFinite}
-use Rattle.tensor.specs.Answer.{answered, givenMatrix}
+use Rattle.physics.specs.Physics as physics
+use Rattle.tensor.specs.Matrix as tensor
 use Rattle.tensor.specs.declared.MatrixAnswer.{MatrixAnswer}
-use Rattle.elasticity_corotated_linear.specs.Law.{lawFinite}
+use Rattle.walk.specs.Expr.{Expr, num, _-_, _*_}
+use Rattle.walk.specs.Walk.{Walk, Test, less, flag, inputs, work, works, mosts, leasts, split, result}
+use Rattle.walk.specs.Every.{flat}
+use Rattle.walk.specs.Update.{recomposed}
+use Rattle.walk.specs.Tensor.{one, rows, turned, times, plus, scaled, identity-times, determinant}
+use Rattle.walk.specs.Answers.{returnedMatrix, matrixAs}
+use Rattle.elasticity_corotated_linear.specs.Law.{floats}
 use Rattle.elasticity_corotated_linear.specs.declared.CorotatedLinearElasticity.{CorotatedLinearElasticity}
 
--- p is the law, h the elastic hardening, s is sigma, e stands for sigma - 1 or a part of it, j is the determinant of F, c what the tensile part is multiplied by.
+-- p is the law, h the elastic hardening, s is sigma, j the determinant of F, e stands for sigma - 1 or a part of it, pos and neg for what is made of its parts.
 
-unfoldable pub lessOneOf : List Float → List Float
-lessOneOf s = map (λ x. sub x one) s
+-- ---- of the stress, the principal stresses and the energies
+abbrev pub zero : Expr
+zero = num tensor.zero
 
--- sigma is finite, so sigma - 1 is no NaN that a maximum or a minimum could hide
-unfoldable pub positiveOf : List Float → List Float
-positiveOf e = map (λ x. maxOf x zero) e
+abbrev pub two : Expr
+two = num physics.two
 
-unfoldable pub negativeOf : List Float → List Float
-negativeOf e = map (λ x. minOf x zero) e
+abbrev pub lessOne : List Float → List Expr
+lessOne s = map (λ x. num x - one) s
 
--- 2 mu h times U e V^T, then times F^T
-unfoldable pub deviatoricStress : CorotatedLinearElasticity → Float → List (List Float) → List (List Float) → List Float → List (List Float) → List (List Float)
-deviatoricStress p h f u e vt = mulOf (matScaleOf (mul (mul two (p .mu)) h) (recomposeOf u e vt)) (transposeOf f)
-
-unfoldable pub sphericalStress : CorotatedLinearElasticity → Float → Float → List (List Float)
-sphericalStress p h j = identityTimesOf (mul (mul (mul (p .lambda) h) (sub j one)) j)
+-- phase is an input, no number that a step works
+abbrev pub unsplit : Float → Test
+unsplit phase = flag (Ieee.eq phase tensor.one)
 
 -- the tensile part is dropped only at phase 0.0 with the flag
-unfoldable pub phaseCoeff : CorotatedLinearElasticity → Float → Float
-phaseCoeff p phase = cond (p .«split_stress_on_failure» && Ieee.eq phase zero) zero one
+abbrev pub phaseCoeff : CorotatedLinearElasticity → Float → Expr
+phaseCoeff p phase = num (cond (p .«split_stress_on_failure» && Ieee.eq phase tensor.zero) tensor.zero tensor.one)
 
--- the spherical part is compressive below j = 1, else tensile
-unfoldable pub splitSum : Float → Float → List (List Float) → List (List Float) → List (List Float) → List (List Float)
-splitSum c j pos neg sph =
-    cond (Ieee.lt j one) (matAddOf (matScaleOf c pos) (matAddOf neg sph)) (matAddOf (matScaleOf c (matAddOf pos sph)) neg)
+abbrev pub sphericalPart : CorotatedLinearElasticity → Float → Expr → Expr
+sphericalPart p h j = num (p .lambda) * num h * (j - one) * j
 
-unfoldable pub splitStress : CorotatedLinearElasticity → Float → Float → List (List Float) → List (List Float) → List Float → List (List Float) → List (List Float)
-splitStress p phase h f u e vt =
-    splitSum (phaseCoeff p phase) (detOf f) (deviatoricStress p h f u (positiveOf e) vt) (deviatoricStress p h f u (negativeOf e) vt) (sphericalStress p h (detOf f))
+-- ---- kirchhoff_stress
+abbrev pub devStress : CorotatedLinearElasticity → Float → List (List Float) → List (List Float) → List Float → List (List Float) → List (List Expr)
+devStress p h f u e vt = times (scaled (two * num (p .mu) * num h) (recomposed u e vt)) (turned (rows f))
 
-unfoldable pub unsplitStress : CorotatedLinearElasticity → Float → List (List Float) → List (List Float) → List Float → List (List Float) → List (List Float)
-unsplitStress p h f u e vt = matAddOf (deviatoricStress p h f u e vt) (sphericalStress p h (detOf f))
+abbrev pub sphericalStress : CorotatedLinearElasticity → Float → Expr → List (List Expr)
+sphericalStress p h j = identity-times (sphericalPart p h j)
 
-unfoldable pub stressOf : CorotatedLinearElasticity → Float → Float → List (List Float) → List (List Float) → List Float → List (List Float) → List (List Float)
-stressOf p phase h f u s vt =
-    cond (Ieee.eq phase one) (unsplitStress p h f u (lessOneOf s) vt) (splitStress p phase h f u (lessOneOf s) vt)
+-- c multiplies the tensile part: below j = 1 the spherical stress is compressive, else tensile
+abbrev pub below : Expr → List (List Expr) → List (List Expr) → List (List Expr) → List (List Expr)
+below c pos neg spherical = plus (scaled c pos) (plus neg spherical)
 
-abbrev pub stressInputs : CorotatedLinearElasticity → Float → Float → List (List Float) → List (List Float) → List Float → List (List Float) → Bool
-stressInputs p phase h f u s vt =
-    lawFinite p && finite phase && finite h && matFinite f && matFinite u && rowFinite s && matFinite vt
+abbrev pub above : Expr → List (List Expr) → List (List Expr) → List (List Expr) → List (List Expr)
+above c pos neg spherical = plus (scaled c (plus pos spherical)) neg
 
--- a NaN that arises in a sum or a product is in an entry of the stress: j's in the spherical part, which either path adds, and 0 times a NaN or an infinity is a NaN
-unfoldable pub kirchhoffStress : CorotatedLinearElasticity → Float → Float → List (List Float) → List (List Float) → List Float → List (List Float) → MatrixAnswer
-kirchhoffStress p phase h f u s vt =
-    givenMatrix (stressInputs p phase h f u s vt) (answered (stressOf p phase h f u s vt))
+unfoldable pub stressSteps : CorotatedLinearElasticity → Float → Float → List (List Float) → List (List Float) → List Float → List (List Float) → Walk (List (List Float))
+stressSteps p phase h f u s vt =
+    work 1 (determinant f) (λ j.
+    works 2 (lessOne s) (λ e.
+    split 3 (unsplit phase)
+    (returnedMatrix 7 (plus (devStress p h f u e vt) (sphericalStress p h j)))
+    (mosts 4 e zero (λ pos.
+    leasts 5 e zero (λ neg.
+    split 6 (less j one)
+    (returnedMatrix 7 (below (phaseCoeff p phase) (devStress p h f u pos vt) (devStress p h f u neg vt) (sphericalStress p h j)))
+    (returnedMatrix 7 (above (phaseCoeff p phase) (devStress p h f u pos vt) (devStress p h f u neg vt) (sphericalStress p h j))))))))
+
+unfoldable pub stressWalk : CorotatedLinearElasticity → Float → Float → List (List Float) → List (List Float) → List Float → List (List Float) → Walk (List (List Float))
+stressWalk p phase h f u s vt =
+    inputs (floats p ((phase ∷ h ∷ []) ++ flat f ++ flat u ++ s ++ flat vt)) (stressSteps p phase h f u s vt)
+
+abbrev pub kirchhoffStress : CorotatedLinearElasticity → Float → Float → List (List Float) → List (List Float) → List Float → List (List Float) → MatrixAnswer
+kirchhoffStress p phase h f u s vt = matrixAs (result (stressWalk p phase h f u s vt))

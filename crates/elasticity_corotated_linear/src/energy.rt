@@ -2,16 +2,28 @@ use crate::CorotatedLinearElasticity;
 use crate::stress;
 use answers::Answer;
 ghost use mathlib.Core.Path.{_≡_};
-ghost use Rattle.elasticity_corotated_linear.specs.Energy.{squaresOf, energyOf, deviatoricEnergy, sphericalEnergy, posEnergyOf};
+ghost use mathlib.Core.Bool.{true, cond};
+ghost use mathlib.Core.List.{map};
+ghost use Rattle.answers.specs.Refusals.{noNumber};
+ghost use Rattle.answers.specs.Answer.{answeredOf};
+ghost use Rattle.answers.specs.declared.Answer.the-variants.{Refused};
+ghost use Rattle.numbers.specs.Floats.{isNumber};
+ghost use Rattle.numbers.specs.Power.{powiOf};
+ghost use lib.Ieee.{lt};
+ghost use Rattle.tensor.specs.Matrix.{add, one, sumOf};
+ghost use Rattle.tensor.specs.Finite.{rowFinite};
+ghost use Rattle.walk.specs.Expr.{num, value};
+ghost use Rattle.walk.specs.Walk.{result, answerAs};
+ghost use Rattle.elasticity_corotated_linear.specs.Energy.{density, posDevPart, sphericalEnergy, posSteps};
 
 fn squares(e: [f64; 3]) -> f64
-    ensures { λ r. ⌜ r ≡ squaresOf e ⌝ }
+    ensures { λ r. ⌜ r ≡ sumOf (map (λ x. powiOf x 2) e) ⌝ }
 {
     numbers::powi(e[0], 2) + numbers::powi(e[1], 2) + numbers::powi(e[2], 2)
 }
 
 pub fn energy(p: CorotatedLinearElasticity, sigma: [f64; 3], hardening: f64) -> f64
-    ensures { λ r. ⌜ r ≡ energyOf p sigma hardening ⌝ }
+    ensures { λ r. ⌜ r ≡ value (density p sigma hardening) ⌝ }
 {
     let hardened_mu = p.mu * hardening;
     let hardened_lambda = p.lambda * hardening;
@@ -20,20 +32,20 @@ pub fn energy(p: CorotatedLinearElasticity, sigma: [f64; 3], hardening: f64) -> 
         + hardened_lambda / 2.0 * numbers::powi(determinant - 1.0, 2)
 }
 
-pub fn deviatoric_energy(p: CorotatedLinearElasticity, e: [f64; 3], hardening: f64) -> f64
-    ensures { λ r. ⌜ r ≡ deviatoricEnergy p e hardening ⌝ }
+fn pos_dev_part(p: CorotatedLinearElasticity, e: [f64; 3], hardening: f64) -> f64
+    ensures { λ r. ⌜ r ≡ value (posDevPart p hardening e) ⌝ }
 {
     p.mu * hardening * tensor::dot(e, e)
 }
 
-pub fn spherical_energy(p: CorotatedLinearElasticity, j: f64, hardening: f64) -> f64
-    ensures { λ r. ⌜ r ≡ sphericalEnergy p j hardening ⌝ }
+fn spherical_energy(p: CorotatedLinearElasticity, j: f64, hardening: f64) -> f64
+    ensures { λ r. ⌜ r ≡ value (sphericalEnergy p hardening (num j)) ⌝ }
 {
     p.lambda * hardening / 2.0 * (j - 1.0) * (j - 1.0)
 }
 
-pub fn pos_energy(j: f64, dev: f64, sph: f64) -> Answer
-    ensures { λ r. ⌜ r ≡ posEnergyOf j dev sph ⌝ }
+fn pos_sum(j: f64, dev: f64, sph: f64) -> Answer
+    ensures { λ r. ⌜ r ≡ cond (isNumber sph) (cond (lt j one) (answeredOf dev) (answeredOf (add dev sph))) (Refused noNumber) ⌝ }
 {
     if numbers::is_number(sph) {
         if j < 1.0 {
@@ -44,4 +56,21 @@ pub fn pos_energy(j: f64, dev: f64, sph: f64) -> Answer
     } else {
         Answer::Refused(answers::NO_NUMBER)
     }
+}
+
+// Of a finite sigma, whose sigma - 1 is no NaN that a maximum could hide. A NaN in j is in the spherical part.
+pub fn pos(
+    p: CorotatedLinearElasticity,
+    f: [[f64; 3]; 3],
+    sigma: [f64; 3],
+    hardening: f64,
+) -> Answer
+    requires { ⌜ rowFinite sigma ≡ true ⌝ }
+    ensures { λ r. ⌜ r ≡ answerAs (result (posSteps p f sigma hardening)) ⌝ }
+{
+    let j = tensor::determinant(f);
+    let e = stress::positive(stress::less_one(sigma));
+    let dev = pos_dev_part(p, e, hardening);
+    let sph = spherical_energy(p, j, hardening);
+    pos_sum(j, dev, sph)
 }

@@ -1,18 +1,19 @@
-// Corotated linear elasticity: the stress and the energies of a record's F and its factors.
+// Corotated linear elasticity: the stress, the principal stresses and the energies of a record's F and its factors.
 mod energy;
+mod principal;
 mod stress;
 
 use answers::Answer;
 use physics::Lame;
-pub use stress::less_one;
-pub use stress::negative;
-pub use stress::phase_coeff;
-pub use stress::positive;
 use tensor::MatrixAnswer;
+use tensor::VectorAnswer;
 ghost use mathlib.Core.Path.{_≡_};
-ghost use mathlib.Core.Bool.{false};
+ghost use mathlib.Core.Bool.{false, _&&_};
+ghost use Rattle.numbers.specs.Floats.{finite};
+ghost use Rattle.tensor.specs.Finite.{rowFinite, matFinite};
 ghost use Rattle.elasticity_corotated_linear.specs.Law.{lawFinite, lawOf, fromLame, newOf};
-ghost use Rattle.elasticity_corotated_linear.specs.Stress.{stressInputs, kirchhoffStress};
+ghost use Rattle.elasticity_corotated_linear.specs.Stress.{kirchhoffStress};
+ghost use Rattle.elasticity_corotated_linear.specs.Principal.{principalStresses};
 ghost use Rattle.elasticity_corotated_linear.specs.Energy.{elasticEnergyDensity, posEnergy};
 
 pub struct CorotatedLinearElasticity {
@@ -81,7 +82,7 @@ impl CorotatedLinearElasticity {
         sigma: [f64; 3],
         vt: [[f64; 3]; 3],
     ) -> bool
-        ensures { λ r. ⌜ r ≡ stressInputs self phase hardening f u sigma vt ⌝ }
+        ensures { λ r. ⌜ r ≡ lawFinite self && finite phase && finite hardening && matFinite f && matFinite u && rowFinite sigma && matFinite vt ⌝ }
     {
         self.law_finite()
             & numbers::is_finite(phase)
@@ -105,10 +106,17 @@ impl CorotatedLinearElasticity {
         ensures { λ r. ⌜ r ≡ kirchhoffStress self phase hardening f u sigma vt ⌝ }
     {
         if self.stress_inputs(phase, hardening, f, u, sigma, vt) {
-            tensor::answered(stress::stress(self, phase, hardening, f, u, sigma, vt))
+            stress::stress(self, phase, hardening, f, u, sigma, vt)
         } else {
             tensor::refused_matrix(answers::NOT_FINITE)
         }
+    }
+
+    // The principal stresses of sigma alone, for the verdict: steps of the pass, which has tested their floats.
+    pub fn principal_stresses(self, phase: f64, hardening: f64, sigma: [f64; 3]) -> VectorAnswer
+        ensures { λ r. ⌜ r ≡ principalStresses self phase hardening sigma ⌝ }
+    {
+        principal::stresses(self, phase, hardening, sigma)
     }
 
     pub fn elastic_energy_density(self, sigma: [f64; 3], hardening: f64) -> Answer
@@ -130,11 +138,7 @@ impl CorotatedLinearElasticity {
             & tensor::row_finite(sigma)
             & numbers::is_finite(hardening)
         {
-            let j = tensor::determinant(f);
-            let e = stress::positive(stress::less_one(sigma));
-            let dev = energy::deviatoric_energy(self, e, hardening);
-            let sph = energy::spherical_energy(self, j, hardening);
-            energy::pos_energy(j, dev, sph)
+            energy::pos(self, f, sigma, hardening)
         } else {
             Answer::Refused(answers::NOT_FINITE)
         }

@@ -1,15 +1,18 @@
 -- Monaghan's law and its pressure, from eos_monaghan_sph.rs, with the refusals of RULES, section 6.
 use mathlib.Core.Bool.{Bool, cond, _&&_}
+use mathlib.Core.List.{List, [], _∷_, _++_}
 use Prim.Native.Nat.{ℕ}
-use lib.Ieee as Ieee
 use lib.Ieee.{Float}
-use Rattle.answers.specs.Refusals.{notFinite, noNumber}
-use Rattle.numbers.specs.Floats.{finite, isNumber, maxOf}
-use Rattle.numbers.specs.Power.{powiOf}
-use Rattle.answers.specs.Answer.{given, finiteAnswerOf}
+use Rattle.answers.specs.Refusals.{notFinite}
+use Rattle.numbers.specs.Floats.{finite}
 use Rattle.answers.specs.declared.Answer.{Answer}
-use Rattle.answers.specs.declared.Answer.the-variants.{Value, Refused}
-use Rattle.tensor.specs.Matrix.{sub, mul, div, one}
+use Rattle.tensor.specs.Axes.{allOf}
+use Rattle.tensor.specs.Matrix as tensor
+use Rattle.walk.specs.Expr.{Expr, num, neg, _-_, _*_, _/_, value}
+use Rattle.walk.specs.Walk.{Walk, inputs, work, most, end, _then_, result, answerAs}
+use Rattle.walk.specs.Tensor.{one}
+use Rattle.walk.specs.Power.{power}
+use Rattle.walk.specs.Answers.{returned}
 use Rattle.eos_monaghan_sph.specs.declared.MonaghanSphEos.{MonaghanSphEos}
 use Rattle.eos_monaghan_sph.specs.declared.Made.{Made}
 use Rattle.eos_monaghan_sph.specs.declared.Made.the-variants as Made
@@ -18,30 +21,35 @@ use Rattle.eos_monaghan_sph.specs.declared.Made.the-variants as Made
 unfoldable pub newOf : Float → ℕ → Float → Made
 newOf pressure gamma viscosity =
     cond (finite pressure && finite viscosity)
-    (Made.Law (record { pressure0 = pressure; gamma = gamma; viscosity = viscosity; «max_neg_pressure» = one }))
+    (Made.Law (record { pressure0 = pressure; gamma = gamma; viscosity = viscosity; «max_neg_pressure» = tensor.one }))
     (Made.Refused notFinite)
 
--- the inputs that the three calls share
+-- the inputs that the three calls share, then the call's own
+abbrev pub shared : MonaghanSphEos → Float → Float → Float → List Float
+shared law mass volume density = law .pressure0 ∷ law .viscosity ∷ law .«max_neg_pressure» ∷ mass ∷ volume ∷ density ∷ []
+
+unfoldable pub floats : MonaghanSphEos → Float → Float → Float → List Float → List Float
+floats law mass volume density l = shared law mass volume density ++ l
+
 abbrev pub inputsFinite : MonaghanSphEos → Float → Float → Float → Bool
-inputsFinite law mass volume density =
-    finite (law .pressure0) && finite (law .viscosity) && finite (law .«max_neg_pressure») && finite mass && finite volume && finite density
+inputsFinite law mass volume density = allOf finite (shared law mass volume density)
 
--- the density over density0, which is mass over volume
-unfoldable pub ratioOf : Float → Float → Float → Float
-ratioOf mass volume density = div density (div mass volume)
+abbrev pub density0 : Float → Float → Expr
+density0 mass volume = num mass / num volume
 
-unfoldable pub unboundedOf : MonaghanSphEos → Float → Float
-unboundedOf law ratio = mul (law .pressure0) (sub (powiOf ratio (law .gamma)) one)
+abbrev pub unbounded : MonaghanSphEos → Expr → Expr
+unbounded law ratio = num (law .pressure0) * (power ratio (law .gamma) - one)
 
-abbrev pub boundedOf : MonaghanSphEos → Float → Answer
-boundedOf law p = cond (isNumber p) (Value (maxOf p (Ieee.neg (law .«max_neg_pressure»)))) (Refused noNumber)
+-- the power 0 would turn a NaN of the ratio into 1, and the maximum would hide one of the product; an infinity is left to the caller
+unfoldable pub pressureSteps : MonaghanSphEos → Float → Float → Float → Walk Float
+pressureSteps law mass volume density =
+    work 1 (num density / density0 mass volume) (λ ratio.
+    work 2 (unbounded law ratio) (λ p.
+    most 3 p (neg (num (law .«max_neg_pressure»))) (λ bounded. end (value bounded))))
 
--- Two NaNs can arise: the ratio (0 over 0, there or in density0), which the power 0 would turn into 1, and the product
--- (0 times infinity), which the maximum would hide. Each is 3. An infinity is left to the caller.
-unfoldable pub workedPressure : MonaghanSphEos → Float → Float → Float → Answer
-workedPressure law mass volume density =
-    cond (isNumber (ratioOf mass volume density)) (boundedOf law (unboundedOf law (ratioOf mass volume density))) (Refused noNumber)
+unfoldable pub pressureWalk : MonaghanSphEos → Float → Float → Float → Walk Float
+pressureWalk law mass volume density =
+    inputs (floats law mass volume density []) (pressureSteps law mass volume density then (λ p. returned 4 (num p)))
 
-unfoldable pub pressureOf : MonaghanSphEos → Float → Float → Float → Answer
-pressureOf law mass volume density =
-    given (inputsFinite law mass volume density) (finiteAnswerOf (workedPressure law mass volume density))
+abbrev pub pressureOf : MonaghanSphEos → Float → Float → Float → Answer
+pressureOf law mass volume density = answerAs (result (pressureWalk law mass volume density))

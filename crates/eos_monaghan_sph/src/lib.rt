@@ -15,10 +15,3 @@ pub enum Made {
     Law(MonaghanSphEos),
     Refused(u8),
 }
-
-// The single-particle step, or that there is none, or the refusal's number.
-enum Single {
-    Step(f64),
-    Without,
-    Refused(u8),
-}

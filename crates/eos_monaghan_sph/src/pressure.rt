@@ -2,16 +2,14 @@ use crate::Made;
 use crate::MonaghanSphEos;
 use answers::Answer;
 ghost use mathlib.Core.Path.{_≡_};
-ghost use mathlib.Core.Bool.{true};
-ghost use Rattle.eos_monaghan_sph.specs.Pressure.{newOf, inputsFinite, ratioOf, unboundedOf, boundedOf, workedPressure, pressureOf};
-
-// The density over the density at rest.
-fn ratio(mass: f64, volume: f64, density: f64) -> f64
-    ensures { λ r. ⌜ r ≡ ratioOf mass volume density ⌝ }
-{
-    let density0 = mass / volume;
-    density / density0
-}
+ghost use mathlib.Core.Bool.{true, cond};
+ghost use lib.Ieee.{neg};
+ghost use Rattle.answers.specs.Refusals.{noNumber};
+ghost use Rattle.answers.specs.declared.Answer.the-variants as answer;
+ghost use Rattle.numbers.specs.Floats.{isNumber, maxOf};
+ghost use Rattle.walk.specs.Expr.{num, value};
+ghost use Rattle.walk.specs.Walk.{result, answerAs};
+ghost use Rattle.eos_monaghan_sph.specs.Pressure.{newOf, inputsFinite, unbounded, pressureSteps, pressureOf};
 
 pub fn inputs_finite(law: MonaghanSphEos, mass: f64, volume: f64, density: f64) -> bool
     ensures { λ r. ⌜ r ≡ inputsFinite law mass volume density ⌝ }
@@ -25,7 +23,7 @@ pub fn inputs_finite(law: MonaghanSphEos, mass: f64, volume: f64, density: f64) 
 }
 
 fn unbounded(law: MonaghanSphEos, ratio: f64) -> f64
-    ensures { λ r. ⌜ r ≡ unboundedOf law ratio ⌝ }
+    ensures { λ r. ⌜ r ≡ value (unbounded law (num ratio)) ⌝ }
 {
     let power = numbers::powi(ratio, law.gamma);
     law.pressure0 * (power - 1.0)
@@ -33,7 +31,7 @@ fn unbounded(law: MonaghanSphEos, ratio: f64) -> f64
 
 // At least minus the largest negative pressure.
 fn bounded(law: MonaghanSphEos, p: f64) -> Answer
-    ensures { λ r. ⌜ r ≡ boundedOf law p ⌝ }
+    ensures { λ r. ⌜ r ≡ cond (isNumber p) (answer.Value (maxOf p (neg (law .«max_neg_pressure»)))) (answer.Refused noNumber) ⌝ }
 {
     if numbers::is_number(p) {
         Answer::Value(numbers::max(p, -law.max_neg_pressure))
@@ -44,12 +42,13 @@ fn bounded(law: MonaghanSphEos, p: f64) -> Answer
 
 // The pressure, which may be infinite, or 3 where a NaN arises.
 pub fn worked_pressure(law: MonaghanSphEos, mass: f64, volume: f64, density: f64) -> Answer
-    ensures { λ r. ⌜ r ≡ workedPressure law mass volume density ⌝ }
+    requires { ⌜ inputsFinite law mass volume density ≡ true ⌝ }
+    ensures { λ r. ⌜ r ≡ answerAs (result (pressureSteps law mass volume density)) ⌝ }
 {
-    let q = ratio(mass, volume, density);
-    if numbers::is_number(q) {
-        let p = unbounded(law, q);
-        bounded(law, p)
+    let density0 = mass / volume;
+    let ratio = density / density0;
+    if numbers::is_number(ratio) {
+        bounded(law, unbounded(law, ratio))
     } else {
         Answer::Refused(answers::NO_NUMBER)
     }

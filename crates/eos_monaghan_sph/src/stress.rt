@@ -3,17 +3,21 @@ use crate::pressure;
 use answers::Answer;
 use tensor::MatrixAnswer;
 ghost use mathlib.Core.Path.{_≡_};
-ghost use Rattle.eos_monaghan_sph.specs.Stress.{pressurePartOf, viscousPartOf, stressOf, stressFrom, kirchhoffStressOf};
+ghost use Rattle.walk.specs.Expr.{num};
+ghost use Rattle.walk.specs.Walk.{result, asked};
+ghost use Rattle.walk.specs.Tensor.{worth};
+ghost use Rattle.walk.specs.Answers.{matrixAs};
+ghost use Rattle.eos_monaghan_sph.specs.Stress.{pressurePart, viscousPart, stressSteps, kirchhoffStressOf};
 
 fn pressure_part(p: f64, det: f64) -> [[f64; 3]; 3]
-    ensures { λ r. ⌜ r ≡ pressurePartOf p det ⌝ }
+    ensures { λ r. ⌜ r ≡ worth (pressurePart (num p) det) ⌝ }
 {
     tensor::identity_times(-p * det)
 }
 
 impl MonaghanSphEos {
     fn viscous_part(self, det: f64, gradient: [[f64; 3]; 3]) -> [[f64; 3]; 3]
-        ensures { λ r. ⌜ r ≡ viscousPartOf self det gradient ⌝ }
+        ensures { λ r. ⌜ r ≡ worth (viscousPart self det gradient) ⌝ }
     {
         let rate = physics::plain::strain_rate(gradient);
         tensor::mat_scale(
@@ -22,21 +26,22 @@ impl MonaghanSphEos {
         )
     }
 
-    fn stress(self, det: f64, p: f64, gradient: [[f64; 3]; 3]) -> [[f64; 3]; 3]
-        ensures { λ r. ⌜ r ≡ stressOf self det p gradient ⌝ }
+    fn stress(self, det: f64, p: f64, gradient: [[f64; 3]; 3]) -> MatrixAnswer
+        ensures { λ r. ⌜ r ≡ matrixAs (result (stressSteps self det gradient p)) ⌝ }
     {
         if self.viscosity == 0.0 {
-            pressure_part(p, det)
+            tensor::answered(pressure_part(p, det))
         } else {
-            tensor::mat_add(pressure_part(p, det), self.viscous_part(det, gradient))
+            let viscous = self.viscous_part(det, gradient);
+            tensor::answered(tensor::mat_add(pressure_part(p, det), viscous))
         }
     }
 
     fn stress_from(self, det: f64, pressure: Answer, gradient: [[f64; 3]; 3]) -> MatrixAnswer
-        ensures { λ r. ⌜ r ≡ stressFrom self det pressure gradient ⌝ }
+        ensures { λ r. ⌜ r ≡ matrixAs (asked pressure (λ p. result (stressSteps self det gradient p))) ⌝ }
     {
         match pressure {
-            Answer::Value(p) => tensor::answered(self.stress(det, p, gradient)),
+            Answer::Value(p) => self.stress(det, p, gradient),
             Answer::Refused(n) => tensor::refused_matrix(n),
         }
     }

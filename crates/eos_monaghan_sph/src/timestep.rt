@@ -1,96 +1,93 @@
 use crate::MonaghanSphEos;
-use crate::Single;
 use crate::pressure;
 use answers::Answer;
 ghost use mathlib.Core.Path.{_≡_};
-ghost use Rattle.eos_monaghan_sph.specs.Timestep.{argumentOf, steppedOf, singleOf, singleFrom, speedSquareOf, overRootOf, cflOf, smallerOf, bothOf, timestepBoundOf};
+ghost use Rattle.walk.specs.Expr.{num, value};
+ghost use Rattle.walk.specs.Walk.{result, answerAs, asked};
+ghost use Rattle.eos_monaghan_sph.specs.Timestep.{argument, cSquare, cflSteps, smallerSteps, singleSteps, timestepSteps, timestepBoundOf};
 
 // What the single-particle root is taken of. 6 is for quadratic splines, 3 the number of axes.
-fn argument(j: f64, density0: f64, p: f64) -> f64
-    ensures { λ r. ⌜ r ≡ argumentOf j density0 p ⌝ }
+fn argument(j: f64, mass: f64, volume: f64, p: f64) -> f64
+    ensures { λ r. ⌜ r ≡ value (argument j mass volume (num p)) ⌝ }
 {
+    let density0 = mass / volume;
     let pressure = -p;
     density0 * (j - 1.0) / (6.0 * pressure * 3.0)
 }
 
-fn stepped(lead: f64, root: Answer) -> Single
-    ensures { λ r. ⌜ r ≡ steppedOf lead root ⌝ }
-{
-    match root {
-        Answer::Value(s) => {
-            let step = lead * s;
-            if numbers::is_number(step) {
-                Single::Step(step)
-            } else {
-                Single::Refused(answers::NO_NUMBER)
-            }
-        }
-        Answer::Refused(n) => Single::Refused(n),
-    }
-}
-
-// lead is the cell's width over j. There is no step where the argument is negative or a NaN.
-fn single(lead: f64, argument: f64) -> Single
-    ensures { λ r. ⌜ r ≡ singleOf lead argument ⌝ }
-{
-    if numbers::is_number(lead) {
-        if 0.0 <= argument {
-            stepped(lead, square_root::sqrt_on_path(argument))
-        } else {
-            Single::Without
-        }
-    } else {
-        Single::Refused(answers::NO_NUMBER)
-    }
-}
-
-fn single_from(j: f64, density0: f64, width: f64, pressure: Answer) -> Single
-    ensures { λ r. ⌜ r ≡ singleFrom j density0 width pressure ⌝ }
-{
-    match pressure {
-        Answer::Value(p) => single(width / j, argument(j, density0, p)),
-        Answer::Refused(n) => Single::Refused(n),
-    }
-}
-
-fn speed_square(velocity: [f64; 3]) -> f64
-    ensures { λ r. ⌜ r ≡ speedSquareOf velocity ⌝ }
+fn c_square(velocity: [f64; 3]) -> f64
+    ensures { λ r. ⌜ r ≡ value (cSquare velocity) ⌝ }
 {
     numbers::max(tensor::dot(velocity, velocity), 1.0) / 0.1
 }
 
-fn over_root(width: f64, root: Answer) -> Answer
-    ensures { λ r. ⌜ r ≡ overRootOf width root ⌝ }
-{
-    match root {
-        Answer::Value(s) => Answer::Value(width / s),
-        Answer::Refused(n) => Answer::Refused(n),
-    }
-}
-
 // The Courant-Friedrichs-Lewy step.
 fn cfl(velocity: [f64; 3], width: f64) -> Answer
-    ensures { λ r. ⌜ r ≡ cflOf velocity width ⌝ }
+    ensures { λ r. ⌜ r ≡ answerAs (result (cflSteps velocity width)) ⌝ }
 {
-    over_root(width, square_root::sqrt_on_path(speed_square(velocity)))
-}
-
-fn smaller(x: f64, cfl: Answer) -> Answer
-    ensures { λ r. ⌜ r ≡ smallerOf x cfl ⌝ }
-{
-    match cfl {
-        Answer::Value(y) => answers::answered(numbers::min(x, y)),
+    match square_root::sqrt_on_path(c_square(velocity)) {
+        Answer::Value(c) => answers::answered(width / c),
         Answer::Refused(n) => Answer::Refused(n),
     }
 }
 
-fn both(single: Single, cfl: Answer) -> Answer
-    ensures { λ r. ⌜ r ≡ bothOf single cfl ⌝ }
+// The smaller of that and the single-particle step.
+fn smaller(velocity: [f64; 3], width: f64, single: f64) -> Answer
+    ensures { λ r. ⌜ r ≡ answerAs (result (smallerSteps velocity width single)) ⌝ }
 {
-    match single {
-        Single::Step(x) => smaller(x, cfl),
-        Single::Without => answers::finite_answer(cfl),
-        Single::Refused(n) => Answer::Refused(n),
+    match square_root::sqrt_on_path(c_square(velocity)) {
+        Answer::Value(c) => answers::answered(numbers::min(single, width / c)),
+        Answer::Refused(n) => Answer::Refused(n),
+    }
+}
+
+// lead is the cell's width over j, a what the root is taken of.
+fn single(velocity: [f64; 3], width: f64, lead: f64, a: f64) -> Answer
+    ensures { λ r. ⌜ r ≡ answerAs (result (singleSteps velocity width lead (num a))) ⌝ }
+{
+    match square_root::sqrt_on_path(a) {
+        Answer::Value(r) => {
+            let step = lead * r;
+            if numbers::is_number(step) {
+                smaller(velocity, width, step)
+            } else {
+                Answer::Refused(answers::NO_NUMBER)
+            }
+        }
+        Answer::Refused(n) => Answer::Refused(n),
+    }
+}
+
+// There is no single-particle step where the root's argument is negative or a NaN.
+fn bound(j: f64, mass: f64, volume: f64, velocity: [f64; 3], width: f64, p: f64) -> Answer
+    ensures { λ r. ⌜ r ≡ answerAs (result (timestepSteps j mass volume velocity width p)) ⌝ }
+{
+    let lead = width / j;
+    let a = argument(j, mass, volume, p);
+    if numbers::is_number(lead) {
+        if 0.0 <= a {
+            single(velocity, width, lead, a)
+        } else {
+            cfl(velocity, width)
+        }
+    } else {
+        Answer::Refused(answers::NO_NUMBER)
+    }
+}
+
+fn bound_from(
+    j: f64,
+    mass: f64,
+    volume: f64,
+    velocity: [f64; 3],
+    width: f64,
+    pressure: Answer,
+) -> Answer
+    ensures { λ r. ⌜ r ≡ answerAs (asked pressure (λ p. result (timestepSteps j mass volume velocity width p))) ⌝ }
+{
+    match pressure {
+        Answer::Value(p) => bound(j, mass, volume, velocity, width, p),
+        Answer::Refused(n) => Answer::Refused(n),
     }
 }
 
@@ -113,8 +110,7 @@ impl MonaghanSphEos {
             & numbers::is_finite(width)
         {
             let p = pressure::worked_pressure(self, mass, volume, density);
-            let step = single_from(j, mass / volume, width, p);
-            both(step, cfl(velocity, width))
+            bound_from(j, mass, volume, velocity, width, p)
         } else {
             Answer::Refused(answers::NOT_FINITE)
         }

@@ -1,20 +1,29 @@
--- The pass with failure keeps a record's length, and a record that the law refuses after a yes is as it came. Assumes nothing.
-use mathlib.Core.Path.{_≡_, refl, _∙_}
+-- The pass with failure keeps a record's length, a record that the law refuses after a yes is as it came, and the refusal beside the
+-- principal stresses is their walk's. Assumes nothing.
+use mathlib.Core.Bool.{cond}
+use mathlib.Core.Path.{_≡_, refl, ap, _∙_}
 use mathlib.Core.List.{List}
-use Prim.Native.Nat.{ℕ}
+use native.Mathlib.Omega.{arith}
+use Prim.Native.Nat.{ℕ, zero, suc}
+use lib.Dec.{eqb, eqb·suc-zero}
+use lib.Ieee.{Float}
 use lib.ListN.{length, set, getD, length-set}
 use lib.Seq.{set-set, set-getD}
-use Rattle.tensor.specs.Matrix.{zero}
+use Rattle.tensor.specs.Matrix as tensor
+use Rattle.walk.specs.Walk.{Walk, Ended, given, refused, result}
+use Rattle.walk.specs.Exact.{path}
+use Rattle.walk.specs.Answers.{vectorAs, refusalIn, refused-when, stops-positive}
 use Rattle.plasticity.specs.declared.Outcome.{Outcome}
 use Rattle.plasticity.specs.declared.Outcome.the-variants as outcome
 use Rattle.record.specs.Layout.{putPhase}
 use Rattle.failure_maximum_stress.specs.declared.MaximumStressFailure.{MaximumStressFailure}
 use Rattle.failure_maximum_stress.specs.declared.Verdict.{Verdict}
 use Rattle.failure_maximum_stress.specs.declared.Verdict.the-variants.{No, Yes, Refused}
+use Rattle.failure_maximum_stress.specs.Failure.{verdictOf}
 use Rattle.elasticity_corotated_linear.specs.declared.CorotatedLinearElasticity.{CorotatedLinearElasticity}
 use Rattle.model.specs.declared.Model.{Model}
 use Rattle.particles.specs.Plain.{recordLaw}
-use Rattle.particles.specs.Judged.{judgedAt, unlessRefused, failedLaw, byVerdict, failureLaw}
+use Rattle.particles.specs.Judged.{verdictOn, judgedAt, unlessRefused, failedLaw, byVerdict, failureLaw}
 use Rattle.particles.specs.declared.step.Step.{Step}
 use Rattle.particles.specs.declared.step.Step.the-variants.{Plain, Judged}
 use Rattle.particles.specs.Step.{stepLaw}
@@ -36,7 +45,7 @@ back-length m r i x j y = length-set (recordLaw m (set r i x) .after) j y ∙ wr
 failed-keeps : (m : Model) → Keeps (failedLaw m)
 unfolding failedLaw
 failed-keeps m r =
-    let w = recordLaw m (putPhase r zero) in
+    let w = recordLaw m (putPhase r tensor.zero) in
     unless-length (w .outcome) r (w .after) (written-length m r _ _)
 
 by-verdict-length : (v : Verdict) (m : Model) (r : List ℕ) → length (byVerdict v m r .after) ≡ length r
@@ -61,3 +70,14 @@ refused-after m r n e = simp e
 -- a place written and then put back
 pub put-back : (r : List ℕ) (i x : ℕ) → set (set r i x) i (getD r i 0) ≡ r
 put-back r i x = set-set r i x (getD r i 0) ∙ set-getD r i 0
+
+-- no walk refuses by 0
+handed : (l : MaximumStressFailure) (w : Walk (List Float)) (x : Ended (List Float)) → result w ≡ x
+    → cond (eqb (vectorAs x .refusal) 0) (verdictOf l (vectorAs x .vector)) (Refused (vectorAs x .refusal)) ≡ verdictOn l x
+handed l w (given v) e = refl
+handed l w (refused zero) e = let q = stops-positive (path w) 0 (refused-when w 0 .0 (ap refusalIn e)) in absurd (omega arith)
+handed l w (refused (suc n)) e = rw (eqb·suc-zero n)
+
+pub verdict-handed : (l : MaximumStressFailure) (w : Walk (List Float))
+    → cond (eqb (vectorAs (result w) .refusal) 0) (verdictOf l (vectorAs (result w) .vector)) (Refused (vectorAs (result w) .refusal)) ≡ verdictOn l (result w)
+verdict-handed l w = handed l w (result w) refl

@@ -30,11 +30,11 @@ use Rattle.failure_maximum_stress.specs.declared.Verdict.the-variants as verdic
 use Rattle.failure_maximum_stress.specs.Failure.{limitsFinite}
 use Rattle.elasticity_corotated_linear.specs.declared.CorotatedLinearElasticity.{CorotatedLinearElasticity}
 use Rattle.elasticity_corotated_linear.specs.Law.{lawFinite}
+use Rattle.elasticity_corotated_linear.specs.Principal.{principalWalk}
 use Rattle.model.specs.declared.Model.{Model}
 use Rattle.model.specs.declared.Model.the-variants.{Snow, Rankine, DruckerPrager, Nacc}
 use Rattle.model.specs.Model.{modelFinite, modelUpdate}
 use Rattle.particles.specs.Plain.{updatedAt, kept, recordLaw}
-use Rattle.particles.specs.Principal.{principalOf}
 use Rattle.particles.specs.Judged.{verdictOn, judgedOf, judgedAt, byVerdict, failureLaw}
 
 -- of a test whose last part fails
@@ -71,7 +71,7 @@ unfolding judgedAt judgedOf
 refused-verdict m l e r q =
     let s = stateAt r in
     sym (last-fails (modelFinite m && limitsFinite l && lawFinite e) (recordFinite r)
-    (verdictOn l (principalOf e (s .scalars .phase) (s .scalars .«elastic_hardening») (s .sigma))) (verdict.Refused 1) q)
+    (verdictOn l (walk.result (principalWalk e (s .scalars .phase) (s .scalars .«elastic_hardening») (s .sigma)))) (verdict.Refused 1) q)
 
 pub refused-failure : (m : Model) (l : MaximumStressFailure) (e : CorotatedLinearElasticity) (r : List ℕ) → recordFinite r ≡ false
     → (outcome.Refused 1 ≡ failureLaw m l e r .outcome) × ((false ≡ failureLaw m l e r .failed) × (r ≡ failureLaw m l e r .after))

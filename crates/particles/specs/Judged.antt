@@ -3,9 +3,9 @@ use mathlib.Core.Bool.{Bool, true, false, cond, _&&_}
 use mathlib.Core.List.{List}
 use Prim.Native.Nat.{ℕ}
 use lib.Ieee.{Float}
-use Rattle.answers.specs.Refusals.{notFinite, noNumber}
+use Rattle.answers.specs.Refusals.{notFinite}
 use Rattle.tensor.specs.Matrix.{zero}
-use Rattle.tensor.specs.Finite.{rowFinite}
+use Rattle.walk.specs.Walk.{Ended, given, refused, result}
 use Rattle.plasticity.specs.declared.Outcome.{Outcome}
 use Rattle.plasticity.specs.declared.Outcome.the-variants as outcome
 use Rattle.plasticity.specs.declared.State.{State}
@@ -17,15 +17,16 @@ use Rattle.failure_maximum_stress.specs.declared.Verdict.the-variants.{No, Yes,
 use Rattle.failure_maximum_stress.specs.Failure.{limitsFinite, verdictOf}
 use Rattle.elasticity_corotated_linear.specs.declared.CorotatedLinearElasticity.{CorotatedLinearElasticity}
 use Rattle.elasticity_corotated_linear.specs.Law.{lawFinite}
+use Rattle.elasticity_corotated_linear.specs.Principal.{principalWalk}
 use Rattle.model.specs.declared.Model.{Model}
 use Rattle.particles.specs.Pass.{Worked}
 use Rattle.model.specs.Model.{modelFinite}
 use Rattle.particles.specs.Plain.{recordLaw}
-use Rattle.particles.specs.Principal.{principalOf}
 
--- 3 where a principal stress isn't finite
-abbrev pub verdictOn : MaximumStressFailure → List Float → Verdict
-verdictOn l stresses = cond (rowFinite stresses) (verdictOf l stresses) (Refused noNumber)
+-- on the principal stresses, whose refusal is handed on
+abbrev pub verdictOn : MaximumStressFailure → Ended (List Float) → Verdict
+verdictOn l (given stresses) = verdictOf l stresses
+verdictOn l (refused n) = Refused n
 
 -- parameters and limits count as inputs of each record
 abbrev pub judgedInputs : Model → MaximumStressFailure → CorotatedLinearElasticity → List (List Float) → List (List Float) → State → Bool
@@ -35,7 +36,7 @@ judgedInputs m l e u vt s = modelFinite m && limitsFinite l && lawFinite e && in
 unfoldable pub judgedOf : Model → MaximumStressFailure → CorotatedLinearElasticity → List (List Float) → List (List Float) → State → Verdict
 judgedOf m l e u vt s =
     cond (judgedInputs m l e u vt s)
-    (verdictOn l (principalOf e (s .scalars .phase) (s .scalars .«elastic_hardening») (s .sigma)))
+    (verdictOn l (result (principalWalk e (s .scalars .phase) (s .scalars .«elastic_hardening») (s .sigma))))
     (Refused notFinite)
 
 unfoldable pub judgedAt : Model → MaximumStressFailure → CorotatedLinearElasticity → List ℕ → Verdict

@@ -1,5 +1,4 @@
 pub mod Judged
 pub mod Pass
 pub mod Plain
-pub mod Principal
 pub mod Step

@@ -1,28 +1,32 @@
 // One record of the pass with failure: the verdict, and then the law.
 use crate::plain;
-use crate::principal;
 use crate::step::Stepped;
 use elasticity_corotated_linear::CorotatedLinearElasticity;
 use failure_maximum_stress::MaximumStressFailure;
 use failure_maximum_stress::Verdict;
 use model::Model;
 use plasticity::Outcome;
+use tensor::VectorAnswer;
 ghost use mathlib.Core.Path.{_≡_};
-ghost use mathlib.Core.Bool.{true, _&&_};
+ghost use mathlib.Core.Bool.{true, cond, _&&_};
+ghost use lib.Dec.{eqb};
 ghost use lib.ListN.{length};
 ghost use Rattle.record.specs.Layout.{floats, recordFinite};
-ghost use Rattle.failure_maximum_stress.specs.Failure.{limitsFinite};
+ghost use Rattle.failure_maximum_stress.specs.Failure.{limitsFinite, verdictOf};
+ghost use Rattle.failure_maximum_stress.specs.declared.Verdict.the-variants as verdict;
 ghost use Rattle.elasticity_corotated_linear.specs.Law.{lawFinite};
 ghost use Rattle.model.specs.Model.{modelFinite};
-ghost use Rattle.particles.specs.Judged.{verdictOn, judgedAt, failedLaw, failureLaw, standing};
+ghost use Rattle.particles.specs.Judged.{judgedAt, failedLaw, failureLaw, standing};
 
-fn verdict_on(l: MaximumStressFailure, stresses: [f64; 3]) -> Verdict
-    ensures { λ r. ⌜ r ≡ verdictOn l stresses ⌝ }
+// A refused stress is handed on.
+fn verdict_on(l: MaximumStressFailure, stresses: VectorAnswer) -> Verdict
+    ensures { λ r. ⌜ r ≡ cond (eqb (stresses .refusal) 0) (verdictOf l (stresses .vector)) (verdict.Refused (stresses .refusal)) ⌝ }
 {
-    if tensor::row_finite(stresses) {
-        l.particle_failed(stresses)
+    if stresses.refusal == 0 {
+        let v = stresses.vector;
+        l.particle_failed(v)
     } else {
-        Verdict::Refused(answers::NO_NUMBER)
+        Verdict::Refused(stresses.refusal)
     }
 }
 
@@ -42,7 +46,7 @@ fn verdict(m: Model, l: MaximumStressFailure, e: CorotatedLinearElasticity, r: &
         let sigma = s.sigma;
         verdict_on(
             l,
-            principal::stresses(e, s.scalars.phase, s.scalars.elastic_hardening, sigma),
+            e.principal_stresses(s.scalars.phase, s.scalars.elastic_hardening, sigma),
         )
     } else {
         Verdict::Refused(answers::NOT_FINITE)

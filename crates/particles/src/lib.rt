@@ -3,7 +3,6 @@ mod failure;
 mod judged;
 mod list;
 mod plain;
-mod principal;
 mod step;
 mod stored;
 

@@ -87,11 +87,6 @@ module _ {X A : Type 0} (T : X → Option ℕ) where
   tested n true x y p h i = h
   tested n false x y p h i = i
 
-  -- two ways to go on
-  pub forked : (b : Bool) (x y : X) (p q : Ended A) → T x ≡ refusalIn p → T y ≡ refusalIn q → T (cond b x y) ≡ refusalIn (cond b p q)
-  forked true x y p q h i = h
-  forked false x y p q h i = i
-
   -- the inputs, by the contract's test of them
   pub entered : (l : List Float) (ok : Bool) → allOf finite l ≡ ok → (x y : X) (w : Walk A) → T x ≡ refusalIn (result w) → T y ≡ some 1
       → T (cond ok x y) ≡ refusalIn (result (inputs l w))

@@ -7,28 +7,27 @@ use Prim.Native.Nat.{ℕ}
 use lib.Ieee as Ieee
 use lib.Ieee.{Float}
 use Rattle.numbers.specs.Constants.{two}
-use Rattle.numbers.specs.Floats.{finite, isNumber, maxOf, minOf}
+use Rattle.numbers.specs.Floats.{finite}
 use Rattle.answers.specs.Range.{onPath}
-use Rattle.answers.specs.Answer.{answeredOf, given, finiteAnswerOf, pairOf, givenPair}
-use Rattle.answers.specs.declared.Answer.{Answer}
+use Rattle.answers.specs.Answer.{answeredOf, given, pairOf, givenPair}
 use Rattle.answers.specs.declared.Answer.the-variants as answers
 use Rattle.answers.specs.declared.Pair.{Pair}
 use Rattle.answers.specs.declared.Pair.the-variants as pair
 use Rattle.square_root.specs.Sqrt.{sqrtRanged}
 use Rattle.tensor.specs.Axes.{allOf}
 use Rattle.tensor.specs.Matrix as tensor
-use Rattle.tensor.specs.Matrix.{detOf, ofRows}
-use Rattle.tensor.specs.Finite.{rowFinite, matFinite, rowsFinite}
+use Rattle.tensor.specs.Matrix.{ofRows}
+use Rattle.tensor.specs.Finite.{rowFinite, rowsFinite}
 use Rattle.tensor.specs.Answer.{answered, answeredVector, givenMatrix, givenVector, refusedMatrix, refusedVector}
 use Rattle.tensor.specs.Decomposed.{refusedTensor, answeredTensor, givenTensor}
 use Rattle.tensor.specs.declared.DecomposedAnswer.{DecomposedAnswer}
 use Rattle.tensor.specs.declared.DecomposedTensor.{DecomposedTensor}
 use Rattle.physics.specs.Quadratic.{discriminantOf, rootsOf, solveQuadraticOf}
-use Rattle.walk.specs.Expr.{Expr, num, _/_, value, values}
+use Rattle.walk.specs.Expr.{Expr, num, value, values}
 use Rattle.walk.specs.Walk as walk
 use Rattle.walk.specs.Walk.{Walk, root, inputs, results, end, _then_, Ended, result, answerAs}
 use Rattle.walk.specs.Exact.{path}
-use Rattle.walk.specs.Every.{flat, all-append, all-flat}
+use Rattle.walk.specs.Every.{flat, all-append}
 use Rattle.walk.specs.Tensor.{worth, rows, worth-rows}
 use Rattle.walk.specs.Answers.{returned, returnedMatrix, refusalIn, matrixAs}
 use Rattle.plasticity_drucker_prager.specs.declared.DruckerPragerPlasticity.{DruckerPragerPlasticity}
@@ -51,10 +50,10 @@ use Rattle.eos_monaghan_sph.specs.Pressure as monaghan
 use Rattle.eos_monaghan_sph.specs.Stress as monaghan-stress
 use Rattle.eos_monaghan_sph.specs.Timestep as monaghan-timestep
 use Rattle.refusals.specs.Refusals.{Numbers, Gives}
-use Rattle.refusals.specs.Calls.{GivesPair, Beside, pairWalk, vectorWalk, tensorWalk, quadraticWalk, verdictWalk, corotatedFloats, corotatedStress, corotatedEnergy, corotatedPos, monaghanFloats, pressed, pressureWalk, otherWalk, smallerWalk, steppedWalk, singleWalk, monaghanStress, timestepWalk, Calls}
-use Rattle.refusals.proofs.Inner.{Inner, inner-then, alpha-inner}
+use Rattle.refusals.specs.Calls.{GivesPair, Beside, pairWalk, vectorWalk, tensorWalk, quadraticWalk, verdictWalk, Calls}
+use Rattle.refusals.proofs.Inner.{Inner, inner-then, inner-mosts, inner-leasts, alpha-inner}
 use Rattle.refusals.proofs.Numbers.{differ, nothing, told}
-use Rattle.refusals.proofs.Answers.{refusalE, gives, walk-gives, beside, gives-beside, ended-beside, after, tested, forked, entered, asked, number-result, matrix-result}
+use Rattle.refusals.proofs.Answers.{refusalE, gives, walk-gives, beside, gives-beside, ended-beside, after, tested, entered, asked, number-result, matrix-result}
 
 -- ---- the number that an answer is refused by
 abbrev refusalP : Pair → Option ℕ
@@ -168,154 +167,60 @@ module _ (p : NeoHookeanElasticity) (h : Float) (f : List (List Float)) where
   unfolding neo-energy.posWalk neo-energy.posSteps
   pos-gives phase = walk-gives (neo-hookean.floats p (phase ∷ h ∷ []) f) (neo-energy.posSteps p phase h f) (λ j k b w x v. (tt, tt))
 
--- ---- the tests of the inputs, as the contracts group them
-three-parts : (a b c : Bool) → a && (b && c) ≡ a && b && c
-three-parts true b c = refl
-three-parts false b c = refl
-
-four-parts : (a b c d : Bool) → a && (b && (c && d)) ≡ a && b && c && d
-four-parts true b c d = three-parts b c d
-four-parts false b c d = refl
-
-five-parts : (a b c d e : Bool) → a && (b && (c && (d && e))) ≡ a && b && c && d && e
-five-parts true b c d e = four-parts b c d e
-five-parts false b c d e = refl
-
-matrix-of : (n : ℕ) (m : List (List Float)) → beside (answered m .refusal) ≡ refusalIn (result (returnedMatrix n (rows m)))
-matrix-of n m = ap (λ x. beside (answered x .refusal)) (sym (worth-rows m)) ∙ matrix-result n (rows m)
-
 -- ---- corotated
 module _ (p : CorotatedLinearElasticity) where
   corotated-stress-gives : (phase h : Float) (f u : List (List Float)) (s : List Float) (vt : List (List Float))
-      → Beside (corotated-stress.kirchhoffStress p phase h f u s vt .refusal) (path (corotatedStress p phase h f u s vt))
-  unfolding corotated-stress.kirchhoffStress
+      → Beside (corotated-stress.kirchhoffStress p phase h f u s vt .refusal) (path (corotated-stress.stressWalk p phase h f u s vt))
+  unfolding corotated-stress.stressWalk corotated-stress.stressSteps
   corotated-stress-gives phase h f u s vt =
-      let r = corotated-stress.stressOf p phase h f u s vt in
-      let first = corotatedFloats p ++ (phase ∷ h ∷ []) in
-      let l = first ++ (flat f ++ (flat u ++ (s ++ flat vt))) in
-      let ok = corotated-stress.stressInputs p phase h f u s vt in
-      let q : allOf finite l ≡ ok =
-      all-append finite first (flat f ++ (flat u ++ (s ++ flat vt)))
-      ∙ rw (all-append finite (flat f) (flat u ++ (s ++ flat vt)), all-append finite (flat u) (s ++ flat vt), all-append finite s (flat vt), all-flat finite f, all-flat finite u, all-flat finite vt)
-      (five-parts (allOf finite first) (matFinite f) (matFinite u) (rowFinite s) (matFinite vt)) in
-      gives-beside (givenMatrix ok (answered r) .refusal) l (returnedMatrix 1 (rows r)) tt
-      (entered (λ a. beside (a .refusal)) l ok q (answered r) (refusedMatrix 1) (returnedMatrix 1 (rows r)) (matrix-of 1 r) refl)
+      walk-beside (corotated.floats p ((phase ∷ h ∷ []) ++ flat f ++ flat u ++ s ++ flat vt)) (corotated-stress.stressSteps p phase h f u s vt)
+      (λ j e. (tt, inner-mosts 4 e _ _ (λ pos. inner-leasts 5 e _ _ (λ neg. (tt, tt)))))
 
-  corotated-energy-gives : (s : List Float) (h : Float) → Gives (corotated-energy.elasticEnergyDensity p s h) (path (corotatedEnergy p s h))
-  unfolding corotated-energy.elasticEnergyDensity
-  corotated-energy-gives s h =
-      number-gives (corotatedFloats p ++ (s ++ (h ∷ []))) (corotated.lawFinite p && rowFinite s && finite h)
-      (all-append finite (corotatedFloats p) (s ++ (h ∷ [])) ∙ rw (all-append finite s (h ∷ [])) (three-parts (corotated.lawFinite p) (rowFinite s) (finite h)))
-      (num (corotated-energy.energyOf p s h))
+  corotated-energy-gives : (s : List Float) (h : Float) → Gives (corotated-energy.elasticEnergyDensity p s h) (path (corotated-energy.energyWalk p s h))
+  unfolding corotated-energy.energyWalk
+  corotated-energy-gives s h = walk-gives (corotated.floats p (s ++ (h ∷ []))) (returned 1 (corotated-energy.density p s h)) tt
 
-  corotated-pos-gives : (f : List (List Float)) (s : List Float) (h : Float) → Gives (corotated-energy.posEnergy p f s h) (path (corotatedPos p f s h))
-  unfolding corotated-energy.posEnergy corotated-energy.posEnergyOf
+  corotated-pos-gives : (f : List (List Float)) (s : List Float) (h : Float) → Gives (corotated-energy.posEnergy p f s h) (path (corotated-energy.posWalk p f s h))
+  unfolding corotated-energy.posWalk corotated-energy.posSteps
   corotated-pos-gives f s h =
-      let j = detOf f in
-      let deviatoric = corotated-energy.deviatoricEnergy p (corotated-stress.positiveOf (corotated-stress.lessOneOf s)) h in
-      let spherical = corotated-energy.sphericalEnergy p j h in
-      let r = cond (Ieee.lt j tensor.one) deviatoric (tensor.add deviatoric spherical) in
-      let l = corotatedFloats p ++ (flat f ++ (s ++ (h ∷ []))) in
-      let w = after (corotatedPos p f s h) in
-      gives (corotated-energy.posEnergy p f s h) l w (λ x. tt)
-      (entered refusalE l (corotated.lawFinite p && matFinite f && rowFinite s && finite h)
-      (all-append finite (corotatedFloats p) (flat f ++ (s ++ (h ∷ [])))
-      ∙ rw (all-append finite (flat f) (s ++ (h ∷ [])), all-append finite s (h ∷ []), all-flat finite f) (four-parts (corotated.lawFinite p) (matFinite f) (rowFinite s) (finite h)))
-      (corotated-energy.posEnergyOf j deviatoric spherical) (answers.Refused 1) w
-      (tested refusalE 3 (isNumber spherical) (answeredOf r) (answers.Refused 3) (result (returned 2 (num r))) (number-result 2 (num r)) refl) refl)
-
--- ---- Monaghan's step
-module _ (velocity : List Float) (width : Float) where
-  abbrev speed : Float
-  speed = monaghan-timestep.speedSquareOf velocity
-
-  abbrev cfl : Answer
-  cfl = monaghan-timestep.cflOf velocity width
-
-  other-met : refusalE (finiteAnswerOf cfl) ≡ refusalIn (result (otherWalk velocity width))
-  unfolding monaghan-timestep.overRootOf
-  other-met =
-      asked (λ e. refusalE (finiteAnswerOf (monaghan-timestep.overRootOf width e))) (λ n. refl) (onPath speed (sqrtRanged speed)) (λ s. result (returned 7 (num width / num s)))
-      (λ s. number-result 7 (num width / num s))
-
-  smaller-met : (step : Float) → refusalE (monaghan-timestep.smallerOf step cfl) ≡ refusalIn (result (smallerWalk velocity width step))
-  unfolding monaghan-timestep.overRootOf monaghan-timestep.smallerOf
-  smaller-met step =
-      let least : Float → Float = λ s. minOf step (tensor.div width s) in
-      asked (λ e. refusalE (monaghan-timestep.smallerOf step (monaghan-timestep.overRootOf width e))) (λ n. refl) (onPath speed (sqrtRanged speed)) (λ s. result (returned 7 (num (least s))))
-      (λ s. number-result 7 (num (least s)))
-
-  module _ (lead a : Float) where
-    stepped-met : refusalE (monaghan-timestep.bothOf (monaghan-timestep.steppedOf lead (onPath a (sqrtRanged a))) cfl) ≡ refusalIn (result (steppedWalk velocity width lead a))
-    unfolding monaghan-timestep.steppedOf monaghan-timestep.bothOf
-    stepped-met =
-        asked (λ e. refusalE (monaghan-timestep.bothOf (monaghan-timestep.steppedOf lead e) cfl)) (λ n. refl) (onPath a (sqrtRanged a))
-        (λ r. cond (isNumber (tensor.mul lead r)) (result (smallerWalk velocity width (tensor.mul lead r))) (walk.refused 3))
-        (λ r. tested (λ x. refusalE (monaghan-timestep.bothOf x cfl)) 3 (isNumber (tensor.mul lead r)) _ _ (result (smallerWalk velocity width (tensor.mul lead r))) (smaller-met (tensor.mul lead r)) refl)
-
-    single-met : refusalE (monaghan-timestep.bothOf (monaghan-timestep.singleOf lead a) cfl)
-        ≡ refusalIn (cond (isNumber lead) (result (singleWalk velocity width lead a)) (walk.refused 3))
-    unfolding monaghan-timestep.singleOf monaghan-timestep.bothOf
-    single-met =
-        tested (λ x. refusalE (monaghan-timestep.bothOf x cfl)) 3 (isNumber lead) _ _ (result (singleWalk velocity width lead a))
-        (forked (λ x. refusalE (monaghan-timestep.bothOf x cfl)) (Ieee.le tensor.zero a) _ _ (result (steppedWalk velocity width lead a)) (result (otherWalk velocity width)) stepped-met other-met) refl
+      walk-gives (corotated.floats p (flat f ++ s ++ (h ∷ []))) (corotated-energy.posSteps p f s h) (λ j e. inner-mosts 3 e _ _ (λ pos sph. (tt, tt)))
 
 -- ---- Monaghan
 module _ (law : MonaghanSphEos) (mass volume density : Float) where
-  abbrev ratio : Float
-  ratio = monaghan.ratioOf mass volume density
+  abbrev pressed : Walk Float
+  pressed = monaghan.pressureSteps law mass volume density
 
-  abbrev bounded : Float
-  bounded = maxOf (monaghan.unboundedOf law ratio) (Ieee.neg (law .«max_neg_pressure»))
+  pressed-inner : Inner pressed
+  unfolding monaghan.pressureSteps
+  pressed-inner = λ ratio p bounded. tt
 
-  -- T is what is made of the pressure
-  pressed-met : {A : Type 0} (T : Answer → Option ℕ) → T (answers.Refused 3) ≡ some 3 → (k : Float → Walk A) → T (answers.Value bounded) ≡ refusalIn (result (k bounded))
-      → T (monaghan.workedPressure law mass volume density) ≡ refusalIn (result (pressed law mass volume density k))
-  unfolding monaghan.workedPressure
-  pressed-met T on k e =
-      let x = monaghan.unboundedOf law ratio in
-      tested T 3 (isNumber ratio) (monaghan.boundedOf law x) (answers.Refused 3) (cond (isNumber x) (result (k bounded)) (walk.refused 3))
-      (tested T 3 (isNumber x) (answers.Value bounded) (answers.Refused 3) (result (k bounded)) e on) on
-
-  pressure-gives : Gives (monaghan.pressureOf law mass volume density) (path (pressureWalk law mass volume density))
-  unfolding monaghan.pressureOf
+  pressure-gives : Gives (monaghan.pressureOf law mass volume density) (path (monaghan.pressureWalk law mass volume density))
+  unfolding monaghan.pressureWalk
   pressure-gives =
-      let l = monaghanFloats law mass volume density in
-      let w = after (pressureWalk law mass volume density) in
-      gives (monaghan.pressureOf law mass volume density) l w (λ x y. tt)
-      (entered refusalE l (monaghan.inputsFinite law mass volume density) refl (finiteAnswerOf (monaghan.workedPressure law mass volume density)) (answers.Refused 1) w
-      (pressed-met (λ e. refusalE (finiteAnswerOf e)) refl (λ p. returned 3 (num p)) (number-result 3 (num bounded))) refl)
+      let g : Float → Walk Float = λ p. returned 4 (num p) in
+      walk-gives (monaghan.floats law mass volume density []) (pressed then g) (inner-then pressed g pressed-inner (λ p. tt))
+
+  stress-inner : (det : Float) (gradient : List (List Float)) (p : Float) → Inner (monaghan-stress.stressSteps law det gradient p)
+  unfolding monaghan-stress.stressSteps
+  stress-inner det gradient p = (tt, tt)
 
   stress-gives : (det : Float) (gradient : List (List Float))
-      → Beside (monaghan-stress.kirchhoffStressOf law mass volume density det gradient .refusal) (path (monaghanStress law mass volume density det gradient))
-  unfolding monaghan-stress.kirchhoffStressOf monaghan-stress.stressFrom
+      → Beside (monaghan-stress.kirchhoffStressOf law mass volume density det gradient .refusal) (path (monaghan-stress.stressWalk law mass volume density det gradient))
+  unfolding monaghan-stress.stressWalk
   stress-gives det gradient =
-      let first = monaghanFloats law mass volume density ++ (det ∷ []) in
-      let l = first ++ flat gradient in
-      let w = after (monaghanStress law mass volume density det gradient) in
-      gives-beside (monaghan-stress.kirchhoffStressOf law mass volume density det gradient .refusal) l w (λ x y. tt)
-      (entered (λ a. beside (a .refusal)) l (monaghan.inputsFinite law mass volume density && finite det && matFinite gradient)
-      (all-append finite first (flat gradient) ∙ rw (all-flat finite gradient))
-      (monaghan-stress.stressFrom law det (monaghan.workedPressure law mass volume density) gradient) (refusedMatrix 1) w
-      (pressed-met (λ e. beside (monaghan-stress.stressFrom law det e gradient .refusal)) refl (λ p. returnedMatrix 3 (rows (monaghan-stress.stressOf law det p gradient)))
-      (matrix-of 3 (monaghan-stress.stressOf law det bounded gradient))) refl)
+      let g : Float → Walk (List (List Float)) = monaghan-stress.stressSteps law det gradient in
+      walk-beside (monaghan.floats law mass volume density (det ∷ flat gradient)) (pressed then g) (inner-then pressed g pressed-inner (stress-inner det gradient))
+
+  timestep-inner : (j : Float) (velocity : List Float) (width p : Float) → Inner (monaghan-timestep.timestepSteps j mass volume velocity width p)
+  unfolding monaghan-timestep.timestepSteps monaghan-timestep.singleSteps monaghan-timestep.smallerSteps monaghan-timestep.cflSteps
+  timestep-inner j velocity width p = λ lead. (λ r single c. tt, λ c. tt)
 
   timestep-gives : (j : Float) (velocity : List Float) (width : Float)
-      → Gives (monaghan-timestep.timestepBoundOf law j mass volume density velocity width) (path (timestepWalk law mass volume density j velocity width))
-  unfolding monaghan-timestep.timestepBoundOf monaghan-timestep.singleFrom monaghan-timestep.bothOf
+      → Gives (monaghan-timestep.timestepBoundOf law j mass volume density velocity width) (path (monaghan-timestep.timestepWalk law j mass volume density velocity width))
+  unfolding monaghan-timestep.timestepWalk
   timestep-gives j velocity width =
-      let first = monaghanFloats law mass volume density ++ (j ∷ []) in
-      let l = first ++ (velocity ++ (width ∷ [])) in
-      let w = after (timestepWalk law mass volume density j velocity width) in
-      let a = monaghan-timestep.argumentOf j (tensor.div mass volume) bounded in
-      let cfl = monaghan-timestep.cflOf velocity width in
-      gives (monaghan-timestep.timestepBoundOf law j mass volume density velocity width) l w (λ x y z. (λ r s t. tt, λ t. tt))
-      (entered refusalE l (monaghan.inputsFinite law mass volume density && finite j && rowFinite velocity && finite width)
-      (all-append finite first (velocity ++ (width ∷ [])) ∙ rw (all-append finite velocity (width ∷ [])) (three-parts (allOf finite first) (rowFinite velocity) (finite width)))
-      (monaghan-timestep.bothOf (monaghan-timestep.singleFrom j (tensor.div mass volume) width (monaghan.workedPressure law mass volume density)) cfl) (answers.Refused 1) w
-      (pressed-met (λ e. refusalE (monaghan-timestep.bothOf (monaghan-timestep.singleFrom j (tensor.div mass volume) width e) cfl)) refl
-      (λ p. walk.work 3 (num width / num j) (λ lead. singleWalk velocity width (value lead) (monaghan-timestep.argumentOf j (tensor.div mass volume) p)))
-      (single-met velocity width (tensor.div width j) a)) refl)
+      let g : Float → Walk Float = monaghan-timestep.timestepSteps j mass volume velocity width in
+      walk-gives (monaghan.floats law mass volume density ((j ∷ velocity) ++ (width ∷ []))) (pressed then g) (inner-then pressed g pressed-inner (timestep-inner j velocity width))
 
 -- ---- all of them
 pub calls : Calls

@@ -6,7 +6,7 @@ use lib.Ieee.{Float}
 use Rattle.tensor.specs.declared.Rows.{Rows}
 use Rattle.plasticity.specs.declared.State.{State}
 use Rattle.walk.specs.Expr.{Expr, num, value, values}
-use Rattle.walk.specs.Walk.{Function, at, Test, holds, Walk, inputs, ask, asks, works, either, branch, split, when, results, end, _then_, picked}
+use Rattle.walk.specs.Walk.{Function, at, Test, holds, Walk, inputs, ask, asks, works, either, branch, split, when, mosts, leasts, results, end, _then_, picked}
 use Rattle.walk.specs.Exact.{Met, input, argument, worked, tested, result-of, path}
 use Rattle.plasticity_snow.specs.declared.SnowPlasticity.{SnowPlasticity}
 use Rattle.plasticity_snow.specs.Snow as snow
@@ -20,6 +20,8 @@ use Rattle.plasticity_drucker_prager.specs.DruckerPrager as drucker-prager
 use Rattle.plasticity_nacc.specs.declared.NaccPlasticity.{NaccPlasticity}
 use Rattle.plasticity_nacc.specs.declared.Trial.{Trial}
 use Rattle.plasticity_nacc.specs.Nacc as nacc
+use Rattle.elasticity_corotated_linear.specs.declared.CorotatedLinearElasticity.{CorotatedLinearElasticity}
+use Rattle.elasticity_corotated_linear.specs.Principal.{principalWalk}
 use Rattle.model.specs.declared.Model.{Model}
 use Rattle.model.specs.declared.Model.the-variants.{Snow, Rankine, DruckerPrager, Nacc}
 use Rattle.refusals.specs.Refusals.{stepsOf}
@@ -72,6 +74,14 @@ module _ {A : Type 0} where
   inner-asks : (n : ℕ) (f : Function) (l : List Float) (k : List Float → Walk A) → ((vs : List Float) → Inner (k vs)) → Inner (asks n f l k)
   inner-asks n f [] k h = h []
   inner-asks n f (x ∷ l) k h = λ v. inner-asks n f l (λ vs. k (value v ∷ vs)) (λ vs. h (value v ∷ vs))
+
+  pub inner-mosts : (n : ℕ) (l : List Float) (b : Expr) (k : List Float → Walk A) → ((vs : List Float) → Inner (k vs)) → Inner (mosts n l b k)
+  inner-mosts n [] b k h = h []
+  inner-mosts n (x ∷ l) b k h = λ v. inner-mosts n l b (λ vs. k (value v ∷ vs)) (λ vs. h (value v ∷ vs))
+
+  pub inner-leasts : (n : ℕ) (l : List Float) (b : Expr) (k : List Float → Walk A) → ((vs : List Float) → Inner (k vs)) → Inner (leasts n l b k)
+  inner-leasts n [] b k h = h []
+  inner-leasts n (x ∷ l) b k h = λ v. inner-leasts n l b (λ vs. k (value v ∷ vs)) (λ vs. h (value v ∷ vs))
 
   inner-when : (n : ℕ) (ts : List Test) (w v : Walk A) → Inner w → Inner v → Inner (when n ts w v)
   inner-when n [] w v h i = h
@@ -231,6 +241,11 @@ module _ (p : NaccPlasticity) where
   unfolding nacc.runWalk
   nacc-inner u vt s =
       inner-then (nacc.projectWalk p (s .f) u (s .sigma) vt (s .scalars .alpha)) _ (nacc-project (s .f) u (s .sigma) vt (s .scalars .alpha)) (λ q. tt)
+
+-- ---- the principal stresses
+pub principal-inner : (p : CorotatedLinearElasticity) (phase h : Float) (s : List Float) → Inner (principalWalk p phase h s)
+unfolding principalWalk
+principal-inner p phase h s = λ j e. (tt, inner-mosts 4 e _ _ (λ pos. inner-leasts 5 e _ _ (λ neg. (tt, tt))))
 
 -- ---- the four models
 pub steps-inner : (m : Model) (u vt : List (List Float)) (s : State) → Inner (stepsOf m u vt s)

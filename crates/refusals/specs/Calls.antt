@@ -1,28 +1,25 @@
 -- Section 6 of the calls that give a number, two numbers, a matrix or a verdict. Proved in proofs/Calls. ok is the contract's test of the
--- call's floats l. A call that is no walk in its own crate has one here: what its contract works, in its order.
+-- call's floats l. A call whose contract is one formula, and the quadratic, have their walk here; the others in their own crates.
 use mathlib.Core.Path.{_≡_}
-use mathlib.Core.Bool.{Bool, cond}
-use mathlib.Core.List.{List, [], _∷_, _++_}
+use mathlib.Core.Bool.{Bool}
+use mathlib.Core.List.{List, [], _∷_}
 use Prim.Native.Nat.{ℕ, _<_}
-use lib.Ieee as Ieee
 use lib.Ieee.{Float}
-use Rattle.numbers.specs.Floats.{finite, maxOf, minOf}
+use Rattle.numbers.specs.Floats.{finite}
 use Rattle.answers.specs.Answer.{answeredOf, given, pairOf, givenPair}
 use Rattle.answers.specs.declared.Pair.{Pair}
 use Rattle.answers.specs.declared.Pair.the-variants as pair
 use Rattle.tensor.specs.Axes.{allOf}
-use Rattle.tensor.specs.Matrix as tensor
-use Rattle.tensor.specs.Matrix.{detOf, ofRows}
+use Rattle.tensor.specs.Matrix.{ofRows}
 use Rattle.tensor.specs.Answer.{answered, answeredVector, givenMatrix, givenVector}
 use Rattle.tensor.specs.Decomposed.{answeredTensor, givenTensor}
 use Rattle.tensor.specs.declared.DecomposedTensor.{DecomposedTensor}
 use Rattle.tensor.specs.declared.MatrixAnswer.{MatrixAnswer}
 use Rattle.numbers.specs.Constants.{two, four}
 use Rattle.physics.specs.Quadratic.{solveQuadraticOf}
-use Rattle.walk.specs.Expr.{Expr, num, neg, _+_, _-_, _*_, _/_, value, values, nums}
-use Rattle.walk.specs.Walk.{Walk, root, flag, inputs, ask, work, split, results, end, result, answerAs}
+use Rattle.walk.specs.Expr.{Expr, num, neg, _+_, _-_, _*_, _/_, value, values}
+use Rattle.walk.specs.Walk.{Walk, root, inputs, ask, results, end, result, answerAs}
 use Rattle.walk.specs.Exact.{Met, path}
-use Rattle.walk.specs.Every.{flat}
 use Rattle.walk.specs.Tensor.{worth, rows}
 use Rattle.walk.specs.Answers.{returned, returnedMatrix}
 use Rattle.plasticity_drucker_prager.specs.declared.DruckerPragerPlasticity.{DruckerPragerPlasticity}
@@ -65,66 +62,9 @@ quadraticWalk a b c =
     inputs (a ∷ b ∷ c ∷ []) (ask 1 root (num b * num b - num four * num a * num c) (λ s.
     results 2 (((neg (num b) + s) / (num two * num a) ∷ (neg (num b) - s) / (num two * num a) ∷ []) ∷ []) (end (value s))))
 
--- ---- the verdict: after 1 there is nothing to refuse
+-- ---- the verdict: after its inputs there is nothing to refuse
 abbrev pub verdictWalk : MaximumStressFailure → List Float → Walk (List Float)
 verdictWalk l s = inputs (l .«max_principal_stress» ∷ l .«max_shear_stress» ∷ s) (end s)
-
--- ---- corotated
-module _ (p : CorotatedLinearElasticity) where
-  abbrev pub corotatedFloats : List Float
-  corotatedFloats = p .«cfl_coeff» ∷ p .lambda ∷ p .mu ∷ []
-
-  abbrev pub corotatedStress : Float → Float → List (List Float) → List (List Float) → List Float → List (List Float) → Walk (List (List Float))
-  corotatedStress phase h f u s vt =
-      inputs (corotatedFloats ++ (phase ∷ h ∷ (flat f ++ (flat u ++ (s ++ flat vt))))) (returnedMatrix 1 (rows (corotated-stress.stressOf p phase h f u s vt)))
-
-  abbrev pub corotatedEnergy : List Float → Float → Walk Float
-  corotatedEnergy s h = inputs (corotatedFloats ++ (s ++ (h ∷ []))) (returned 1 (num (corotated-energy.energyOf p s h)))
-
-  abbrev pub corotatedPos : List (List Float) → List Float → Float → Walk Float
-  corotatedPos f s h =
-      let j = detOf f in
-      let deviatoric = corotated-energy.deviatoricEnergy p (corotated-stress.positiveOf (corotated-stress.lessOneOf s)) h in
-      inputs (corotatedFloats ++ (flat f ++ (s ++ (h ∷ [])))) (work 1 (num (corotated-energy.sphericalEnergy p j h)) (λ spherical.
-      returned 2 (num (cond (Ieee.lt j tensor.one) deviatoric (tensor.add deviatoric (value spherical))))))
-
--- ---- Monaghan's step: the velocity's root
-module _ (velocity : List Float) (width : Float) where
-  abbrev pub otherWalk : Walk Float
-  otherWalk = ask 6 root (num (monaghan-timestep.speedSquareOf velocity)) (λ s. returned 7 (num width / s))
-
-  abbrev pub smallerWalk : Float → Walk Float
-  smallerWalk step = ask 6 root (num (monaghan-timestep.speedSquareOf velocity)) (λ s. returned 7 (num (minOf step (tensor.div width (value s)))))
-
-  abbrev pub steppedWalk : Float → Float → Walk Float
-  steppedWalk lead a = ask 4 root (num a) (λ r. work 5 (num lead * r) (λ step. smallerWalk (value step)))
-
-  -- "where the single-particle root's argument is negative, or NaN .., the other step is the answer"
-  abbrev pub singleWalk : Float → Float → Walk Float
-  singleWalk lead a = split 4 (flag (Ieee.le tensor.zero a)) (steppedWalk lead a) otherWalk
-
--- ---- Monaghan: the ratio and the pressure before its bound; then the result
-module _ (law : MonaghanSphEos) (mass volume density : Float) where
-  abbrev pub monaghanFloats : List Float
-  monaghanFloats = law .pressure0 ∷ law .viscosity ∷ law .«max_neg_pressure» ∷ mass ∷ volume ∷ density ∷ []
-
-  abbrev pub pressed : {A : Type 0} → (Float → Walk A) → Walk A
-  pressed k =
-      work 1 (num (monaghan.ratioOf mass volume density)) (λ ratio.
-      work 2 (num (monaghan.unboundedOf law (value ratio))) (λ x.
-      k (maxOf (value x) (Ieee.neg (law .«max_neg_pressure»)))))
-
-  abbrev pub pressureWalk : Walk Float
-  pressureWalk = inputs monaghanFloats (pressed (λ p. returned 3 (num p)))
-
-  abbrev pub monaghanStress : Float → List (List Float) → Walk (List (List Float))
-  monaghanStress det gradient =
-      inputs (monaghanFloats ++ (det ∷ flat gradient)) (pressed (λ p. returnedMatrix 3 (rows (monaghan-stress.stressOf law det p gradient))))
-
-  abbrev pub timestepWalk : Float → List Float → Float → Walk Float
-  timestepWalk j velocity width =
-      inputs (monaghanFloats ++ (j ∷ (velocity ++ (width ∷ []))))
-      (pressed (λ p. work 3 (num width / num j) (λ lead. singleWalk velocity width (value lead) (monaghan-timestep.argumentOf j (tensor.div mass volume) p))))
 
 pub record Calls : Type 0 where
   -- `inv_exact`, the moduli, `phase_coeff`, `spherical_part`; `lame_lambda_mu`; the tensor parts, `DecomposedTensor`'s calls
@@ -143,12 +83,12 @@ pub record Calls : Type 0 where
       → Gives (neo-energy.elasticEnergyDensity p phase h f) (path (neo-energy.energyWalk p phase h f))
   pub neo-pos-energy : (p : NeoHookeanElasticity) (phase h : Float) (f : List (List Float)) → Gives (neo-energy.posEnergy p phase h f) (path (neo-energy.posWalk p phase h f))
   pub corotated-kirchhoff : (p : CorotatedLinearElasticity) (phase h : Float) (f u : List (List Float)) (s : List Float) (vt : List (List Float))
-      → Beside (corotated-stress.kirchhoffStress p phase h f u s vt .refusal) (path (corotatedStress p phase h f u s vt))
-  pub corotated-energy-density : (p : CorotatedLinearElasticity) (s : List Float) (h : Float) → Gives (corotated-energy.elasticEnergyDensity p s h) (path (corotatedEnergy p s h))
+      → Beside (corotated-stress.kirchhoffStress p phase h f u s vt .refusal) (path (corotated-stress.stressWalk p phase h f u s vt))
+  pub corotated-energy-density : (p : CorotatedLinearElasticity) (s : List Float) (h : Float) → Gives (corotated-energy.elasticEnergyDensity p s h) (path (corotated-energy.energyWalk p s h))
   pub corotated-pos-energy : (p : CorotatedLinearElasticity) (f : List (List Float)) (s : List Float) (h : Float)
-      → Gives (corotated-energy.posEnergy p f s h) (path (corotatedPos p f s h))
-  pub pressure : (law : MonaghanSphEos) (mass volume density : Float) → Gives (monaghan.pressureOf law mass volume density) (path (pressureWalk law mass volume density))
+      → Gives (corotated-energy.posEnergy p f s h) (path (corotated-energy.posWalk p f s h))
+  pub pressure : (law : MonaghanSphEos) (mass volume density : Float) → Gives (monaghan.pressureOf law mass volume density) (path (monaghan.pressureWalk law mass volume density))
   pub monaghan-kirchhoff : (law : MonaghanSphEos) (mass volume density det : Float) (gradient : List (List Float))
-      → Beside (monaghan-stress.kirchhoffStressOf law mass volume density det gradient .refusal) (path (monaghanStress law mass volume density det gradient))
+      → Beside (monaghan-stress.kirchhoffStressOf law mass volume density det gradient .refusal) (path (monaghan-stress.stressWalk law mass volume density det gradient))
   pub timestep : (law : MonaghanSphEos) (j mass volume density : Float) (velocity : List Float) (width : Float)
-      → Gives (monaghan-timestep.timestepBoundOf law j mass volume density velocity width) (path (timestepWalk law mass volume density j velocity width))
+      → Gives (monaghan-timestep.timestepBoundOf law j mass volume density velocity width) (path (monaghan-timestep.timestepWalk law j mass volume density velocity width))

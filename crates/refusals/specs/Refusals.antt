@@ -17,8 +17,8 @@ use Rattle.plasticity.specs.declared.Outcome.{Outcome}
 use Rattle.plasticity.specs.declared.Outcome.the-variants.{Refused}
 use Rattle.plasticity.specs.declared.State.{State}
 use Rattle.tensor.specs.Matrix.{zero}
-use Rattle.walk.specs.Expr.{num, value, nums}
-use Rattle.walk.specs.Walk.{Function, lowOf, highOf, at, Walk, inputs, ask, results, end}
+use Rattle.walk.specs.Expr.{num, value}
+use Rattle.walk.specs.Walk.{Function, lowOf, highOf, at, Walk, inputs, ask, end, _then_}
 use Rattle.walk.specs.Exact.{Met, input, argument, worked, tested, result-of, path}
 use Rattle.walk.specs.Update.{Change, floatsOf}
 use Rattle.walk.specs.Numbers.{Stops, Clear}
@@ -33,6 +33,8 @@ use Rattle.plasticity_nacc.specs.Nacc as nacc
 use Rattle.failure_maximum_stress.specs.Failure.{exceedsOf}
 use Rattle.failure_maximum_stress.specs.declared.MaximumStressFailure.{MaximumStressFailure}
 use Rattle.elasticity_corotated_linear.specs.declared.CorotatedLinearElasticity.{CorotatedLinearElasticity}
+use Rattle.elasticity_corotated_linear.specs.Law as corotated
+use Rattle.elasticity_corotated_linear.specs.Principal.{principalWalk}
 use Rattle.model.specs.declared.Model.{Model}
 use Rattle.model.specs.declared.Model.the-variants.{Snow, Rankine, DruckerPrager, Nacc}
 use Rattle.particles.specs.declared.list.Passed.the-variants as pass
@@ -40,7 +42,6 @@ use Rattle.particles.specs.declared.failure.PassedWithFailure.the-variants as f
 use Rattle.particles.specs.Plain.{recordLaw}
 use Rattle.particles.specs.Judged.{failureLaw}
 use Rattle.particles.specs.Pass.{Worked, recordAt, passed, passAnswers, passedWithFailure}
-use Rattle.particles.specs.Principal.{principalOf}
 
 -- ---- 1: "an input float is NaN or infinite"
 abbrev pub NotFinite : Float → Type 0
@@ -106,19 +107,21 @@ pathOf m r = path (walkOf m (uAt r) (vtAt r) (stateAt r))
 
 -- ---- with failure: "parameters and limits count as inputs of each record"
 abbrev pub failureOf : MaximumStressFailure → CorotatedLinearElasticity → List Float
-failureOf l e = l .«max_principal_stress» ∷ l .«max_shear_stress» ∷ e .«cfl_coeff» ∷ e .lambda ∷ e .mu ∷ []
+failureOf l e = l .«max_principal_stress» ∷ l .«max_shear_stress» ∷ corotated.parametersOf e
 
-abbrev pub stressesOf : CorotatedLinearElasticity → List ℕ → List Float
-stressesOf e r = principalOf e (stateAt r .scalars .phase) (stateAt r .scalars .«elastic_hardening») (stateAt r .sigma)
+abbrev pub stressesOf : CorotatedLinearElasticity → List ℕ → Walk (List Float)
+stressesOf e r = principalWalk e (stateAt r .scalars .phase) (stateAt r .scalars .«elastic_hardening») (stateAt r .sigma)
 
 -- on a yes the law works the record with phase 0.0
-abbrev pub judged : MaximumStressFailure → CorotatedLinearElasticity → List ℕ → List ℕ
-judged l e r = cond (exceedsOf l (stressesOf e r)) (putPhase r zero) r
+abbrev pub judged : MaximumStressFailure → List ℕ → List Float → List ℕ
+judged l r stresses = cond (exceedsOf l stresses) (putPhase r zero) r
 
--- the principal stresses are finite, and then the law's steps
+-- the principal stresses, and then the law's steps
+abbrev pub failureSteps : Model → MaximumStressFailure → CorotatedLinearElasticity → List ℕ → Walk Change
+failureSteps m l e r = stressesOf e r then (λ stresses. recordSteps m (judged l r stresses))
+
 abbrev pub failureWalk : Model → MaximumStressFailure → CorotatedLinearElasticity → List ℕ → Walk Change
-failureWalk m l e r =
-    inputs (failureOf l e ++ (parametersOf m ++ recordFloats r)) (results 0 (nums (stressesOf e r) ∷ []) (recordSteps m (judged l e r)))
+failureWalk m l e r = inputs (failureOf l e ++ (parametersOf m ++ recordFloats r)) (failureSteps m l e r)
 
 abbrev pub failurePath : Model → MaximumStressFailure → CorotatedLinearElasticity → List ℕ → List Met
 failurePath m l e r = path (failureWalk m l e r)

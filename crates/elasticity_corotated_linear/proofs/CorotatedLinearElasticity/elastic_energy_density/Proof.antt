@@ -1,5 +1,7 @@
--- `elasticity_corotated_linear::CorotatedLinearElasticity::elastic_energy_density` answers `elasticEnergyDensity self sigma hardening`.
-use Rattle.elasticity_corotated_linear.specs.Energy.{elasticEnergyDensity}
+-- The inputs, then the density.
+use Rattle.elasticity_corotated_linear.proofs.Laws.{energy-inputs}
+use Rattle.walk.specs.Answers.{returned-law}
+use Rattle.elasticity_corotated_linear.specs.Energy.{energyWalk}
 use borrow.Author.Needs.{needs}
 use Rattle.elasticity_corotated_linear.proofs.CorotatedLinearElasticity.elastic_energy_density.Statement.{
   statement,
@@ -7,16 +9,16 @@ use Rattle.elasticity_corotated_linear.proofs.CorotatedLinearElasticity
 use Rattle.elasticity_corotated_linear.proofs.CorotatedLinearElasticity.elastic_energy_density.Tie as tie
 
 returns : tie.Need-returns
-unfolding elasticEnergyDensity
+unfolding energyWalk
 returns c =
     let t0 = simp (c .before .before .before .is-finite .ensures, c .before .before .before .before .row-finite .ensures, c .before .before .before .before .before .law-finite .ensures) at (c .before .before .if1 .taken) in
-    simp (c .answered .ensures, c .before .energy .ensures, c .before .before .before .is-finite .ensures, c .before .before .before .before .row-finite .ensures, c .before .before .before .before .before .law-finite .ensures, t0)
+    simp (c .answered .ensures, c .before .energy .ensures, c .before .before .before .is-finite .ensures, c .before .before .before .before .row-finite .ensures, c .before .before .before .before .before .law-finite .ensures, t0, energy-inputs, returned-law)
 
 returns-2 : tie.Need-returns-2
-unfolding elasticEnergyDensity
+unfolding energyWalk
 returns-2 c =
     let t0 = simp (c .before .is-finite .ensures, c .before .before .row-finite .ensures, c .before .before .before .law-finite .ensures) at (c .if1 .left) in
-    simp (c .before .is-finite .ensures, c .before .before .row-finite .ensures, c .before .before .before .law-finite .ensures, t0)
+    simp (c .before .is-finite .ensures, c .before .before .row-finite .ensures, c .before .before .before .law-finite .ensures, t0, energy-inputs)
 
 pub elastic-energy-density-spec : {M : Type 1} → statement M
 elastic-energy-density-spec =

@@ -1,16 +1,13 @@
 -- `elasticity_corotated_linear::stress::phase_coeff` answers `phaseCoeff p phase`.
-use Rattle.elasticity_corotated_linear.specs.Stress.{phaseCoeff}
 use Rattle.elasticity_corotated_linear.proofs.stress.phase_coeff.Statement.{statement}
 use Rattle.elasticity_corotated_linear.proofs.stress.phase_coeff.Tie as tie
 
 returns : tie.Need-returns
-unfolding phaseCoeff
 returns c =
     let t0 = c .if1 .taken in
     simp (t0)
 
 returns-2 : tie.Need-returns-2
-unfolding phaseCoeff
 returns-2 c =
     let t0 = c .if1 .left in
     simp (t0)

@@ -1,15 +1,14 @@
--- `elasticity_corotated_linear::stress::spherical_stress` answers `sphericalStress p hardening j`.
-use Rattle.elasticity_corotated_linear.specs.Stress.{sphericalStress}
+-- The spherical part on the diagonal.
+use Rattle.walk.specs.Tensor.{worth-identity}
 use borrow.Author.Needs.{needs}
 use Rattle.elasticity_corotated_linear.proofs.stress.spherical_stress.Statement.{statement}
 use Rattle.elasticity_corotated_linear.proofs.stress.spherical_stress.Tie as tie
 
 returns : tie.Need-returns
-unfolding sphericalStress
 returns c =
-    simp (c .identity-times .ensures)
+    simp (c .identity-times .ensures, c .before .spherical-part .ensures, worth-identity)
 
 pub spherical-stress-spec : {M : Type 1} → statement M
 spherical-stress-spec =
     tie.close
-    (tie.spec (λ c κs. search needs) returns)
+    (tie.spec (λ c κs. search needs) (λ c κs. search needs) returns)

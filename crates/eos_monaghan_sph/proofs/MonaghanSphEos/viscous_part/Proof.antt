@@ -1,13 +1,12 @@
--- `eos_monaghan_sph::MonaghanSphEos::viscous_part` answers `viscousPartOf self det gradient`.
+-- The deviatoric part of the strain rate, scaled.
+use Rattle.eos_monaghan_sph.proofs.Laws.{viscous-law}
 use borrow.Author.Needs.{needs}
-use Rattle.eos_monaghan_sph.specs.Stress.{viscousPartOf}
 use Rattle.eos_monaghan_sph.proofs.MonaghanSphEos.viscous_part.Statement.{statement}
 use Rattle.eos_monaghan_sph.proofs.MonaghanSphEos.viscous_part.Tie as tie
 
 returns : tie.Need-returns
-unfolding viscousPartOf
 returns c =
-    simp (c .mat-scale .ensures, c .before .deviatoric-part .ensures, c .before .before .before .strain-rate .ensures)
+    simp (c .mat-scale .ensures, c .before .deviatoric-part .ensures, c .before .before .before .strain-rate .ensures, viscous-law)
 
 pub viscous-part-spec : {M : Type 1} → statement M
 viscous-part-spec =

@@ -1,4 +1,4 @@
--- `eos_monaghan_sph::pressure::bounded` answers `boundedOf law p`.
+-- The product is tested, then bounded.
 use borrow.Author.Needs.{needs}
 use Rattle.eos_monaghan_sph.proofs.pressure.bounded.Statement.{statement}
 use Rattle.eos_monaghan_sph.proofs.pressure.bounded.Tie as tie

@@ -1,30 +1,31 @@
--- `eos_monaghan_sph::timestep::single` answers `singleOf lead argument`.
+-- The single-particle step: its root, then its product, which is tested.
+use Rattle.eos_monaghan_sph.specs.Timestep.{singleSteps}
 use borrow.Author.Needs.{needs}
-use Rattle.eos_monaghan_sph.specs.Timestep.{singleOf}
 use Rattle.eos_monaghan_sph.proofs.timestep.single.Statement.{statement}
 use Rattle.eos_monaghan_sph.proofs.timestep.single.Tie as tie
 
 returns : tie.Need-returns
-unfolding singleOf
+unfolding singleSteps
 returns c =
-    let t0 = c .before .before .if2 .taken in
-    let t1 = simp (c .before .before .before .before .is-number .ensures) at (c .before .before .before .if1 .taken) in
-    simp (c .stepped .ensures, c .before .sqrt-on-path .ensures, t0, t1)
+    let t0 = simp (c .before .before .is-number .ensures) at (c .before .if1 .taken) in
+    let t1 = simp (c .before .before .before .before .before .before .sqrt-on-path .ensures) at (c .before .before .before .before .r .given .1) in
+    simp (c .smaller .ensures, t1, t0)
 
 returns-2 : tie.Need-returns-2
-unfolding singleOf
+unfolding singleSteps
 returns-2 c =
-    let t0 = c .if2 .left in
-    let t1 = simp (c .before .before .is-number .ensures) at (c .before .if1 .taken) in
-    simp (t0, t1)
+    let t0 = simp (c .before .is-number .ensures) at (c .if1 .left) in
+    let t1 = simp (c .before .before .before .before .before .sqrt-on-path .ensures) at (c .before .before .before .r .given .1) in
+    simp (t1, t0)
 
 returns-3 : tie.Need-returns-3
-unfolding singleOf
+unfolding singleSteps
 returns-3 c =
-    let t0 = simp (c .before .is-number .ensures) at (c .if1 .left) in
-    simp (t0)
+    let t1 = simp (c .before .before .before .sqrt-on-path .ensures) at (c .before .n .given .1) in
+    simp t1
 
 pub single-spec : {M : Type 1} → statement M
 single-spec =
     tie.close
-    (tie.spec (λ c κs. search needs) (λ c κs. search needs) (λ c κs. search needs) returns returns-2 returns-3)
+    (tie.spec (λ c κs. search needs) (λ c. search needs) (λ c κs. search needs) (λ c κs. search needs)
+    (λ c. search needs) returns returns-2 returns-3)
