@@ -213,11 +213,11 @@ def worked(data, failure, second):
         return by_second(data, failure), SECOND, ["These records are not the proved library's: they are worked by %s, as --second asks." % SECOND]
     try:
         return by_library(shell.package(), data, failure), PROVED, []
-    except shell.NoLibrary:
+    except shell.NoLibrary as e:
         if os.environ.get("PASOLETU_LIB"):
             raise
-    missing = "The proved library is not here (./install.sh PREFIX makes it; PASOLETU_LIB names it): these records are worked by %s." % SECOND
-    return by_second(data, failure), SECOND, [missing]
+        why = "is for another processor" if e.other_processor else "is not here (./install.sh PREFIX makes it; PASOLETU_LIB names it)"
+    return by_second(data, failure), SECOND, ["The proved library %s: these records are worked by %s." % (why, SECOND)]
 
 
 def line_of(k, q, second):

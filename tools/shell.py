@@ -16,6 +16,10 @@ class Wrong(Exception):
 class NoLibrary(Wrong):
     """There is no proved library to call."""
 
+    def __init__(self, words, other_processor=False):
+        super().__init__(words)
+        self.other_processor = other_processor  # whether there is one, for another processor
+
 
 def package():
     """The Python package, with the library that it finds."""
@@ -24,7 +28,7 @@ def package():
         import pasoletu
         pasoletu.elementary.exp(0.0)  # the library may be opened no earlier than at the first call
     except ImportError as e:
-        raise NoLibrary(str(e))
+        raise NoLibrary(str(e), getattr(e, "other_processor", False))
     finally:
         sys.path.pop(0)
     return pasoletu

@@ -8,6 +8,7 @@ import json
 import math
 import os
 import pathlib
+import platform
 import random
 import resource
 import struct
@@ -566,6 +567,25 @@ class Pictures(InFolder):
             os.environ["PASOLETU_LIB"] = "named"
             status, err, root = self.drawn(SAMPLES[0], by=())
             self.assertEqual((status, root), (1, None), "one that is named must be there")
+
+    def test_a_library_for_another_processor(self):
+        """One that is found, and has another processor's number in its header, is told as that; one that breaks off is not here."""
+        out, file = self.folder / "out.svg", self.folder / "libpasoletu.so.0"
+        only = ("import sys; sys.path[:0] = sys.argv[1:3]; import draw, pasoletu._find; pasoletu._find._files = lambda: [sys.argv[3]]; "
+                "sys.exit(draw.main(sys.argv[4:]))")
+        header = b"\x7fELF\x02\x01\x01" + bytes(9) + struct.pack("<HH", 3, 62 if platform.machine() == "aarch64" else 183)
+        env = {name: value for name, value in os.environ.items() if name != "PASOLETU_LIB"}
+        for head, words in ((header + bytes(44), "The proved library is for another processor: these records are worked by"),
+                            (header[:18], "The proved library is not here (./install.sh PREFIX makes it")):
+            file.write_bytes(head)
+            words = words.encode()
+            done = subprocess.run([sys.executable, "-c", only, HERE, HERE.parent / "bindings" / "python", file, SAMPLES[0], out],
+                                  stdout=subprocess.PIPE, stderr=subprocess.PIPE, env=env, timeout=20)
+            self.assertEqual(done.returncode, 0, done)
+            self.assertIn(words, done.stderr)
+            self.assertIn(words.split(b":")[0].split(b" (")[0], out.read_bytes())
+        file.write_bytes(header + bytes(44))
+        self.one_sentence(ran("draw.py", SAMPLES[0], out, env=env | {"PASOLETU_LIB": str(file)}), "which is for another processor")
 
     def test_a_named_library_that_is_not_there(self):
         out = self.folder / "out.svg"

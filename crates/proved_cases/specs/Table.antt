@@ -5,6 +5,7 @@ use mathlib.Core.Path.{_≡_}
 use Prim.Native.Nat.{ℕ}
 use lib.Ieee as Ieee
 use lib.Ieee.{Float, nan, binary64, ofBits}
+use Rattle.numbers.specs.Constants.{two, four, half}
 use Rattle.numbers.specs.Floats.{finite}
 use Rattle.answers.specs.Answer.{answeredOf, given}
 use Rattle.answers.specs.declared.Answer.{Answer}
@@ -29,15 +30,6 @@ use Rattle.plasticity_drucker_prager.specs.Law.{defaultsOf}
 use Rattle.plasticity_drucker_prager.specs.DruckerPrager.{druckerUpdate}
 use Rattle.plasticity_drucker_prager.proofs.Cases as drucker-prager
 use Rattle.proved_cases.specs.Alpha.{root-zero, slope}
-
-abbrev two : Float
-two = ofBits binary64 0x4000_0000_0000_0000
-
-abbrev half : Float
-half = ofBits binary64 0x3fe0_0000_0000_0000
-
-abbrev four : Float
-four = ofBits binary64 0x4010_0000_0000_0000
 
 abbrev five : Float
 five = ofBits binary64 0x4014_0000_0000_0000

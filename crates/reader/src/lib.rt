@@ -6,7 +6,7 @@ use sheet::Place;
 use sheet::Word;
 ghost use mathlib.Core.Path.{_≡_};
 ghost use lib.ListN.{length};
-ghost use Rattle.sheet.specs.Sheet.{numberAt, wordAt, headerOf, recordAt, roomAt};
+ghost use Rattle.sheet.specs.Sheet.{numberAt, wordAt, headerOf, recordAt, roomAt, readOf, roomOf};
 
 pub struct Reader<'a> {
     pub sheet: &'a [u8],
@@ -58,9 +58,23 @@ pub fn read_record<'a, 'b>(r: Reader<'a>, room: &'b mut [u64]) -> Place
     sheet::record_at(r.sheet, r.at, room)
 }
 
+// The whole sheet, wherever the place is: its header, and its records' bits into the room's first places.
+pub fn read_all<'a, 'b>(r: Reader<'a>, room: &'b mut [u64]) -> Header
+    ensures { λ h. ⌜ (h ≡ readOf (now (r .entry .sheet)) (length (now (room .entry)))) × (now (room .exit) ≡ roomOf (now (r .entry .sheet)) (now (room .entry))) ⌝ }
+{
+    sheet::read(r.sheet, room)
+}
+
 // The model number of a sheet: a reader made, and read once.
 pub fn model_number(s: &[u8]) -> Number
     ensures { λ r. ⌜ r ≡ numberAt (now (s .entry)) 0 ⌝ }
 {
     read_number(new(s))
+}
+
+// A sheet into a room: a reader made, and all read through it.
+pub fn read(s: &[u8], room: &mut [u64]) -> Header
+    ensures { λ r. ⌜ (r ≡ readOf (now (s .entry)) (length (now (room .entry)))) × (now (room .exit) ≡ roomOf (now (s .entry)) (now (room .entry))) ⌝ }
+{
+    read_all(new(s), room)
 }

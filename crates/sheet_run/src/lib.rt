@@ -68,7 +68,7 @@ pub fn run_sheet(s: &[u8], records: &mut [u64], answers: &mut [u64]) -> Ran
     ensures { λ r. ⌜ now (answers .exit) ≡ ranAnswers (now (s .entry)) (now (records .entry)) (now (answers .entry)) ⌝ }
 {
     if particles::well_sized(records.len(), answers.len()) {
-        let h = sheet::read(s, records);
+        let h = reader::read(s, records);
         if h.refusal != 0 {
             return refused(h.refusal);
         }
