@@ -3,30 +3,35 @@ ghost use Prim.Native.Nat.{ℕ, suc, _*_, _^_, _≤_, _<_};
 ghost use Rattle.exact.specs.WholeRoot.{Floor};
 ghost use Rattle.square_root.specs.Digits.{Going, RootAt};
 
-// A root begun: q has the digits worked so far, r is the weight of the last of them, and rest * r is what q * q leaves.
+// A root begun: twice has the digits worked so far, doubled; r is the weight of the last of them; rest * r is what their
+// square leaves.
 struct Begun {
     rest: u64,
-    q: u64,
+    twice: u64,
     r: u64,
 }
 
 // The next digit. It is 1 where what it adds to the square, over its weight, can be taken from the rest; a difference of
 // 2^63 or more has gone below zero. The difference is worked before the test, so that a compiler can choose without a jump.
 fn digit(s: Begun) -> Begun
-    requires { ⌜ (s .rest < 2 ^ 56) × (s .q < 2 ^ 54) × (s .r ≤ 2 ^ 54) ⌝ }
+    requires { ⌜ (s .rest < 2 ^ 56) × (s .twice < 2 ^ 55) × (s .r ≤ 2 ^ 54) ⌝ }
     ensures { λ o. ⌜ ((N k : ℕ) → Going N (suc k) s → Going N k o) ⌝ }
 {
     let r = s.r >> 1;
     let rest = s.rest + s.rest;
-    let d = std::num::wrapping_sub_u64(rest, s.q + s.q + r);
+    let d = std::num::wrapping_sub_u64(rest, s.twice + r);
     if d < 0x8000_0000_0000_0000 {
         Begun {
             rest: d,
-            q: s.q + r,
+            twice: s.twice + s.r,
             r,
         }
     } else {
-        Begun { rest, q: s.q, r }
+        Begun {
+            rest,
+            twice: s.twice,
+            r,
+        }
     }
 }
 
@@ -38,13 +43,13 @@ fn root(n: u64) -> u64
 {
     let mut s = Begun {
         rest: n,
-        q: 0,
+        twice: 0,
         r: 0x40_0000_0000_0000,
     };
     while 1 < s.r {
         s = digit(digit(digit(s)));
     }
-    s.q
+    s.twice / 2
 }
 
 // The root of q * 2^k / 2^2148, q of 53 digits. The last of the root's 54 digits is the

@@ -55,8 +55,8 @@ loop-again c = (turn (c .before .before .before) .0, after-three c)
 
 returns : tie.Need-returns Inv-loop μ-loop
 returns c =
-    let l = c .before .before .loop in
-    ended (c .before .before .before .args .n * 2 ^ 54) (l .inv .0 * 3) (l .s) (l .inv .1) (c .if1 .left)
+    let b = c .before .before .before in
+    ended (b .before .args .n * 2 ^ 54) (b .loop .inv .0 * 3) (b .loop .s) (b .loop .inv .1) (c .before .if1 .left)
 
 pub root-spec : {M : Type 1} → statement M
 root-spec =
