@@ -12,7 +12,7 @@ struct Begun {
 }
 
 // The next digit. It is 1 where what it adds to the square, over its weight, can be taken from the rest; a difference of
-// 2^63 or more has gone below zero. The difference is worked before the test, so that a compiler can choose without a jump.
+// 2^63 or more has gone below zero. The difference is worked before the test, so that the choice needs no jump.
 fn digit(s: Begun) -> Begun
     requires { ⌜ (s .rest < 2 ^ 56) × (s .twice < 2 ^ 55) × (s .r ≤ 2 ^ 54) ⌝ }
     ensures { λ o. ⌜ ((N k : ℕ) → Going N (suc k) s → Going N k o) ⌝ }
