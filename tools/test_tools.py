@@ -11,6 +11,7 @@ import pathlib
 import platform
 import random
 import resource
+import shutil
 import struct
 import subprocess
 import sys
@@ -23,6 +24,7 @@ HERE = pathlib.Path(__file__).resolve().parent
 sys.path.insert(0, str(HERE))
 import cases  # noqa: E402
 import draw  # noqa: E402
+import no_division  # noqa: E402
 import samples  # noqa: E402
 import sheet  # noqa: E402
 import shell  # noqa: E402
@@ -30,7 +32,7 @@ import shell  # noqa: E402
 SHEETS = cases.SHEETS
 SAMPLES = sorted((HERE.parent / "samples").glob("*.sheet"))
 LINES = (HERE.parent / "crates" / "slope_cases" / "stdout").read_text()
-TOOLS = [HERE / name for name in ("sheet.py", "draw.py", "samples.py", "cases.py", "faults.py", "measure/accuracy.py", "measure/surface.py")]
+TOOLS = [HERE / name for name in ("sheet.py", "draw.py", "samples.py", "cases.py", "faults.py", "no_division.py", "measure/accuracy.py", "measure/surface.py")]
 NUMPY = importlib.util.find_spec("numpy")
 NOT_FINITE = (math.nan, math.inf, -math.inf)
 
@@ -689,6 +691,73 @@ class ByLibrary(InFolder):
             process = ran("measure/accuracy.py", 20, timeout=300)
             self.assertEqual(process.returncode, 0, process)
             self.assertEqual(process.stdout.count(b" 20 points"), 9)
+
+
+COMPILER = shutil.which("cc" if os.uname().machine == "x86_64" else "x86_64-linux-gnu-gcc")
+
+
+class NoDivision(InFolder):
+    """The check of the root's machine code, on builds that are right and wrong."""
+
+    RIGHT = """
+        __attribute__((noinline)) static unsigned long digits(unsigned long n) { unsigned long r = 0; do { n -= r; r += 2; } while (r < n); return r; }
+        unsigned long pasoletu_sqrt(unsigned long n) { return digits(n + 1) + 1; }"""
+
+    def built(self, code, *options):
+        """What the tool says of a build, its status first."""
+        if not COMPILER:
+            self.skipTest("no C compiler for x86-64")
+        source, out = self.file("root.c", code), self.folder / "root.o"
+        subprocess.run([COMPILER, "-O1", "-ffunction-sections", "-c", source, "-o", out, *options], check=True)
+        return quiet(no_division.main, out)
+
+    def wrong(self, words, old, new, *options):
+        self.assertIn(old, self.RIGHT)
+        status, said, _ = self.built(self.RIGHT.replace(old, new), *options)
+        self.assertEqual(status, 1)
+        self.assertIn(words, said)
+        self.assertRegex(said, r"\n1 passed, 1 failed\n$")
+
+    def test_no_division(self):
+        status, said, err = self.built(self.RIGHT)
+        self.assertEqual((status, err), (0, ""))
+        self.assertRegex(said, r"digits: [0-9]+ bytes, [0-9]+ instructions, loops: 1\n(.*\n)*2 passed, 0 failed\n$")
+
+    def test_a_division(self):
+        self.wrong("digits: divides or takes a root", "r += 2", "r += n / (r + 3)")
+        self.wrong("pasoletu_sqrt: divides or takes a root", "digits(n + 1) + 1", "(unsigned long)((double)digits(n + 1) / (double)n)")
+
+    def test_the_machines_root(self):
+        self.wrong("sqrtsd", "digits(n + 1) + 1", "(unsigned long)__builtin_sqrt((double)digits(n + 1))", "-fno-math-errno")
+
+    def test_a_division_elsewhere(self):
+        status, said, _ = self.built(self.RIGHT + "unsigned long other(unsigned long a, unsigned long b) { return a / b; }")
+        self.assertEqual((status, "other" in said), (0, False))
+
+    def test_a_call_that_leads_out(self):
+        status, said, _ = self.built("unsigned long __udivti3(unsigned long, unsigned long);" + self.RIGHT.replace("digits(n + 1) + 1", "__udivti3(digits(n), n)"))
+        self.assertEqual(status, 1)
+        self.assertIn("__udivti3: it is called and does not stand in the library", said)
+
+    def test_a_jump_in_the_loop(self):
+        self.wrong("digits: jumps inside the loop", "r += 2;", 'r += 2; if (n & r) { __asm__ volatile("nop"); n -= 3; }')
+
+    def test_no_root(self):
+        for code, words in (("int other;", "the library has no pasoletu_sqrt"), ("int pasoletu_sqrt(int n) { return n; }", "no loop was found")):
+            status, said, err = self.built(code)
+            self.assertEqual((status, said), (1, ""))
+            self.assertIn(words, err)
+
+    def test_no_library(self):
+        status, _, err = quiet(no_division.main, self.folder / "none.a")
+        self.assertEqual((status, err.count("\n")), (1, 1))
+
+    def test_the_library(self):
+        archive = found(no_division.library, "PASOLETU_ARCHIVE")
+        if not archive:
+            self.skipTest("no library was built of these sources")
+        status, said, err = quiet(no_division.main, archive)
+        self.assertEqual((status, err), (0, ""), said)
 
 
 class Tools(InFolder):

@@ -1,103 +1,87 @@
--- The whole-number work of the square root. Assumes nothing.
-use mathlib.Core.Path.{_≡_, subst}
-use Prim.Native.Nat.{ℕ, zero, suc, _+_, _-_, _*_, _/_, _%_, _^_, _≤_, _<_}
-use native.Mathlib.Nat.{le-of-suc-le-suc, mul-le-mul, mul-le-mul-right, div-add-mod', mod-lt, div-lt-iff-lt-mul}
+-- The whole-number work of the square root: one digit after the other. Assumes nothing.
+use mathlib.Core.Path.{_≡_, refl, ap, _∙_, subst}
+use Prim.Native.Nat.{ℕ, zero, suc, _+_, _*_, _/_, _%_, _^_, _≤_, _<_}
+use native.Mathlib.Nat.{pow-suc}
 use native.Mathlib.Omega.{arith}
-use Rattle.exact.specs.WholeRoot.{Floor, mean-product, square-lt}
+use lib.Pow.{pow-pos}
+use Rattle.exact.specs.WholeRoot.{Floor}
+use Rattle.square_root.specs.Digits.{Going}
+use Rattle.square_root.specs.declared.digits.Begun.{Begun}
 
--- ---- the guess
-pub product : (c z : ℕ) → c ≤ 141199651 → z < 2 ^ 32 → c * z ≤ 141199651 * 4294967295
-product c z h k = mul-le-mul {n₁ = c} {m₁ = z} {n₂ = 141199651} {m₂ = 4294967295} h (omega arith)
+pub start : (n : ℕ) → n < 2 ^ 54 → Going (n * 2 ^ 54) 54 (record { rest = n; twice = 0; r = 2 ^ 54 })
+start n h = record { q = 0; doubled = refl; weight = refl; left = omega arith; over = omega arith; fits = omega arith }
 
--- ---- the mean of y and n / y
-pub quotient : (n y : ℕ) → n < 2 ^ 54 → 2 ^ 25 ≤ y → n / y < 2 ^ 29
-quotient n y h k =
-    let o : 0 < y = omega arith in
-    let l : n < 2 ^ 29 * y = omega arith in
-    div-lt-iff-lt-mul o .1 l
+-- what the code asks of a root begun, so that nothing overflows
+pub small : (N k : ℕ) (s : Begun) → Going N k s → (s .rest < 2 ^ 56) × (s .twice < 2 ^ 55) × (s .r ≤ 2 ^ 54)
+small N k s G =
+    let o : 0 < s .r = omega (arith, G .weight, pow-pos k) in
+    (omega (arith, G .over, G .doubled, G .fits), omega (arith, G .doubled, G .fits), omega (arith, G .fits))
 
--- it is never below the root
-pub mean-over : (n y : ℕ) → 0 < y → n < suc ((y + n / y) / 2) * suc ((y + n / y) / 2)
-mean-over n y O =
-    let a : n < suc (n / y) * y = omega (arith, div-add-mod' n y, mod-lt n O) in
-    go (n / y) ((y + n / y) / 2) a (omega arith)
-  where
-    go : (q r : ℕ) → n < suc q * y → y + suc q ≤ 2 * suc r → n < suc r * suc r
-    go q r a b = omega (arith, mean-product y (suc q), mul-le-mul b b)
+-- ---- the next digit, from d = rest + rest - (twice + r / 2), which may have wrapped
+module _ (N k : ℕ) (s : Begun) (G : Going N (suc k) s) (d : ℕ) (w : (d + (s .twice + s .r / 2)) % 2 ^ 64 ≡ s .rest + s .rest) where
+  both : s .r ≡ 2 ^ k + 2 ^ k
+  both = let e : s .r ≡ 2 ^ k * 2 = G .weight ∙ pow-suc 2 k in omega arith
 
-pub reaches : (n s : ℕ) → 2 ^ 52 ≤ n → n < suc s * suc s → 2 ^ 26 ≤ s
-reaches n s h k = le-of-suc-le-suc (square-lt (2 ^ 26) (suc s) (omega arith))
+  half : s .r / 2 ≡ 2 ^ k
+  half = let e = both in omega arith
 
--- ---- one step down
-pub square-fits : (s : ℕ) → s < 2 ^ 29 → s * s ≤ 536870911 * 536870911
-square-fits s h = mul-le-mul {n₁ = s} {m₁ = s} {n₂ = 536870911} {m₂ = 536870911} (omega arith) (omega arith)
-
-pub some : (n s : ℕ) → n < s * s → 0 < s
-some n zero h = absurd (omega arith)
-some n (suc s) h = omega arith
-
-pub down : (n s : ℕ) → n < s * s → n < suc (s - 1) * suc (s - 1)
-down n s h = subst (λ z. n < z * z) (back (some n s h)) h
-  where
-    back : 0 < s → s ≡ suc (s - 1)
-    back o = omega arith
-
--- ---- the lower digits, from the upper ones s and the rest r = n - s * s
-module _ (n s : ℕ) (l : 2 ^ 52 ≤ n) (h : n < 2 ^ 54) (F : Floor n s) where
-  abbrev pub rest : ℕ
-  rest = (n - s * s) * 2 ^ 26
-
-  abbrev pub lower : ℕ
-  lower = rest / s
-
-  abbrev pub both : ℕ
-  both = s * 2 ^ 27 + lower
-
-  pub record Sizes : Type 0 where
-    pub low : 2 ^ 26 ≤ s
-    pub high : s < 2 ^ 27
-    pub under : s * s ≤ n
-    pub rest-le : rest ≤ s * 2 ^ 27
-    pub lower-le : lower ≤ 2 ^ 27
-    pub left-lt : rest % s < s
-    pub square-le : lower * lower ≤ 2 ^ 54
-    -- what is left: n * 2 ^ 54 - both * both, with the square of the lower digits moved over
-    pub left-is : n * 2 ^ 54 + lower * lower ≡ both * both + rest % s * 2 ^ 28
-
-  pub sizes : Sizes
-  sizes =
-      let a = reaches n s l (F .over) in
-      let o : 0 < s = omega arith in
-      let b : s < 2 ^ 27 = square-lt s (2 ^ 27) (omega (arith, F .under)) in
-      let r : rest ≤ s * 2 ^ 27 = omega (arith, F .over, F .under) in
-      let w : rest < suc (2 ^ 27) * s = omega arith in
-      let d : lower ≤ 2 ^ 27 = le-of-suc-le-suc (div-lt-iff-lt-mul o .1 w) in
+  -- below 2 ^ 63 it has not
+  pub one : d < 2 ^ 63 → Going N k (record { rest = d; twice = s .twice + s .r; r = s .r / 2 })
+  one b =
+      let e : d + (s .twice + s .r / 2) ≡ s .rest + s .rest = omega (arith, w, G .doubled, G .fits) in
       record {
-        low = a;
-        high = b;
-        under = F .under;
-        rest-le = r;
-        lower-le = d;
-        left-lt = mod-lt rest o;
-        square-le = mul-le-mul {n₁ = lower} {m₁ = lower} {n₂ = 2 ^ 27} {m₂ = 2 ^ 27} d d;
-        left-is = is (n - s * s) lower (rest % s) (omega (arith, F .under)) (div-add-mod' rest s);
+        q = G .q + s .r / 2;
+        doubled = omega (arith, G .doubled, both, half);
+        weight = half;
+        left = taken (s .rest) (G .q) (s .r) (s .r / 2) (omega (arith, both, half)) (omega (arith, e, G .doubled)) (G .left);
+        over = omega (arith, e, G .over, both, half);
+        fits = omega (arith, G .fits, both, half);
       }
     where
-      is : (r d u : ℕ) → s * s + r ≡ n → d * s + u ≡ r * 2 ^ 26 → n * 2 ^ 54 + d * d ≡ (s * 2 ^ 27 + d) * (s * 2 ^ 27 + d) + u * 2 ^ 28
-      is r d u e f = omega (arith, e, f)
+      taken : (rest q r h : ℕ) → r ≡ h + h → d + (q + q + h) ≡ rest + rest → rest * r + q * q ≡ N → d * h + (q + h) * (q + h) ≡ N
+      taken rest q r h s e f = omega (arith, ap (λ x. rest * x) s, ap (λ x. x * h) e)
 
-  pub one-less : rest % s * 2 ^ 28 < lower * lower → Floor (n * 2 ^ 54) (both - 1)
-  one-less g = go lower (rest % s) both (omega (arith, sizes .low)) (sizes .lower-le) (sizes .left-is) g
+  -- from there up it has
+  pub nought : d < 2 ^ 64 → 2 ^ 63 ≤ d → Going N k (record { rest = s .rest + s .rest; twice = s .twice; r = s .r / 2 })
+  nought a b = record {
+    q = G .q;
+    doubled = G .doubled;
+    weight = half;
+    left = kept (s .rest) (G .q) (s .r) (s .r / 2) (omega (arith, both, half)) (G .left);
+    over = wrapped (s .twice + s .r / 2) (s .rest + s .rest) w (omega (arith, G .over, G .doubled, G .fits));
+    fits = omega (arith, G .fits, both, half);
+  }
     where
-      less : (m : ℕ) → m ≡ suc m - 1
-      less m = omega arith
+      kept : (rest q r h : ℕ) → r ≡ h + h → rest * r + q * q ≡ N → (rest + rest) * h + q * q ≡ N
+      kept rest q r h s f = omega (arith, ap (λ x. rest * x) s)
 
-      go : (d u m : ℕ) → 2 ^ 53 + d ≤ m → d ≤ 2 ^ 27 → n * 2 ^ 54 + d * d ≡ m * m + u * 2 ^ 28 → u * 2 ^ 28 < d * d → Floor (n * 2 ^ 54) (m - 1)
-      go d u zero a b e f = absurd (omega arith)
-      go d u (suc m) a b e f = subst (λ z. Floor (n * 2 ^ 54) z) (less m) (record { under = omega (arith, mul-le-mul-right d b); over = omega arith })
+      wrapped : (t m : ℕ) → (d + t) % 2 ^ 64 ≡ m → m < 2 ^ 63 → m < t
+      wrapped t m v l = omega arith
 
-  pub as-many : lower * lower ≤ rest % s * 2 ^ 28 → Floor (n * 2 ^ 54) both
-  as-many g = go lower (rest % s) both (sizes .left-lt) (omega arith) (sizes .left-is) g
-    where
-      go : (d u m : ℕ) → u < s → s * 2 ^ 27 ≤ m → n * 2 ^ 54 + d * d ≡ m * m + u * 2 ^ 28 → d * d ≤ u * 2 ^ 28 → Floor (n * 2 ^ 54) m
-      go d u m a b e f = record { under = omega arith; over = omega arith }
+-- with the digit of weight 1 they are all there
+pub ended : (N k : ℕ) (s : Begun) → Going N k s → s .r ≤ 1 → Floor N (s .twice / 2)
+ended N k s G h = subst (λ z. Floor N z) (halved (G .q) (s .twice) (G .doubled)) (go (s .rest) (G .q) (s .r) (G .left) (omega (arith, G .over, G .doubled)) (omega (arith, G .weight, pow-pos k)) h)
+  where
+    halved : (q t : ℕ) → t ≡ q + q → q ≡ t / 2
+    halved q t e = omega arith
+
+    go : (rest q r : ℕ) → rest * r + q * q ≡ N → rest < q + q + r → 0 < r → r ≤ 1 → Floor N q
+    go rest q zero e o p h = absurd (omega arith)
+    go rest q (suc zero) e o p h = record { under = omega arith; over = omega arith }
+    go rest q (suc (suc r)) e o p h = absurd (omega arith)
+
+-- ---- three digits a turn
+abbrev pub Turning : ℕ → Begun → Type 0
+Turning N s = (j : ℕ) × Going N (j * 3) s
+
+-- where the weight is above 1 there are three more
+pub more : (N : ℕ) (s : Begun) → Turning N s → 1 < s .r → (i : ℕ) × Going N (suc (suc (suc (i * 3)))) s
+more N s (zero, G) h = absurd (omega (arith, G .weight))
+more N s (suc i, G) h = (i, subst (λ k. Going N k s) (three i) G)
+  where
+    three : (i : ℕ) → suc i * 3 ≡ suc (suc (suc (i * 3)))
+    three i = omega arith
+
+-- and the next turn's weight is lower
+pub lower : (N k : ℕ) (s o : Begun) → Going N (suc (suc (suc k))) s → Going N k o → o .r < s .r
+lower N k s o G H = omega (arith, G .weight ∙ pow-suc 2 (suc (suc k)), pow-suc 2 (suc k), pow-suc 2 k, H .weight, pow-pos k)

@@ -1,54 +1,55 @@
 ghost use mathlib.Core.Path.{_≡_};
-ghost use Prim.Native.Nat.{suc, _*_, _^_, _≤_, _<_};
+ghost use Prim.Native.Nat.{ℕ, suc, _*_, _^_, _≤_, _<_};
 ghost use Rattle.exact.specs.WholeRoot.{Floor};
-ghost use Rattle.square_root.specs.Digits.{RootAt};
+ghost use Rattle.square_root.specs.Digits.{Going, RootAt};
 
-// A guess at the root of n, one part in 200 away at most: 2^27 (0.25928 + 1.05202 z - 0.31632 z z),
-// where n is 2^54 z. Nothing that follows rests on how good it is, but for the time it takes.
-fn guess(n: u64) -> u64
-    requires { ⌜ n < 2 ^ 54 ⌝ }
-    ensures { λ y. ⌜ (2 ^ 25 ≤ y) × (y < 2 ^ 29) ⌝ }
-{
-    let z = n / 0x40_0000;
-    let c = 141199651 - 42455873 * z / 0x1_0000_0000;
-    34799612 + c * z / 0x1_0000_0000
+// A root begun: twice has the digits worked so far, doubled; r is the weight of the last of them; rest * r is what their
+// square leaves.
+struct Begun {
+    rest: u64,
+    twice: u64,
+    r: u64,
 }
 
-// The mean of y and n over y: twice as many digits of the root as y has, and never below it.
-fn mean(n: u64, y: u64) -> u64
-    requires { ⌜ (n < 2 ^ 54) × (2 ^ 25 ≤ y) × (y < 2 ^ 29) ⌝ }
-    ensures { λ s. ⌜ (n < suc s * suc s) × (s < 2 ^ 29) ⌝ }
+// The next digit. It is 1 where what it adds to the square, over its weight, can be taken from the rest; a difference of
+// 2^63 or more has gone below zero. The difference is worked before the test, so that the choice needs no jump.
+fn digit(s: Begun) -> Begun
+    requires { ⌜ (s .rest < 2 ^ 56) × (s .twice < 2 ^ 55) × (s .r ≤ 2 ^ 54) ⌝ }
+    ensures { λ o. ⌜ ((N k : ℕ) → Going N (suc k) s → Going N k o) ⌝ }
 {
-    (y + n / y) / 2
-}
-
-// The root of n in whole numbers, 27 digits.
-fn half_root(n: u64) -> u64
-    requires { ⌜ (2 ^ 52 ≤ n) × (n < 2 ^ 54) ⌝ }
-    ensures { λ s. ⌜ Floor n s ⌝ }
-{
-    let mut s = mean(n, mean(n, guess(n)));
-    while n < s * s {
-        s -= 1;
+    let r = s.r >> 1;
+    let rest = s.rest + s.rest;
+    let d = std::num::wrapping_sub_u64(rest, s.twice + r);
+    if d < 0x8000_0000_0000_0000 {
+        Begun {
+            rest: d,
+            twice: s.twice + s.r,
+            r,
+        }
+    } else {
+        Begun {
+            rest,
+            twice: s.twice,
+            r,
+        }
     }
-    s
 }
 
-// The root of n * 2^54 in whole numbers, 54 digits: 27 and, by one division of what they leave, 27
-// more, which are one too many at most.
+// The root of n * 2^54 in whole numbers: 54 digits of base two, the highest first. With three of them a turn the whole is
+// long enough for a compiler to keep it in one place, and not copy it to each of its callers.
 fn root(n: u64) -> u64
     requires { ⌜ (2 ^ 52 ≤ n) × (n < 2 ^ 54) ⌝ }
     ensures { λ m. ⌜ Floor (n * 2 ^ 54) m ⌝ }
 {
-    let s = half_root(n);
-    let a = (n - s * s) * 0x400_0000;
-    let d = a / s;
-    let m = s * 0x800_0000 + d;
-    if a % s * 0x1000_0000 < d * d {
-        m - 1
-    } else {
-        m
+    let mut s = Begun {
+        rest: n,
+        twice: 0,
+        r: 0x40_0000_0000_0000,
+    };
+    while 1 < s.r {
+        s = digit(digit(digit(s)));
     }
+    s.twice / 2
 }
 
 // The root of q * 2^k / 2^2148, q of 53 digits. The last of the root's 54 digits is the

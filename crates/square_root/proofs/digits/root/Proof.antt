@@ -1,48 +1,64 @@
 -- `square_root::digits::root` meets its contract. Assumes nothing.
-use native.Mathlib.Omega.{arith}
-use Rattle.square_root.proofs.Laws.{Sizes, sizes, one-less, as-many}
-use borrow.Author.Needs.{needs}
+use Prim.Native.Nat.{ℕ, suc, _*_, _^_}
+use Rattle.square_root.specs.Digits.{Going}
+use Rattle.square_root.proofs.Laws.{Turning, start, small, more, lower, ended}
 use Rattle.square_root.proofs.digits.root.Statement.{statement}
 use Rattle.square_root.proofs.digits.root.Tie as tie
 use Rattle.square_root.proofs.digits.root.Reads as reads
 use Rattle.square_root.proofs.digits.root.Lts as lts
-use Rattle.square_root.proofs.digits.half_root.Reads as half-root-reads
+use Rattle.square_root.proofs.digits.digit.Reads as digit-reads
 
-known : (c : lts.After-half-root (half-root-reads.Asked, half-root-reads.Learnt) reads.Pre reads.Post) → Sizes (c .before .args .n) (c .half-root .result) (c .before .pre .0) (c .before .pre .1) (c .half-root .ensures)
-known c = sizes (c .before .args .n) (c .half-root .result) (c .before .pre .0) (c .before .pre .1) (c .half-root .ensures)
+abbrev Inv-loop : tie.InvT-loop
+Inv-loop n s₀ s = Turning (n * 2 ^ 54) s
 
-mul-a-2 : tie.Need-mul-a-2
-mul-a-2 c = let z = known c in omega arith
+abbrev μ-loop : tie.MeasureT-loop
+μ-loop n s₀ s = s .r
 
-div-d : tie.Need-div-d
-div-d c = let z = known c in omega arith
+loop-holds : tie.Need-loop-holds Inv-loop μ-loop
+loop-holds c = (18, start (c .args .n) (c .pre .1))
 
-mul-m : tie.Need-mul-m
-mul-m c = let z = known c in omega arith
+-- ---- a root begun, before a turn and after each of its digits
+abbrev Turn : Type 0
+Turn = lts.Then1 (digit-reads.Asked, digit-reads.Learnt) reads.Pre reads.Post Inv-loop μ-loop
 
-add-m : tie.Need-add-m
-add-m c = let z = known c in omega arith
+abbrev whole : Turn → ℕ
+whole c = c .before .before .before .args .n * 2 ^ 54
 
-rem-if1 : tie.Need-rem-if1
-rem-if1 c = let z = known c in omega arith
+turn : (c : Turn) → (i : ℕ) × Going (whole c) (suc (suc (suc (i * 3)))) (c .before .before .loop .s)
+turn c = more (whole c) (c .before .before .loop .s) (c .before .before .loop .inv) (c .if1 .taken)
 
-mul-if1 : tie.Need-mul-if1
-mul-if1 c = let z = known c in omega arith
+after-one : (c : lts.After-digit (digit-reads.Asked, digit-reads.Learnt) reads.Pre reads.Post Inv-loop μ-loop) → Going (whole (c .before)) (suc (suc (turn (c .before) .0 * 3))) (c .digit .result)
+after-one c = c .digit .ensures (whole (c .before)) (suc (suc (turn (c .before) .0 * 3))) (turn (c .before) .1)
 
-mul-if1-2 : tie.Need-mul-if1-2
-mul-if1-2 c = let z = known c in omega arith
+after-two : (c : lts.After-digit2 (digit-reads.Asked, digit-reads.Learnt) reads.Pre reads.Post Inv-loop μ-loop) → Going (whole (c .before .before)) (suc (turn (c .before .before) .0 * 3)) (c .digit2 .result)
+after-two c = c .digit2 .ensures (whole (c .before .before)) (suc (turn (c .before .before) .0 * 3)) (after-one (c .before))
 
-sub-result : tie.Need-sub-result
-sub-result c = let z = known (c .before) in omega arith
+after-three : (c : lts.After-digit3 (digit-reads.Asked, digit-reads.Learnt) reads.Pre reads.Post Inv-loop μ-loop) → Going (whole (c .before .before .before)) (turn (c .before .before .before) .0 * 3) (c .digit3 .result)
+after-three c = c .digit3 .ensures (whole (c .before .before .before)) (turn (c .before .before .before) .0 * 3) (after-two (c .before))
 
-returns : tie.Need-returns
-returns c = one-less (c .before .before .args .n) (c .before .half-root .result) (c .before .before .pre .0) (c .before .before .pre .1) (c .before .half-root .ensures) (c .if1 .taken)
+digit-requires : tie.Need-digit-requires Inv-loop μ-loop
+digit-requires c κs = small _ _ (c .before .before .loop .s) (turn c .1)
 
-returns-2 : tie.Need-returns-2
-returns-2 c = as-many (c .before .before .args .n) (c .before .half-root .result) (c .before .before .pre .0) (c .before .before .pre .1) (c .before .half-root .ensures) (c .if1 .left)
+digit-requires-2 : tie.Need-digit-requires-2 Inv-loop μ-loop
+digit-requires-2 c κs = small _ _ (c .digit .result) (after-one c)
+
+digit-requires-3 : tie.Need-digit-requires-3 Inv-loop μ-loop
+digit-requires-3 c κs = small _ _ (c .digit2 .result) (after-two c)
+
+loop-less : tie.Need-loop-less Inv-loop μ-loop
+loop-less c =
+    let t = c .before .before .before in
+    lower _ _ (t .before .before .loop .s) (c .digit3 .result) (turn t .1) (after-three c)
+
+loop-again : tie.Need-loop-again Inv-loop μ-loop
+loop-again c = (turn (c .before .before .before) .0, after-three c)
+
+returns : tie.Need-returns Inv-loop μ-loop
+returns c =
+    let b = c .before .before .before in
+    ended (b .before .args .n * 2 ^ 54) (b .loop .inv .0 * 3) (b .loop .s) (b .loop .inv .1) (c .before .if1 .left)
 
 pub root-spec : {M : Type 1} → statement M
 root-spec =
     tie.close
-    (tie.spec (λ c κs. search needs) (λ c. search needs) (λ c. search needs) mul-a-2 div-d mul-m add-m rem-if1
-    mul-if1 mul-if1-2 sub-result returns returns-2)
+    (tie.spec Inv-loop μ-loop loop-holds digit-requires digit-requires-2 digit-requires-3 loop-less loop-again returns)
