@@ -126,9 +126,9 @@ module _ (m : Model) (l : MaximumStressFailure) (e : CorotatedLinearElasticity) 
       verdict m r (stateAt r) (limitsFinite l) (rowFinite (stressesOf e r)) (exceedsOf l (stressesOf e r)) (c .1) (run m r (stateAt r) (c .0) t)
       (run m (putPhase r matrix.zero) (stateAt r) (c .0) (phased r t))
 
-  pub failure-walked : failureLaw m l e r .outcome ≡ updatedOf (stateAt r) (result (failureWalk m l e r)) .outcome
+  pub walked : failureLaw m l e r .outcome ≡ updatedOf (stateAt r) (result (failureWalk m l e r)) .outcome
   unfolding failureLaw judgedAt judgedOf
-  failure-walked =
+  walked =
       first m r (stateAt r) ok (verdictOn l (stressesOf e r)) (cond (rowFinite (stressesOf e r)) law (refused 3)) run-by
       ∙ rw (all-inputs, stresses)
 
@@ -136,7 +136,7 @@ module _ (m : Model) (l : MaximumStressFailure) (e : CorotatedLinearElasticity) 
   failure-refuses =
       let r' = judged l e r in
       outcome-numbers (stateAt r) (failureLaw m l e r .outcome) (failureOf l e ++ (parametersOf m ++ recordFloats r))
-      (results 0 (nums (stressesOf e r) ∷ []) (recordSteps m r')) (steps-inner m (uAt r') (vtAt r') (stateAt r')) failure-walked
+      (results 0 (nums (stressesOf e r) ∷ []) (recordSteps m r')) (steps-inner m (uAt r') (vtAt r') (stateAt r')) walked
 
   pub failure-one : (failureLaw m l e r .outcome ≡ outcome.Refused 1) ↔ (SomeNotFinite (failureOf l e) ⊎ (SomeNotFinite (parametersOf m) ⊎ RecordNotFinite r))
   failure-one =
