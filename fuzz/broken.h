@@ -9,6 +9,7 @@ enum {
     LENT_BYTES,   // a list that is only lent to be read is written
     READS_ON,     // a byte read past the end
     ONE_MISSED,   // a record with a NaN that is not refused by 1
+    SIDES,        // 2 and 10 exchanged
 };
 
 static int fault_is(int kind) {
@@ -39,6 +40,15 @@ static uint8_t spoiled(uint8_t n, uint64_t *out, size_t len, uint64_t *counts, s
     return n;
 }
 
+// What a record's refusal can do wrong.
+static uint64_t turned(uint64_t n) {
+    if (fault_is(ONE_MISSED) && n == 1)
+        return 3;
+    if (fault_is(SIDES) && (n == 2 || n == 10))
+        return 12 - n;
+    return n;
+}
+
 static void peeked(const void *p, size_t bytes) {
     if (fault_is(LENT_BYTES) && bytes)
         *(uint8_t *)p ^= 1;
@@ -49,16 +59,14 @@ static void peeked(const void *p, size_t bytes) {
 static uint8_t broken_update(uint64_t model, const uint64_t *p, size_t np, uint64_t *r, size_t nr, uint64_t *a, size_t na) {
     uint8_t n = pasoletu_update(model, p, np, r, nr, a, na);
     peeked(p, 8 * np);
-    if (fault_is(ONE_MISSED) && n == 1)
-        n = 3;
-    return spoiled(n, r, nr, a, na);
+    return spoiled(turned(n), r, nr, a, na);
 }
 
 static uint8_t broken_pass(uint64_t model, const uint64_t *p, size_t np, uint64_t *r, size_t nr, uint64_t *a, size_t na, uint64_t *c, size_t nc) {
     uint8_t n = pasoletu_pass(model, p, np, r, nr, a, na, c, nc);
     peeked(p, 8 * np);
-    if (fault_is(ONE_MISSED) && n == 0 && na && a[0] == 2 && a[1] == 1)
-        a[1] = 3;
+    if (n == 0 && na && a[0] == 2)
+        a[1] = turned(a[1]);
     return spoiled(n, r, nr, c, nc);
 }
 
@@ -66,8 +74,8 @@ static uint8_t broken_pass_with_failure(uint64_t model, const uint64_t *p, size_
                                         uint64_t *r, size_t nr, uint64_t *a, size_t na, uint64_t *c, size_t nc) {
     uint8_t n = pasoletu_pass_with_failure(model, p, np, l, nl, law, nw, r, nr, a, na, c, nc);
     peeked(l, 8 * nl);
-    if (fault_is(ONE_MISSED) && n == 0 && na && a[0] == 2 && a[1] == 1)
-        a[1] = 3;
+    if (n == 0 && na && a[0] == 2)
+        a[1] = turned(a[1]);
     return spoiled(n, r, nr, c, nc);
 }
 
@@ -80,8 +88,8 @@ static uint8_t broken_read_sheet(const uint8_t *s, size_t ns, uint64_t *h, size_
 static uint8_t broken_run_sheet(const uint8_t *s, size_t ns, uint64_t *r, size_t nr, uint64_t *a, size_t na, uint64_t *c, size_t nc) {
     uint8_t n = pasoletu_run_sheet(s, ns, r, nr, a, na, c, nc);
     peeked(s, ns);
-    if (fault_is(ONE_MISSED) && n == 0 && na && a[0] == 2 && a[1] == 1)
-        a[1] = 3;
+    if (n == 0 && na && a[0] == 2)
+        a[1] = turned(a[1]);
     return spoiled(n, r, nr, c, nc);
 }
 

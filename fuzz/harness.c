@@ -58,6 +58,21 @@ static double smaller(double a, double b) {
     return a < b ? a : b;
 }
 
+static double snow_clamped(const uint64_t *p, uint64_t sigma) {
+    return smaller(larger(value(sigma), 1.0 - value(p[0])), 1.0 + value(p[1]));
+}
+
+static double snow_determinant(const uint64_t *p, const uint64_t *was) {
+    double old = value(was[18]) * value(was[19]) * value(was[20]);
+    return value(was[31]) * (old / (snow_clamped(p, was[18]) * snow_clamped(p, was[19]) * snow_clamped(p, was[20])));
+}
+
+// Section 6: Snow asks one function, the exponential. 2 comes exactly where its argument lies below -700, 10 exactly where above 700.
+static void check_side(const uint64_t *p, const uint64_t *was, uint8_t status) {
+    double x = value(p[2]) * (1.0 - snow_determinant(p, was));
+    check((status == 2) == (x < -700.0) && (status == 10) == (x > 700.0), "Snow's exponential, refused by its argument's side: answer, argument", status, bits(x));
+}
+
 // Section 7: F is recomposed, U and V^T stay, and of the six scalars only those that the law names may change.
 static void check_stored(uint64_t model, const uint64_t *p, const uint64_t *was, const struct done *d) {
     static const uint8_t named[4][6] = {{0, 1, 0, 1, 0, 0}, {0, 0, 1, 0, 0, 0}, {0, 1, 1, 0, 1, 0}, {0, 0, 0, 0, 0, 1}};
@@ -80,28 +95,24 @@ static void check_stored(uint64_t model, const uint64_t *p, const uint64_t *was,
     else
         check(d->answer[1] == r[amount[model]], "the amount is not the float that was stored", d->answer[1], r[amount[model]]);
     if (model == 0) {
-        double old = 1.0, new = 1.0;
-        for (int k = 0; k < 3; k++) {
-            double s = smaller(larger(value(was[18 + k]), 1.0 - value(p[0])), 1.0 + value(p[1]));
-            check(bits(s) == r[18 + k], "a sigma is not clamped: bits, should be", r[18 + k], bits(s));
-            old = k ? old * value(was[18 + k]) : value(was[18]);
-            new = k ? new * s : s;
-        }
-        double det = value(was[31]) * (old / new), x = value(p[2]) * (1.0 - det), h = value(r[33]);
+        for (int k = 0; k < 3; k++)
+            check(bits(snow_clamped(p, was[18 + k])) == r[18 + k], "a sigma is not clamped: bits, should be", r[18 + k], bits(snow_clamped(p, was[18 + k])));
+        double det = snow_determinant(p, was), x = value(p[2]) * (1.0 - det), h = value(r[33]);
         check(bits(det) == r[31], "Snow's plastic determinant", r[31], bits(det));
         check(fabs(h - exp(x)) <= ldexp(exp(x), -44), "Snow's elastic hardening is not the exponential", r[33], bits(exp(x)));
     }
 }
 
 // What a run has met in all, printed at its end: a target that never reaches a law's outcome has not tried it.
-static unsigned long outcomes[4][5], verdicts[2], refusals[9];
+// An outcome is untouched, stored, or refused by 1, 2, 3 or 10.
+static unsigned long outcomes[4][6], verdicts[2], refusals[9];
 
 static void print_met(void) {
     static const char *names[4] = {"snow", "rankine", "drucker_prager", "nacc"};
     if (TARGET < 2)
         fprintf(stderr, "met: sheets read %lu, refused 4: %lu, 5: %lu, 6: %lu, 7: %lu\n", refusals[0], refusals[4], refusals[5], refusals[6], refusals[7]);
     for (int k = 0; k < (TARGET ? 4 : 0); k++)
-        fprintf(stderr, "met: %s untouched %lu, stored %lu, refused 1: %lu, 2: %lu, 3: %lu\n", names[k], outcomes[k][0], outcomes[k][1], outcomes[k][2], outcomes[k][3], outcomes[k][4]);
+        fprintf(stderr, "met: %s untouched %lu, stored %lu, refused 1: %lu, 2: %lu, 3: %lu, 10: %lu\n", names[k], outcomes[k][0], outcomes[k][1], outcomes[k][2], outcomes[k][3], outcomes[k][4], outcomes[k][5]);
     if (TARGET == 4)
         fprintf(stderr, "met: failed %lu, not failed %lu\n", verdicts[1], verdicts[0]);
 }
@@ -109,7 +120,7 @@ static void print_met(void) {
 static void tell(uint64_t model, const uint64_t *was, const struct done *d) {
     uint8_t kind = d->status ? d->status : 16 + d->answer[0];
     met[model * 32 + kind] = 1;
-    outcomes[model][d->status ? 1 + d->status : d->answer[0]]++;
+    outcomes[model][d->status == 10 ? 5 : d->status ? 1 + d->status : d->answer[0]]++;
     if (d->status || d->answer[0] == 0)
         return;
     unsigned same = 0;
@@ -137,7 +148,9 @@ static struct done updated(uint64_t model, const uint64_t *p, size_t np, const u
     } else {
         int one = !finite_words(p, np) || !finite_words(was, FLOATS);
         check((d.status == 1) == one, "refusal 1 comes exactly where a float is not finite: answer, should be 1", d.status, one);
-        check(d.status <= 3, "update: answer", d.status, 0);
+        check(d.status <= 3 || d.status == 10, "update: answer", d.status, 0);
+        if (model == 0 && !one)
+            check_side(p, was, d.status);
         if (d.status == 0) {
             check(a[0] <= 1 && (a[0] == 1 || a[1] == 0), "update's answer places", a[0], a[1]);
             memcpy(d.record, r, sizeof d.record);

@@ -59,13 +59,14 @@ static inline const char *pasoletu_version(void)
 enum {
     PASOLETU_DONE = 0,
     PASOLETU_NOT_FINITE = 1,   /* an input is NaN or infinite */
-    PASOLETU_OUT_OF_RANGE = 2, /* a function would get an argument outside its range */
+    PASOLETU_BELOW_RANGE = 2,  /* a function would get an argument below its range */
     PASOLETU_NO_NUMBER = 3,    /* a NaN arose, or a modulus or a result is not finite */
     PASOLETU_ENDS_EARLY = 4,   /* the sheet ends early */
     PASOLETU_NOT_SHORTEST = 5, /* a number of the sheet is not spelled shortest or has over two groups */
     PASOLETU_UNKNOWN = 6,      /* unknown model, or a flag that is neither 0.0 nor 1.0 */
     PASOLETU_TOO_MANY = 7,     /* the sheet has over 200 particles, or bytes after the last */
-    PASOLETU_LENGTH = 8        /* a list has the wrong length */
+    PASOLETU_LENGTH = 8,       /* a list has the wrong length */
+    PASOLETU_ABOVE_RANGE = 10  /* a function would get an argument above its range */
 };
 
 /* What a refusal means and what to do, in words. The text is constant: nothing is to be freed. */
@@ -76,9 +77,9 @@ static inline const char *pasoletu_refusal_text(uint64_t refusal)
         return "done: nothing was refused";
     case PASOLETU_NOT_FINITE:
         return "an input is NaN or infinite: find who wrote that value";
-    case PASOLETU_OUT_OF_RANGE:
-        return "a function would get an argument outside its range (crushed or torn beyond what the law can say): "
-               "look at the singular values and the hardenings";
+    case PASOLETU_BELOW_RANGE:
+        return "a function would get an argument below its range (crushed; of Snow: torn): look at the singular "
+               "values and the hardenings";
     case PASOLETU_NO_NUMBER:
         return "a NaN arose, or a modulus or a result is not finite: look at the sizes of the parameters and inputs";
     case PASOLETU_ENDS_EARLY:
@@ -91,6 +92,9 @@ static inline const char *pasoletu_refusal_text(uint64_t refusal)
         return "the sheet has over 200 particles, or bytes after the last: split the sheet, or send it alone";
     case PASOLETU_LENGTH:
         return "a list has the wrong length: give 36 floats and 2 answers a particle, 9 floats a matrix, 3 a vector";
+    case PASOLETU_ABOVE_RANGE:
+        return "a function would get an argument above its range (torn; of Snow: crushed): look at the singular "
+               "values and the hardenings";
     default:
         return "no refusal of this library: header and library do not belong together";
     }
@@ -162,7 +166,8 @@ static inline const char *pasoletu_refusal_text(uint64_t refusal)
 
 /* ---- Elementary functions (section 3) ---------------------------------------------------------------------------- */
 /* Each writes one double. The answer lies within the distance told of the exact value.
- * Refusals: 8 unless out_length is 1; 1 where x is NaN or infinite; 2 where x lies outside the range. */
+ * Refusals: 8 unless out_length is 1; 1 where x is NaN or infinite; 2 where x lies below the range, 10 where above
+ * it. */
 
 /* out: 1. e^x. Range -700 to 700; within 2^-45 times the exact value; exactly 1 at 0. */
 uint8_t pasoletu_exp(double x, double *out, size_t out_length);
@@ -212,7 +217,8 @@ uint8_t pasoletu_bulk_modulus_from_lame(double lambda, double mu, double *out, s
 /* out: 2. lambda and mu of a Young modulus and a Poisson ratio. */
 uint8_t pasoletu_lame_lambda_mu(double young_modulus, double poisson_ratio, double *out, size_t out_length);
 
-/* out: 2. The roots of a x^2 + b x + c, that with +root first. Also 2: the discriminant is negative (or infinite). */
+/* out: 2. The roots of a x^2 + b x + c, that with +root first. Also 2: the discriminant is negative; 10: it is
+ * +infinity. */
 uint8_t pasoletu_solve_quadratic(double a, double b, double c, double *out, size_t out_length);
 
 /* m: 9; out: 9. (m - m^T) / 2. */
@@ -234,8 +240,8 @@ uint8_t pasoletu_decomposed_times(double spherical, const double *deviatoric, si
 /* ---- Neo-Hookean stress and energy (elasticity_neo_hookean.rs; section 5) ---------------------------------------- */
 /* law is (cfl_coeff, lambda, mu); f the deformation gradient; hardening the elastic hardening.
  * Refusals of each: 8 for a wrong length; 1 for an input, of the law too, that is not finite; 2 where F's
- * determinant lies outside the range of the powers of thirds or of the logarithm; 3 for a NaN on the way or a result
- * not finite. */
+ * determinant lies below the range of the powers of thirds or of the logarithm, 10 where above it; 3 for a NaN on
+ * the way or a result not finite. */
 
 /* law: 3; f: 9; out: 9. The first Piola-Kirchhoff stress; no split and no phase. */
 uint8_t pasoletu_neo_hookean_fpk_stress(const double *law, size_t law_length, double hardening, const double *f,
@@ -297,7 +303,7 @@ uint8_t pasoletu_monaghan_kirchhoff_stress(double pressure0, uint32_t gamma, dou
                                            const double *velocity_gradient, size_t velocity_gradient_length,
                                            double *out, size_t out_length);
 
-/* velocity: 3; out: 1. The longest step. Also 2: a root's argument is infinite. Where the single-particle root's
+/* velocity: 3; out: 1. The longest step. Also 10: a root's argument is +infinity. Where the single-particle root's
  * argument is negative, or NaN from its own products and quotient, the other step is the answer. */
 uint8_t pasoletu_monaghan_timestep_bound(double pressure0, uint32_t gamma, double viscosity, double max_neg_pressure,
                                          double determinant, double mass, double volume0, double density,
@@ -324,8 +330,8 @@ uint8_t pasoletu_rankine_project(const double *arguments, size_t arguments_lengt
                                  size_t strains_length, double *out, size_t out_length);
 
 /* fields: 8; out: 1. The slope of Drucker-Prager's cone at the plastic hardening q (plasticity_drucker_prager.rs).
- * Refusals: 8; 6 for the flag; 1 for a field or q that is not finite; 2 outside the exponential's or the sine's
- * range; 3 for a NaN on the way or a result that is not finite. */
+ * Refusals: 8; 6 for the flag; 1 for a field or q that is not finite; 2 below the exponential's or the sine's range,
+ * 10 above it; 3 for a NaN on the way or a result that is not finite. */
 uint8_t pasoletu_drucker_prager_alpha(const double *fields, size_t fields_length, double q, double *out,
                                       size_t out_length);
 
@@ -334,7 +340,7 @@ uint8_t pasoletu_drucker_prager_alpha(const double *fields, size_t fields_length
 /* record: 36; answer: 2. The plastic law on one record (sections 5 and 7). parameters: as many as the model has.
  * Returns 0: answer is (PASOLETU_UNTOUCHED, 0) and the record keeps its bits, or (PASOLETU_STORED, the amount's
  * bits) and F, sigma and those scalars that the law names are new; U and V^T stay.
- * Refusals, nothing written: 8; 6 for a model over 3 or a flag; 1, 2 and 3 by the law. */
+ * Refusals, nothing written: 8; 6 for a model over 3 or a flag; 1, 2, 3 and 10 by the law. */
 uint8_t pasoletu_update(uint64_t model, const double *parameters, size_t parameters_length, double *record,
                         size_t record_length, uint64_t *answer, size_t answer_length);
 
@@ -344,7 +350,7 @@ uint8_t pasoletu_update(uint64_t model, const double *parameters, size_t paramet
  * parameters: as many as the model has; records: 36 doubles a particle, any number of particles; answers: exactly 2
  * numbers a particle; counts: how many are untouched, stored, refused.
  * Returns 0: all answers and counts are written. A refused record keeps its bits, and its answer is
- * (PASOLETU_REFUSED, 1, 2 or 3); a parameter that is not finite refuses every record by 1.
+ * (PASOLETU_REFUSED, 1, 2, 3 or 10); a parameter that is not finite refuses every record by 1.
  * Refusals, before any record and with nothing written: 8; 6 for a model over 3 or a flag. */
 uint8_t pasoletu_pass(uint64_t model, const double *parameters, size_t parameters_length, double *records,
                       size_t records_length, uint64_t *answers, size_t answers_length, uint64_t *counts,

@@ -124,12 +124,12 @@ class Answers(Night):
         self.assertEqual(len(ran.stderr.decode().splitlines()), 2)
 
     def test_the_summary_counts(self):
-        self.sheet("some.sheet", "particles 5\n0 untouched\n1 refused 1\n2 refused 2\n3 refused 1\n4 stored 3ff0000000000000\nend\n")
+        self.sheet("some.sheet", "particles 5\n0 untouched\n1 refused 1\n2 refused 2\n3 refused 10\n4 stored 3ff0000000000000\nend\n")
         self.sheet("cut.sheet", "sheet refused 4\n")
         self.ended(self.night(), 3, says="2 sheets, 5 particles: 1 sheet and 3 particles refused")
         some, cut = self.summary()["some.sheet"], self.summary()["cut.sheet"]
-        self.assertEqual([some[k] for k in ("model", "particles", "untouched", "stored", "refused_1", "refused_2", "refused_3", "sheet_refused")],
-                         ["snow", "5", "1", "1", "2", "1", "0", ""])
+        self.assertEqual([some[k] for k in ("model", "particles", "untouched", "stored", "refused_1", "refused_2", "refused_3", "refused_10", "sheet_refused")],
+                         ["snow", "5", "1", "1", "1", "1", "0", "1", ""])
         self.assertEqual([cut[k] for k in ("particles", "refused_4", "sheet_refused")], ["0", "0", "4"])
 
     def test_what_is_done_is_skipped(self):
@@ -321,7 +321,7 @@ class Page(Night):
         self.assertEqual(report["errors"], [])
         self.assertEqual(report["verdict"], "1 sheet refused, 10 particles refused")
         self.assertEqual(report["figures"], ["7", "163", "61", "92", "10"])
-        self.assertEqual([row[:3] for row in report["why"]], [["1", "6 particles", "5"], ["2", "4 particles", "4"], ["4", "1 sheet", "1"]])
+        self.assertEqual([row[:3] for row in report["why"]], [["1", "6 particles", "5"], ["2", "3 particles", "3"], ["4", "1 sheet", "1"], ["10", "1 particle", "1"]])
         self.assertEqual([row[0] for row in report["worst"]],
                          ["cut.sheet", "a <b> & c.sheet", "drucker_prager.sheet", "nacc.sheet", "rankine.sheet", "snow_slope.sheet"])
         self.assertEqual(report["worst"][0][1:5], ["NACC", "0", "0", "the sheet is refused by 4: the sheet ends early"])

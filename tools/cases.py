@@ -56,7 +56,8 @@ def cases():
     yield sheet([])
     yield sheet([record((1.0 + k / 1000.0, 1.0, 1.0 - k / 1000.0), pdet=1.0 + k / 4096.0) for k in range(200)])
     yield sheet([record()] * 201)
-    yield sheet([record((1e3, 1.0, 1.0), pdet=-1e3), record((1e-3, 1.0, 1.0), pdet=1e6)])  # 2 at both ends
+    # above the exponential's range and below it, then plus and minus infinity
+    yield sheet([record((1e3, 1.0, 1.0), pdet=-1e3), record((1e-3, 1.0, 1.0), pdet=1e6), record(pdet=-1e308), record(pdet=1e308)])
     yield sheet([record((1e200, 1e200, 0.0)), record((1e200, 1e200, 1.0)), record(pdet=1e308, ehard=1.0)])
     yield b""
     yield good[:1]
@@ -152,22 +153,18 @@ def snow(p, r):
     old = r[18:21]
     new = [rust_min(rust_max(e, 1.0 - p[0]), 1.0 + p[1]) for e in old]
     d = r[31] * divide(old[0] * old[1] * old[2], new[0] * new[1] * new[2])
-    x = p[2] * (1.0 - d)
-    if x != x:
-        raise Refused(3)
-    if not -700.0 <= x <= 700.0:
-        raise Refused(2)
-    h = math.exp(x)
+    h = exp(p[2] * (1.0 - d))
     if not math.isfinite(d):
         raise Refused(3)
     return h, new, {31: d, 33: h}
 
 
 def ranged(f, low, high, x):
+    """2 below the range, 10 above it; an infinity lies on its side."""
     if x != x:
         raise Refused(3)
     if not low <= x <= high:
-        raise Refused(2)
+        raise Refused(2 if x < low else 10)
     return f(x)
 
 

@@ -71,8 +71,8 @@ SAMPLES = {
 
 
 def sample(name):
-    """A sample's bytes. Particle 12 has a phase that is no number and is refused by 1, particle 27 a sigma of 0 or a plastic determinant
-    far out and is refused by 2."""
+    """A sample's bytes. Particle 12 has a phase that is no number and is refused by 1, particle 27 a sigma of 0 and is refused by 2, of Snow a
+    plastic determinant far out and is refused by 10."""
     model, given, at = SAMPLES[name]
     records = [at(k) for k in range(COUNT)]
     records[12][30] = cases.NAN

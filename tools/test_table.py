@@ -18,7 +18,7 @@ MADE = (
     "beside/externs.rs",
     "fuzz/calls.h",
 )
-READ = ("VERSION", "calls.toml", "tools/table", "tools/making", "crates/host/src", "crates/replay/src")
+READ = ("VERSION", "calls.toml", "tools/table", "tools/making", "crates/answers/src", "crates/host/src", "crates/replay/src")
 
 
 class Copy(unittest.TestCase):
@@ -111,7 +111,7 @@ class Rows(Copy):
 
     def test_a_new_refusal_is_a_row(self):
         self.edit("calls.toml", "# ---- Models:", """[[refusal]]
-number = 9
+number = 250
 name = "UPSIDE_DOWN"
 what = "the sheet is upside down"
 remedy = "turn it"
@@ -121,6 +121,11 @@ remedy = "turn it"
         for name in ("include/pasoletu.h", "bindings/python/pasoletu/_table.py", "bindings/rust/src/table.rs"):
             text = (self.top / name).read_text()
             self.assertTrue("UPSIDE_DOWN" in text and "turn it" in text, name)
+        self.told("crates/answers: UPSIDE_DOWN is None, in the table 250")
+
+    def test_another_refusal_in_the_proved_crate_is_told(self):
+        self.edit("crates/answers/src/lib.rt", "ABOVE_RANGE: u8 = 10", "ABOVE_RANGE: u8 = 11")
+        self.told("crates/answers: ABOVE_RANGE is 11, in the table 10")
 
     def test_a_new_call_is_a_row_and_must_be_proved(self):
         self.edit("calls.toml", "[[section.call]]\nname = \"ln\"", """[[section.call]]
@@ -138,7 +143,7 @@ name = "ln\"""")
 
     def test_rows_without_sense_are_told(self):
         wrongs = (
-            ("number = 8\n", "number = 9\n", "the refusals' numbers are not 1 and on"),
+            ("number = 8\n", "number = 7\n", "the refusals' numbers do not rise from 1"),
             ('takes = "x"', 'takes = "x[three]"', "call exp: the argument 'x[three]' is not spelled"),
             ('name = "ln"', 'name = "exp"', "a call's name stands twice: exp"),
             ("beside = 1\n", "beside = 0\n", "the numbers of beside/ are not 0 and on"),

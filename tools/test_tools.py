@@ -32,7 +32,7 @@ import shell  # noqa: E402
 SHEETS = cases.SHEETS
 SAMPLES = sorted((HERE.parent / "samples").glob("*.sheet"))
 LINES = (HERE.parent / "crates" / "slope_cases" / "stdout").read_text()
-TOOLS = [HERE / name for name in ("sheet.py", "draw.py", "samples.py", "cases.py", "faults.py", "no_division.py", "measure/accuracy.py", "measure/surface.py")]
+TOOLS = [HERE / name for name in ("sheet.py", "draw.py", "samples.py", "cases.py", "faults.py", "no_division.py", "measure/accuracy.py", "measure/surface.py", "measure/replayed.py")]
 NUMPY = importlib.util.find_spec("numpy")
 NOT_FINITE = (math.nan, math.inf, -math.inf)
 
@@ -453,7 +453,8 @@ class Pictures(InFolder):
             self.assertEqual("refused by" in self.told(root), 2 in codes)
             if 2 in codes:
                 self.assertIn("particle 12: phase is nan", self.told(root))
-                self.assertRegex(self.told(root), "refused by 2: a function .* particle 27")
+                number, side = (10, "above") if path.stem == "snow_slope" else (2, "below")
+                self.assertRegex(self.told(root), "refused by %d: a function would get an argument %s its range .* particle 27" % (number, side))
 
     def test_numbers_in_short(self):
         self.assertEqual([draw.ranges(x) for x in ([], [3], [1, 2, 3, 5, 8, 9])], ["", "3", "1-3, 5, 8-9"])
@@ -792,8 +793,22 @@ class Tools(InFolder):
     def test_cases(self):
         process = ran("cases.py", "check", env=self.env)
         self.assertEqual((process.returncode, process.stderr), (0, b""))
-        self.assertIn(b"the gate's: 383 lines, 383 expected, 0 differ", process.stdout)
+        self.assertIn(b"the gate's: 385 lines, 385 expected, 0 differ", process.stdout)
         self.assertEqual(process.stdout.count(b"0 differ"), 2 if os.environ.get("PASOLETU_SLOPE") else 1)
+
+    def test_replayed(self):
+        process = ran("measure/replayed.py", env=self.env)
+        self.assertEqual((process.returncode, process.stderr), (0, b""))
+        self.assertEqual(process.stdout, b"1048 passed, 0 failed\n")
+
+    def test_another_side_in_the_replayed_list(self):
+        b = bytearray((HERE.parent / "crates" / "replay" / "data" / "list").read_bytes())
+        b[741] = 12 - b[741]  # an exponential's: 10 for 2
+        changed = self.folder / "list"
+        changed.write_bytes(b)
+        process = ran("measure/replayed.py", changed, env=self.env)
+        self.assertEqual(process.returncode, 1)
+        self.assertIn(b"byte 740: call 0 is refused by 2, by the second reading 10", process.stdout)
 
     def test_cases_with_a_wrong_program(self):
         self.assertEqual(ran("cases.py", "check", "--program", "/bin/true", env=self.env).returncode, 1)

@@ -83,19 +83,23 @@ static void elementary(void)
     CHECK(out[0] == 1.0);
     DONE(1, pasoletu_exp, 1.0);
     CHECK(near(out[0], 2.718281828459045));
-    REFUSED(2, 1, pasoletu_exp, 700.5);
+    REFUSED(PASOLETU_ABOVE_RANGE, 1, pasoletu_exp, 700.5);
+    REFUSED(PASOLETU_BELOW_RANGE, 1, pasoletu_exp, -700.5);
     REFUSED(1, 1, pasoletu_exp, infinity());
     DONE(1, pasoletu_ln, 1.0);
     CHECK(out[0] == 0.0);
     DONE(1, pasoletu_ln, 10.0);
     CHECK(near(out[0], 2.302585092994046));
     REFUSED(2, 1, pasoletu_ln, 0.0);
+    REFUSED(10, 1, pasoletu_ln, 1e19);
     DONE(1, pasoletu_sinh, 1.0);
     CHECK(near(out[0], 1.1752011936438014));
     REFUSED(2, 1, pasoletu_sinh, -701.0);
+    REFUSED(10, 1, pasoletu_sinh, 701.0);
     DONE(1, pasoletu_sin, 1.0);
     CHECK(near(out[0], 0.8414709848078965));
-    REFUSED(2, 1, pasoletu_sin, 8.5);
+    REFUSED(10, 1, pasoletu_sin, 8.5);
+    REFUSED(2, 1, pasoletu_sin, -8.5);
     DONE(1, pasoletu_sqrt, 2.0);
     CHECK(out[0] == 1.4142135623730951);
     REFUSED(2, 1, pasoletu_sqrt, -1.0);
@@ -110,6 +114,7 @@ static void elementary(void)
     CHECK(near(out[0], 0.25));
     REFUSED(2, 1, pasoletu_cbrt, -8.0);
     REFUSED(2, 1, pasoletu_inv_cbrt_squared, 0.0);
+    REFUSED(10, 1, pasoletu_cbrt_squared, 1e19);
 }
 
 static void physics(void)
@@ -136,6 +141,7 @@ static void physics(void)
     DONE(2, pasoletu_solve_quadratic, 1.0, -3.0, 2.0);
     CHECK(out[0] == 2.0 && out[1] == 1.0);
     REFUSED(2, 2, pasoletu_solve_quadratic, 1.0, 0.0, 1.0);
+    REFUSED(10, 2, pasoletu_solve_quadratic, 1.0, 1e200, 1.0);
     REFUSED(3, 2, pasoletu_solve_quadratic, 0.0, 1.0, 1.0);
     DONE(9, pasoletu_spin_tensor, shear, 9);
     for (int k = 0; k < 9; k++)
@@ -254,6 +260,7 @@ static void parts_of_laws(void)
     CHECK(near(out[0], 0.26776504281585317));
     REFUSED(6, 1, pasoletu_drucker_prager_alpha, odd, 8, 0.0);
     REFUSED(2, 1, pasoletu_drucker_prager_alpha, cone, 8, 1e5);
+    REFUSED(10, 1, pasoletu_drucker_prager_alpha, cone, 8, -1e5);
 }
 
 static void at_rest(double *r)
@@ -318,7 +325,7 @@ static void passes(void)
     CHECK(a[0] == PASOLETU_STORED && pasoletu_amount(a[1]) == 1.0);
     CHECK(a[2] == PASOLETU_REFUSED && a[3] == 1 && same(r + 36, was + 36, 36));
     CHECK(a[4] == PASOLETU_STORED && r[2 * 36 + PASOLETU_SIGMA] == 1.0045 && r[2 * 36] == 1.0045);
-    CHECK(a[6] == PASOLETU_REFUSED && a[7] == 2 && same(r + 3 * 36, was + 3 * 36, 36));
+    CHECK(a[6] == PASOLETU_REFUSED && a[7] == 10 && same(r + 3 * 36, was + 3 * 36, 36));
     CHECK(a[8] == 99 && c[0] == 0 && c[1] == 2 && c[2] == 2 && c[3] == 99);
     CHECK(pasoletu_pass(PASOLETU_SNOW, bad, 3, r, N * 36, a, N * 2, c, 3) == 0);
     CHECK(a[0] == PASOLETU_REFUSED && a[1] == 1 && a[6] == PASOLETU_REFUSED && a[7] == 1 && c[2] == 4);
@@ -392,8 +399,10 @@ static void version(void)
 
 static void refusal_texts(void)
 {
-    for (uint64_t k = 0; k <= PASOLETU_LENGTH; k++)
-        CHECK(strchr(pasoletu_refusal_text(k), ':') != NULL);
+    for (uint64_t k = 0; k <= PASOLETU_ABOVE_RANGE; k++)
+        CHECK(k == 9 || strchr(pasoletu_refusal_text(k), ':') != NULL);
+    CHECK(strstr(pasoletu_refusal_text(2), "below its range (crushed") != NULL);
+    CHECK(strstr(pasoletu_refusal_text(10), "above its range (torn") != NULL);
     CHECK(strcmp(pasoletu_refusal_text(4), "the sheet ends early: send the sheet again, whole") == 0);
     CHECK(strncmp(pasoletu_refusal_text(99), "no refusal of this library", 26) == 0);
 }

@@ -1,10 +1,11 @@
-"""Holds the proved crates to the table: crates/host's calls, and crates/replay's numbers and lengths. They are written by hand,
+"""Holds the proved crates to the table: crates/answers' refusals, crates/host's calls, and crates/replay's numbers and lengths. They are written by hand,
 since their contracts and proofs are; here they are only read."""
 import re
 
 from .rust import beside_row
 
 KINDS = {"f64": "f64", "u8": "u8", "u32": "u32", "u64": "u64", "&[u8]": "u8[]", "&[u64]": "[]", "&mut [u64]": "[] written"}
+REFUSAL = re.compile(r"pub const (\w+): u8 = (\d+);")
 EXTERN = re.compile(r'pub extern "C" fn pasoletu_(\w+)\((.*?)\)\s*->\s*u8', re.S)
 BRANCH = re.compile(r"\bk == (\d+) \{|\belse \{|\bhost::(?:\w+::)?pasoletu_(\w+)\(|\bupdated\(\s*(\d+),")
 
@@ -16,6 +17,15 @@ def spelled(a):
     if a.kind == "u8":
         return "u8[]"
     return "[] written" if a.written else "[]"
+
+
+def refusals(top, table):
+    there = {name: int(number) for name, number in REFUSAL.findall((top / "crates/answers/src/lib.rt").read_text())}
+    for r in table.refusals:
+        found = there.get(r.name)
+        yield f"crates/answers: {r.name}", None if found == r.number else f"is {found}, in the table {r.number}"
+    for name in sorted(there.keys() - {r.name for r in table.refusals}):
+        yield f"crates/answers: {name}", "is not in calls.toml: add its row"
 
 
 def host_calls(top):
@@ -77,5 +87,6 @@ def replay(top, table):
 
 def held(top, table):
     """Each thing that is held, with what is wrong with it or None."""
+    yield from refusals(top, table)
     yield from host(top, table)
     yield from replay(top, table)

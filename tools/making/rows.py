@@ -193,6 +193,11 @@ def consecutive(what, numbers, first):
         raise BadTable(f"{what} are not {first} and on without a gap: {sorted(numbers)}")
 
 
+def rising(what, numbers, first):
+    if numbers[:1] != [first] or any(a >= b for a, b in zip(numbers, numbers[1:])):
+        raise BadTable(f"{what} do not rise from {first}: {numbers}")
+
+
 class Table:
     """What calls.toml and VERSION say."""
 
@@ -241,7 +246,7 @@ class Table:
             if sum(p.flag for p in m.parameters) > 1:
                 raise BadTable(f"model {m.name}: it has two flags, and beside/ and fuzz/ know only one")
         unique("a refusal's name", (r.name for r in self.refusals))
-        consecutive("the refusals' numbers", [r.number for r in self.refusals], 1)
+        rising("the refusals' numbers", [r.number for r in self.refusals], 1)
         consecutive("the models' numbers", [m.number for m in self.models], 0)
         unique("a call's name", (c.name for c in self.calls))
         consecutive("the numbers of beside/", [number for number, _, _ in self.numbered], 0)

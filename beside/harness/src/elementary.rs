@@ -51,8 +51,10 @@ pub fn judge(n: usize, x: f64, got: &Answer) -> Option<Answer> {
         1
     } else if low <= x && x <= high {
         0
-    } else {
+    } else if x < low {
         2
+    } else {
+        10
     };
     if want != got.status {
         return refused(want);

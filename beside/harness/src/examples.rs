@@ -73,6 +73,7 @@ fn all() -> Vec<Example> {
     );
     add(1, "inv_exact", "infinity", &[f64::INFINITY], &[0], One);
     add(2, "update snow", "plastic determinant -69.5, so exp(705): the same three", &snow(&[(31, -69.5)]), snow_places, One);
+    add(2, "ln", "0", &[0.0], &[0], Two);
     let lost = snow(&[(18, 1e200), (19, 1e200), (20, 0.0)]);
     add(3, "update snow", "sigma (1e200, 1e200, 0): the same three", &lost, snow_places, Two);
     add(3, "inv_exact", "1e-310", &[1e-310], &[0], One);
@@ -105,6 +106,7 @@ fn all() -> Vec<Example> {
     add(11, "monaghan_timestep_bound", "the same with gamma 7, determinant 2, at rest, cell width 1", &step(0.0), &[0], One);
     add(12, "monaghan_timestep_bound", "the same with mass 1", &step(1.0), &[0], One);
     add(13, "solve_quadratic", "1, 0, 1", &[1.0, 0.0, 1.0], &[0, 1], One);
+    add(13, "solve_quadratic", "1, 1e200, 1", &[1.0, 1e200, 1.0], &[0, 1], One);
     add(13, "solve_quadratic", "0, 1, 0", &[0.0, 1.0, 0.0], &[0, 1], One);
     let energy = |phase: f64, x: f64| law(&[0.5, 1.0, 1.0, phase, 1.0], diagonal(x, 1.0, 1.0));
     add(14, "neo_hookean_elastic_energy_density", "F (0.5, 1, 1), phase 0, all else 1", &energy(0.0, 0.5), &[0], One);

@@ -85,12 +85,12 @@ fn set_flags(x: u32) {
 
 const NAN_AROSE: u32 = 1;
 
-/// What an elementary function says of an argument inside a law: a NaN is the law's 3, an infinity lies outside the range.
+/// What an elementary function says of an argument inside a law: a NaN is the law's 3, an infinity lies on its side of the range.
 fn on_path(status: u8, x: f64) -> u8 {
     if x.is_nan() {
         3
     } else if x.is_infinite() {
-        2
+        if x > 0.0 { 10 } else { 2 }
     } else {
         status
     }

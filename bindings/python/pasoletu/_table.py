@@ -53,13 +53,14 @@ VERSION = "0.1.0"
 
 # The refusals' numbers.
 NOT_FINITE = 1
-OUT_OF_RANGE = 2
+BELOW_RANGE = 2
 NO_NUMBER = 3
 ENDS_EARLY = 4
 NOT_SHORTEST = 5
 UNKNOWN = 6
 TOO_MANY = 7
 LENGTH = 8
+ABOVE_RANGE = 10
 REFUSALS: dict[int, Refusal] = {
     1: Refusal(
         "NOT_FINITE",
@@ -67,8 +68,8 @@ REFUSALS: dict[int, Refusal] = {
         "find who wrote that value",
     ),
     2: Refusal(
-        "OUT_OF_RANGE",
-        "a function would get an argument outside its range (crushed or torn beyond what the law can say)",
+        "BELOW_RANGE",
+        "a function would get an argument below its range (crushed; of Snow: torn)",
         "look at the singular values and the hardenings",
     ),
     3: Refusal(
@@ -100,6 +101,11 @@ REFUSALS: dict[int, Refusal] = {
         "LENGTH",
         "a list has the wrong length",
         "give 36 floats and 2 answers a particle, 9 floats a matrix, 3 a vector",
+    ),
+    10: Refusal(
+        "ABOVE_RANGE",
+        "a function would get an argument above its range (torn; of Snow: crushed)",
+        "look at the singular values and the hardenings",
     ),
 }
 

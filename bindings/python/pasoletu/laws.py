@@ -183,8 +183,8 @@ class NaccPlasticity(Plasticity):
         hardening_factor: float,
         friction_angle: float,
     ) -> NaccPlasticity:
-        """The friction from an angle in radians; also refused by 2 outside the sine's range, -8 to 8. The library has no call
-        for this: m is worked here, by the Rust's steps over the library's sine and root."""
+        """The friction from an angle in radians; also refused by 2 below the sine's range, -8 to 8, and by 10 above it. The library
+        has no call for this: m is worked here, by the Rust's steps over the library's sine and root."""
         given = (young_modulus, poisson_ratio, cohesion, hardening_enabled, hardening_factor)
         _given("NaccPlasticity.new", friction_angle=friction_angle)
         _moduli("NaccPlasticity.new", cls.with_m, *given, friction_angle)
@@ -204,7 +204,7 @@ PLASTICITIES: tuple[type[Plasticity], ...] = (
 @dataclass(frozen=True)
 class NeoHookeanElasticity(Law):
     """Neo-Hookean stress and energy. Each call is refused by 1 for an input that is not finite, by 2 where F's determinant
-    lies outside the range of the powers and the logarithm, by 3 for a NaN or a result that is not finite."""
+    lies below the range of the powers and the logarithm, by 10 where above it, by 3 for a NaN or a result that is not finite."""
 
     cfl_coeff: float
     lam: float
@@ -346,7 +346,7 @@ class MonaghanSphEos:
         velocity: Vector,
         cell_width: float,
     ) -> float:
-        """Also refused by 2, where a root's argument is infinite."""
+        """Also refused by 10, where a root's argument is infinite."""
         return one(
             "monaghan_timestep_bound",
             "MonaghanSphEos.timestep_bound",

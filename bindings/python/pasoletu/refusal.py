@@ -4,24 +4,26 @@ from __future__ import annotations
 from typing import Optional
 
 from ._table import (
+    ABOVE_RANGE,
+    BELOW_RANGE,
     ENDS_EARLY,
     LENGTH,
     NO_NUMBER,
     NOT_FINITE,
     NOT_SHORTEST,
-    OUT_OF_RANGE,
     REFUSALS,
     TOO_MANY,
     UNKNOWN,
 )
 
 __all__ = [
+    "ABOVE_RANGE",
+    "BELOW_RANGE",
     "ENDS_EARLY",
     "LENGTH",
     "NOT_FINITE",
     "NOT_SHORTEST",
     "NO_NUMBER",
-    "OUT_OF_RANGE",
     "REFUSALS",
     "Refused",
     "TOO_MANY",
@@ -32,7 +34,7 @@ __all__ = [
 class Refused(Exception):
     """A call or a particle was refused: whatever was refused holds every bit it held.
 
-    number    1 to 8; REFUSALS has its name and its words
+    number    1 to 8 or 10; REFUSALS has its name and its words
     call      the call that refused
     particle  which particle of a list, or None
     place     of refusal 1, the first float that is not finite; of refusal 8, the list; or None

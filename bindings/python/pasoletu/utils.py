@@ -34,7 +34,8 @@ def bulk_modulus_from_lame(lam: float, mu: float) -> float:
 
 
 def solve_quadratic(a: float, b: float, c: float) -> tuple[float, float]:
-    """The roots of a x^2 + b x + c, that with +root first. A negative discriminant is refused by 2."""
+    """The roots of a x^2 + b x + c, that with +root first. A negative discriminant is refused by 2,
+    an infinite one by 10."""
     first, second = floats("solve_quadratic", "utils.solve_quadratic", a=a, b=b, c=c)
     return first, second
 

@@ -27,6 +27,7 @@ from pasoletu import (
     elementary,
     utils,
 )
+from pasoletu.refusal import ABOVE_RANGE, BELOW_RANGE, REFUSALS
 
 HERE = pathlib.Path(__file__).resolve().parent.parent
 TOP = HERE.parent.parent
@@ -300,19 +301,22 @@ class Refusals(Tests):
         self.assertIn("the law's max_epsilon", str(r))
         r = self.refused(4, pasoletu.read_sheet, b"")
         self.assertEqual(str(r), "read_sheet refused by 4: the sheet ends early; send the sheet again, whole")
-        for number in range(1, 9):
+        for number in REFUSALS:
             self.assertGreater(len(str(Refused(number, "run"))), 30)
 
     def test_a_refused_update_changes_nothing(self):
-        particle = Particle(plastic_deformation_gradient_det=-1e3)
-        was = bits(particle)
-        self.refused(2, SnowPlasticity().update_particle, particle)
-        self.assertEqual(bits(particle), was)
+        for number, determinant in ((ABOVE_RANGE, -1e3), (BELOW_RANGE, 1e3), (ABOVE_RANGE, -1e308), (BELOW_RANGE, 1e308)):
+            particle = Particle(plastic_deformation_gradient_det=determinant)
+            was = bits(particle)
+            self.refused(number, SnowPlasticity().update_particle, particle)
+            self.assertEqual(bits(particle), was)
 
     def test_single_calls(self):
-        self.refused(2, elementary.exp, 700.5)
+        self.refused(10, elementary.exp, 700.5)
+        self.refused(2, elementary.exp, -700.5)
         self.refused(1, elementary.ln, INF)
         self.refused(2, utils.solve_quadratic, 1.0, 0.0, 1.0)
+        self.refused(10, utils.solve_quadratic, 1.0, 1e200, 1.0)
         self.refused(3, utils.inv_exact, 1e-310)
         self.refused(2, NeoHookeanElasticity(0.5, 1.0, 1.0).kirchhoff_stress, 1.0, 1.0, ZERO)
         self.refused(1, MaximumStressFailure(NAN, 1.0).particle_failed, [0.0] * 3)
@@ -321,7 +325,8 @@ class Refusals(Tests):
         self.refused(1, RankinePlasticity.new, 1e5, 0.3, NAN, 1.0)
         r = self.refused(3, RankinePlasticity.new, 1e5, 0.5, 1.0, 1.0)
         self.assertTrue(str(r).startswith("RankinePlasticity.new refused by 3: "))
-        self.refused(2, NaccPlasticity.new, 1e5, 0.3, 0.0, True, 1.0, 9.0)
+        self.refused(10, NaccPlasticity.new, 1e5, 0.3, 0.0, True, 1.0, 9.0)
+        self.refused(2, NaccPlasticity.new, 1e5, 0.3, 0.0, True, 1.0, -9.0)
         self.refused(3, CorotatedLinearElasticity.new, 1e5, 0.5)
 
     def test_lengths(self):

@@ -5,7 +5,8 @@ use crate::table::*;
 use crate::{utils, Refusal};
 
 /// Neo-Hookean stress and energy (elasticity_neo_hookean.rs). Each call is refused by 1 for an input that is not finite, by 2
-/// where F's determinant lies outside the range of the powers and the logarithm, by 3 for a NaN or a result not finite.
+/// where F's determinant lies below the range of the powers and the logarithm, by 10 where above it, by 3 for a NaN or a
+/// result not finite.
 #[derive(Copy, Clone, Debug, PartialEq)]
 pub struct NeoHookeanElasticity {
     /// The Rust's coefficient for its time step. No call of this crate looks at its size.

@@ -1,5 +1,5 @@
-//! The elementary functions (docs/RULES.md, section 3). Each is refused by 1 where its argument is not finite and by 2 where it
-//! lies outside the range; ranges include their ends.
+//! The elementary functions (docs/RULES.md, section 3). Each is refused by 1 where its argument is not finite, by 2 where it
+//! lies below the range and by 10 where above it; ranges include their ends.
 use crate::calls::number;
 use crate::{table, Refusal};
 

@@ -75,7 +75,7 @@ impl MonaghanSphEos {
         })
     }
 
-    /// Also refused by 2, where a root's argument is infinite. Where the single-particle root's argument is negative, or NaN
+    /// Also refused by 10, where a root's argument is infinite. Where the single-particle root's argument is negative, or NaN
     /// from its own products and quotient, the other step is the answer.
     pub fn timestep_bound(
         &self,

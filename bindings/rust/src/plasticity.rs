@@ -124,7 +124,7 @@ impl DruckerPragerPlasticity {
         [self.h0, self.h1, self.h2, self.h3, self.lambda, self.mu, active, self.volume_correction]
     }
 
-    /// The slope of the cone at the plastic hardening q. Refused by 1, 2 and 3.
+    /// The slope of the cone at the plastic hardening q. Refused by 1, 2, 3 and 10.
     pub fn alpha(&self, q: Real) -> Result<Real, Refusal> {
         number("DruckerPragerPlasticity::alpha", |out, n| unsafe {
             pasoletu_drucker_prager_alpha(self.fields().as_ptr(), 8, q, out, n)
@@ -161,8 +161,8 @@ impl NaccPlasticity {
         Ok(Self { arguments })
     }
 
-    /// The friction from an angle in radians; also refused by 2 outside the sine's range, -8 to 8. The library has no call
-    /// for this: m is worked here, by the Rust's steps over the library's sine and root.
+    /// The friction from an angle in radians; also refused by 2 below the sine's range, -8 to 8, and by 10 above it. The library
+    /// has no call for this: m is worked here, by the Rust's steps over the library's sine and root.
     pub fn new(
         young_modulus: Real,
         poisson_ratio: Real,

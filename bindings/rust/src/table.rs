@@ -10,8 +10,8 @@ pub struct Law {
 impl Refusal {
     /// An input is NaN or infinite.
     pub const NOT_FINITE: u8 = 1;
-    /// A function would get an argument outside its range (crushed or torn beyond what the law can say).
-    pub const OUT_OF_RANGE: u8 = 2;
+    /// A function would get an argument below its range (crushed; of Snow: torn).
+    pub const BELOW_RANGE: u8 = 2;
     /// A NaN arose, or a modulus or a result is not finite.
     pub const NO_NUMBER: u8 = 3;
     /// The sheet ends early.
@@ -24,19 +24,22 @@ impl Refusal {
     pub const TOO_MANY: u8 = 7;
     /// A list has the wrong length.
     pub const LENGTH: u8 = 8;
+    /// A function would get an argument above its range (torn; of Snow: crushed).
+    pub const ABOVE_RANGE: u8 = 10;
 }
 
 /// What a refusal's number means, and what to do about it.
 pub fn words(number: u8) -> Option<(&'static str, &'static str)> {
     Some(match number {
         1 => ("an input is NaN or infinite", "find who wrote that value"),
-        2 => ("a function would get an argument outside its range (crushed or torn beyond what the law can say)", "look at the singular values and the hardenings"),
+        2 => ("a function would get an argument below its range (crushed; of Snow: torn)", "look at the singular values and the hardenings"),
         3 => ("a NaN arose, or a modulus or a result is not finite", "look at the sizes of the parameters and inputs"),
         4 => ("the sheet ends early", "send the sheet again, whole"),
         5 => ("a number of the sheet is not spelled shortest or has over two groups", "correct the sheet's writer"),
         6 => ("unknown model, or a flag that is neither 0.0 nor 1.0", "check the model's number and its flags"),
         7 => ("the sheet has over 200 particles, or bytes after the last", "split the sheet, or send it alone"),
         8 => ("a list has the wrong length", "give 36 floats and 2 answers a particle, 9 floats a matrix, 3 a vector"),
+        10 => ("a function would get an argument above its range (torn; of Snow: crushed)", "look at the singular values and the hardenings"),
         _ => return None,
     })
 }

@@ -36,7 +36,7 @@ pub fn bulk_modulus_from_lame(lambda: Real, mu: Real) -> Result<Real, Refusal> {
     number("utils::bulk_modulus_from_lame", |out, n| unsafe { pasoletu_bulk_modulus_from_lame(lambda, mu, out, n) })
 }
 
-/// The roots of a x^2 + b x + c, that with +root first. A negative discriminant is refused by 2.
+/// The roots of a x^2 + b x + c, that with +root first. A negative discriminant is refused by 2, an infinite one by 10.
 pub fn solve_quadratic(a: Real, b: Real, c: Real) -> Result<(Real, Real), Refusal> {
     let [x, y] = floats("utils::solve_quadratic", |out, n| unsafe { pasoletu_solve_quadratic(a, b, c, out, n) })?;
     Ok((x, y))

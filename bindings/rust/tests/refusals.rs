@@ -49,8 +49,10 @@ fn a_refused_update_keeps_its_bits() {
     let mut particle = Particle { plastic_deformation_gradient_det: -1e3, ..Particle::REST };
     let was = bits(&particle);
     let refusal = SnowPlasticity::new().update_particle(&mut particle).unwrap_err();
-    assert_eq!((refusal.number, refusal.place), (Refusal::OUT_OF_RANGE, None));
+    assert_eq!((refusal.number, refusal.place), (Refusal::ABOVE_RANGE, None));
     assert_eq!(bits(&particle), was);
+    let mut torn = Particle { plastic_deformation_gradient_det: 1e3, ..Particle::REST };
+    assert_eq!(number(SnowPlasticity::new().update_particle(&mut torn)), Refusal::BELOW_RANGE);
     let mut huge = Particle { singular_values: [1e200, 1e200, 0.0], ..Particle::REST };
     let was = bits(&huge);
     assert_eq!(number(SnowPlasticity::new().update_particle(&mut huge)), Refusal::NO_NUMBER);

@@ -1,1 +1,3 @@
 pub mod Values
+pub mod Sides
+pub mod Before

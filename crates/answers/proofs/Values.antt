@@ -8,7 +8,8 @@ use lib.Ieee as Ieee
 use lib.Ieee.{Float}
 use Rattle.numbers.specs.Floats.{finite}
 use Rattle.numbers.proofs.Laws.{and-both}
-use Rattle.answers.specs.Range.{inRange, ranged, bare}
+use Rattle.answers.specs.Refusals.{notFinite}
+use Rattle.answers.specs.Range.{inRange, sideOf, ranged, bare}
 use Rattle.answers.specs.declared.Answer.the-variants.{Value, Refused}
 
 never : (n : ℕ) (r : Float) → Refused n ≡ Value r → ⊥
@@ -20,11 +21,11 @@ answered true false m n v r e = absurd (never m r e)
 answered false b m n v r e = absurd (never n r e)
 
 pub bare-inside : (low high x v w : Float) → bare x (ranged low high x w) ≡ Value v → inRange low high x ≡ true
-bare-inside low high x v w e = answered (finite x) (inRange low high x) 2 1 w v e .0
+bare-inside low high x v w e = answered (finite x) (inRange low high x) (sideOf low high x) notFinite w v e .0
 
 -- what a call by itself answers as a value is as near as the function's value is within its range
 pub bare-near : (low high x v w : Float) (Near : Float → Type 0) → (inRange low high x ≡ true → Near w) → bare x (ranged low high x w) ≡ Value v → Near v
-bare-near low high x v w Near near e = let a = answered (finite x) (inRange low high x) 2 1 w v e in subst Near (a .1) (near (a .0))
+bare-near low high x v w Near near e = let a = answered (finite x) (inRange low high x) (sideOf low high x) notFinite w v e in subst Near (a .1) (near (a .0))
 
 -- a number in the range lies between its ends
 pub between : (low high x : Float) → inRange low high x ≡ true → T (Ieee.le low x) × T (Ieee.le x high)

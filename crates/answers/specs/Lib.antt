@@ -1,3 +1,4 @@
 pub mod Refusals
 pub mod Range
 pub mod Answer
+pub mod Before

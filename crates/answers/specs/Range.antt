@@ -1,8 +1,9 @@
 -- What an elementary function answers (RULES, sections 3 and 6).
 use mathlib.Core.Bool.{Bool, true, false, cond, _&&_}
+use Prim.Native.Nat.{ℕ}
 use lib.Ieee as Ieee
 use lib.Ieee.{Float}
-use Rattle.answers.specs.Refusals.{notFinite, outOfRange, noNumber}
+use Rattle.answers.specs.Refusals.{notFinite, belowRange, aboveRange, noNumber}
 use Rattle.numbers.specs.Floats.{finite, isNumber}
 use Rattle.answers.specs.declared.Answer.{Answer}
 use Rattle.answers.specs.declared.Answer.the-variants.{Value, Refused}
@@ -11,9 +12,13 @@ use Rattle.answers.specs.declared.Answer.the-variants.{Value, Refused}
 abbrev pub inRange : Float → Float → Float → Bool
 inRange low high x = Ieee.le low x && Ieee.le x high
 
--- refusal 2: an argument outside the range
+-- on which side of its range an argument lies that isn't in it: an infinity on its own (a NaN is refused before this is asked)
+unfoldable pub sideOf : Float → Float → Float → ℕ
+sideOf low high x = cond (Ieee.lt x low) belowRange aboveRange
+
+-- refusals 2 and 10: an argument outside the range
 abbrev pub outsideOf : Float → Float → Float → Answer
-outsideOf low high x = Refused outOfRange
+outsideOf low high x = Refused (sideOf low high x)
 
 -- the value v of a function at x, within its range
 abbrev pub ranged : Float → Float → Float → Float → Answer
@@ -23,6 +28,6 @@ ranged low high x v = cond (inRange low high x) (Value v) (outsideOf low high x)
 abbrev pub bare : Float → Answer → Answer
 bare x e = cond (finite x) e (Refused notFinite)
 
--- inside a law: a NaN arose on the path, refusal 3; an infinity is outside the range
+-- inside a law: a NaN arose on the path, refusal 3; an infinity lies on its side of the range
 abbrev pub onPath : Float → Answer → Answer
 onPath x e = cond (isNumber x) e (Refused noNumber)

@@ -5,9 +5,9 @@ use Prim.Native.Nat.{ℕ}
 abbrev pub notFinite : ℕ
 notFinite = 1
 
--- an elementary function on the path taken would get an argument outside its range
-abbrev pub outOfRange : ℕ
-outOfRange = 2
+-- an elementary function on the path taken would get an argument below its range
+abbrev pub belowRange : ℕ
+belowRange = 2
 
 -- a NaN arises on the path taken, or a number to be returned or stored, a modulus or a principal stress isn't finite
 abbrev pub noNumber : ℕ
@@ -32,3 +32,7 @@ tooMany = 7
 -- a list's length is wrong
 abbrev pub wrongLength : ℕ
 wrongLength = 8
+
+-- an elementary function on the path taken would get an argument above its range: in 2's place in the order
+abbrev pub aboveRange : ℕ
+aboveRange = 10

@@ -7,7 +7,7 @@ ghost use Rattle.answers.specs.Range.{inRange, outsideOf, bare, onPath};
 // The refusals by name (section 6, then the tickets in order).
 pub const NOT_FINITE: u8 = 1;
 
-pub const OUT_OF_RANGE: u8 = 2;
+pub const BELOW_RANGE: u8 = 2;
 
 pub const NO_NUMBER: u8 = 3;
 
@@ -20,6 +20,8 @@ pub const UNKNOWN: u8 = 6;
 pub const TOO_MANY: u8 = 7;
 
 pub const LENGTH: u8 = 8;
+
+pub const ABOVE_RANGE: u8 = 10;
 
 // A number, or the refusal's number.
 pub enum Answer {
@@ -72,11 +74,15 @@ pub fn in_range(low: f64, high: f64, x: f64) -> bool
     (low <= x) & (x <= high)
 }
 
-// The refusal of an argument outside the range from low to high.
+// The refusal of an argument outside the range from low to high, by its side: an infinity lies on its own.
 pub fn outside(low: f64, high: f64, x: f64) -> Answer
     ensures { λ r. ⌜ r ≡ outsideOf low high x ⌝ }
 {
-    Answer::Refused(OUT_OF_RANGE)
+    if x < low {
+        Answer::Refused(BELOW_RANGE)
+    } else {
+        Answer::Refused(ABOVE_RANGE)
+    }
 }
 
 // The answer at x of a call by itself: a NaN or an infinity is refused by 1.

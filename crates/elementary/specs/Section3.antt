@@ -1,10 +1,13 @@
 -- RULES, section 3, whole: a row a function. Each call, made by itself, answers its value for every f64 of its range, ends included,
--- as near to the exact value as the table says, and a value for no other number. The distances are those of `series` and `exact`.
+-- as near to the exact value as the table says, and a value for no other number; it refuses a number below the range by 2, above it by 10,
+-- and nothing else by these (section 6). The distances are those of `series` and `exact`.
 use mathlib.Core.Path.{_≡_}
+use mathlib.Core.Logic.{_↔_}
 use mathlib.Core.Bool.{true}
 use Prim.Native.Nat.{_*_, _-_, _^_}
 use lib.Dec.{T}
 use lib.IntN.{ℤ, pos, negℤ}
+use lib.Ieee as Ieee
 use lib.Ieee.{Float, binary64, fits}
 use Rattle.exact.specs.Value.{val}
 use Rattle.exact.specs.RootOf.{Rooted, sqrtOf}
@@ -14,9 +17,11 @@ use Rattle.series.specs.LogNear.{LogNear}
 use Rattle.series.specs.SinNear.{SinNear}
 use Rattle.series.specs.ThirdsNear.{CbrtNear, CbrtSquaredNear, InvCbrtNear, InvCbrtSquaredNear}
 use Rattle.numbers.specs.Constants.{zero, one}
+use Rattle.numbers.specs.Floats.{finite}
+use Rattle.answers.specs.Refusals.{belowRange, aboveRange}
 use Rattle.answers.specs.Range.{inRange, ranged, bare}
 use Rattle.answers.specs.declared.Answer.{Answer}
-use Rattle.answers.specs.declared.Answer.the-variants.{Value}
+use Rattle.answers.specs.declared.Answer.the-variants.{Value, Refused}
 use Rattle.exponential.specs.Exp.{expRanged}
 use Rattle.exponential.specs.Sinh.{sinhOf, sinhRanged}
 use Rattle.exponential.specs.Worked as exponential
@@ -32,6 +37,8 @@ pub record Promised (call : Float → Answer) (value : Float → Float) (low hig
   pub to : val high ≡ greatest
   pub inside : (x : Float) → T (fits binary64 x) → inRange low high x ≡ true → (call x ≡ Value (value x)) × Near x (value x)
   pub only : (x v : Float) → call x ≡ Value v → inRange low high x ≡ true
+  pub below : (x : Float) → (call x ≡ Refused belowRange) ↔ ((finite x ≡ true) × (Ieee.lt x low ≡ true))
+  pub above : (x : Float) → (call x ≡ Refused aboveRange) ↔ ((finite x ≡ true) × (Ieee.lt high x ≡ true))
 
 -- 2^-60 and 2^60
 abbrev 2^-60 : ℤ

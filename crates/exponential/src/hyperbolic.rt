@@ -27,7 +27,7 @@ fn sinh_value(x: f64) -> f64
     if super::negative(x) { -h } else { h }
 }
 
-// sinh x within the range; outside it a refusal by 2.
+// sinh x within the range; outside it the refusal of its side.
 fn sinh_ranged(x: f64) -> Answer
     ensures { λ r. ⌜ r ≡ sinhRanged x ⌝ }
 {
@@ -38,14 +38,14 @@ fn sinh_ranged(x: f64) -> Answer
     }
 }
 
-// sinh x, within 2^-45 times (1 + size of the exact value). A NaN or an infinity is refused by 1, a number outside the range by 2.
+// sinh x, within 2^-45 times (1 + size of the exact value). A NaN or an infinity is refused by 1, a number below the range by 2, above it by 10.
 pub fn sinh(x: f64) -> Answer
     ensures { λ r. ⌜ (r ≡ bare x (sinhRanged x)) × ((v : Float) → r ≡ Value v → SinhNear x v) ⌝ }
 {
     answers::bare(x, sinh_ranged(x))
 }
 
-// sinh x within a law: a NaN is refused by 3, an infinity and a number outside the range by 2.
+// sinh x within a law: a NaN is refused by 3, what lies below the range by 2, above it by 10.
 pub fn sinh_on_path(x: f64) -> Answer
     ensures { λ r. ⌜ r ≡ onPath x (sinhRanged x) ⌝ }
 {

@@ -95,7 +95,7 @@ fn exp_value(x: f64) -> f64
     f64::from_bits(exp_bits(negative(x), cut(x)))
 }
 
-// exp x within the range; outside it a refusal by 2.
+// exp x within the range; outside it the refusal of its side.
 fn exp_ranged(x: f64) -> Answer
     ensures { λ r. ⌜ r ≡ expRanged x ⌝ }
 {
@@ -106,14 +106,14 @@ fn exp_ranged(x: f64) -> Answer
     }
 }
 
-// exp x, within 2^-45 of the exact value, times that value. A NaN or an infinity is refused by 1, a number outside the range by 2.
+// exp x, within 2^-45 of the exact value, times that value. A NaN or an infinity is refused by 1, a number below the range by 2, above it by 10.
 pub fn exp(x: f64) -> Answer
     ensures { λ r. ⌜ (r ≡ bare x (expRanged x)) × ((v : Float) → r ≡ Value v → ExpNear x v) ⌝ }
 {
     answers::bare(x, exp_ranged(x))
 }
 
-// exp x within a law: a NaN is refused by 3, an infinity and a number outside the range by 2.
+// exp x within a law: a NaN is refused by 3, what lies below the range by 2, above it by 10.
 pub fn exp_on_path(x: f64) -> Answer
     ensures { λ r. ⌜ r ≡ onPath x (expRanged x) ⌝ }
 {

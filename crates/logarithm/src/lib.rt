@@ -48,14 +48,14 @@ fn ln_ranged(x: f64) -> Answer
     }
 }
 
-// ln x, within 2^-45 of the exact value. A NaN or an infinity is refused by 1, a number outside the range by 2.
+// ln x, within 2^-45 of the exact value. A NaN or an infinity is refused by 1, a number below the range by 2, above it by 10.
 pub fn ln(x: f64) -> Answer
     ensures { λ r. ⌜ (r ≡ bare x (lnRanged x)) × ((v : Float) → r ≡ Value v → LogNear x v) ⌝ }
 {
     answers::bare(x, ln_ranged(x))
 }
 
-// ln x within a law: a NaN is refused by 3, an infinity and a number outside the range by 2.
+// ln x within a law: a NaN is refused by 3, what lies below the range by 2, above it by 10.
 pub fn ln_on_path(x: f64) -> Answer
     ensures { λ r. ⌜ r ≡ onPath x (lnRanged x) ⌝ }
 {

@@ -1,3 +1,4 @@
 pub mod Laws
+pub mod Order
 pub mod Halves
 pub mod Cases

@@ -20,7 +20,8 @@ fn roots(a: f64, b: f64, root: Answer) -> Pair
     }
 }
 
-// The roots of a x^2 + b x + c, the one with +root first. A negative discriminant hands on the square root's refusal.
+// The roots of a x^2 + b x + c, the one with +root first. The square root's refusal of the discriminant is handed on: 2 of a
+// negative one, 10 of +infinity.
 pub fn solve_quadratic(a: f64, b: f64, c: f64) -> Pair
     ensures { λ r. ⌜ r ≡ solveQuadraticOf a b c ⌝ }
 {

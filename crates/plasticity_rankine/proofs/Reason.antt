@@ -1,7 +1,7 @@
 -- When the law refuses (RULES, section 6), and why it moved (ticket 8), both read off its walk.
 use mathlib.Core.Bool.{true, false}
 use mathlib.Core.List.{List, [], _∷_, map}
-use mathlib.Core.Logic.{inl, inr, _↔_}
+use mathlib.Core.Logic.{_↔_}
 use mathlib.Core.Option.{Option, some, none}
 use mathlib.Core.Path.{_≡_, refl, sym, ap, _∙_}
 use Prim.Native.Nat.{ℕ, suc}
@@ -13,9 +13,10 @@ use Rattle.plasticity.specs.declared.State.{State}
 use Rattle.walk.specs.Expr.{Expr, num, value, values, nums}
 use Rattle.walk.specs.Matrix.{sum}
 use Rattle.walk.specs.Walk.{Function, ln, exp, at, at-most, Walk, asks, end, _then_, given, result}
-use Rattle.walk.specs.Exact.{Met, input, argument, worked, tested, result-of, path, final, first, Refusal, answer, exactly, last, lastFrom, Reason}
+use Rattle.walk.specs.Exact.{Met, path, final, first, Refusal, answer, exactly, last, lastFrom, Reason}
 use Rattle.walk.specs.Reason.{final-then, last-then, Told, branch-told, Branchless, quiet, branchless-asks}
-use Rattle.walk.specs.Numbers.{unsound, Stops, Clear, first-stops, first-clear, refused-when, accepted-when}
+use Rattle.walk.specs.Numbers.{Stops, Clear, first-stops, first-clear, refused-when, accepted-when}
+use Rattle.walk.specs.Answers.{stops-positive}
 use Rattle.walk.specs.Update.{Change, refusalOf, numberOf}
 use Rattle.plasticity_rankine.specs.declared.RankineArguments.{RankineArguments}
 use Rattle.plasticity_rankine.specs.declared.RankinePlasticity.{RankinePlasticity}
@@ -54,18 +55,8 @@ number none n e = absurd (omega arith)
 number (some m) n e = ap some e
 
 -- no refusal has the number 0
-positive : (m : Met) → unsound m ≡ 0 → ⊥
-positive (input l) e = omega arith
-positive (argument n f x) e = omega arith
-positive (worked n es) e = omega arith
-positive (tested n t) e = omega arith
-positive (result-of n rows) e = omega arith
-
 no-stop : (ms : List Met) → Stops 0 ms → ⊥
-no-stop [] q = q
-no-stop (m ∷ ms) (inl (inl q)) = let e = q .2 in omega arith
-no-stop (m ∷ ms) (inl (inr q)) = positive m (q .1)
-no-stop (m ∷ ms) (inr q) = no-stop ms (q .1)
+no-stop ms q = let h = stops-positive ms 0 q in omega arith
 
 nothing : (ms : List Met) (o : Option ℕ) → numberOf (first ms) ≡ o → codeOf o ≡ 0 → o ≡ none
 nothing ms none h e = refl

@@ -8,7 +8,8 @@ use lib.Ieee.{Float, binary64}
 use lib.Ieee.Bits.{ofBits-fits}
 use Rattle.exact.specs.Units.{Fin64}
 use Rattle.numbers.specs.Floats.{isNumber}
-use Rattle.answers.specs.Range.{inRange}
+use Rattle.answers.specs.Refusals.{noNumber}
+use Rattle.answers.specs.Range.{inRange, sideOf}
 use Rattle.answers.specs.declared.Answer.{Answer}
 use Rattle.answers.specs.declared.Answer.the-variants.{Value, Refused}
 use Rattle.logarithm.specs.Worked as logarithm
@@ -28,10 +29,10 @@ abbrev Answers : (Float → Type 0) → Answer → Type 0
 Answers F (Value x) = F x
 Answers F (Refused n) = Unit {0}
 
-in-range : (F : Float → Type 0) (a b : Bool) (v : Float) → (b ≡ true → F v) → Answers F (cond a (cond b (Value v) (Refused 2)) (Refused 3))
-in-range F true true v h = h refl
-in-range F true false v h = tt
-in-range F false b v h = tt
+in-range : (F : Float → Type 0) (a b : Bool) (n : ℕ) (v : Float) → (b ≡ true → F v) → Answers F (cond a (cond b (Value v) (Refused n)) (Refused noNumber))
+in-range F true true n v h = h refl
+in-range F true false n v h = tt
+in-range F false b n v h = tt
 
 -- each entry of what is asked of a list
 module _ (F : Float → Type 0) (n : ℕ) (f : Function) where
@@ -46,11 +47,11 @@ module _ (F : Float → Type 0) (n : ℕ) (f : Function) where
       each-by (λ v. result (asks n f l (λ vs. end (k (v ∷ vs))))) (λ v q. each l (λ vs. k (v ∷ vs)) (h .1) (λ vs j. i (v ∷ vs) (q, j))) (answerOf f x) (h .0)
 
 ln-fine : (x : Float) → F64 x → Answers Fin64 (answerOf ln x)
-ln-fine x f = in-range Fin64 (isNumber x) (inRange logarithm.low logarithm.high x) (logarithm.lnOf x) (λ r. ln-near x f r .fine)
+ln-fine x f = in-range Fin64 (isNumber x) (inRange logarithm.low logarithm.high x) (sideOf logarithm.low logarithm.high x) (logarithm.lnOf x) (λ r. ln-near x f r .fine)
 
 exp-f64 : (x : Float) → Answers F64 (answerOf exp x)
 unfolding exponential.expOf
-exp-f64 x = in-range F64 (isNumber x) (inRange exponential.low exponential.high x) (exponential.expOf x) (λ r. ofBits-fits binary64 _)
+exp-f64 x = in-range F64 (isNumber x) (inRange exponential.low exponential.high x) (sideOf exponential.low exponential.high x) (exponential.expOf x) (λ r. ofBits-fits binary64 _)
 
 of-each : (F G : Float → Type 0) → ((x : Float) → F x → G x) → (l : List Float) → Each F l → Each G l
 of-each F G f [] h = tt

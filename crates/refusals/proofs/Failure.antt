@@ -144,7 +144,7 @@ module _ (m : Model) (l : MaximumStressFailure) (e : CorotatedLinearElasticity) 
       on-stresses m r s l (result (stressesOf e r)) (stresses-finite (result (stressesOf e r)) _ (principal-law e (s .scalars .phase) (s .scalars .«elastic_hardening») (s .sigma))) (c .1)
       (run m r s (c .0) t) (run m (putPhase r matrix.zero) s (c .0) (phased r t))
 
-  walked : failureLaw m l e r .outcome ≡ updatedOf (stateAt r) (result (failureWalk m l e r)) .outcome
+  pub walked : failureLaw m l e r .outcome ≡ updatedOf (stateAt r) (result (failureWalk m l e r)) .outcome
   unfolding failureLaw judgedAt judgedOf
   walked =
       first m r (stateAt r) ok (verdictOn l (result (stressesOf e r))) law run-by

@@ -9,3 +9,4 @@ pub mod Table
 pub mod Calls
 pub mod Laws
 pub mod Ran
+pub mod Before

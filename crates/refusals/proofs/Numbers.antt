@@ -8,6 +8,7 @@ use Prim.Native.Nat.{ℕ, _≤_, _<_}
 use native.Mathlib.Omega.{arith}
 use lib.Ieee.{Float}
 use Rattle.numbers.specs.Floats.{finite}
+use Rattle.answers.specs.Refusals.{belowRange, aboveRange}
 use Rattle.tensor.specs.Axes.{allOf}
 use Rattle.walk.specs.Expr.{num, value, values}
 use Rattle.walk.specs.Walk.{at, holds, Walk, inputs, ask, works, either, branch, split, results, end, picked, result}
@@ -43,37 +44,40 @@ pub not-finite : (l : List Float) → (allOf finite l ≡ false) ↔ SomeNotFini
 not-finite l = (λ q. every-fails l .0 (sym (all-every finite l) ∙ q), λ q. all-every finite l ∙ every-fails l .1 q)
 
 -- ---- what stops a path
-met-between : (m : Met) (n : ℕ) → walk.Refuses n m → (1 ≤ n) × (n ≤ 3)
-met-between m n (inl q) = let z = q .2 in omega arith
-met-between (input l) n (inr q) = let z = q .1 in omega arith
-met-between (argument k f e) n (inr q) = let z = q .1 in omega arith
-met-between (worked k es) n (inr q) = let z = q .1 in omega arith
-met-between (tested k t) n (inr q) = let z = q .1 in omega arith
-met-between (result-of k l) n (inr q) = let z = q .1 in omega arith
+met-between : (m : Met) (n : ℕ) → walk.Refuses n m → ((1 ≤ n) × (n ≤ 3)) ⊎ (n ≡ aboveRange)
+met-between m n (inl q) = let z = q .1 in inl (omega arith)
+met-between m n (inr (inl q)) = inr (sym (q .1))
+met-between (input l) n (inr (inr q)) = let z = q .1 in inl (omega arith)
+met-between (argument k f e) n (inr (inr q)) = let z = q .1 in inl (omega arith)
+met-between (worked k es) n (inr (inr q)) = let z = q .1 in inl (omega arith)
+met-between (tested k t) n (inr (inr q)) = let z = q .1 in inl (omega arith)
+met-between (result-of k l) n (inr (inr q)) = let z = q .1 in inl (omega arith)
 
-between : (ms : List Met) (n : ℕ) → Stops n ms → (1 ≤ n) × (n ≤ 3)
+between : (ms : List Met) (n : ℕ) → Stops n ms → ((1 ≤ n) × (n ≤ 3)) ⊎ (n ≡ aboveRange)
 between [] n q = absurd q
 between (m ∷ ms) n (inl q) = met-between m n q
 between (m ∷ ms) n (inr q) = between ms n (q .1)
 
-three-one : {a b c : Type 0} → (a × b × _≡_ {A = ℕ} 2 1) ⊎ (c × _≡_ {A = ℕ} 3 1) → ⊥
-three-one (inl q) = let z = q .2 in omega arith
-three-one (inr q) = let z = q .1 in omega arith
+no-one : {a b c : Type 0} → (a × _≡_ {A = ℕ} belowRange 1) ⊎ ((b × _≡_ {A = ℕ} aboveRange 1) ⊎ (c × _≡_ {A = ℕ} 3 1)) → ⊥
+no-one (inl q) = let z = q .1 in omega arith
+no-one (inr (inl q)) = let z = q .1 in omega arith
+no-one (inr (inr q)) = let z = q .1 in omega arith
 
 never-one : (ms : List Met) → Later ms → Stops 1 ms → ⊥
 never-one [] h q = q
 never-one (input l ∷ ms) h q = h
-never-one (argument k f e ∷ ms) h q = ⊎-elim three-one (λ p. never-one ms h (p .1)) q
-never-one (worked k es ∷ ms) h q = ⊎-elim three-one (λ p. never-one ms h (p .1)) q
-never-one (tested k t ∷ ms) h q = ⊎-elim three-one (λ p. never-one ms h (p .1)) q
-never-one (result-of k l ∷ ms) h q = ⊎-elim three-one (λ p. never-one ms h (p .1)) q
+never-one (argument k f e ∷ ms) h q = ⊎-elim no-one (λ p. never-one ms h (p .1)) q
+never-one (worked k es ∷ ms) h q = ⊎-elim no-one (λ p. never-one ms h (p .1)) q
+never-one (tested k t ∷ ms) h q = ⊎-elim no-one (λ p. never-one ms h (p .1)) q
+never-one (result-of k l ∷ ms) h q = ⊎-elim no-one (λ p. never-one ms h (p .1)) q
 
 stops-one : (l : List Float) (ms : List Met) → Later ms → Stops 1 (input l ∷ ms) ↔ SomeNotFinite l
-stops-one l ms h = (forth, λ q. inl (inr (not-finite l .1 q, refl)))
+stops-one l ms h = (forth, λ q. inl (inr (inr (not-finite l .1 q, refl))))
   where
     forth : Stops 1 (input l ∷ ms) → SomeNotFinite l
-    forth (inl (inl q)) = absurd (true≢false (q .1))
-    forth (inl (inr q)) = not-finite l .0 (q .0)
+    forth (inl (inl q)) = absurd (false≢true (q .0))
+    forth (inl (inr (inl q))) = absurd (false≢true (q .0))
+    forth (inl (inr (inr q))) = not-finite l .0 (q .0)
     forth (inr q) = absurd (never-one ms h (q .1))
 
 -- ---- R n: refused by n, as the walk's answer tells
@@ -89,7 +93,16 @@ never-some (some n) f = absurd (f n refl)
 
 pub numbers : {A : Type 0} {R : ℕ → Type 0} (l : List Float) (w : Walk A) → Inner w → ((n : ℕ) → R n ↔ (refusalIn (result (inputs l w)) ≡ some n))
     → Numbers R (path (inputs l w))
-numbers {R = R} l w h r = record { refused = by; accepted = none-of; one = at-one; only = λ n q. between (path (inputs l w)) n (by n .0 q) }
+numbers {R = R} l w h r =
+    let ms = path (inputs l w) in
+    record {
+      refused = by;
+      accepted = none-of;
+      one = at-one;
+      below = (λ q. walk.stops-below ms .0 (by belowRange .0 q), λ q. by belowRange .1 (walk.stops-below ms .1 q));
+      above = (λ q. walk.stops-above ms .0 (by aboveRange .0 q), λ q. by aboveRange .1 (walk.stops-above ms .1 q));
+      only = λ n q. between ms n (by n .0 q);
+    }
   where
     by : (n : ℕ) → R n ↔ Stops n (path (inputs l w))
     by n = (λ q. refused-when (inputs l w) n .0 (r n .0 q), λ q. r n .1 (refused-when (inputs l w) n .1 q))
@@ -117,5 +130,7 @@ transfer w q =
       refused = λ n. (λ r. q .refused n .0 (w n .0 r), λ s. w n .1 (q .refused n .1 s));
       accepted = (λ f. q .accepted .0 (λ n s. f n (w n .1 s)), λ c n r. q .accepted .1 c n (w n .0 r));
       one = (λ r. q .one .0 (w 1 .0 r), λ b. w 1 .1 (q .one .1 b));
+      below = (λ r. q .below .0 (w belowRange .0 r), λ b. w belowRange .1 (q .below .1 b));
+      above = (λ r. q .above .0 (w aboveRange .0 r), λ b. w aboveRange .1 (q .above .1 b));
       only = λ n r. q .only n (w n .0 r);
     }

@@ -2,11 +2,12 @@
 use mathlib.Core.Path.{_≡_, refl}
 use mathlib.Core.Bool.{Bool, true, false, cond, false≢true}
 use mathlib.Core.List.{[], _∷_}
-use Prim.Native.Nat.{_/_}
+use Prim.Native.Nat.{ℕ, _/_}
 use lib.ListN.{length}
 use lib.Ieee.{Float}
 use Rattle.numbers.specs.Floats.{finite, isNumber}
-use Rattle.answers.specs.Range.{inRange, ranged, bare}
+use Rattle.answers.specs.Refusals.{notFinite, noNumber}
+use Rattle.answers.specs.Range.{inRange, sideOf, ranged, bare}
 use Rattle.answers.specs.declared.Answer.{Answer}
 use Rattle.answers.specs.declared.Answer.the-variants.{Value, Refused}
 use Rattle.walk.specs.Expr.{num, value}
@@ -25,18 +26,18 @@ use Rattle.refusals.proofs.Passes.{pass-eight, failure-eight, pass-refu
 use Rattle.refusals.proofs.Answers.{refusalE, gives}
 
 -- ---- an elementary function by itself: a finite argument is a number
-asked : (a b c : Bool) (v : Float) → (a ≡ true → b ≡ true)
-    → refusalE (cond a (cond c (Value v) (Refused 2)) (Refused 1))
-    ≡ refusalIn (cond a (walk.asked (cond b (cond c (Value v) (Refused 2)) (Refused 3)) (λ y. walk.given y)) (walk.refused 1))
-asked true true true v h = refl
-asked true true false v h = refl
-asked true false c v h = absurd (false≢true (h refl))
-asked false b c v h = refl
+asked : (a b c : Bool) (n : ℕ) (v : Float) → (a ≡ true → b ≡ true)
+    → refusalE (cond a (cond c (Value v) (Refused n)) (Refused notFinite))
+    ≡ refusalIn (cond a (walk.asked (cond b (cond c (Value v) (Refused n)) (Refused noNumber)) (λ y. walk.given y)) (walk.refused notFinite))
+asked true true true n v h = refl
+asked true true false n v h = refl
+asked true false c n v h = absurd (false≢true (h refl))
+asked false b c n v h = refl
 
 call-gives : (f : Function) (x : Float) → Gives (bare x (ranged (lowOf f) (highOf f) x (at f x))) (callPath f x)
 call-gives f x =
     gives (bare x (ranged (lowOf f) (highOf f) x (at f x))) (x ∷ []) (ask 1 f (num x) (λ v. end (value v))) (λ v. tt)
-    (asked (finite x) (isNumber x) (inRange (lowOf f) (highOf f) x) (at f x) (finite-number x))
+    (asked (finite x) (isNumber x) (inRange (lowOf f) (highOf f) x) (sideOf (lowOf f) (highOf f) x) (at f x) (finite-number x))
 
 -- ---- the table
 pub section-6 : Section6

@@ -2,3 +2,4 @@ pub mod Refusals
 pub mod Calls
 pub mod Laws
 pub mod Ran
+pub mod Before

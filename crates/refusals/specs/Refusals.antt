@@ -1,6 +1,6 @@
 -- RULES, section 6, "When, and only then", over the definitions that the contracts cite. Proved in proofs/Table.
--- Every law is a walk; what stops on its path is said in `walk` (specs/Numbers): 1 an input that isn't finite, 2 an argument outside
--- section 3's range, 3 a NaN in any part of any formula there, or a modulus, a principal stress or a result that isn't finite.
+-- Every law is a walk; what stops on its path is said in `walk` (specs/Numbers): 1 an input that isn't finite, 2 an argument below
+-- section 3's range, 10 one above it, 3 a NaN in any part of any formula there, or a modulus, a principal stress or a result that isn't finite.
 -- Calls and Laws say the same of the calls by themselves, Ran of a sheet that is run. 4 to 7 are a sheet's: `sheet` specs/Refused.
 use mathlib.Core.Path.{_≡_}
 use mathlib.Core.Logic.{_⊎_, _↔_}
@@ -10,6 +10,7 @@ use Prim.Native.Nat.{ℕ, _+_, _*_, _≤_, _<_}
 use lib.ListN.{length, getD}
 use lib.Ieee.{Float}
 use Rattle.numbers.specs.Floats.{finite}
+use Rattle.answers.specs.Refusals.{belowRange, aboveRange}
 use Rattle.answers.specs.Range.{ranged, bare}
 use Rattle.answers.specs.declared.Answer.{Answer}
 use Rattle.answers.specs.declared.Answer.the-variants as answers
@@ -21,7 +22,8 @@ use Rattle.walk.specs.Expr.{num, value}
 use Rattle.walk.specs.Walk.{Function, lowOf, highOf, at, Walk, inputs, ask, end, _then_}
 use Rattle.walk.specs.Exact.{Met, input, argument, worked, tested, result-of, path}
 use Rattle.walk.specs.Update.{Change, floatsOf}
-use Rattle.walk.specs.Numbers.{Stops, Clear}
+use Rattle.walk.specs.Numbers as walk
+use Rattle.walk.specs.Numbers.{Stops, Comes, Clear}
 use Rattle.record.specs.Layout.{floats, floatAt, uAt, vtAt, stateAt, putPhase}
 use Rattle.plasticity_snow.specs.Snow as snow
 use Rattle.plasticity_rankine.specs.Law as rankine-law
@@ -65,7 +67,10 @@ pub record Numbers (R : ℕ → Type 0) (ms : List Met) : Type 0 where
   pub refused : (n : ℕ) → R n ↔ Stops n ms
   pub accepted : ((n : ℕ) → R n → ⊥) ↔ Clear ms
   pub one : R 1 ↔ SomeNotFinite (inputsOf ms)
-  pub only : (n : ℕ) → R n → (1 ≤ n) × (n ≤ 3)
+  -- the first to refuse is an argument below its range, above it
+  pub below : R belowRange ↔ Comes walk.below ms
+  pub above : R aboveRange ↔ Comes walk.above ms
+  pub only : (n : ℕ) → R n → ((1 ≤ n) × (n ≤ 3)) ⊎ (n ≡ aboveRange)
 
 -- as an outcome, as it stands in the answer list at record i, and as a number or a refusal
 abbrev pub Refuses : Outcome → List Met → Type 0

@@ -94,7 +94,7 @@ fn sin_value(x: f64) -> f64
     at_eighth(eighth(e, m), b >= 0x8000_0000_0000_0000)
 }
 
-// The sine within its range; outside it a refusal by 2.
+// The sine within its range; outside it the refusal of its side.
 fn sin_ranged(x: f64) -> Answer
     ensures { λ r. ⌜ r ≡ sinRanged x ⌝ }
 {
@@ -105,14 +105,14 @@ fn sin_ranged(x: f64) -> Answer
     }
 }
 
-// sin x, within 2^-45 of the exact value. A NaN or an infinity is refused by 1, a number outside the range by 2.
+// sin x, within 2^-45 of the exact value. A NaN or an infinity is refused by 1, a number below the range by 2, above it by 10.
 pub fn sin(x: f64) -> Answer
     ensures { λ r. ⌜ (r ≡ bare x (sinRanged x)) × ((v : Float) → r ≡ Value v → SinNear x v) ⌝ }
 {
     answers::bare(x, sin_ranged(x))
 }
 
-// sin x within a law: a NaN is refused by 3, an infinity and a number outside the range by 2.
+// sin x within a law: a NaN is refused by 3, what lies below the range by 2, above it by 10.
 pub fn sin_on_path(x: f64) -> Answer
     ensures { λ r. ⌜ r ≡ onPath x (sinRanged x) ⌝ }
 {

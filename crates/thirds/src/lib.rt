@@ -57,56 +57,56 @@ fn answer(x: f64, v: f64) -> Answer
     }
 }
 
-// x^(1/3), within 2^-45 times the exact value. A NaN or an infinity is refused by 1, a number outside the range by 2.
+// x^(1/3), within 2^-45 times the exact value. A NaN or an infinity is refused by 1, a number below the range by 2, above it by 10.
 pub fn cbrt(x: f64) -> Answer
     ensures { λ r. ⌜ (r ≡ bare x (cbrtRanged x)) × ((v : Float) → r ≡ Value v → CbrtNear x v) ⌝ }
 {
     answers::bare(x, answer(x, cbrt_value(x)))
 }
 
-// The same within a law: a NaN is refused by 3, an infinity and a number outside the range by 2.
+// The same within a law: a NaN is refused by 3, what lies below the range by 2, above it by 10.
 pub fn cbrt_on_path(x: f64) -> Answer
     ensures { λ r. ⌜ r ≡ onPath x (cbrtRanged x) ⌝ }
 {
     answers::on_path(x, answer(x, cbrt_value(x)))
 }
 
-// x^(2/3), within 2^-45 times the exact value. A NaN or an infinity is refused by 1, a number outside the range by 2.
+// x^(2/3), within 2^-45 times the exact value. A NaN or an infinity is refused by 1, a number below the range by 2, above it by 10.
 pub fn cbrt_squared(x: f64) -> Answer
     ensures { λ r. ⌜ (r ≡ bare x (cbrtSquaredRanged x)) × ((v : Float) → r ≡ Value v → CbrtSquaredNear x v) ⌝ }
 {
     answers::bare(x, answer(x, cbrt_squared_value(x)))
 }
 
-// The same within a law: a NaN is refused by 3, an infinity and a number outside the range by 2.
+// The same within a law: a NaN is refused by 3, what lies below the range by 2, above it by 10.
 pub fn cbrt_squared_on_path(x: f64) -> Answer
     ensures { λ r. ⌜ r ≡ onPath x (cbrtSquaredRanged x) ⌝ }
 {
     answers::on_path(x, answer(x, cbrt_squared_value(x)))
 }
 
-// x^(-1/3), within 2^-45 times the exact value. A NaN or an infinity is refused by 1, a number outside the range by 2.
+// x^(-1/3), within 2^-45 times the exact value. A NaN or an infinity is refused by 1, a number below the range by 2, above it by 10.
 pub fn inv_cbrt(x: f64) -> Answer
     ensures { λ r. ⌜ (r ≡ bare x (invCbrtRanged x)) × ((v : Float) → r ≡ Value v → InvCbrtNear x v) ⌝ }
 {
     answers::bare(x, answer(x, inv_cbrt_value(x)))
 }
 
-// The same within a law: a NaN is refused by 3, an infinity and a number outside the range by 2.
+// The same within a law: a NaN is refused by 3, what lies below the range by 2, above it by 10.
 pub fn inv_cbrt_on_path(x: f64) -> Answer
     ensures { λ r. ⌜ r ≡ onPath x (invCbrtRanged x) ⌝ }
 {
     answers::on_path(x, answer(x, inv_cbrt_value(x)))
 }
 
-// x^(-2/3), within 2^-45 times the exact value. A NaN or an infinity is refused by 1, a number outside the range by 2.
+// x^(-2/3), within 2^-45 times the exact value. A NaN or an infinity is refused by 1, a number below the range by 2, above it by 10.
 pub fn inv_cbrt_squared(x: f64) -> Answer
     ensures { λ r. ⌜ (r ≡ bare x (invCbrtSquaredRanged x)) × ((v : Float) → r ≡ Value v → InvCbrtSquaredNear x v) ⌝ }
 {
     answers::bare(x, answer(x, inv_cbrt_squared_value(x)))
 }
 
-// The same within a law: a NaN is refused by 3, an infinity and a number outside the range by 2.
+// The same within a law: a NaN is refused by 3, what lies below the range by 2, above it by 10.
 pub fn inv_cbrt_squared_on_path(x: f64) -> Answer
     ensures { λ r. ⌜ r ≡ onPath x (invCbrtSquaredRanged x) ⌝ }
 {

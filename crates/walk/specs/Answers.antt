@@ -8,7 +8,7 @@ use Prim.Native.Nat.{ℕ, _<_}
 use native.Mathlib.Omega.{arith}
 use lib.Ieee.{Float, nan, inf, fin}
 use Rattle.answers.specs.Refusals.{noNumber}
-use Rattle.answers.specs.Range.{inRange}
+use Rattle.answers.specs.Range.{inRange, sideOf}
 use Rattle.answers.specs.Answer.{answeredOf}
 use Rattle.answers.specs.declared.Answer.{Answer}
 use Rattle.answers.specs.declared.Answer.the-variants as answers
@@ -134,12 +134,12 @@ asked-later x a f k =
     tested-later x (λ y. cond a (asked (answerOf f y) (k y)) (refused noNumber)) (ap (λ e. cond a e (refused noNumber)) (asked-nan f (k nan)) ∙ same a (refused noNumber))
 
 -- what is asked and answered is a number
-answering : (a b : Bool) (x v : Float) → cond a (cond b (answers.Value v) (answers.Refused 2)) (answers.Refused 3) ≡ answers.Value x → a ≡ true
-answering true b x v h = refl
-answering false b x v h = absurd (let z : _≡_ {A = ℕ} 0 1 = cc in omega arith)
+answering : (a b : Bool) (n : ℕ) (x v : Float) → cond a (cond b (answers.Value v) (answers.Refused n)) (answers.Refused noNumber) ≡ answers.Value x → a ≡ true
+answering true b n x v h = refl
+answering false b n x v h = absurd (let z : _≡_ {A = ℕ} 0 1 = cc in omega arith)
 
 pub asked-number : (f : Function) (x v : Float) → answerOf f x ≡ answers.Value v → isNumber x ≡ true
-asked-number f x v h = answering (isNumber x) (inRange (lowOf f) (highOf f) x) v (at f x) h
+asked-number f x v h = answering (isNumber x) (inRange (lowOf f) (highOf f) x) (sideOf (lowOf f) (highOf f) x) v (at f x) h
 
 -- ---- section 6, "When, and only then": refused by n exactly where the path stops by n, by no number exactly where all of it passes
 abbrev pub refusalIn : {A : Type 0} → Ended A → Option ℕ
@@ -191,12 +191,13 @@ matrix-from (given m) n e = absurd (let z : _≡_ {A = ℕ} 0 1 = cc in omega ar
 matrix-from (refused m) n e = cc
 
 met-positive : (m : Met) (n : ℕ) → Refuses n m → 0 < n
-met-positive m n (inl q) = let z = q .2 in omega arith
-met-positive (input l) n (inr q) = let z = q .1 in omega arith
-met-positive (argument k f e) n (inr q) = let z = q .1 in omega arith
-met-positive (worked k es) n (inr q) = let z = q .1 in omega arith
-met-positive (tested k t) n (inr q) = let z = q .1 in omega arith
-met-positive (result-of k l) n (inr q) = let z = q .1 in omega arith
+met-positive m n (inl q) = let z = q .1 in omega arith
+met-positive m n (inr (inl q)) = let z = q .1 in omega arith
+met-positive (input l) n (inr (inr q)) = let z = q .1 in omega arith
+met-positive (argument k f e) n (inr (inr q)) = let z = q .1 in omega arith
+met-positive (worked k es) n (inr (inr q)) = let z = q .1 in omega arith
+met-positive (tested k t) n (inr (inr q)) = let z = q .1 in omega arith
+met-positive (result-of k l) n (inr (inr q)) = let z = q .1 in omega arith
 
 pub stops-positive : (ms : List Met) (n : ℕ) → Stops n ms → 0 < n
 stops-positive [] n q = absurd q

@@ -5,9 +5,9 @@ use mathlib.Core.Option.{Option, some, none}
 use mathlib.Core.Path.{_≡_, refl, ap, _∙_}
 use Prim.Native.Nat.{ℕ, zero, suc}
 use lib.Ieee.{Float, nan, inf, fin}
-use Rattle.answers.specs.Refusals.{outOfRange, noNumber}
+use Rattle.answers.specs.Refusals.{noNumber}
 use Rattle.numbers.specs.Floats.{finite, isNumber}
-use Rattle.answers.specs.Range.{inRange}
+use Rattle.answers.specs.Range.{inRange, sideOf}
 use Rattle.answers.specs.declared.Answer.{Answer}
 use Rattle.answers.specs.declared.Answer.the-variants as answers
 use Rattle.tensor.specs.Axes.{fromLeft, allOf}
@@ -65,7 +65,7 @@ allClean es = allOf clean es
 abbrev pub first : List Met → Option Refusal
 first [] = none
 first (input l ∷ ms) = cond (allOf finite l) (first ms) (some (record { number = 1; step = 0; place = placeOf l }))
-first (argument n f e ∷ ms) = cond (clean e) (cond (inRange (lowOf f) (highOf f) (value e)) (first ms) (stop 2 n)) (stop 3 n)
+first (argument n f e ∷ ms) = cond (clean e) (cond (inRange (lowOf f) (highOf f) (value e)) (first ms) (stop (sideOf (lowOf f) (highOf f) (value e)) n)) (stop 3 n)
 first (worked n es ∷ ms) = cond (allClean es) (first ms) (stop 3 n)
 first (tested n t ∷ ms) = cond (allClean (compared t)) (first ms) (stop 3 n)
 first (result-of n rows ∷ ms) = cond (allOf (allOf (λ e. clean e && finite (value e))) rows) (first ms) (stop 3 n)
@@ -106,11 +106,11 @@ module _ {A : Type 0} where
   fork true x y p q a b h i = h
   fork false x y p q a b h i = i
 
-  asking : (b c : Bool) (n : ℕ) (v : Float) (k : Float → Ended A) (o : Option Refusal) (a : A) → k v ≡ answer o a
-      → asked (cond b (cond c (answers.Value v) (answers.Refused outOfRange)) (answers.Refused noNumber)) k ≡ answer (cond b (cond c o (stop 2 n)) (stop 3 n)) a
-  asking true true n v k o a h = h
-  asking true false n v k o a h = refl
-  asking false c n v k o a h = refl
+  asking : (b c : Bool) (m n : ℕ) (v : Float) (k : Float → Ended A) (o : Option Refusal) (a : A) → k v ≡ answer o a
+      → asked (cond b (cond c (answers.Value v) (answers.Refused m)) (answers.Refused noNumber)) k ≡ answer (cond b (cond c o (stop m n)) (stop 3 n)) a
+  asking true true m n v k o a h = h
+  asking true false m n v k o a h = refl
+  asking false c m n v k o a h = refl
 
 each-clean : (es : List Expr) → map isNumber (values es) ≡ map clean es
 each-clean [] = refl
@@ -157,7 +157,7 @@ exactly (inputs l w) = gated (allOf finite l) 1 0 (placeOf l) (result w) (first 
 exactly (ask n f e k) =
     let v = at f (value e) in
     let w = k (num v) in
-    rw (← whole-tells e) (asking (isNumber (value e)) (inRange (lowOf f) (highOf f) (value e)) n v (λ x. result (k (num x))) (first (path w)) (final w) (exactly (k (num (at f (value e))))))
+    rw (← whole-tells e) (asking (isNumber (value e)) (inRange (lowOf f) (highOf f) (value e)) (sideOf (lowOf f) (highOf f) (value e)) n v (λ x. result (k (num x))) (first (path w)) (final w) (exactly (k (num (at f (value e))))))
 exactly (works n es k) =
     let w = k (values es) in
     rw (← all-clean es) (gate (numbers es) 3 n (result w) (first (path w)) (final w) (exactly (k (values es))))

@@ -11,3 +11,4 @@ pub mod Tensor
 pub mod Answers
 pub mod Power
 pub mod Numbers
+pub mod Before

@@ -5,9 +5,9 @@ use mathlib.Core.Path.{_≡_, refl, ap, sym, _∙_}
 use Prim.Native.Nat.{ℕ}
 use lib.Ieee as Ieee
 use lib.Ieee.{Float}
-use Rattle.answers.specs.Refusals.{outOfRange, noNumber}
+use Rattle.answers.specs.Refusals.{noNumber}
 use Rattle.numbers.specs.Floats.{isNumber, maxOf, minOf}
-use Rattle.answers.specs.Range.{inRange}
+use Rattle.answers.specs.Range.{inRange, sideOf}
 use Rattle.answers.specs.declared.Answer.{Answer}
 use Rattle.answers.specs.declared.Answer.the-variants as answers
 use Rattle.exact.specs.RootOf.{sqrtOf}
@@ -64,12 +64,12 @@ tells : Answer → Bool
 tells (answers.Value x) = isNumber x
 tells (answers.Refused n) = true
 
-told : (a b : Bool) (v : Float) → isNumber v ≡ true → tells (cond a (cond b (answers.Value v) (answers.Refused outOfRange)) (answers.Refused noNumber)) ≡ true
+told : (a b : Bool) (n : ℕ) (v : Float) → isNumber v ≡ true → tells (cond a (cond b (answers.Value v) (answers.Refused n)) (answers.Refused noNumber)) ≡ true
 unfolding tells
-told true true v h = h
-told true false v h = refl
-told false b v h = refl
+told true true n v h = h
+told true false n v h = refl
+told false b n v h = refl
 
 pub root-told : (w x : Float) → answerOf root w ≡ answers.Value x → isNumber x ≡ true
 unfolding tells
-root-told w x h = sym (ap tells h) ∙ told (isNumber w) (inRange (lowOf root) (highOf root) w) (sqrtOf w) (root-number w)
+root-told w x h = sym (ap tells h) ∙ told (isNumber w) (inRange (lowOf root) (highOf root) w) (sideOf (lowOf root) (highOf root) w) (sqrtOf w) (root-number w)

@@ -1,5 +1,5 @@
--- A law as data: its steps in order, each with what follows it (RULES, section 6: "the steps run in the law's order to the first 2
--- or NaN met; whether the results are finite comes last"). A step's number is the one in docs.
+-- A law as data: its steps in order, each with what follows it (RULES, section 6: "the steps run in the law's order to the first 2,
+-- 10 or NaN met; whether the results are finite comes last"). A step's number is the one in docs.
 use mathlib.Core.Bool.{Bool, true, cond, _&&_}
 use mathlib.Core.List.{List, [], _∷_, map}
 use Prim.Native.Nat.{ℕ}
@@ -67,7 +67,7 @@ at two-thirds x = thirds.cbrtSquaredOf x
 at minus-third x = thirds.invCbrtOf x
 at minus-two-thirds x = thirds.invCbrtSquaredOf x
 
--- as a step: 3 of a NaN, 2 outside the range
+-- as a step: 3 of a NaN, 2 below the range, 10 above it
 abbrev pub answerOf : Function → Float → Answer
 answerOf f x = onPath x (ranged (lowOf f) (highOf f) x (at f x))
 

@@ -1,0 +1,29 @@
+-- Nothing accepted before changes: each law is its walk, and of a walk it is proved. Assumes nothing.
+use mathlib.Core.Path.{_≡_, refl, ap, _∙_}
+use Rattle.answers.proofs.Before.{bare-before}
+use Rattle.plasticity.specs.declared.State.{State}
+use Rattle.walk.specs.Walk.{Walk, lowOf, highOf, at, Ended, given, refused, result}
+use Rattle.walk.specs.Update.{Change, untouched, stored, updatedOf}
+use Rattle.walk.specs.Before.{endedBefore, resultBefore, same-before}
+use Rattle.record.specs.Layout.{uAt, vtAt, stateAt}
+use Rattle.refusals.specs.Refusals.{walkOf, failureWalk}
+use Rattle.refusals.specs.Before.{outcomeBefore, updatedBefore, NothingElse}
+use Rattle.refusals.proofs.Updates.{walked, record-walked}
+use Rattle.refusals.proofs.Failure as failure
+
+told : (s : State) (x : Ended Change) → updatedBefore (updatedOf s x) ≡ updatedOf s (endedBefore x)
+told s (given untouched) = refl
+told s (given (stored new a)) = refl
+told s (refused n) = refl
+
+as-before : (s : State) (w : Walk Change) → updatedBefore (updatedOf s (result w)) ≡ updatedOf s (resultBefore w)
+as-before s w = told s (result w) ∙ ap (updatedOf s) (same-before w)
+
+pub nothing-else : NothingElse
+nothing-else =
+    record {
+      update = λ m u vt s. ap updatedBefore (walked m u vt s) ∙ as-before s (walkOf m u vt s);
+      law = λ m r. ap outcomeBefore (record-walked m r) ∙ ap (λ v. v .outcome) (as-before (stateAt r) (walkOf m (uAt r) (vtAt r) (stateAt r)));
+      failure-law = λ m l e r. ap outcomeBefore (failure.walked m l e r) ∙ ap (λ v. v .outcome) (as-before (stateAt r) (failureWalk m l e r));
+      call = λ f x. bare-before (lowOf f) (highOf f) x (at f x);
+    }
