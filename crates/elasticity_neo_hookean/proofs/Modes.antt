@@ -3,7 +3,7 @@ use mathlib.Core.Bool.{Bool, true, false, cond, _&&_}
 use mathlib.Core.List.{List, [], _∷_}
 use mathlib.Core.Option.{Option, some, none}
 use mathlib.Core.Path.{_≡_, refl, ap, sym, _∙_}
-use Prim.Native.Nat.{ℕ, _<_}
+use Prim.Native.Nat.{ℕ}
 use native.Mathlib.Omega.{arith}
 use lib.Ieee as Ieee
 use lib.Ieee.{Float}
@@ -28,11 +28,11 @@ ended none x a e = cc
 ended (some r) x a e = absurd (let z : _≡_ {A = ℕ} 0 1 = cc in omega arith)
 
 -- after the split only 3 comes, of a result that isn't finite
-at-the-end : (b s t : Bool) (x y : Float) (n : ℕ) → n < 3 → cond b (cond s (Value x) (Refused noNumber)) (cond t (Value y) (Refused noNumber)) ≡ Refused n → ⊥
+at-the-end : (b s t : Bool) (x y : Float) (n : ℕ) → (n ≡ 3 → ⊥) → cond b (cond s (Value x) (Refused noNumber)) (cond t (Value y) (Refused noNumber)) ≡ Refused n → ⊥
 at-the-end true true t x y n l e = let z : _≡_ {A = ℕ} 0 1 = cc in omega arith
-at-the-end true false t x y n l e = let z : _≡_ {A = ℕ} 3 n = cc in omega arith
+at-the-end true false t x y n l e = let z : _≡_ {A = ℕ} n 3 = cc in l z
 at-the-end false s true x y n l e = let z : _≡_ {A = ℕ} 0 1 = cc in omega arith
-at-the-end false s false x y n l e = let z : _≡_ {A = ℕ} 3 n = cc in omega arith
+at-the-end false s false x y n l e = let z : _≡_ {A = ℕ} n 3 = cc in l z
 
 module _ (p : NeoHookeanElasticity) (phase h : Float) (f : List (List Float)) where
   abbrev j : Float
@@ -74,13 +74,13 @@ module _ (p : NeoHookeanElasticity) (phase h : Float) (f : List (List Float)) wh
       let vol = q .volumetric in
       rw (split-alone m, e, parts-j q e) (split-number 6 7 (at-most one (num j)) (c * (vol + dev) + num tensor.zero) (below m c dev vol) (rw (one-number, j-number q e)))
 
-  -- 1 and 2 come in one mode exactly where they come in the other
-  alike : (x : Ended Parts) → result partsRun ≡ x → (m k : Bool) (n : ℕ) → n < 3 → elasticEnergyDensityIn m p phase h f ≡ Refused n → elasticEnergyDensityIn k p phase h f ≡ Refused n
+  -- every number but 3 comes in one mode exactly where it comes in the other
+  alike : (x : Ended Parts) → result partsRun ≡ x → (m k : Bool) (n : ℕ) → (n ≡ 3 → ⊥) → elasticEnergyDensityIn m p phase h f ≡ Refused n → elasticEnergyDensityIn k p phase h f ≡ Refused n
   alike (given q) e m k n l r =
       absurd (at-the-end (Ieee.le tensor.one j) (finite (tensor.add (tensor.mul (value c) (tensor.add (value (q .volumetric)) (value (q .deviatoric)))) tensor.zero)) (finite (value (below m c (q .deviatoric) (q .volumetric)))) _ _ n l (sym (split-law q e m) ∙ r))
   alike (refused i) e m k n l r = refused-before i e k ∙ sym (refused-before i e m) ∙ r
 
-  pub refused-alike : (m k : Bool) (n : ℕ) → n < 3 → elasticEnergyDensityIn m p phase h f ≡ Refused n → elasticEnergyDensityIn k p phase h f ≡ Refused n
+  pub refused-alike : (m k : Bool) (n : ℕ) → (n ≡ 3 → ⊥) → elasticEnergyDensityIn m p phase h f ≡ Refused n → elasticEnergyDensityIn k p phase h f ≡ Refused n
   refused-alike m k n l r = alike (result partsRun) refl m k n l r
 
   -- "At j of at least 1 the two modes agree in every bit"
