@@ -25,6 +25,7 @@ extern "C" {
     pub fn pasoletu_neo_hookean_fpk_stress(law: *const u64, law_length: usize, hardening: f64, f: *const u64, f_length: usize, out: *mut u64, out_length: usize) -> u8;
     pub fn pasoletu_neo_hookean_kirchhoff_stress(law: *const u64, law_length: usize, phase: f64, hardening: f64, f: *const u64, f_length: usize, out: *mut u64, out_length: usize) -> u8;
     pub fn pasoletu_neo_hookean_elastic_energy_density(law: *const u64, law_length: usize, phase: f64, hardening: f64, f: *const u64, f_length: usize, out: *mut u64, out_length: usize) -> u8;
+    pub fn pasoletu_neo_hookean_elastic_energy_density_in(law: *const u64, law_length: usize, one_split: f64, phase: f64, hardening: f64, f: *const u64, f_length: usize, out: *mut u64, out_length: usize) -> u8;
     pub fn pasoletu_neo_hookean_pos_energy(law: *const u64, law_length: usize, phase: f64, hardening: f64, f: *const u64, f_length: usize, out: *mut u64, out_length: usize) -> u8;
     pub fn pasoletu_phase_coeff(phase: f64, out: *mut u64, out_length: usize) -> u8;
     pub fn pasoletu_corotated_kirchhoff_stress(law: *const u64, law_length: usize, phase: f64, hardening: f64, f: *const u64, f_length: usize, u: *const u64, u_length: usize, sigma: *const u64, sigma_length: usize, vt: *const u64, vt_length: usize, out: *mut u64, out_length: usize) -> u8;

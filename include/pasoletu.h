@@ -257,6 +257,13 @@ uint8_t pasoletu_neo_hookean_elastic_energy_density(const double *law, size_t la
                                                     double hardening, const double *f, size_t f_length, double *out,
                                                     size_t out_length);
 
+/* law: 3; f: 9; out: 1. The energy in a mode. one_split is a flag: 0.0 is the call above, bit for bit; with 1.0 the
+ * deviatoric part is the tensile one below determinant 1, as in the Kirchhoff stress. From determinant 1 up the two
+ * are the same. Also 6, after 8 and before 1: one_split is neither 0.0 nor 1.0. */
+uint8_t pasoletu_neo_hookean_elastic_energy_density_in(const double *law, size_t law_length, double one_split,
+                                                       double phase, double hardening, const double *f, size_t f_length,
+                                                       double *out, size_t out_length);
+
 /* law: 3; f: 9; out: 1. The positive part of the energy; from determinant 1 up times phase, not phase_coeff, as the
  * Rust has it. */
 uint8_t pasoletu_neo_hookean_pos_energy(const double *law, size_t law_length, double phase, double hardening,

@@ -160,6 +160,31 @@ static void physics(void)
     REFUSED(8, 3, pasoletu_decomposed_times, 2.0, deviatoric, 9, v, 2);
 }
 
+/* From determinant 1 up the modes are one; below it the tensile part is the volumetric one (0.0) or the deviatoric one (1.0). */
+static void energy_modes(const double *law, double volumetric, const double *half, const double *gone)
+{
+    const double part = 3 * (0.6931471805599453 - 0.375), deviatoric = 3 * (2.25 * 1.5874010519681994 - 3);
+    for (int mode = 0; mode < 2; mode++) {
+        DONE(1, pasoletu_neo_hookean_elastic_energy_density_in, law, 3, mode, 0.5, 2.0, TWICE, 9);
+        CHECK(near(out[0], volumetric * 0.25075));
+        DONE(1, pasoletu_neo_hookean_elastic_energy_density_in, law, 3, mode, 0.5, 2.0, I, 9); /* determinant 1 itself */
+        CHECK(near(out[0], 0.0));
+        REFUSED(8, 1, pasoletu_neo_hookean_elastic_energy_density_in, law, 2, mode, 0.5, 2.0, I, 9);
+        REFUSED(1, 1, pasoletu_neo_hookean_elastic_energy_density_in, law, 3, mode, infinity(), 2.0, I, 9);
+        REFUSED(2, 1, pasoletu_neo_hookean_elastic_energy_density_in, law, 3, mode, 0.5, 2.0, gone, 9);
+    }
+    DONE(1, pasoletu_neo_hookean_elastic_energy_density_in, law, 3, 0.0, 0.5, 2.0, half, 9);
+    CHECK(near(out[0], part * 0.25075 + deviatoric));
+    DONE(1, pasoletu_neo_hookean_elastic_energy_density, law, 3, 0.5, 2.0, half, 9);
+    CHECK(near(out[0], part * 0.25075 + deviatoric));
+    DONE(1, pasoletu_neo_hookean_elastic_energy_density_in, law, 3, 1.0, 0.5, 2.0, half, 9);
+    CHECK(near(out[0], deviatoric * 0.25075 + part));
+    REFUSED(6, 1, pasoletu_neo_hookean_elastic_energy_density_in, law, 3, -0.0, 0.5, 2.0, I, 9);
+    REFUSED(6, 1, pasoletu_neo_hookean_elastic_energy_density_in, law, 3, 0.5, 0.5, 2.0, I, 9);
+    REFUSED(6, 1, pasoletu_neo_hookean_elastic_energy_density_in, law, 3, infinity(), infinity(), 2.0, I, 9); /* 6 before 1 */
+    REFUSED(8, 1, pasoletu_neo_hookean_elastic_energy_density_in, law, 3, -0.0, 0.5, 2.0, I, 8);              /* 8 before 6 */
+}
+
 /* Phase 0.5 weakens tension by phase_coeff(0.5) = 0.25075; lambda 1, mu 3 and hardening 2 make the bulk modulus 6; F's
  * determinant is 8. */
 static void neo_hookean(void)
@@ -178,6 +203,7 @@ static void neo_hookean(void)
     CHECK(near(out[0], volumetric * 0.5));
     DONE(1, pasoletu_neo_hookean_pos_energy, law, 3, 0.5, 2.0, half, 9); /* below determinant 1 the deviatoric part */
     CHECK(near(out[0], 3 * (2.25 * 1.5874010519681994 - 3) * 0.25075));
+    energy_modes(law, volumetric, half, gone);
     REFUSED(2, 9, pasoletu_neo_hookean_kirchhoff_stress, law, 3, 1.0, 1.0, gone, 9);
     REFUSED(8, 9, pasoletu_neo_hookean_kirchhoff_stress, law, 4, 1.0, 1.0, I, 9);
     REFUSED(1, 1, pasoletu_neo_hookean_pos_energy, law, 3, infinity(), 1.0, I, 9);

@@ -296,6 +296,14 @@ CALLS: dict[str, tuple[Argument, ...]] = {
         Argument("f", "f64", 9, False),
         Argument("out", "f64", 1, True),
     ),
+    "neo_hookean_elastic_energy_density_in": (
+        Argument("law", "f64", 3, False),
+        Argument("one_split", "f64", None, False),
+        Argument("phase", "f64", None, False),
+        Argument("hardening", "f64", None, False),
+        Argument("f", "f64", 9, False),
+        Argument("out", "f64", 1, True),
+    ),
     "neo_hookean_pos_energy": (
         Argument("law", "f64", 3, False),
         Argument("phase", "f64", None, False),

@@ -226,9 +226,18 @@ class NeoHookeanElasticity(Law):
         given = self._arguments(phase, hardening, deformation_gradient)
         return matrix("neo_hookean_kirchhoff_stress", "NeoHookeanElasticity.kirchhoff_stress", **given)
 
-    def elastic_energy_density(self, phase: float, hardening: float, deformation_gradient: Matrix) -> float:
+    def elastic_energy_density(
+        self, phase: float, hardening: float, deformation_gradient: Matrix, *, one_split: bool = False
+    ) -> float:
+        """Below determinant 1 the volumetric part is the tensile one, as the Rust has it; with `one_split` the deviatoric part,
+        as in `kirchhoff_stress`. From determinant 1 up the two are the same."""
+        told = "NeoHookeanElasticity.elastic_energy_density"
         given = self._arguments(phase, hardening, deformation_gradient)
-        return one("neo_hookean_elastic_energy_density", "NeoHookeanElasticity.elastic_energy_density", **given)
+        if not one_split:
+            return one("neo_hookean_elastic_energy_density", told, **given)
+        # The flag stands after the law.
+        given = {"law": given.pop("law"), "one_split": float(one_split), **given}
+        return one("neo_hookean_elastic_energy_density_in", told, **given)
 
     def pos_energy(self, phase: float, hardening: float, deformation_gradient: Matrix) -> float:
         """The positive part of the energy."""

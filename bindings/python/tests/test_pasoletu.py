@@ -163,6 +163,11 @@ class Laws(Tests):
         # Below determinant 1 the deviatoric part.
         deviatoric = 3.0 * (2.25 * 4.0 ** (1.0 / 3.0) - 3.0)
         self.assertAlmostEqual(law.pos_energy(0.5, 2.0, diagonal(0.5, 1.0, 1.0)), deviatoric * 0.25075)
+        half, volumetric_half = diagonal(0.5, 1.0, 1.0), 3.0 * (math.log(2.0) - 0.375)
+        self.assertAlmostEqual(law.elastic_energy_density(0.5, 2.0, half), volumetric_half * 0.25075 + deviatoric)
+        one_split = law.elastic_energy_density(0.5, 2.0, half, one_split=True)
+        self.assertAlmostEqual(one_split, deviatoric * 0.25075 + volumetric_half)
+        self.assertEqual(law.elastic_energy_density(0.5, 2.0, f, one_split=True), law.elastic_energy_density(0.5, 2.0, f))
         self.assertEqual(NeoHookeanElasticity.new(1.0, 0.0), NeoHookeanElasticity(0.5, 0.0, 0.5))
 
     def test_corotated(self):

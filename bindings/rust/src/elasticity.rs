@@ -4,6 +4,16 @@ use crate::math::{Matrix, Real, Vector};
 use crate::table::*;
 use crate::{utils, Refusal};
 
+/// Which part of the neo-Hookean energy `phase_coeff` weakens below determinant 1. From there up it weakens both.
+#[derive(Copy, Clone, Debug, Default, PartialEq, Eq)]
+pub enum EnergySplit {
+    /// The volumetric part, as the Rust has it.
+    #[default]
+    Rust,
+    /// The deviatoric part, as `kirchhoff_stress` has it: one split for both.
+    AsStress,
+}
+
 /// Neo-Hookean stress and energy (elasticity_neo_hookean.rs). Each call is refused by 1 for an input that is not finite, by 2
 /// where F's determinant lies below the range of the powers and the logarithm, by 10 where above it, by 3 for a NaN or a
 /// result not finite.
@@ -70,6 +80,21 @@ impl NeoHookeanElasticity {
         number("NeoHookeanElasticity::elastic_energy_density", |out, n| unsafe {
             let (phase, hardening) = (particle_phase, elastic_hardening);
             pasoletu_neo_hookean_elastic_energy_density(law.as_ptr(), 3, phase, hardening, f, 9, out, n)
+        })
+    }
+
+    /// The energy by the split that is named; `EnergySplit::Rust` is `elastic_energy_density`, bit for bit.
+    pub fn elastic_energy_density_in(
+        &self,
+        split: EnergySplit,
+        particle_phase: Real,
+        elastic_hardening: Real,
+        deformation_gradient: &Matrix<Real>,
+    ) -> Result<Real, Refusal> {
+        let (law, f) = (self.law(), entries(deformation_gradient));
+        number("NeoHookeanElasticity::elastic_energy_density_in", |out, n| unsafe {
+            let (one_split, phase, hardening) = (flag(split == EnergySplit::AsStress), particle_phase, elastic_hardening);
+            pasoletu_neo_hookean_elastic_energy_density_in(law.as_ptr(), 3, one_split, phase, hardening, f, 9, out, n)
         })
     }
 

@@ -53,7 +53,7 @@ pub mod utils;
 #[cfg(feature = "alloc")]
 mod vectors;
 
-pub use elasticity::{CorotatedLinearElasticity, NeoHookeanElasticity};
+pub use elasticity::{CorotatedLinearElasticity, EnergySplit, NeoHookeanElasticity};
 pub use failure::MaximumStressFailure;
 pub use fluid::MonaghanSphEos;
 pub use lists::{pass_into, pass_with_failure_into, read_sheet_into, Answer, Counts};

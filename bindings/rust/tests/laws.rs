@@ -1,7 +1,7 @@
 //! Every other call once, at values that are worked by hand.
 use pasoletu::math::{DecomposedTensor, Matrix};
 use pasoletu::{
-    pass, pass_with_failure, utils, CorotatedLinearElasticity, DruckerPragerPlasticity, MaximumStressFailure, Model,
+    pass, pass_with_failure, utils, CorotatedLinearElasticity, DruckerPragerPlasticity, EnergySplit, MaximumStressFailure, Model,
     MonaghanSphEos, NaccPlasticity, NeoHookeanElasticity, Outcome, Particle, RankinePlasticity, SnowPlasticity,
 };
 
@@ -59,6 +59,12 @@ fn neo_hookean() {
     // Below determinant 1 the deviatoric part.
     let deviatoric = 3.0 * (2.25 * 4f64.cbrt() - 3.0);
     assert!(near(law.pos_energy(0.5, 2.0, &diagonal(0.5, 1.0, 1.0)).unwrap(), deviatoric * 0.25075));
+    let (half, volumetric_half) = (diagonal(0.5, 1.0, 1.0), 3.0 * (2f64.ln() - 0.375));
+    let energy = |split, f| law.elastic_energy_density_in(split, 0.5, 2.0, f).unwrap();
+    assert_eq!(energy(EnergySplit::Rust, &half), law.elastic_energy_density(0.5, 2.0, &half).unwrap());
+    assert!(near(energy(EnergySplit::default(), &half), volumetric_half * 0.25075 + deviatoric));
+    assert!(near(energy(EnergySplit::AsStress, &half), deviatoric * 0.25075 + volumetric_half));
+    assert_eq!(energy(EnergySplit::AsStress, &f).to_bits(), energy(EnergySplit::Rust, &f).to_bits());
     let made = NeoHookeanElasticity::new(1.0, 0.0);
     assert_eq!(made, Ok(NeoHookeanElasticity { cfl_coeff: 0.5, lambda: 0.0, mu: 0.5 }));
     assert!(!law.is_fluid());

@@ -25,7 +25,7 @@ use Rattle.walk.specs.Answers.{matrix, returnedMatrix, returned-matrix, matrixA
 use Rattle.elasticity_neo_hookean.specs.declared.NeoHookeanElasticity.{NeoHookeanElasticity}
 use Rattle.elasticity_neo_hookean.specs.Law.{parametersOf, lawFinite, floats, coefficient, bulk, cauchyGreen}
 use Rattle.elasticity_neo_hookean.specs.Stress.{shear, inverted, fpkVolumetric, fpkSteps, volumetric, tensile, compressed, splitWalk, kirchhoffSteps}
-use Rattle.elasticity_neo_hookean.specs.Energy.{volumetricEnergy, kappa, stretch, deviatoricEnergy, sumWalk, energySteps, posDeviatoric, posSum, posSteps}
+use Rattle.elasticity_neo_hookean.specs.Energy.{volumetricEnergy, kappa, stretch, deviatoricEnergy, Parts, partsWalk, below, sumWalk, energySteps, posDeviatoric, posSum, posSteps}
 
 -- ---- inputs
 pub inputs-law : (p : NeoHookeanElasticity) (phase h : Float) (f : List (List Float))
@@ -39,6 +39,11 @@ pub fpk-inputs-law : (p : NeoHookeanElasticity) (h : Float) (f : List (List Floa
 unfolding floats
 fpk-inputs-law p h f =
     all-append finite (parametersOf p ++ (h ∷ [])) (flat f) ∙ ap (λ b. lawFinite p && finite h && b) (all-flat finite f)
+
+-- ---- what is worth the same is weakened alike
+value-below : (m : Bool) (c dev vol : Expr) → value (below m c dev vol) ≡ value (below m (num (value c)) (num (value dev)) (num (value vol)))
+value-below true c dev vol = refl
+value-below false c dev vol = refl
 
 -- ---- kirchhoff_stress
 module _ (p : NeoHookeanElasticity) (phase h : Float) (f : List (List Float)) where
@@ -80,19 +85,19 @@ module _ (p : NeoHookeanElasticity) (phase h : Float) (f : List (List Float)) wh
       ∙ asked-later j (K && matNumber b) minus-two-thirds R
 
   -- the logarithm has the power's range: a NaN in j is the power's
-  pub energy-law : result (energySteps p phase h f)
-      ≡ (let m = value (kappa p h) in
-      cond (isNumber m)
+  pub energy-law : (m : Bool) → result (energySteps m p phase h f)
+      ≡ (let n = value (kappa p h) in
+      cond (isNumber n)
       (asked (answerOf minus-third j) (λ w.
       let s = worth (stretch (num w) f) in
       cond (matNumber s)
-      (asked (answerOf ln j) (λ l. result (sumWalk (coefficient phase) (num j) (deviatoricEnergy p h s) (volumetricEnergy (num m) (power (num j) 2) (num l)))))
+      (asked (answerOf ln j) (λ l. result (sumWalk m (coefficient phase) (record { j = num j; deviatoric = deviatoricEnergy p h s; volumetric = volumetricEnergy (num n) (power (num j) 2) (num l) }))))
       (refused noNumber)))
       (refused noNumber))
-  unfolding energySteps determinant
-  energy-law =
+  unfolding energySteps partsWalk determinant
+  energy-law m =
       let R : Float → Float → Ended Float = λ x w. result (matrix 4 (stretch (num w) f) (λ s.
-      ask 5 ln (num x) (λ l. sumWalk (coefficient phase) (num x) (deviatoricEnergy p h s) (volumetricEnergy (num (value (kappa p h))) (power (num x) 2) l)))) in
+      ask 5 ln (num x) (λ l. sumWalk m (coefficient phase) (record { j = num x; deviatoric = deviatoricEnergy p h s; volumetric = volumetricEnergy (num (value (kappa p h))) (power (num x) 2) l })))) in
       ap (λ e. cond (isNumber (value (kappa p h))) e (refused noNumber)) (tested-later j (λ x. asked (answerOf minus-third x) (R x)) (asked-nan minus-third (R nan)))
       ∙ simp numbers-flat
 
@@ -126,18 +131,20 @@ module _ (p : NeoHookeanElasticity) (phase h : Float) (f : List (List Float)) wh
       let vol = num (value (volumetricEnergy (num k) (num j * num j) (num l))) in
       rw (pos-law, t, u, v, x) (split-number 7 8 (less (num j) one) (dev * coefficient phase) ((dev + vol) * num phase) (number-first ln l v))
 
-  pub energy-given : {w l : Float} → isNumber (value (kappa p h)) ≡ true → answerOf minus-third j ≡ Value w
+  pub energy-given : (m : Bool) {w l : Float} → isNumber (value (kappa p h)) ≡ true → answerOf minus-third j ≡ Value w
       → matNumber (worth (stretch (num w) f)) ≡ true → answerOf ln j ≡ Value l
-      → answerAs (result (energySteps p phase h f))
+      → answerAs (result (energySteps m p phase h f))
       ≡ (let c = value (coefficient phase) in
       let dev = value (deviatoricEnergy p h (worth (stretch (num w) f))) in
       let vol = value (volumetricEnergy (num (value (kappa p h))) (power (num j) 2) (num l)) in
-      cond (Ieee.le tensor.one j) (answeredOf (tensor.add (tensor.mul c (tensor.add vol dev)) tensor.zero)) (answeredOf (tensor.add (tensor.mul c vol) dev)))
-  energy-given {w} {l} t u v x =
+      cond (Ieee.le tensor.one j) (answeredOf (tensor.add (tensor.mul c (tensor.add vol dev)) tensor.zero)) (answeredOf (value (below m (num c) (num dev) (num vol)))))
+  energy-given m {w} {l} t u v x =
       let c = coefficient phase in
       let dev = deviatoricEnergy p h (worth (stretch (num w) f)) in
       let vol = volumetricEnergy (num (value (kappa p h))) (power (num j) 2) (num l) in
-      rw (energy-law, t, u, v, x) (split-number 6 7 (at-most one (num j)) (c * (vol + dev) + num tensor.zero) (c * vol + dev) (number ln l x))
+      rw (energy-law m, t, u, v, x)
+      (split-number 6 7 (at-most one (num j)) (c * (vol + dev) + num tensor.zero) (below m c dev vol) (number ln l x)
+      ∙ ap (λ e. cond (Ieee.le tensor.one j) (answeredOf (tensor.add (tensor.mul (value c) (tensor.add (value vol) (value dev))) tensor.zero)) (answeredOf e)) (value-below m c dev vol))
 
 -- ---- fpk_stress
 identity-number : matNumber (identityTimesOf tensor.one) ≡ true

@@ -1,10 +1,12 @@
--- The neo-Hookean law's energies (RULES, section 5: "`elastic_energy_density` below j = 1 makes the *volumetric* part tensile; `pos_energy` from j = 1 up multiplies by phase and not by `phase_coeff`").
+-- The neo-Hookean law's energies (RULES, section 5: "`elastic_energy_density` below j = 1 makes the *volumetric* part tensile; `pos_energy` from j = 1 up multiplies by phase and not by `phase_coeff`"), and the first
+-- one's second mode (ticket 14: "below j = 1 the deviatoric part is tensile, from j = 1 up both are, and `phase_coeff` multiplies the tensile part at every j").
+use mathlib.Core.Bool.{Bool, false, cond}
 use mathlib.Core.List.{List, [], _∷_}
 use lib.Ieee.{Float}
 use Rattle.answers.specs.declared.Answer.{Answer}
 use Rattle.tensor.specs.Matrix as tensor
 use Rattle.walk.specs.Expr.{Expr, num, _+_, _-_, _*_, _/_}
-use Rattle.walk.specs.Walk.{Walk, ln, minus-third, minus-two-thirds, less, at-most, inputs, ask, work, split, result, answerAs}
+use Rattle.walk.specs.Walk.{Walk, ln, minus-third, minus-two-thirds, less, at-most, inputs, ask, work, split, end, _then_, result, answerAs}
 use Rattle.walk.specs.Tensor.{one, rows, turned, times, scaled, determinant, trace}
 use Rattle.walk.specs.Power.{power}
 use Rattle.walk.specs.Answers.{matrix, returned}
@@ -28,21 +30,44 @@ stretch w f = times (turned (scaled w (rows f))) (scaled w (rows f))
 abbrev pub deviatoricEnergy : NeoHookeanElasticity → Float → List (List Float) → Expr
 deviatoricEnergy p h s = num (p .mu) * num h / two * (trace (rows s) - dim)
 
--- from j = 1 up both parts are tensile, and 0 is added; below it the volumetric part; c is the phase's coefficient
-abbrev pub sumWalk : Expr → Expr → Expr → Expr → Walk Float
-sumWalk c j dev vol = split 6 (at-most one j) (returned 7 (c * (vol + dev) + num tensor.zero)) (returned 7 (c * vol + dev))
+-- j and the two parts: all that the split takes, the same in both modes
+pub record Parts : Type 0 where
+  pub j : Expr
+  pub deviatoric : Expr
+  pub volumetric : Expr
 
-unfoldable pub energySteps : NeoHookeanElasticity → Float → Float → List (List Float) → Walk Float
-energySteps p phase h f =
+unfoldable pub partsWalk : NeoHookeanElasticity → Float → List (List Float) → Walk Parts
+partsWalk p h f =
     work 1 (kappa p h) (λ k.
     work 2 (determinant f) (λ j.
     ask 3 minus-third j (λ w.
     matrix 4 (stretch w f) (λ s.
     ask 5 ln j (λ l.
-    sumWalk (coefficient phase) j (deviatoricEnergy p h s) (volumetricEnergy k (power j 2) l))))))
+    end (record { j = j; deviatoric = deviatoricEnergy p h s; volumetric = volumetricEnergy k (power j 2) l }))))))
 
-unfoldable pub energyWalk : NeoHookeanElasticity → Float → Float → List (List Float) → Walk Float
-energyWalk p phase h f = inputs (floats p (phase ∷ h ∷ []) f) (energySteps p phase h f)
+-- below j = 1 the tensile part is the volumetric one, with one split for stress and energy the deviatoric one; c is the phase's coefficient
+abbrev pub below : Bool → Expr → Expr → Expr → Expr
+below one-split c dev vol = cond one-split (c * dev + vol) (c * vol + dev)
+
+-- from j = 1 up both parts are tensile, and 0 is added
+abbrev pub sumWalk : Bool → Expr → Parts → Walk Float
+sumWalk one-split c q =
+    let dev = q .deviatoric in
+    let vol = q .volumetric in
+    split 6 (at-most one (q .j)) (returned 7 (c * (vol + dev) + num tensor.zero)) (returned 7 (below one-split c dev vol))
+
+unfoldable pub energySteps : Bool → NeoHookeanElasticity → Float → Float → List (List Float) → Walk Float
+energySteps one-split p phase h f = partsWalk p h f then sumWalk one-split (coefficient phase)
+
+unfoldable pub energyWalkIn : Bool → NeoHookeanElasticity → Float → Float → List (List Float) → Walk Float
+energyWalkIn one-split p phase h f = inputs (floats p (phase ∷ h ∷ []) f) (energySteps one-split p phase h f)
+
+abbrev pub elasticEnergyDensityIn : Bool → NeoHookeanElasticity → Float → Float → List (List Float) → Answer
+elasticEnergyDensityIn one-split p phase h f = answerAs (result (energyWalkIn one-split p phase h f))
+
+-- the Rust's mode
+abbrev pub energyWalk : NeoHookeanElasticity → Float → Float → List (List Float) → Walk Float
+energyWalk p phase h f = energyWalkIn false p phase h f
 
 abbrev pub elasticEnergyDensity : NeoHookeanElasticity → Float → Float → List (List Float) → Answer
 elasticEnergyDensity p phase h f = answerAs (result (energyWalk p phase h f))

@@ -11,7 +11,7 @@ ghost use Rattle.walk.specs.Expr.{num, value};
 ghost use Rattle.walk.specs.Walk.{result, answerAs};
 ghost use Rattle.walk.specs.Tensor.{worth};
 ghost use Rattle.elasticity_neo_hookean.specs.Law.{coefficient};
-ghost use Rattle.elasticity_neo_hookean.specs.Energy.{volumetricEnergy, kappa, stretch, deviatoricEnergy, energySteps, posDeviatoric, posSteps};
+ghost use Rattle.elasticity_neo_hookean.specs.Energy.{volumetricEnergy, kappa, stretch, deviatoricEnergy, below, energySteps, posDeviatoric, posSteps};
 
 // q is the square of j, l its logarithm.
 fn volumetric_energy(k: f64, q: f64, l: f64) -> f64
@@ -41,20 +41,29 @@ fn deviatoric_energy(p: NeoHookeanElasticity, hardening: f64, s: [[f64; 3]; 3]) 
     p.mu * hardening / 2.0 * (tensor::trace(s) - 3.0)
 }
 
-// Below j = 1 the volumetric part is the tensile one, as the text has it.
-fn energy_sum(c: f64, j: f64, dev: f64, vol: f64) -> Answer
-    ensures { λ r. ⌜ r ≡ cond (le one j) (answeredOf (add (mul c (add vol dev)) zero)) (answeredOf (add (mul c vol) dev)) ⌝ }
+// Below j = 1 the volumetric part is the tensile one, as the text has it; with one split for stress and energy the
+// deviatoric part.
+fn energy_sum(one_split: bool, c: f64, j: f64, dev: f64, vol: f64) -> Answer
+    ensures { λ r. ⌜ r ≡ cond (le one j) (answeredOf (add (mul c (add vol dev)) zero)) (answeredOf (value (below «one_split» (num c) (num dev) (num vol)))) ⌝ }
 {
     if j >= 1.0 {
         answers::answered(c * (vol + dev) + 0.0)
+    } else if one_split {
+        answers::answered(c * dev + vol)
     } else {
         answers::answered(c * vol + dev)
     }
 }
 
 // A NaN in k comes before the power's refusal; one in j is the power's.
-pub fn energy(p: NeoHookeanElasticity, phase: f64, hardening: f64, f: [[f64; 3]; 3]) -> Answer
-    ensures { λ r. ⌜ r ≡ answerAs (result (energySteps p phase hardening f)) ⌝ }
+pub fn energy(
+    one_split: bool,
+    p: NeoHookeanElasticity,
+    phase: f64,
+    hardening: f64,
+    f: [[f64; 3]; 3],
+) -> Answer
+    ensures { λ r. ⌜ r ≡ answerAs (result (energySteps «one_split» p phase hardening f)) ⌝ }
 {
     let k = kappa(p, hardening);
     let j = tensor::determinant(f);
@@ -67,7 +76,7 @@ pub fn energy(p: NeoHookeanElasticity, phase: f64, hardening: f64, f: [[f64; 3];
                         Answer::Value(l) => {
                             let vol = volumetric_energy(k, numbers::powi(j, 2), l);
                             let dev = deviatoric_energy(p, hardening, s);
-                            energy_sum(plain::phase_coeff(phase), j, dev, vol)
+                            energy_sum(one_split, plain::phase_coeff(phase), j, dev, vol)
                         }
                         Answer::Refused(n) => Answer::Refused(n),
                     }

@@ -14,7 +14,7 @@ ghost use Rattle.tensor.specs.Finite.{matFinite};
 ghost use Rattle.walk.specs.Expr.{value};
 ghost use Rattle.elasticity_neo_hookean.specs.Law.{lawFinite, lawOf, fromLame, newOf, phaseCoeff, bulk};
 ghost use Rattle.elasticity_neo_hookean.specs.Stress.{fpkStress, kirchhoffStress};
-ghost use Rattle.elasticity_neo_hookean.specs.Energy.{elasticEnergyDensity, posEnergy};
+ghost use Rattle.elasticity_neo_hookean.specs.Energy.{elasticEnergyDensity, elasticEnergyDensityIn, posEnergy};
 
 pub struct NeoHookeanElasticity {
     pub cfl_coeff: f64,
@@ -124,8 +124,21 @@ impl NeoHookeanElasticity {
     pub fn elastic_energy_density(self, phase: f64, hardening: f64, f: [[f64; 3]; 3]) -> Answer
         ensures { λ r. ⌜ r ≡ elasticEnergyDensity self phase hardening f ⌝ }
     {
+        self.elastic_energy_density_in(false, phase, hardening, f)
+    }
+
+    // `one_split`: below j = 1 the deviatoric part is the tensile one, as in `kirchhoff_stress`.
+    pub fn elastic_energy_density_in(
+        self,
+        one_split: bool,
+        phase: f64,
+        hardening: f64,
+        f: [[f64; 3]; 3],
+    ) -> Answer
+        ensures { λ r. ⌜ r ≡ elasticEnergyDensityIn «one_split» self phase hardening f ⌝ }
+    {
         if self.inputs_finite(phase, hardening, f) {
-            energy::energy(self, phase, hardening, f)
+            energy::energy(one_split, self, phase, hardening, f)
         } else {
             Answer::Refused(answers::NOT_FINITE)
         }

@@ -1,9 +1,10 @@
 -- The answers of the calls that read lists: each law's own answer, after 8 for a length and 6 for a flag (RULES, section 6).
-use mathlib.Core.Bool.{_&&_}
+use mathlib.Core.Bool.{not, _&&_}
 use mathlib.Core.List.{List}
 use Prim.Native.Nat.{ℕ}
+use lib.Dec.{eqb}
 use lib.ListN.{getD}
-use lib.Ieee.{Float}
+use lib.Ieee.{Float, binary64, toBits}
 use Rattle.answers.specs.Answer.{answeredOf, given}
 use Rattle.answers.specs.declared.Answer.{Answer}
 use Rattle.tensor.specs.Finite.{rowFinite, matFinite}
@@ -52,6 +53,12 @@ neoHookeanKirchhoffStress p phase h f = sizedMatrix (has 3 p && has 9 f) (neo.ki
 
 unfoldable pub neoHookeanElasticEnergyDensity : List ℕ → Float → Float → List ℕ → Answer
 neoHookeanElasticEnergyDensity p phase h f = sizedNumber (has 3 p && has 9 f) (neoEnergy.elasticEnergyDensity (neoHookeanOf p) phase h (matAt f 0))
+
+-- the flag comes as a number: its bits tell it
+unfoldable pub neoHookeanElasticEnergyDensityIn : List ℕ → Float → Float → Float → List ℕ → Answer
+neoHookeanElasticEnergyDensityIn p one-split phase h f =
+    let w = toBits binary64 one-split in
+    sizedNumber (has 3 p && has 9 f) (flaggedNumber w (neoEnergy.elasticEnergyDensityIn (not (eqb w 0)) (neoHookeanOf p) phase h (matAt f 0)))
 
 unfoldable pub neoHookeanPosEnergy : List ℕ → Float → Float → List ℕ → Answer
 neoHookeanPosEnergy p phase h f = sizedNumber (has 3 p && has 9 f) (neoEnergy.posEnergy (neoHookeanOf p) phase h (matAt f 0))

@@ -3,7 +3,7 @@ use elasticity_neo_hookean::NeoHookeanElasticity;
 ghost use mathlib.Core.Path.{_≡_};
 ghost use Rattle.elasticity_neo_hookean.specs.Law.{phaseCoeff};
 ghost use Rattle.host_lists.specs.Out.{numberCode, numberOut, matrixCode, matrixOut};
-ghost use Rattle.host.specs.Calls.{neoHookeanFpkStress, neoHookeanKirchhoffStress, neoHookeanElasticEnergyDensity, neoHookeanPosEnergy, corotatedKirchhoffStress, corotatedElasticEnergyDensity, corotatedPosEnergy};
+ghost use Rattle.host.specs.Calls.{neoHookeanFpkStress, neoHookeanKirchhoffStress, neoHookeanElasticEnergyDensity, neoHookeanElasticEnergyDensityIn, neoHookeanPosEnergy, corotatedKirchhoffStress, corotatedElasticEnergyDensity, corotatedPosEnergy};
 
 #[no_mangle]
 pub extern "C" fn pasoletu_neo_hookean_fpk_stress(
@@ -65,6 +65,26 @@ pub extern "C" fn pasoletu_neo_hookean_elastic_energy_density(
         ),
         out,
     )
+}
+
+// `one_split` is a flag, told by its bits.
+#[no_mangle]
+pub extern "C" fn pasoletu_neo_hookean_elastic_energy_density_in(
+    law: &[u64],
+    one_split: f64,
+    phase: f64,
+    hardening: f64,
+    f: &[u64],
+    out: &mut [u64],
+) -> u8
+    ensures { λ r. ⌜ r ≡ numberCode (neoHookeanElasticEnergyDensityIn (now (law .entry)) «one_split» phase hardening (now (f .entry))) (now (out .entry)) ⌝ }
+    ensures { λ r. ⌜ now (out .exit) ≡ numberOut (neoHookeanElasticEnergyDensityIn (now (law .entry)) «one_split» phase hardening (now (f .entry))) (now (out .entry)) ⌝ }
+{
+    let ok = (law.len() == 3) & (f.len() == 9);
+    let p = model::neo_hookean(law);
+    let w = numbers::bits_of(one_split);
+    let a = p.elastic_energy_density_in(w != 0, phase, hardening, host_lists::matrix(f));
+    host_lists::put(host_lists::sized(ok, host_lists::flagged(w, a)), out)
 }
 
 #[no_mangle]

@@ -53,6 +53,7 @@ use Rattle.refusals.specs.Refusals.{Numbers, Gives}
 use Rattle.refusals.specs.Calls.{GivesPair, Beside, pairWalk, vectorWalk, tensorWalk, quadraticWalk, verdictWalk, Calls}
 use Rattle.refusals.proofs.Inner.{Inner, inner-then, inner-mosts, inner-leasts, alpha-inner}
 use Rattle.refusals.proofs.Numbers.{differ, nothing, told}
+use Rattle.refusals.proofs.EnergyModes.{mode-gives}
 use Rattle.refusals.proofs.Answers.{refusalE, gives, walk-gives, beside, gives-beside, ended-beside, after, tested, entered, asked, number-result, matrix-result}
 
 -- ---- the number that an answer is refused by
@@ -160,8 +161,7 @@ module _ (p : NeoHookeanElasticity) (h : Float) (f : List (List Float)) where
   fpk-gives = walk-beside (neo-hookean.floats p (h ∷ []) f) (neo-stress.fpkSteps p f h) (λ j k. (λ b w. tt, λ g b w. tt))
 
   energy-gives : (phase : Float) → Gives (neo-energy.elasticEnergyDensity p phase h f) (path (neo-energy.energyWalk p phase h f))
-  unfolding neo-energy.energyWalk neo-energy.energySteps
-  energy-gives phase = walk-gives (neo-hookean.floats p (phase ∷ h ∷ []) f) (neo-energy.energySteps p phase h f) (λ k j w s x. (tt, tt))
+  energy-gives phase = mode-gives false p phase h f
 
   pos-gives : (phase : Float) → Gives (neo-energy.posEnergy p phase h f) (path (neo-energy.posWalk p phase h f))
   unfolding neo-energy.posWalk neo-energy.posSteps

@@ -2,6 +2,7 @@ pub mod Inner
 pub mod Numbers
 pub mod Inputs
 pub mod Answers
+pub mod EnergyModes
 pub mod Updates
 pub mod Failure
 pub mod Passes

@@ -1,28 +1,14 @@
--- The inputs, then the steps.
+-- The Rust's mode is the one that is called.
 use borrow.Author.Needs.{needs}
-use Rattle.elasticity_neo_hookean.specs.Energy.{energyWalk}
-use Rattle.elasticity_neo_hookean.proofs.Laws.{inputs-law}
 use Rattle.elasticity_neo_hookean.proofs.NeoHookeanElasticity.elastic_energy_density.Statement.{
   statement,
 }
 use Rattle.elasticity_neo_hookean.proofs.NeoHookeanElasticity.elastic_energy_density.Tie as tie
 
 returns : tie.Need-returns
-unfolding energyWalk
-returns c =
-    let c1 = c .before in
-    let c2 = c1 .before in
-    let t0 = simp (c2 .inputs-finite .ensures) at (c1 .if1 .taken) in
-    simp (c .energy .ensures, t0, inputs-law)
-
-returns-2 : tie.Need-returns-2
-unfolding energyWalk
-returns-2 c =
-    let c1 = c .before in
-    let t0 = simp (c1 .inputs-finite .ensures) at (c .if1 .left) in
-    simp (t0, inputs-law)
+returns c = c .elastic-energy-density-in .ensures
 
 pub elastic-energy-density-spec : {M : Type 1} → statement M
 elastic-energy-density-spec =
     tie.close
-    (tie.spec (λ c κs. search needs) (λ c κs. search needs) returns returns-2)
+    (tie.spec (λ c κs. search needs) returns)

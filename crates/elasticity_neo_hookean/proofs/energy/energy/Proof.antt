@@ -27,7 +27,7 @@ returns c =
     let t2 = simp (c10 .mat-number .ensures, c11 .stretch .ensures) at (c9 .if2 .taken) in
     let t3 = simp (c8 .ln-on-path .ensures, c18 .determinant .ensures) at (c6 .l .given .1) in
     let a = c19 .before .args in
-    simp (c .energy-sum .ensures, c1 .phase-coeff .ensures, c2 .deviatoric-energy .ensures, c3 .volumetric-energy .ensures, c4 .powi .ensures, c11 .stretch .ensures, c18 .determinant .ensures, c19 .kappa .ensures, energy-given (a .p) (a .phase) (a .hardening) (a .f) t0 t1 t2 t3, value-power)
+    simp (c .energy-sum .ensures, c1 .phase-coeff .ensures, c2 .deviatoric-energy .ensures, c3 .volumetric-energy .ensures, c4 .powi .ensures, c11 .stretch .ensures, c18 .determinant .ensures, c19 .kappa .ensures, energy-given (a .p) (a .phase) (a .hardening) (a .f) (a .one-split) t0 t1 t2 t3, value-power)
 
 returns-2 : tie.Need-returns-2
 returns-2 c =
@@ -47,7 +47,7 @@ returns-2 c =
     let t2 = simp (c5 .mat-number .ensures, c6 .stretch .ensures) at (c4 .if2 .taken) in
     let t3 = simp (c3 .ln-on-path .ensures, c13 .determinant .ensures) at (c1 .n .given .1) in
     let a = c14 .before .args in
-    simp (t0, t1, t2, t3, energy-law (a .p) (a .phase) (a .hardening) (a .f))
+    simp (t0, t1, t2, t3, energy-law (a .p) (a .phase) (a .hardening) (a .f) (a .one-split))
 
 returns-3 : tie.Need-returns-3
 returns-3 c =
@@ -63,7 +63,7 @@ returns-3 c =
     let t1 = simp (c6 .inv-cbrt-on-path .ensures, c9 .determinant .ensures) at (c4 .w .given .1) in
     let t2 = simp (c1 .mat-number .ensures, c2 .stretch .ensures) at (c .if2 .left) in
     let a = c10 .before .args in
-    simp (t0, t1, t2, energy-law (a .p) (a .phase) (a .hardening) (a .f))
+    simp (t0, t1, t2, energy-law (a .p) (a .phase) (a .hardening) (a .f) (a .one-split))
 
 returns-4 : tie.Need-returns-4
 returns-4 c =
@@ -76,7 +76,7 @@ returns-4 c =
     let t0 = simp (c5 .is-number .ensures, c7 .kappa .ensures) at (c4 .if1 .taken) in
     let t1 = simp (c3 .inv-cbrt-on-path .ensures, c6 .determinant .ensures) at (c1 .n2 .given .1) in
     let a = c7 .before .args in
-    simp (t0, t1, energy-law (a .p) (a .phase) (a .hardening) (a .f))
+    simp (t0, t1, energy-law (a .p) (a .phase) (a .hardening) (a .f) (a .one-split))
 
 returns-5 : tie.Need-returns-5
 returns-5 c =
@@ -84,7 +84,7 @@ returns-5 c =
     let c3 = c1 .before .before in
     let t0 = simp (c1 .is-number .ensures, c3 .kappa .ensures) at (c .if1 .left) in
     let a = c3 .before .args in
-    simp (t0, energy-law (a .p) (a .phase) (a .hardening) (a .f))
+    simp (t0, energy-law (a .p) (a .phase) (a .hardening) (a .f) (a .one-split))
 
 pub energy-spec : {M : Type 1} → statement M
 energy-spec =
