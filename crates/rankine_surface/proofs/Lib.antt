@@ -9,5 +9,6 @@ pub mod Places
 pub mod Passes
 pub mod Records
 pub mod Sheets
+pub mod Stored
 pub mod Cases
 pub mod Examples

@@ -88,6 +88,10 @@ pub record Demand3At (a : RankineArguments) (r : List ℕ) (f : Found) : Type 0 
   pub holds : T (firstTestAt a r) → InsideAt a r f
   pub fails : T (not (firstTestAt a r)) → ReturnedAt a r f
 
+-- the archive by itself, where the answer says 1, stored
+abbrev pub ArchivesAt : RankineArguments → List ℕ → Found → Type 0
+ArchivesAt a r f = f .code ≡ 1 → ArchivedAt a r f
+
 -- ---- in a pass
 -- record i of lists that the pass takes: 8 is no refusal of theirs
 pub record InPass (xs out : List ℕ) (i : ℕ) : Type 0 where

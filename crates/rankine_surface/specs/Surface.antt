@@ -172,6 +172,11 @@ pub record Demand3 (p : RankinePlasticity) (u vt : List (List Float)) (st : Stat
   pub holds : T (firstTest p (logStrains st) (softened p st)) → Inside p u vt st
   pub fails : T (not (firstTest p (logStrains st) (softened p st))) → Returned p u vt st
 
+-- the archive by itself, where the update stores
+abbrev pub Archives : RankineArguments → List (List Float) → List (List Float) → State → Type 0
+Archives a u vt st = (hardening : Float) → argumentsUpdate a u vt st .outcome ≡ Stored hardening
+    → Archived (lawOf a) (softened (lawOf a) st) (argumentsUpdate a u vt st .state .sigma)
+
 pub record Demand3By (a : RankineArguments) (u vt : List (List Float)) (st : State) : Type 0 where
   pub update : argumentsUpdate a u vt st ≡ rankineUpdate (lawOf a) u vt st
   pub law : Demand3 (lawOf a) u vt st
