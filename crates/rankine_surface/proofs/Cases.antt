@@ -12,7 +12,7 @@ use Rattle.exact.specs.Value.{val}
 use Rattle.tensor.specs.Matrix.{zero, three}
 use Rattle.plasticity_rankine.specs.declared.RankinePlasticity.{RankinePlasticity}
 use Rattle.rankine_surface.specs.Axes.{Each, Some}
-use Rattle.rankine_surface.specs.Surface.{demanded, Under, Below, Reaches, Fair, Strain}
+use Rattle.rankine_surface.specs.Surface.{demanded, archived, Under, Below, Reaches, Fair, Strain}
 
 -- the law of two moduli
 abbrev of : Float → Float → RankinePlasticity
@@ -61,6 +61,14 @@ scaled-is-off (inr (inl h)) = off tt h
 scaled-is-off (inr (inr (inl h))) = off tt h
 scaled-is-off (inr (inr (inr h))) = h
 
+-- in the archive neither
+scaled-is-off-archived : Some (Reaches archived law strength scaled) scaled → ⊥
+unfolding ofBits val mag L
+scaled-is-off-archived (inl h) = off tt h
+scaled-is-off-archived (inr (inl h)) = off tt h
+scaled-is-off-archived (inr (inr (inl h))) = off tt h
+scaled-is-off-archived (inr (inr (inr h))) = h
+
 -- two strains should move, and the highest stays as it was: its stress is above the strength
 abbrev half-moved : List Float
 half-moved = three (ofBits binary64 0x3ffa998174105cc8) (ofBits binary64 0xbffb00bd2f8622dc) (ofBits binary64 0xc0014d2763e59cbe)
@@ -85,3 +93,7 @@ over-divided-is-off (inr (inr (inr h))) = h
 nothing-is-off : Each (Below demanded law strength given) given → ⊥
 unfolding ofBits val mag L
 nothing-is-off h = off tt (h .0)
+
+nothing-is-off-archived : Each (Below archived law strength given) given → ⊥
+unfolding ofBits val mag L
+nothing-is-off-archived h = off tt (h .0)
