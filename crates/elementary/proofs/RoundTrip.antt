@@ -1,16 +1,16 @@
 -- Our logarithm of our exponential: the two distances add up, and exp's answers between -40 and 40 lie in ln's range.
-use mathlib.Core.Path.{_≡_, refl, sym, ap, _∙_, subst, subst₂}
-use mathlib.Core.Bool.{Bool, true, false, not, _&&_}
+use mathlib.Core.Path.{_≡_, refl, subst}
+use mathlib.Core.Bool.{Bool, true, false, not}
 use Prim.Native.Nat.{ℕ, zero, suc, _+_, _-_, _*_, _^_, _≤_, _<_}
-use native.Mathlib.Nat.{le-refl, le-trans, mul-pos, zero-lt-suc, mul-comm, mul-one, one-mul, zero-mul, mul-le-mul-right}
+use native.Mathlib.Nat.{mul-pos, zero-lt-suc, one-mul, mul-le-mul-right}
 use native.Mathlib.Omega.{arith, by-contra}
 use lib.Dec.{T, lit<, lit≤}
 use lib.IntN.{ℤ, pos, negsuc, negℤ, _+ℤ_, _*ℤ_, _-ℤ_}
 use lib.Ieee as Ieee
-use lib.Ieee.{Float, binary64, ofBits, fits}
+use lib.Ieee.{Float, ofBits, fits}
 use Rattle.exact.specs.Units.{L, L-pos, mag, sgn, Fin64}
-use Rattle.exact.specs.Integers.{p, n, _≤ᶻ_, neg-parts, abs, abs-is}
-use Rattle.exact.specs.Value.{val, p-val, n-val, abs-val, abs-near}
+use Rattle.exact.specs.Integers.{p, n, _≤ᶻ_, neg-parts, abs-is}
+use Rattle.exact.specs.Value.{val, abs-val, abs-near}
 use Rattle.exact.specs.Distances.{not-le-val}
 use Rattle.series.specs.Exponential.{num, den, den-pos}
 use Rattle.series.specs.Remainder.{Above, Under, above}
@@ -25,7 +25,7 @@ use Rattle.exponential.specs.Worked as exponential
 use Rattle.exponential.proofs.Near.{exp-near}
 use Rattle.logarithm.specs.Worked as logarithm
 use Rattle.logarithm.proofs.Laws.{ln-near}
-use Rattle.elementary.specs.RoundTrip.{Back, Returns, ReturnsOurs, Taken, RoundTrip}
+use Rattle.elementary.specs.RoundTrip.{Back, ReturnsOurs, Taken, RoundTrip}
 
 -- ---- a bound at z / q, and u / w ≤ exp (b / (q c)), bound exp b below and b above, over the denominator q c
 lower : (z z' : ℤ) (b q c x y u w : ℕ) → 0 < c → 0 < q * c → AtMost z q x y → Under b (q * c) u w → p z' + b + n z * c ≤ p z * c + n z'
@@ -53,7 +53,7 @@ positive (negsuc a) m y h (j, b) = go m (den L j) (num (suc a) L j) (den-pos L L
     go zero d k g l = absurd (omega (arith, mul-pos h g))
     go (suc m) d k g l = omega arith
 
--- 1 ≤ (1 - h) (1 + 2 h), and (1 + h) is itself, for an h of 1 / P, where o is P - 1
+-- 1 ≤ (1 - h) (1 + 2 h), and 1 + h itself, for an h of 1 / P, where o is P - 1
 shrink : (m l P o : ℕ) → P ≡ o + 1 → 1 ≤ o → m * P * (l * P) * l ≤ m * (l * o * (l * P + 2 * l))
 shrink m l P o e h = rw e (omega (arith, mul-le-mul-right (m * l * l) h))
 

@@ -1,7 +1,7 @@
 -- Our logarithm of our exponential (RULES, section 3): from the two distances alone, the argument comes back within 2^-43.
-use Prim.Native.Nat.{ℕ, _*_, _^_, _≤_}
 use mathlib.Core.Path.{_≡_}
 use mathlib.Core.Bool.{true}
+use Prim.Native.Nat.{_*_, _^_, _≤_}
 use lib.Dec.{T}
 use lib.IntN.{_-ℤ_}
 use lib.Ieee.{Float, binary64, fits}

@@ -1,11 +1,11 @@
 -- The sigma that an update stores, by its logarithms: each strain comes back within 2^-43, so the stresses stay near s
 use mathlib.Core.Path.{_≡_, refl, sym, ap, _∙_, subst}
-use mathlib.Core.Logic.{_⊎_, inl, inr}
+use mathlib.Core.Logic.{inl, inr}
 use mathlib.Core.List.{List, [], _∷_, map}
 use Prim.Native.Nat.{ℕ, suc, _+_, _*_, _^_, _≤_}
-use native.Mathlib.Nat.{mul-le-mul-left, mul-le-mul-right}
+use native.Mathlib.Nat.{mul-le-mul-left}
 use native.Mathlib.Omega.{arith}
-use lib.ListN.{length}
+use lib.ListN.{length, length-map}
 use lib.IntN.{ℤ, pos, _+ℤ_, _*ℤ_, _-ℤ_}
 use lib.Ieee.{Float}
 use Rattle.exact.specs.Units.{L, mag, Fin64}
@@ -102,10 +102,6 @@ map-twice : (e : List Float) → map (at ln) (map (at exp) e) ≡ map again e
 map-twice [] = refl
 map-twice (x ∷ e) = ap (λ l. again x ∷ l) (map-twice e)
 
-map-long : (e : List Float) → length (map again e) ≡ length e
-map-long [] = refl
-map-long (x ∷ e) = ap suc (map-long e)
-
 takes : (x : Float) → Bounded x → Taken x
 takes x b = round-trip .taken x (b .fine) (b .size)
 
@@ -128,6 +124,6 @@ archive {law} {s} f e h =
     (record {
       strains = map again e;
       answered = logs e (h .bounded);
-      axes = map-long e ∙ h .axes;
+      axes = length-map e again ∙ h .axes;
       on-surface = still f again e (h .axes) (of-each Bounded (Moved again) back e (h .bounded)) (h .on-surface);
     })

@@ -22,7 +22,7 @@ use Rattle.particles.specs.Plain.{recordLaw}
 use Rattle.particles.specs.Pass.{codeOf, recordAt}
 use Rattle.particles.specs.Judged.{failureLaw}
 use Rattle.rankine_surface.specs.Surface.{TakenBy, Archived, Archives, softened, firstTest, logStrains}
-use Rattle.rankine_surface.specs.Record.{Premises, Found, foundOf, Demand3At, ArchivedAt, ArchivesAt, firstTestAt, InPass, passFound, metAt}
+use Rattle.rankine_surface.specs.Record.{Premises, Found, foundOf, Demand3At, ArchivesAt, firstTestAt, InPass, passFound, metAt}
 use Rattle.rankine_surface.specs.Sheet.{argumentsIn, recordIn, InSheet, SheetPremises, sheetFound}
 use Rattle.rankine_surface.proofs.Update.{demand-3-by}
 use Rattle.rankine_surface.proofs.Records.{record-3, pass-3, pass-with-failure-3}
