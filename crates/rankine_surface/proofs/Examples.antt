@@ -74,8 +74,8 @@ taken =
 stretched : ReturnedAt arguments (of two) (passFound (recordLaw (Rankine arguments)) (of two) answers 0)
 stretched = pass-3 (in-pass two) (taken .0) .fails (taken .2)
 
-archived : ArchivedAt arguments (of two) (passFound (recordLaw (Rankine arguments)) (of two) answers 0)
-archived = pass-archived (in-pass two) (taken .0) (stretched .answer .0)
+in-the-archive : ArchivedAt arguments (of two) (passFound (recordLaw (Rankine arguments)) (of two) answers 0)
+in-the-archive = pass-archived (in-pass two) (taken .0) (stretched .answer .0)
 
 at-rest : InsideAt arguments (of unit) (passFound (recordLaw (Rankine arguments)) (of unit) answers 0)
 at-rest = pass-3 (in-pass unit) (taken .1) .holds (taken .3)
