@@ -688,6 +688,7 @@ class ByLibrary(InFolder):
         process = ran("measure/surface.py", 200, timeout=300)
         self.assertEqual(process.returncode, 0, process)
         self.assertIn(b"200 records in the premises, 0 do not keep the promise", process.stdout)
+        self.assertEqual(process.stdout.count(b" below; in the archive "), 3)  # the branches that store
         if importlib.util.find_spec("mpmath"):
             process = ran("measure/accuracy.py", 20, timeout=300)
             self.assertEqual(process.returncode, 0, process)

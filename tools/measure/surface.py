@@ -4,7 +4,8 @@
   tools/measure/surface.py [COUNT] [SEED]
 
 Draws COUNT records (default 1,000,000) exactly in the premises, half of them at a corner, and prints for each branch the worst distance of the
-largest principal stress from s, in units of (2mu + 3lambda)/2^44; the status is 1 where the promise is broken. Needs the library
+largest principal stress from s: of the strains that the update projects, in units of (2mu + 3lambda)/2^44, and of our logarithms of the sigma
+that it stores, as an archive has them, in units of (2mu + 3lambda)/2^40. The status is 1 where a promise is broken. Needs the library
 (PASOLETU_LIB, else the one that the Python package finds).
 """
 import math
@@ -20,6 +21,7 @@ import shell  # noqa: E402
 BRANCHES = ["untouched", "one moves", "two move", "all move"]
 SIGMA, HARDENING = slice(18, 21), 32
 ONE = 1 << 1074
+DEMANDED, ARCHIVED = 44, 40
 
 
 def exact(x):
@@ -96,18 +98,40 @@ class Drawn:
         moduli = 1.0 <= self.mu <= 2.0 ** 40 and 0.0 <= self.la <= 2.0 ** 40
         return moduli and abs(exact(self.s)) <= 4 * (2 * exact(self.mu) + 3 * exact(self.la))
 
+    def gap(self, strains, k):
+        """How far the largest principal stress lies above s, and (2mu + 3lambda)/2^k, as whole numbers of one unit."""
+        mu, la = exact(self.mu), exact(self.la)
+        return (largest(mu, la, strains) - exact(self.s) * ONE) << k, (2 * mu + 3 * la) * ONE
+
     def update(self):
-        """Works the record; the branch, the gap to the surface in its unit, and whether the promise is kept."""
+        """Works the record; the branch, the two gaps to the surface in their units, and whether the promises are kept."""
         particle = self.ours.Particle.from_floats(self.was)
         stored = isinstance(self.law.update_particle(particle), self.ours.Stored)
-        record, after = particle.floats(), self.law.project(self.before, self.s)
-        mu, la = exact(self.mu), exact(self.la)
-        gap = (largest(mu, la, after if stored else self.before) - exact(self.s) * ONE) << 44
-        unit = (2 * mu + 3 * la) * ONE
+        record = particle.floats()
         if not stored:
-            return 0, gap / unit, gap <= unit and struct.pack("<36d", *record) == struct.pack("<36d", *self.was)
+            gap, unit = self.gap(self.before, DEMANDED)
+            return 0, [gap / unit, 0.0], gap <= unit and struct.pack("<36d", *record) == struct.pack("<36d", *self.was)
+        after = self.law.project(self.before, self.s)
+        gaps = [self.gap(after, DEMANDED), self.gap([self.ours.elementary.ln(x) for x in record[SIGMA]], ARCHIVED)]
         follows = [self.ours.elementary.exp(x) for x in after] == record[SIGMA] and record[HARDENING] <= self.law.tensile_strength
-        return max(1, sum(x != y for x, y in zip(self.before, after))), gap / unit, follows and abs(gap) <= unit
+        branch = max(1, sum(x != y for x, y in zip(self.before, after)))
+        return branch, [gap / unit for gap, unit in gaps], follows and all(abs(gap) <= unit for gap, unit in gaps)
+
+
+class Worst:
+    """The furthest above and below of a branch, for the strains and for the archive's."""
+
+    def __init__(self):
+        self.seen, self.above, self.below = 0, [0.0, 0.0], [0.0, 0.0]
+
+    def take(self, gaps):
+        self.seen += 1
+        self.above = [max(x, gap) for x, gap in zip(self.above, gaps)]
+        self.below = [max(x, -gap) for x, gap in zip(self.below, gaps)]
+
+    def say(self, name):
+        told = ["%.4f above, %.4f below" % pair for pair in zip(self.above, self.below)] if name != BRANCHES[0] else ["%.4f above" % self.above[0]]
+        print("%-10s %9d records, worst %s" % (name, self.seen, "; in the archive ".join(told)))
 
 
 def drawn_in_premises(pasoletu, d):
@@ -121,27 +145,27 @@ def drawn_in_premises(pasoletu, d):
 
 def measure(args):
     pasoletu, d = shell.package(), draws.Draws(args.seed)
-    above, below, seen, bad, said = [0.0] * 4, [0.0] * 4, [0] * 4, 0, time.time()
-    while sum(seen) < args.count:
+    worst, seen, bad, said = [Worst() for _ in BRANCHES], 0, 0, time.time()
+    while seen < args.count:
         drawn = drawn_in_premises(pasoletu, d)
         if drawn is None:
             continue
         try:
-            branch, gap, kept = drawn.update()
+            branch, gaps, kept = drawn.update()
         except pasoletu.Refused as refusal:
             raise shell.Wrong("a record in the premises is refused: %s: %s, %s" % (refusal, drawn.law, drawn.was))
-        seen[branch] += 1
-        above[branch], below[branch] = max(above[branch], gap), max(below[branch], -gap if branch else 0.0)
+        seen += 1
+        worst[branch].take(gaps)
         if not kept:
             bad += 1
             print("NOT KEPT:", drawn.law, drawn.was)
         if time.time() - said > 5:
             said = time.time()
-            print("%d of %d" % (sum(seen), args.count), file=sys.stderr, flush=True)
-    for k, name in enumerate(BRANCHES):
-        print("%-10s %9d records, worst %.4f above, %.4f below" % (name, seen[k], above[k], below[k]))
-    print("%d records in the premises, %d do not keep the promise; distances in units of (2mu + 3lambda)/2^44" % (sum(seen), bad))
-    return 1 if bad or 0 in seen else 0
+            print("%d of %d" % (seen, args.count), file=sys.stderr, flush=True)
+    for branch, name in zip(worst, BRANCHES):
+        branch.say(name)
+    print("%d records in the premises, %d do not keep the promise; distances in units of (2mu + 3lambda)/2^%d, in the archive /2^%d" % (seen, bad, DEMANDED, ARCHIVED))
+    return 1 if bad or not all(branch.seen for branch in worst) else 0
 
 
 def main(argv=None):

@@ -1,9 +1,9 @@
 -- The Rankine branches on sorted strains: how near the yield surface each comes
 use mathlib.Core.Path.{_≡_, refl, sym, ap, _∙_}
 use Prim.Native.Nat.{ℕ, _+_, _*_, _^_, _≤_, _<_}
-use native.Mathlib.Nat.{le-refl, le-trans, le-of-eq, mul-le-mul-right, mul-le-mul-left}
+use native.Mathlib.Nat.{le-refl, le-trans, le-of-eq, mul-le-mul-right, mul-le-mul-left, le-of-mul-le-mul-right}
 use native.Mathlib.Omega.{arith}
-use lib.Dec.{T, leb, lit≤}
+use lib.Dec.{T, leb, leb→le, lit≤}
 use lib.IntN.{ℤ, pos, negsuc, negℤ, _+ℤ_, _*ℤ_, _-ℤ_}
 use lib.Ieee.{Float, binary64, add, sub, mul, div, le, fits, ofBits}
 use Rattle.exact.specs.Units.{L, L-pos, mag, Fin64}
@@ -16,8 +16,8 @@ use Rattle.plasticity_rankine.specs.declared.RankinePlasticity.{RankinePlastici
 use Rattle.plasticity_rankine.specs.declared.Sorted.{Sorted}
 use Rattle.plasticity_rankine.specs.Sorting.{sortedOf}
 use Rattle.plasticity_rankine.specs.Projection.{two, thrice, firstSide, secondSide, thirdSide, backOne, backTwo, backAll}
-use Rattle.rankine_surface.specs.Surface.{modulus, Under, Fair, Strain}
-use Rattle.rankine_surface.proofs.Scale.{On, also, wide, tight, loose, down, add-on, sub-on, mul-on, Quot, div-on, Scale, Scales, exact, whole, L-big}
+use Rattle.rankine_surface.specs.Surface.{modulus, demanded, Under, Fair, Strain}
+use Rattle.rankine_surface.proofs.Scale.{On, also, wide, tight, reach, loose, down, add-on, sub-on, mul-on, div-on, Scale, Scales, exact, whole, L-big}
 use Rattle.rankine_surface.proofs.Bounds.{times-le, plus-le, near-under, under-up, under-down, mean}
 
 infixl 6 _⊕_
@@ -53,16 +53,21 @@ abbrev pub principal : RankinePlasticity → Sorted → Float → ℤ
 principal law r w = val (law .lambda) *ℤ (val (r .low) +ℤ val (r .mid) +ℤ val (r .high)) +ℤ pos 2 *ℤ val (law .mu) *ℤ val w
 
 pub record Held (law : RankinePlasticity) (s : Float) (r : Sorted) : Type 0 where
-  pub low : Under (principal law r (r .low)) (val s *ℤ pos L) (modulus law * L)
-  pub mid : Under (principal law r (r .mid)) (val s *ℤ pos L) (modulus law * L)
-  pub high : Under (principal law r (r .high)) (val s *ℤ pos L) (modulus law * L)
+  pub low : Under demanded (principal law r (r .low)) (val s *ℤ pos L) (modulus law * L)
+  pub mid : Under demanded (principal law r (r .mid)) (val s *ℤ pos L) (modulus law * L)
+  pub high : Under demanded (principal law r (r .high)) (val s *ℤ pos L) (modulus law * L)
+
+-- finite, and in -40 to 40, where both exp and ln of it answer
+pub record Bounded (x : Float) : Type 0 where
+  pub fine : Fin64 x
+  pub size : mag x ≤ 40 * L
 
 pub record OnYield (law : RankinePlasticity) (s : Float) (r : Sorted) : Type 0 where
-  pub fine-low : Fin64 (r .low)
-  pub fine-mid : Fin64 (r .mid)
-  pub fine-high : Fin64 (r .high)
+  pub low : Bounded (r .low)
+  pub mid : Bounded (r .mid)
+  pub high : Bounded (r .high)
   pub held : Held law s r
-  pub reaches : Under (val s *ℤ pos L) (principal law r (r .high)) (modulus law * L)
+  pub reaches : Under demanded (val s *ℤ pos L) (principal law r (r .high)) (modulus law * L)
 
 -- ---- whole numbers only
 abbrev P : ℕ → ℕ → ℤ → ℤ → ℤ → ℤ → ℤ
@@ -75,19 +80,19 @@ P-mono m l x y z v w h = plus-le (pos l *ℤ (x +ℤ y +ℤ z)) (pos l *ℤ (x +
     go v w k h = omega (arith, *-parts (pos k) v, *-parts (pos k) w, mul-le-mul-left k h)
 
 record Four (m l K : ℕ) (x y z σ : ℤ) : Type 0 where
-  low : Under (P m l x y z x) σ K
-  mid : Under (P m l x y z y) σ K
-  high : Under (P m l x y z z) σ K
-  reaches : Under σ (P m l x y z z) K
+  low : Under demanded (P m l x y z x) σ K
+  mid : Under demanded (P m l x y z y) σ K
+  high : Under demanded (P m l x y z z) σ K
+  reaches : Under demanded σ (P m l x y z z) K
 
 one-moved : (m l K e : ℕ) (c b z σ : ℤ) → 0 < m → abs (z *ℤ pos (2 * m + l) -ℤ (σ -ℤ pos l *ℤ (c +ℤ b))) * 2 ^ 53 ≤ e * K → T (leb e 512)
-    → Under (pos (2 * m + l) *ℤ b +ℤ pos l *ℤ (c +ℤ b)) σ K → c ≤ᶻ b → Four m l K c b z σ
+    → Under demanded (pos (2 * m + l) *ℤ b +ℤ pos l *ℤ (c +ℤ b)) σ K → c ≤ᶻ b → Four m l K c b z σ
 one-moved m l K e c b z σ o h t k w =
     let q =
     ring 6 (pos m, (pos l, (c, (b, (z, (σ, tt)))))) (var 4 :* (con (pos 2) :* var 0 :+ var 1) :- (var 5 :- var 1 :* (var 2 :+ var 3)))
     (var 1 :* (var 2 :+ var 3 :+ var 4) :+ con (pos 2) :* var 0 :* var 4 :- var 5) tt in
     let n = near-under (P m l c b z z) σ e K (rw q at h) t in
-    let mb : Under (P m l c b z b) σ K = mean (P m l c b z z) (pos (2 * m + l) *ℤ b +ℤ pos l *ℤ (c +ℤ b)) (P m l c b z b) σ l (2 * m) K (omega arith)
+    let mb : Under demanded (P m l c b z b) σ K = mean (P m l c b z z) (pos (2 * m + l) *ℤ b +ℤ pos l *ℤ (c +ℤ b)) (P m l c b z b) σ l (2 * m) K (omega arith)
     (ring 5 (pos m, (pos l, (c, (b, (z, tt))))) ((var 1 :* (var 2 :+ var 3 :+ var 4) :+ con (pos 2) :* var 0 :* var 3) :* (var 1 :+ con (pos 2) :* var 0))
     ((var 1 :* (var 2 :+ var 3 :+ var 4) :+ con (pos 2) :* var 0 :* var 4) :* var 1 :+ ((con (pos 2) :* var 0 :+ var 1) :* var 3 :+ var 1 :* (var 2 :+ var 3))
     :* (con (pos 2) :* var 0))
@@ -95,7 +100,7 @@ one-moved m l K e c b z σ o h t k w =
     record { low = under-down (P m l c b z c) (P m l c b z b) σ K (P-mono m l c b z c b w) mb; mid = mb; high = n .0; reaches = n .1 }
 
 two-moved : (m l K e : ℕ) (c z σ : ℤ) → 0 < m → abs (z *ℤ pos (2 * m + 2 * l) -ℤ (σ -ℤ pos l *ℤ c)) * 2 ^ 53 ≤ e * K → T (leb e 512)
-    → Under (pos (2 * m + 3 * l) *ℤ c) σ K → Four m l K c z z σ
+    → Under demanded (pos (2 * m + 3 * l) *ℤ c) σ K → Four m l K c z z σ
 two-moved m l K e c z σ o h t k =
     let q =
     ring 5 (pos m, (pos l, (c, (z, (σ, tt))))) (var 3 :* (con (pos 2) :* var 0 :+ con (pos 2) :* var 1) :- (var 4 :- var 1 :* var 2))
@@ -182,10 +187,10 @@ strain-on : {x : Float} → Strain x → On L 1 x (val x) 4 0
 strain-on i = whole L 4 (i .fine) (i .size)
 
 module _ {law : RankinePlasticity} {s : Float} (g : Fair law s) where
-  mu-is : val (law .mu) ≡ pos (mag (law .mu))
+  pub mu-is : val (law .mu) ≡ pos (mag (law .mu))
   mu-is = non-neg (law .mu) (omega (arith, g .ranges .mu-low))
 
-  la-is : val (law .lambda) ≡ pos (mag (law .lambda))
+  pub la-is : val (law .lambda) ≡ pos (mag (law .lambda))
   la-is = non-neg (law .lambda) (g .ranges .la-low)
 
   mu-least : L ≤ mag (law .mu)
@@ -267,34 +272,45 @@ module _ {law : RankinePlasticity} {s : Float} (g : Fair law s) where
         (pos (2 * mag (law .mu) + mag (law .lambda)) *ℤ val (r .mid) +ℤ pos (mag (law .lambda)) *ℤ (val (r .low) +ℤ val (r .mid))) 12 90
     t2-on = add-up stress (mul-on products (wide (modulus law) (omega arith) den1) (strain-on (d .mid)) tt) (mul-on products la-M Sa-on tt) tt
 
-    q1 : Quot (modulus law) (2 * mag (law .mu) + mag (law .lambda)) ((s ⊖ (law .lambda) ⊗ (e0 ⊕ e1 ⊕ e2 ⊖ r .high)) ⊘ (two ⊗ (law .mu) ⊕ (law .lambda)))
-        (val s *ℤ pos L -ℤ pos (mag (law .lambda)) *ℤ (val (r .low) +ℤ val (r .mid))) 309
+    q1 : On (modulus law * L) (2 * mag (law .mu) + mag (law .lambda)) ((s ⊖ (law .lambda) ⊗ (e0 ⊕ e1 ⊕ e2 ⊖ r .high)) ⊘ (two ⊗ (law .mu) ⊕ (law .lambda)))
+        (val s *ℤ pos L -ℤ pos (mag (law .lambda)) *ℤ (val (r .low) +ℤ val (r .mid))) 12 309
     q1 = div-on M-room (omega (arith, mu-least)) (omega arith) (sub-up stress s-on (mul-on products la-M Sa-on tt) tt) (loose 16 tt den1) tt
 
     t3-on : On (modulus law * L) L ((two ⊗ (law .mu) ⊕ thrice ⊗ (law .lambda)) ⊗ r .low) (pos (modulus law) *ℤ val (r .low)) 4 59
     t3-on = mul-on products den3 (strain-on (d .low)) tt
 
-    q2 : Quot (modulus law) (2 * mag (law .mu) + 2 * mag (law .lambda))
+    q2 : On (modulus law * L) (2 * mag (law .mu) + 2 * mag (law .lambda))
         ((s ⊖ (law .lambda) ⊗ (e0 ⊕ e1 ⊕ e2 ⊖ r .high ⊖ r .mid)) ⊘ (two ⊗ (law .mu) ⊕ two ⊗ (law .lambda)))
-        (val s *ℤ pos L -ℤ pos (mag (law .lambda)) *ℤ val (r .low)) 238
+        (val s *ℤ pos L -ℤ pos (mag (law .lambda)) *ℤ val (r .low)) 8 238
     q2 = div-on M-room (omega (arith, mu-least)) (omega arith) (sub-up stress s-on (mul-on products la-M Sab-on tt) tt) (loose 16 tt den2) tt
 
-    q3 : Quot (modulus law) (modulus law) (s ⊘ (two ⊗ (law .mu) ⊕ thrice ⊗ (law .lambda))) (val s *ℤ pos L) 118
+    q3 : On (modulus law * L) (modulus law) (s ⊘ (two ⊗ (law .mu) ⊕ thrice ⊗ (law .lambda))) (val s *ℤ pos L) 4 118
     q3 = div-on M-room (omega (arith, mu-least)) (omega arith) s-on (loose 16 tt den3) tt
 
   -- a test that passed
-  tested : {t : Float} {X : ℤ} {B e : ℕ} → On (modulus law * L) L t X B e → T (leb e 512) → T (le t s) → Under X (val s *ℤ pos L) (modulus law * L)
+  tested : {t : Float} {X : ℤ} {B e : ℕ} → On (modulus law * L) L t X B e → T (leb e 512) → T (le t s) → Under demanded X (val s *ℤ pos L) (modulus law * L)
   tested {t} {X} {B} {e} i c h =
       under-up X (val t *ℤ pos L) (val s *ℤ pos L) (modulus law * L) (near-under (val t *ℤ pos L) X e (modulus law * L) (i .near) c .1)
       (times-le (val t) (val s) L (le-val t s (i .fine) (g .s-fine) h))
 
-  yields : {r : Sorted} → Fin64 (r .low) → Fin64 (r .mid) → Fin64 (r .high)
+  -- a strain that came, and a quotient by a divisor that is at least a third of the modulus
+  came : {x : Float} → Strain x → Bounded x
+  came i = record { fine = i .fine; size = le-trans (i .size) (mul-le-mul-right L (lit≤ tt)) }
+
+  worked : {z : Float} {X : ℤ} {B e : ℕ} (D : ℕ) → modulus law ≤ 3 * D → 0 < D → On (modulus law * L) D z X B e → T (leb B 12) → T (leb e 512) → Bounded z
+  worked {z} {B = B} {e = e} D h o i b c =
+      record { fine = i .fine; size = go (mag z) (modulus law) (leb→le B 12 b) h (reach i (le-trans (leb→le e 512 c) (lit≤ tt))) }
+    where
+      go : (m M : ℕ) → B ≤ 12 → M ≤ 3 * D → m * D ≤ (B + 1) * (M * L) → m ≤ 40 * L
+      go m M b h k = le-of-mul-le-mul-right {k = D} (omega (arith, mul-le-mul-right (M * L) b, mul-le-mul-right L h)) o
+
+  yields : {r : Sorted} → Bounded (r .low) → Bounded (r .mid) → Bounded (r .high)
       → Four (mag (law .mu)) (mag (law .lambda)) (modulus law * L) (val (r .low)) (val (r .mid)) (val (r .high)) (val s *ℤ pos L) → OnYield law s r
   yields a b c f =
       record {
-        fine-low = a;
-        fine-mid = b;
-        fine-high = c;
+        low = a;
+        mid = b;
+        high = c;
         held = record
             { low = rw (mu-is, la-is) (f .low); mid = rw (mu-is, la-is) (f .mid); high = rw (mu-is, la-is) (f .high) };
         reaches = rw (mu-is, la-is) (f .reaches);
@@ -307,8 +323,8 @@ module _ {law : RankinePlasticity} {s : Float} (g : Fair law s) where
         let x = val (r .low) in
         let y = val (r .mid) in
         let z = val (r .high) in
-        let u : Under (P (mag (law .mu)) (mag (law .lambda)) x y z z) (val s *ℤ pos L) K = tested (t1-on d) tt h in
-        let v : Under (P (mag (law .mu)) (mag (law .lambda)) x y z y) (val s *ℤ pos L) K =
+        let u : Under demanded (P (mag (law .mu)) (mag (law .lambda)) x y z z) (val s *ℤ pos L) K = tested (t1-on d) tt h in
+        let v : Under demanded (P (mag (law .mu)) (mag (law .lambda)) x y z y) (val s *ℤ pos L) K =
         under-down (P (mag (law .mu)) (mag (law .lambda)) x y z y) (P (mag (law .mu)) (mag (law .lambda)) x y z z) (val s *ℤ pos L) K
         (P-mono (mag (law .mu)) (mag (law .lambda)) x y z y z (d .mid-high)) u in
         record {
@@ -326,7 +342,7 @@ module _ {law : RankinePlasticity} {s : Float} (g : Fair law s) where
     pub one-back : T (le (value (secondSide law (num (e0 ⊕ e1 ⊕ e2)) (num (r .high)) (num (r .mid)))) s)
         → OnYield law s (sortedOf (r .low) (r .mid) (value (backOne law (num s) (num (e0 ⊕ e1 ⊕ e2)) (num (r .high)))))
     one-back h =
-        yields (d .low .fine) (d .mid .fine) (q1 d .fine)
+        yields (came (d .low)) (came (d .mid)) (worked (2 * mag (law .mu) + mag (law .lambda)) (omega arith) (omega (arith, some)) (q1 d) tt tt)
         (one-moved (mag (law .mu)) (mag (law .lambda)) (modulus law * L) 309 (val (r .low)) (val (r .mid))
         (val ((s ⊖ (law .lambda) ⊗ (e0 ⊕ e1 ⊕ e2 ⊖ r .high)) ⊘ (two ⊗ (law .mu) ⊕ (law .lambda)))) (val s *ℤ pos L) some (q1 d .near) tt (tested (t2-on d) tt h)
         (d .low-mid))
@@ -334,13 +350,15 @@ module _ {law : RankinePlasticity} {s : Float} (g : Fair law s) where
     pub two-back : T (le (value (thirdSide law (num (r .low)))) s)
         → OnYield law s (sortedOf (r .low) (value (backTwo law (num s) (num (e0 ⊕ e1 ⊕ e2)) (num (r .high)) (num (r .mid)))) (value (backTwo law (num s) (num (e0 ⊕ e1 ⊕ e2)) (num (r .high)) (num (r .mid)))))
     two-back h =
-        yields (d .low .fine) (q2 d .fine) (q2 d .fine)
+        let z = worked (2 * mag (law .mu) + 2 * mag (law .lambda)) (omega arith) (omega (arith, some)) (q2 d) tt tt in
+        yields (came (d .low)) z z
         (two-moved (mag (law .mu)) (mag (law .lambda)) (modulus law * L) 238 (val (r .low))
         (val ((s ⊖ (law .lambda) ⊗ (e0 ⊕ e1 ⊕ e2 ⊖ r .high ⊖ r .mid)) ⊘ (two ⊗ (law .mu) ⊕ two ⊗ (law .lambda)))) (val s *ℤ pos L) some (q2 d .near) tt
         (tested (t3-on d) tt h))
 
     pub all-back : OnYield law s (sortedOf (value (backAll law (num s))) (value (backAll law (num s))) (value (backAll law (num s))))
     all-back =
-        yields (q3 d .fine) (q3 d .fine) (q3 d .fine)
+        let z = worked (modulus law) (omega arith) (omega (arith, some)) (q3 d) tt tt in
+        yields z z z
         (all-moved (mag (law .mu)) (mag (law .lambda)) (modulus law * L) 118 (val (s ⊘ (two ⊗ (law .mu) ⊕ thrice ⊗ (law .lambda)))) (val s *ℤ pos L)
         (q3 d .near) tt)

@@ -12,7 +12,7 @@ use Rattle.exact.specs.Value.{val}
 use Rattle.tensor.specs.Matrix.{zero, three}
 use Rattle.plasticity_rankine.specs.declared.RankinePlasticity.{RankinePlasticity}
 use Rattle.rankine_surface.specs.Axes.{Each, Some}
-use Rattle.rankine_surface.specs.Surface.{Under, Below, Reaches, Fair, Strain}
+use Rattle.rankine_surface.specs.Surface.{demanded, archived, Under, Below, Reaches, Fair, Strain}
 
 -- the law of two moduli
 abbrev of : Float → Float → RankinePlasticity
@@ -41,11 +41,11 @@ strains : Each Strain given
 unfolding ofBits fits mag L
 strains = (record { fine = (tt, tt); size = lit≤ tt }, (record { fine = (tt, tt); size = lit≤ tt }, (record { fine = (tt, tt); size = lit≤ tt }, tt)))
 
--- u is above v + K / 2 ^ 44
-off : {u v : ℤ} {K : ℕ} → T (ltb (p (v *ℤ pos (2 ^ 44) +ℤ pos K) + n (u *ℤ pos (2 ^ 44))) (p (u *ℤ pos (2 ^ 44)) + n (v *ℤ pos (2 ^ 44) +ℤ pos K)))
-    → Under u v K → ⊥
-off {u} {v} {K} t h =
-    go (p (u *ℤ pos (2 ^ 44)) + n (v *ℤ pos (2 ^ 44) +ℤ pos K)) (p (v *ℤ pos (2 ^ 44) +ℤ pos K) + n (u *ℤ pos (2 ^ 44))) t (h .under)
+-- u is above v + K / 2 ^ k
+off : {k : ℕ} {u v : ℤ} {K : ℕ} → T (ltb (p (v *ℤ pos (2 ^ k) +ℤ pos K) + n (u *ℤ pos (2 ^ k))) (p (u *ℤ pos (2 ^ k)) + n (v *ℤ pos (2 ^ k) +ℤ pos K)))
+    → Under k u v K → ⊥
+off {k} {u} {v} {K} t h =
+    go (p (u *ℤ pos (2 ^ k)) + n (v *ℤ pos (2 ^ k) +ℤ pos K)) (p (v *ℤ pos (2 ^ k) +ℤ pos K) + n (u *ℤ pos (2 ^ k))) t (h .under)
   where
     go : (a b : ℕ) → T (ltb b a) → a ≤ b → ⊥
     go a b t h = omega (arith, ltb→lt b a t)
@@ -54,18 +54,26 @@ off {u} {v} {K} t h =
 abbrev scaled : List Float
 scaled = three (ofBits binary64 0xc008adbd424045ea) (ofBits binary64 0xc00f3410c3212998) (ofBits binary64 0xc00b6045575bda6a)
 
-scaled-is-off : Some (Reaches law strength scaled) scaled → ⊥
+scaled-is-off : Some (Reaches demanded law strength scaled) scaled → ⊥
 unfolding ofBits val mag L
 scaled-is-off (inl h) = off tt h
 scaled-is-off (inr (inl h)) = off tt h
 scaled-is-off (inr (inr (inl h))) = off tt h
 scaled-is-off (inr (inr (inr h))) = h
 
+-- in the archive neither
+scaled-is-off-archived : Some (Reaches archived law strength scaled) scaled → ⊥
+unfolding ofBits val mag L
+scaled-is-off-archived (inl h) = off tt h
+scaled-is-off-archived (inr (inl h)) = off tt h
+scaled-is-off-archived (inr (inr (inl h))) = off tt h
+scaled-is-off-archived (inr (inr (inr h))) = h
+
 -- two strains should move, and the highest stays as it was: its stress is above the strength
 abbrev half-moved : List Float
 half-moved = three (ofBits binary64 0x3ffa998174105cc8) (ofBits binary64 0xbffb00bd2f8622dc) (ofBits binary64 0xc0014d2763e59cbe)
 
-half-moved-is-off : Each (Below (of (ofBits binary64 0x4012a272469e8452) zero) (ofBits binary64 0xc02f72fd2d6aca41) half-moved) half-moved → ⊥
+half-moved-is-off : Each (Below demanded (of (ofBits binary64 0x4012a272469e8452) zero) (ofBits binary64 0xc02f72fd2d6aca41) half-moved) half-moved → ⊥
 unfolding ofBits val mag L
 half-moved-is-off h = off tt (h .0)
 
@@ -73,7 +81,7 @@ half-moved-is-off h = off tt (h .0)
 abbrev over-divided : List Float
 over-divided = three (ofBits binary64 0xc0068458f7efec5a) (ofBits binary64 0xc0068458f7efec5a) (ofBits binary64 0xc0068458f7efec5a)
 
-over-divided-is-off : Some (Reaches (of (ofBits binary64 0x401a30a5e689adfd) (ofBits binary64 0x3fd81f81c2df15e6)) (ofBits binary64 0xc0437d5a6f7658bd) over-divided) over-divided
+over-divided-is-off : Some (Reaches demanded (of (ofBits binary64 0x401a30a5e689adfd) (ofBits binary64 0x3fd81f81c2df15e6)) (ofBits binary64 0xc0437d5a6f7658bd) over-divided) over-divided
     → ⊥
 unfolding ofBits val mag L
 over-divided-is-off (inl h) = off tt h
@@ -82,6 +90,10 @@ over-divided-is-off (inr (inr (inl h))) = off tt h
 over-divided-is-off (inr (inr (inr h))) = h
 
 -- nothing is done where one strain should move: its stress is above the strength
-nothing-is-off : Each (Below law strength given) given → ⊥
+nothing-is-off : Each (Below demanded law strength given) given → ⊥
 unfolding ofBits val mag L
 nothing-is-off h = off tt (h .0)
+
+nothing-is-off-archived : Each (Below archived law strength given) given → ⊥
+unfolding ofBits val mag L
+nothing-is-off-archived h = off tt (h .0)

@@ -29,10 +29,11 @@ use Rattle.sheet_run.specs.Run.{frontOf}
 use Rattle.model.specs.Kinds as model
 use Rattle.model.specs.Fields.{modelOf}
 use Rattle.rankine_surface.specs.Surface.{Ranges, logsOf}
-use Rattle.rankine_surface.specs.Record.{Premises, softenedAt, firstTestAt, InsideAt, ReturnedAt, InPass, passFound}
+use Rattle.rankine_surface.specs.Record.{Premises, softenedAt, firstTestAt, InsideAt, ReturnedAt, ArchivedAt, InPass, passFound}
 use Rattle.rankine_surface.specs.Sheet.{InSheet, SheetPremises, sheetFound}
 use Rattle.rankine_surface.proofs.Records.{pass-3}
 use Rattle.rankine_surface.proofs.Sheets.{sheet-3}
+use Rattle.rankine_surface.proofs.Stored.{pass-archived}
 
 -- mu and lambda are 4, strength and rate 1
 abbrev arguments : RankineArguments
@@ -72,6 +73,9 @@ taken =
 
 stretched : ReturnedAt arguments (of two) (passFound (recordLaw (Rankine arguments)) (of two) answers 0)
 stretched = pass-3 (in-pass two) (taken .0) .fails (taken .2)
+
+in-the-archive : ArchivedAt arguments (of two) (passFound (recordLaw (Rankine arguments)) (of two) answers 0)
+in-the-archive = pass-archived (in-pass two) (taken .0) (stretched .answer .0)
 
 at-rest : InsideAt arguments (of unit) (passFound (recordLaw (Rankine arguments)) (of unit) answers 0)
 at-rest = pass-3 (in-pass unit) (taken .1) .holds (taken .3)

@@ -28,8 +28,8 @@ use Rattle.plasticity_rankine.proofs.Orders.{rankOf, order-of-three}
 use Rattle.plasticity_rankine.proofs.Laws.{restored}
 use Rattle.plasticity_rankine.specs.Projection.{firstSide, secondSide, thirdSide, backOne, backTwo, backAll, Way, none-moves, one-moves, two-move, all-move, Moved, thirdWalk, secondWalk, firstWalk, projectWalk}
 use Rattle.rankine_surface.specs.Axes.{Each, Some, total}
-use Rattle.rankine_surface.specs.Surface.{modulus, Under, Below, Reaches, Fair, Strain, OnSurface, firstTest}
-use Rattle.rankine_surface.proofs.Branches.{Upwards, principal, Held, OnYield, untouched, one-back, two-back, all-back}
+use Rattle.rankine_surface.specs.Surface.{modulus, demanded, Under, Below, Reaches, Fair, Strain, OnSurface, firstTest}
+use Rattle.rankine_surface.proofs.Branches.{Upwards, principal, Held, Bounded, OnYield, untouched, one-back, two-back, all-back}
 
 -- ---- there and back
 -- the orders of three axes
@@ -139,23 +139,23 @@ upwards x y z i =
     }
 
 -- ---- bounds in index order
-below : (law : RankinePlasticity) (s : Float) {k : List ℕ} → Order k → (r : Sorted) → Held law s r → Each (Below law s (restoreOf k r)) (restoreOf k r)
+below : (law : RankinePlasticity) (s : Float) {k : List ℕ} → Order k → (r : Sorted) → Held law s r → Each (Below demanded law s (restoreOf k r)) (restoreOf k r)
 below law s {k} d r h =
-    subst (λ t. Each (λ w. Under (val (law .lambda) *ℤ t +ℤ pos 2 *ℤ val (law .mu) *ℤ val w) (val s *ℤ pos L) (modulus law * L)) (restoreOf k r))
+    subst (λ t. Each (λ w. Under demanded (val (law .lambda) *ℤ t +ℤ pos 2 *ℤ val (law .mu) *ℤ val w) (val s *ℤ pos L) (modulus law * L)) (restoreOf k r))
     (sym (total-restore d r))
-    (put (λ w. Under (principal law r w) (val s *ℤ pos L) (modulus law * L)) d r (h .low) (h .mid) (h .high))
+    (put (λ w. Under demanded (principal law r w) (val s *ℤ pos L) (modulus law * L)) d r (h .low) (h .mid) (h .high))
 
-reaches : (law : RankinePlasticity) (s : Float) {k : List ℕ} → Order k → (r : Sorted) → Under (val s *ℤ pos L) (principal law r (r .high)) (modulus law * L)
-    → Some (Reaches law s (restoreOf k r)) (restoreOf k r)
+reaches : (law : RankinePlasticity) (s : Float) {k : List ℕ} → Order k → (r : Sorted) → Under demanded (val s *ℤ pos L) (principal law r (r .high)) (modulus law * L)
+    → Some (Reaches demanded law s (restoreOf k r)) (restoreOf k r)
 reaches law s {k} d r h =
-    subst (λ t. Some (λ w. Under (val s *ℤ pos L) (val (law .lambda) *ℤ t +ℤ pos 2 *ℤ val (law .mu) *ℤ val w) (modulus law * L)) (restoreOf k r))
+    subst (λ t. Some (λ w. Under demanded (val s *ℤ pos L) (val (law .lambda) *ℤ t +ℤ pos 2 *ℤ val (law .mu) *ℤ val w) (modulus law * L)) (restoreOf k r))
     (sym (total-restore d r))
-    (one (λ w. Under (val s *ℤ pos L) (principal law r w) (modulus law * L)) d r h)
+    (one (λ w. Under demanded (val s *ℤ pos L) (principal law r w) (modulus law * L)) d r h)
 
-on-surface : (law : RankinePlasticity) (s : Float) {k : List ℕ} → Order k → (r : Sorted) → OnYield law s r → OnSurface law s (restoreOf k r)
+on-surface : (law : RankinePlasticity) (s : Float) {k : List ℕ} → Order k → (r : Sorted) → OnYield law s r → OnSurface demanded law s (restoreOf k r)
 on-surface law s {k} d r y =
     record {
-      fine = put Fin64 d r (y .fine-low) (y .fine-mid) (y .fine-high);
+      fine = put Fin64 d r (y .low .fine) (y .mid .fine) (y .high .fine);
       below = below law s d r (y .held);
       reaches = reaches law s d r (y .reaches);
     }
@@ -185,10 +185,15 @@ abbrev pub Given : Ended Moved → Type 0
 Given (given q) = Unit {0}
 Given (refused n) = ⊥
 
+-- three strains upon the surface, each in -40 to 40
+pub record Landed (law : RankinePlasticity) (s : Float) (e : List Float) : Type 0 where
+  pub axes : length e ≡ 3
+  pub bounded : Each Bounded e
+  pub on-surface : OnSurface demanded law s e
+
 pub record Back (law : RankinePlasticity) (s : Float) (q : Moved) : Type 0 where
   pub moves : Moves (q .way)
-  pub axes : length (values (q .strains)) ≡ 3
-  pub on-surface : OnSurface law s (values (q .strains))
+  pub landed : Landed law s (values (q .strains))
 
 -- strains moved to the surface
 abbrev pub Returns : RankinePlasticity → Float → Ended Moved → Type 0
@@ -206,6 +211,9 @@ pick F true false true false false l3 A B C D h t b c d = absurd t
 pick F true false true false true true A B C D h t b c d = c tt
 pick F true false true false true false A B C D h t b c d = d
 
+landed : (law : RankinePlasticity) (s : Float) {k : List ℕ} → Order k → (r : Sorted) → OnYield law s r → Landed law s (restoreOf k r)
+landed law s d r y = record { axes = sized d r; bounded = put Bounded d r (y .low) (y .mid) (y .high); on-surface = on-surface law s d r y }
+
 back : (law : RankinePlasticity) (s : Float) (w : Way) → Moves w → (x y z : Float) (a b c : Expr) → OnYield law s (sortedOf (value a) (value b) (value c))
     → Back law s (record { way = w; strains = restoredOf (orderOf (three x y z)) (three a b c) })
 back law s w m x y z a b c f =
@@ -213,8 +221,7 @@ back law s w m x y z a b c f =
     let e = sym (worth x y z a b c) in
     record {
       moves = m;
-      axes = subst (λ l. length l ≡ 3) e (sized (order x y z) r);
-      on-surface = subst (OnSurface law s) e (on-surface law s (order x y z) r f);
+      landed = subst (Landed law s) e (landed law s (order x y z) r f);
     }
 
 kept : (n l : Bool) (q : Moved) (B : Ended Moved) → T l → Given (cond n (cond l (given q) B) (refused 3)) → cond n (cond l (given q) B) (refused 3) ≡ given q
@@ -224,12 +231,12 @@ kept false l q B t h = absurd h
 
 module _ {law : RankinePlasticity} {s : Float} (g : Fair law s) (x y z : Float) (i : Each Strain (three x y z)) where
   -- where the first test holds
-  pub inside : T (firstTest law (three x y z) s) → Each (Below law s (three x y z)) (three x y z)
+  pub inside : T (firstTest law (three x y z) s) → Each (Below demanded law s (three x y z)) (three x y z)
   unfolding sumOf
   inside h =
       let k = orderOf (three x y z) in
       let d = order x y z in
-      subst (λ t. Each (Below law s t) t) (and-back d x y z) (below law s d (arrangeOf k (three x y z)) (untouched g (upwards x y z i) h))
+      subst (λ t. Each (Below demanded law s t) t) (and-back d x y z) (below law s d (arrangeOf k (three x y z)) (untouched g (upwards x y z i) h))
 
   -- and where it fails
   pub outside : T (not (firstTest law (three x y z) s)) → Given (result (projectWalk law (three x y z) (num s))) → Returns law s (result (projectWalk law (three x y z) (num s)))

@@ -3,10 +3,12 @@ pub mod Bounds
 pub mod Branches
 pub mod Indexed
 pub mod Strains
+pub mod Archive
 pub mod Update
 pub mod Places
 pub mod Passes
 pub mod Records
 pub mod Sheets
+pub mod Stored
 pub mod Cases
 pub mod Examples

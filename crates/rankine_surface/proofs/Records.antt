@@ -28,8 +28,8 @@ use Rattle.particles.specs.Judged.{judgedAt, unlessRefused, failedLaw, byVerdic
 use Rattle.particles.proofs.PassLaws.{record-keeps}
 use Rattle.particles.proofs.JudgedLaws.{failure-keeps}
 use Rattle.rankine_surface.specs.Axes.{Each}
-use Rattle.rankine_surface.specs.Surface.{Accepted, F64, Small, Ranges, numbersOf, logsOf, Inside, Returned, Demand3By}
-use Rattle.rankine_surface.specs.Record.{Premises, Found, foundOf, InsideAt, ReturnedAt, Demand3At, projectedAt, InPass, passFound, metBy, metAt}
+use Rattle.rankine_surface.specs.Surface.{Accepted, F64, Small, Ranges, numbersOf, logsOf, Archived, Inside, Returned, Demand3By}
+use Rattle.rankine_surface.specs.Record.{Premises, Found, foundOf, InsideAt, ReturnedAt, Demand3At, softenedAt, projectedAt, InPass, passFound, metBy, metAt}
 use Rattle.rankine_surface.proofs.Strains.{exps-f64}
 use Rattle.rankine_surface.proofs.Update.{demand-3-by}
 use Rattle.rankine_surface.proofs.Places.{stored-sigma, stored-hardening, phase-sigma, phase-hardening}
@@ -52,12 +52,14 @@ module _ (a : RankineArguments) (r : List ℕ) where
       let s = worked .state in
       let back = stored-hardening r s k (subst F64 (sym (d .written)) (d .f64 f)) ∙ d .written in
       let g = subst (Each F64) (sym (d .sigma)) (exps-f64 (projectedAt a r)) in
+      let shape = stored-sigma r s k (ap length (d .sigma) ∙ d .axes) g in
       subst (λ (o : Outcome). ReturnedAt a r (left a r (record { state = s; outcome = o }))) (sym (d .stored))
       (record {
         answer = (refl, ap (λ (x : Float). Ieee.toBits binary64 x) (sym back));
         capped = subst (λ (x : Float). T (Ieee.le x (a .«tensile_strength»))) (sym back) (d .capped);
-        sigma = stored-sigma r s k (ap length (d .sigma) ∙ d .axes) g ∙ d .sigma;
+        sigma = shape ∙ d .sigma;
         on-surface = d .on-surface;
+        archive = subst (Archived (lawOf a) (softenedAt a r)) (sym shape) (d .archive);
       })
 
 -- a record's sigma are f64

@@ -223,10 +223,6 @@ unfolding L
 L-big = lit≤ tt
 
 -- ---- a quotient by a float near Y, which is its own scale
-pub record Quot (M Y : ℕ) (z : Float) (X : ℤ) (e : ℕ) : Type 0 where
-  pub fine : Fin64 z
-  pub near : abs (val z *ℤ pos Y -ℤ X) * 2 ^ 53 ≤ e * (M * L)
-
 part : (q w g : ℕ) → q ≤ w + g → g * 2 ^ 53 ≤ 16 * q → g * 2 ^ 48 ≤ w
 part q w g h k = omega arith
 
@@ -246,7 +242,7 @@ joined : (w x a B K : ℕ) → w ≤ x + a → x ≤ (B + 1) * K → a ≤ K →
 joined w x a B K h k l = omega arith
 
 pub div-on : {M Y : ℕ} {x y : Float} {X : ℤ} {B e : ℕ} → M ≤ 2 ^ 60 * L → L ≤ Y → Y ≤ M → On (M * L) L x X B e → On Y 1 y (pos Y) 1 16
-    → T (leb (e + B + 3) (2 ^ 40)) → Quot M Y (div binary64 x y) X (e + 17 * B + 50)
+    → T (leb (e + B + 3) (2 ^ 40)) → On (M * L) Y (div binary64 x y) X B (e + 17 * B + 50)
 div-on {M} {Y} {x} {y} {X} {B} {e} r l k i j t =
     let z = div binary64 x y in
     let c : e + B + 3 ≤ 2 ^ 40 = leb→le (e + B + 3) (2 ^ 40) t in
@@ -258,6 +254,7 @@ div-on {M} {Y} {x} {y} {X} {B} {e} r l k i j t =
     let v = div-val x y (i .fine) (j .fine) (omega (arith, half, l, L-pos)) (fit (mag x) (mag y) u half (omega arith)) in
     record {
       fine = v .fine;
+      size = i .size;
       near =
           go (abs (val z *ℤ val y -ℤ val x *ℤ pos L)) b g (mag x) (mag y) (mag z) (v .near) (i .near) (j .near) (omega arith) (omega arith) u
           (over (val y) (mag y) (abs-val y)) lo

@@ -1,15 +1,17 @@
 -- What the logarithm and the exponential answer: our log strains of sigma are finite f64, and the new sigma are f64
 use mathlib.Core.Path.{_≡_, refl, ap, _∙_}
 use mathlib.Core.Bool.{Bool, true, false, cond}
-use mathlib.Core.List.{List, [], _∷_}
+use mathlib.Core.List.{List, [], _∷_, map}
 use Prim.Native.Nat.{ℕ, suc}
+use lib.Dec.{T}
 use lib.ListN.{length}
-use lib.Ieee.{Float, binary64}
+use lib.Ieee.{Float, nan, inf, fin, binary64, le, lt, eq}
 use lib.Ieee.Bits.{ofBits-fits}
 use Rattle.exact.specs.Units.{Fin64}
 use Rattle.numbers.specs.Floats.{isNumber}
 use Rattle.answers.specs.Refusals.{noNumber}
 use Rattle.answers.specs.Range.{inRange, sideOf}
+use Rattle.answers.proofs.Values.{between}
 use Rattle.answers.specs.declared.Answer.{Answer}
 use Rattle.answers.specs.declared.Answer.the-variants.{Value, Refused}
 use Rattle.logarithm.specs.Worked as logarithm
@@ -17,7 +19,7 @@ use Rattle.logarithm.proofs.Laws.{ln-near}
 use Rattle.exponential.specs.Worked as exponential
 use Rattle.plasticity.specs.declared.State.{State}
 use Rattle.walk.specs.Expr.{Expr}
-use Rattle.walk.specs.Walk.{Function, exp, ln, answerOf, Walk, asks, end, Ended, given, refused, asked, result}
+use Rattle.walk.specs.Walk.{Function, exp, ln, lowOf, highOf, at, answerOf, Walk, asks, end, Ended, given, refused, asked, result}
 use Rattle.walk.specs.Exact.{andThen}
 use Rattle.plasticity_rankine.specs.declared.RankinePlasticity.{RankinePlasticity}
 use Rattle.plasticity_rankine.specs.Rankine.{storeWalk, expsWalk, strainedWalk, runWalk}
@@ -53,7 +55,7 @@ exp-f64 : (x : Float) → Answers F64 (answerOf exp x)
 unfolding exponential.expOf
 exp-f64 x = in-range F64 (isNumber x) (inRange exponential.low exponential.high x) (sideOf exponential.low exponential.high x) (exponential.expOf x) (λ r. ofBits-fits binary64 _)
 
-of-each : (F G : Float → Type 0) → ((x : Float) → F x → G x) → (l : List Float) → Each F l → Each G l
+pub of-each : (F G : Float → Type 0) → ((x : Float) → F x → G x) → (l : List Float) → Each F l → Each G l
 of-each F G f [] h = tt
 of-each F G f (x ∷ l) h = (f x (h .0), of-each F G f l (h .1))
 
@@ -115,6 +117,33 @@ pub exps-then : (e : List Float) (u vt : List (List Float)) (h : Expr) (st : Sta
     → result (expsWalk e u vt h st) ≡ andThen (expsOf e) (λ sigma. result (storeWalk u sigma vt h st))
 unfolding expsWalk expsOf
 exps-then e u vt h st = follows 9 exp (λ sigma. storeWalk u sigma vt h st) e (λ vs. vs)
+
+-- ---- a function whose range takes each entry answers each
+a-number : (l x : Float) → T (le l x) → isNumber x ≡ true
+unfolding le lt eq isNumber
+a-number nan nan h = absurd h
+a-number (inf s) nan h = absurd h
+a-number (fin s m e) nan h = absurd h
+a-number l (inf s) h = refl
+a-number l (fin s m e) h = refl
+
+pub answers : (f : Function) (x : Float) → inRange (lowOf f) (highOf f) x ≡ true → answerOf f x ≡ Value (at f x)
+answers f x r = rw (a-number (lowOf f) x (between (lowOf f) (highOf f) x r .0), r) refl
+
+module _ (n : ℕ) (f : Function) where
+  answered : (l : List Float) (k : List Float → List Float) → Each (λ x. answerOf f x ≡ Value (at f x)) l
+      → result (asks n f l (λ vs. end (k vs))) ≡ given (k (map (at f) l))
+  answered [] k h = refl
+  answered (x ∷ l) k h =
+      ap (λ a. asked a (λ v. result (asks n f l (λ vs. end (k (v ∷ vs)))))) (h .0) ∙ answered l (λ vs. k (at f x ∷ vs)) (h .1)
+
+pub logs-answered : (sigma : List Float) → Each (λ x. answerOf ln x ≡ Value (at ln x)) sigma → logsOf sigma ≡ given (map (at ln) sigma)
+unfolding logsOf
+logs-answered sigma h = answered 2 ln sigma (λ vs. vs) h
+
+pub exps-answered : (e : List Float) → Each (λ x. answerOf exp x ≡ Value (at exp x)) e → expsOf e ≡ given (map (at exp) e)
+unfolding expsOf
+exps-answered e h = answered 9 exp e (λ vs. vs) h
 
 both : (e : List Float) → Each Fin64 e → Each Small e → Each Strain e
 both [] f s = tt

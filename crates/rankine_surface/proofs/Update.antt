@@ -34,8 +34,9 @@ use Rattle.plasticity_rankine.specs.Rankine.{stateOf, storeWalk, expsWalk, hard
 use Rattle.plasticity_rankine.proofs.Laws.{inputs-law, arguments-law, moved-law, harden-law, store-law}
 use Rattle.plasticity_rankine.proofs.Reason.{vector-given}
 use Rattle.rankine_surface.specs.Axes.{Each}
-use Rattle.rankine_surface.specs.Surface.{Accepted, numbersOf, logsOf, expsOf, logStrains, softened, projectedStrains, Below, Ranges, Fair, Strain, F64, Taken, TakenBy, firstTest, Inside, OnSurface, Returned, Demand3, Demand3By, Settled, Projects}
-use Rattle.rankine_surface.proofs.Indexed.{Given, Moves, Returns, inside, outside, same}
+use Rattle.rankine_surface.specs.Surface.{Accepted, numbersOf, logsOf, expsOf, logStrains, softened, projectedStrains, demanded, Below, Ranges, Fair, Strain, F64, Taken, TakenBy, firstTest, Inside, OnSurface, Archived, Returned, Demand3, Demand3By, Settled, Projects}
+use Rattle.rankine_surface.proofs.Indexed.{Given, Moves, Landed, Returns, inside, outside, same}
+use Rattle.rankine_surface.proofs.Archive.{archive}
 use Rattle.rankine_surface.proofs.Strains.{Sized, logs-sized, exps-sized, logs-then, exps-then, strained}
 
 -- ---- a test that was not refused
@@ -164,8 +165,8 @@ module _ (law : RankinePlasticity) (u vt : List (List Float)) (st : State) (f : 
   way-done (all-move x y) m e new n = moved-done e new n
 
   returned-done : (s : Float) (e : List Float) (x : Ended Moved) → Returns law s x → Took st (after e x)
-      → Done law (updatedOf st (after e x)) (numbersOf (expsOf (movedOf x .strains))) × OnSurface law s (movedOf x .strains)
-  returned-done s e (given q) b a = (way-done (q .way) (b .moves) e (q .strains) (b .axes) a, b .on-surface)
+      → Done law (updatedOf st (after e x)) (numbersOf (expsOf (movedOf x .strains))) × Landed law s (movedOf x .strains)
+  returned-done s e (given q) b a = (way-done (q .way) (b .moves) e (q .strains) (b .landed .axes) a, b .landed)
   returned-done s e (refused n) b a = absurd b
 
   went-on : (e : List Float) (x : Ended Moved) → Took st (after e x) → Given x
@@ -194,12 +195,12 @@ module _ (law : RankinePlasticity) (u vt : List (List Float)) (st : State) (f : 
   s = softened law st
 
   abbrev Holds : List Float → Ended Change → Type 0
-  Holds e v = Took st v → Each Strain e → T (firstTest law e s) → (updatedOf st v ≡ untouchedOf st) × Each (Below law s e) e
+  Holds e v = Took st v → Each Strain e → T (firstTest law e s) → (updatedOf st v ≡ untouchedOf st) × Each (Below demanded law s e) e
 
   abbrev Fails : List Float → Ended Change → Type 0
   Fails e v =
       let new = projectedOf law e s .strains in
-      Took st v → Each Strain e → T (not (firstTest law e s)) → Done law (updatedOf st v) (numbersOf (expsOf new)) × OnSurface law s new
+      Took st v → Each Strain e → T (not (firstTest law e s)) → Done law (updatedOf st v) (numbersOf (expsOf new)) × Landed law s new
 
   test-holds : (x y z : Float) → Holds (three x y z) (result (strainedWalk law (three x y z) u vt st))
   test-holds x y z a i h =
@@ -262,15 +263,17 @@ demand-3 {law} {u} {vt} {st} g = record { holds = held; fails = failed }
         let k = log-fails law u vt st f (g .fair) logs (logs-sized (st .sigma) 3 (g .axes)) took strains h in
         let d = k .0 in
         let update : rankineUpdate law u vt st ≡ updatedOf st (andThen logs (λ e. result (strainedWalk law e u vt st))) = ap (updatedOf st) whole in
+        let shape : rankineUpdate law u vt st .state .sigma ≡ numbersOf (expsOf (projectedStrains law st)) = ap (λ v. v .state .sigma) update ∙ d .shape in
         record {
           hardening = d .hardening;
           stored = ap (λ v. v .outcome) update ∙ d .stored;
           written = ap (λ v. v .state .scalars .«plastic_hardening») update ∙ d .written;
           capped = d .capped .0;
           f64 = d .capped .1;
-          sigma = ap (λ v. v .state .sigma) update ∙ d .shape;
+          sigma = shape;
           axes = d .axes;
-          on-surface = k .1;
+          on-surface = k .1 .on-surface;
+          archive = subst (Archived law (softened law st)) (sym shape) (archive (g .fair) (projectedStrains law st) (k .1));
         }
 
 -- an accepted update by the arguments of `new` is the update by the law that they make
@@ -319,8 +322,8 @@ settled : (x : Ended Moved) → Answered (returned x) → Given x × (vectorOf (
 settled (given q) h = (tt, handed (rowFinite (values (q .strains))) (values (q .strains)) h)
 settled (refused n) h = absurd h
 
-upon : (law : RankinePlasticity) (s : Float) (x : Ended Moved) → Returns law s x → OnSurface law s (movedOf x .strains)
-upon law s (given q) b = b .on-surface
+upon : (law : RankinePlasticity) (s : Float) (x : Ended Moved) → Returns law s x → OnSurface demanded law s (movedOf x .strains)
+upon law s (given q) b = b .landed .on-surface
 upon law s (refused n) b = absurd b
 
 pub project-3 : {law : RankinePlasticity} {s : Float} → Fair law s → (x y z : Float) → Each Strain (three x y z)
@@ -338,5 +341,5 @@ project-3 {law} {s} g x y z i h =
     let is = ap (λ v. vectorOf v .vector) whole ∙ q .1 in
     record {
       holds = λ t. (is ∙ ap (λ v. movedOf v .strains) (same law s x y z t (q .0)) ∙ values-nums e, inside g x y z i t);
-      fails = λ t. subst (OnSurface law s) (sym is) (upon law s (result w) (outside g x y z i t (q .0)));
+      fails = λ t. subst (OnSurface demanded law s) (sym is) (upon law s (result w) (outside g x y z i t (q .0)));
     }

@@ -22,7 +22,7 @@ use Rattle.model.specs.declared.Model.{Model}
 use Rattle.particles.specs.Pass.{Worked, codeOf, valueOf, recordAt, wellSized, passRecords, passAnswers}
 use Rattle.particles.specs.Judged.{judgedAt}
 use Rattle.rankine_surface.specs.Axes.{Each}
-use Rattle.rankine_surface.specs.Surface.{Accepted, Ranges, Small, F64, Below, OnSurface, numbersOf, expsOf, logStrains, softened, firstTest, projectedStrains}
+use Rattle.rankine_surface.specs.Surface.{Accepted, Ranges, Small, F64, demanded, Below, OnSurface, Archived, numbersOf, expsOf, logStrains, softened, firstTest, projectedStrains}
 
 -- our logarithms of the record's sigma, and the softened strength s
 abbrev pub strainsAt : List ℕ → List Float
@@ -68,19 +68,29 @@ Says o f = (f .code ≡ codeOf o) × (f .value ≡ valueOf o)
 pub record InsideAt (a : RankineArguments) (r : List ℕ) (f : Found) : Type 0 where
   pub answer : Says Untouched f
   pub bits : f .after ≡ r
-  pub below : Each (Below (lawOf a) (softenedAt a r) (strainsAt r)) (strainsAt r)
+  pub below : Each (Below demanded (lawOf a) (softenedAt a r) (strainsAt r)) (strainsAt r)
+
+-- the sigma in the record, as the archive keeps it, against the s that the update used
+abbrev pub ArchivedAt : RankineArguments → List ℕ → Found → Type 0
+ArchivedAt a r f = Archived (lawOf a) (softenedAt a r) (stateAt (f .after) .sigma)
 
 -- it fails: the hardening stored in the record is the answer's amount and at most the tensile strength; sigma in the record is the
--- exponentials of the projected strains, and these put the largest stress within the distance of s, above or below
+-- exponentials of the projected strains, and these put the largest stress within the distance of s, above or below; so do the logarithms of
+-- that sigma, at the archive's distance
 pub record ReturnedAt (a : RankineArguments) (r : List ℕ) (f : Found) : Type 0 where
   pub answer : Says (Stored (stateAt (f .after) .scalars .«plastic_hardening»)) f
   pub capped : T (Ieee.le (stateAt (f .after) .scalars .«plastic_hardening») (a .«tensile_strength»))
   pub sigma : stateAt (f .after) .sigma ≡ numbersOf (expsOf (projectedAt a r))
-  pub on-surface : OnSurface (lawOf a) (softenedAt a r) (projectedAt a r)
+  pub on-surface : OnSurface demanded (lawOf a) (softenedAt a r) (projectedAt a r)
+  pub archive : ArchivedAt a r f
 
 pub record Demand3At (a : RankineArguments) (r : List ℕ) (f : Found) : Type 0 where
   pub holds : T (firstTestAt a r) → InsideAt a r f
   pub fails : T (not (firstTestAt a r)) → ReturnedAt a r f
+
+-- the archive by itself, where the answer says 1, stored
+abbrev pub ArchivesAt : RankineArguments → List ℕ → Found → Type 0
+ArchivesAt a r f = f .code ≡ 1 → ArchivedAt a r f
 
 -- ---- in a pass
 -- record i of lists that the pass takes: 8 is no refusal of theirs

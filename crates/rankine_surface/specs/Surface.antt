@@ -37,17 +37,25 @@ modulus p = 2 * mag (p .mu) + 3 * mag (p .lambda)
 abbrev pub stressOf : RankinePlasticity → List Float → Float → ℤ
 stressOf p e w = val (p .lambda) *ℤ total e +ℤ pos 2 *ℤ val (p .mu) *ℤ val w
 
--- u is at most v + K / 2 ^ 44
-pub record Under (u v : ℤ) (K : ℕ) : Type 0 where
-  pub under : u *ℤ pos (2 ^ 44) ≤ᶻ v *ℤ pos (2 ^ 44) +ℤ pos K
+-- u is at most v + K / 2 ^ k
+pub record Under (k : ℕ) (u v : ℤ) (K : ℕ) : Type 0 where
+  pub under : u *ℤ pos (2 ^ k) ≤ᶻ v *ℤ pos (2 ^ k) +ℤ pos K
 
--- the stress of w is at most s + (2mu + 3lambda) / 2 ^ 44
-abbrev pub Below : RankinePlasticity → Float → List Float → Float → Type 0
-Below p s e w = Under (stressOf p e w) (val s *ℤ pos L) (modulus p * L)
+-- the stress of w is at most s + (2mu + 3lambda) / 2 ^ k
+abbrev pub Below : ℕ → RankinePlasticity → Float → List Float → Float → Type 0
+Below k p s e w = Under k (stressOf p e w) (val s *ℤ pos L) (modulus p * L)
 
--- the stress of w is at least s - (2mu + 3lambda) / 2 ^ 44
-abbrev pub Reaches : RankinePlasticity → Float → List Float → Float → Type 0
-Reaches p s e w = Under (val s *ℤ pos L) (stressOf p e w) (modulus p * L)
+-- the stress of w is at least s - (2mu + 3lambda) / 2 ^ k
+abbrev pub Reaches : ℕ → RankinePlasticity → Float → List Float → Float → Type 0
+Reaches k p s e w = Under k (val s *ℤ pos L) (stressOf p e w) (modulus p * L)
+
+-- k for the strains that the update projects: "within (2mu + 3lambda)/2^44"
+abbrev pub demanded : ℕ
+demanded = 44
+
+-- k for the strains of the sigma that it stores: "within (2mu + 3lambda)/2^40"
+abbrev pub archived : ℕ
+archived = 40
 
 -- ---- what is taken
 -- mu in 1 to 2 ^ 40, lambda in 0 to 2 ^ 40, s within 4 (2mu + 3lambda) of zero
@@ -129,13 +137,21 @@ firstTest p e s = Ieee.le (value (firstSide p (num (sumOf e)) (num (arrangeOf (o
 -- where the test holds: the state is handed back as it came, and no stress is above
 pub record Inside (p : RankinePlasticity) (u vt : List (List Float)) (st : State) : Type 0 where
   pub untouched : rankineUpdate p u vt st ≡ untouchedOf st
-  pub below : Each (Below p (softened p st) (logStrains st)) (logStrains st)
+  pub below : Each (Below demanded p (softened p st) (logStrains st)) (logStrains st)
 
--- finite strains whose largest stress lies within the distance of s, above or below (`val` is 0 at a NaN or an infinity)
-pub record OnSurface (p : RankinePlasticity) (s : Float) (e : List Float) : Type 0 where
+-- finite strains whose largest stress lies within (2mu + 3lambda) / 2 ^ k of s, above or below (`val` is 0 at a NaN or an infinity)
+pub record OnSurface (k : ℕ) (p : RankinePlasticity) (s : Float) (e : List Float) : Type 0 where
   pub fine : Each Fin64 e
-  pub below : Each (Below p s e) e
-  pub reaches : Some (Reaches p s e) e
+  pub below : Each (Below k p s e) e
+  pub reaches : Some (Reaches k p s e) e
+
+-- in the archive, which keeps sigma alone: our logarithm takes each of the three, and with these as strains the largest stress, whichever
+-- axis has it, lies that near to s
+pub record Archived (p : RankinePlasticity) (s : Float) (sigma : List Float) : Type 0 where
+  pub strains : List Float
+  pub answered : logsOf sigma ≡ given strains
+  pub axes : length strains ≡ 3
+  pub on-surface : OnSurface archived p s strains
 
 abbrev pub projectedStrains : RankinePlasticity → State → List Float
 projectedStrains p st = projectedOf p (logStrains st) (softened p st) .strains
@@ -149,11 +165,17 @@ pub record Returned (p : RankinePlasticity) (u vt : List (List Float)) (st : Sta
   pub f64 : F64 (p .«tensile_strength») → F64 hardening
   pub sigma : rankineUpdate p u vt st .state .sigma ≡ numbersOf (expsOf (projectedStrains p st))
   pub axes : length (numbersOf (expsOf (projectedStrains p st))) ≡ 3
-  pub on-surface : OnSurface p (softened p st) (projectedStrains p st)
+  pub on-surface : OnSurface demanded p (softened p st) (projectedStrains p st)
+  pub archive : Archived p (softened p st) (rankineUpdate p u vt st .state .sigma)
 
 pub record Demand3 (p : RankinePlasticity) (u vt : List (List Float)) (st : State) : Type 0 where
   pub holds : T (firstTest p (logStrains st) (softened p st)) → Inside p u vt st
   pub fails : T (not (firstTest p (logStrains st) (softened p st))) → Returned p u vt st
+
+-- the archive by itself, where the update stores
+abbrev pub Archives : RankineArguments → List (List Float) → List (List Float) → State → Type 0
+Archives a u vt st = (hardening : Float) → argumentsUpdate a u vt st .outcome ≡ Stored hardening
+    → Archived (lawOf a) (softened (lawOf a) st) (argumentsUpdate a u vt st .state .sigma)
 
 pub record Demand3By (a : RankineArguments) (u vt : List (List Float)) (st : State) : Type 0 where
   pub update : argumentsUpdate a u vt st ≡ rankineUpdate (lawOf a) u vt st
@@ -164,5 +186,5 @@ abbrev pub Settled : VectorAnswer → Type 0
 Settled v = v .refusal ≡ 0
 
 pub record Projects (p : RankinePlasticity) (e : List Float) (s : Float) : Type 0 where
-  pub holds : T (firstTest p e s) → (projectOf p e s .vector ≡ e) × Each (Below p s e) e
-  pub fails : T (not (firstTest p e s)) → OnSurface p s (projectOf p e s .vector)
+  pub holds : T (firstTest p e s) → (projectOf p e s .vector ≡ e) × Each (Below demanded p s e) e
+  pub fails : T (not (firstTest p e s)) → OnSurface demanded p s (projectOf p e s .vector)
