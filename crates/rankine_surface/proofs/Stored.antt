@@ -56,16 +56,16 @@ pub pass-archived : {a : RankineArguments} {xs out : List ℕ} {i : ℕ} → InP
 pass-archived w g = found-archived (pass-3 w g)
 
 -- phase changes no sigma
-marked-archived : {a : RankineArguments} {r : List ℕ} (b : Bool) {f : Found} → ArchivesAt a r f → ArchivesAt a r (markedBy b f)
-marked-archived false d = d
-marked-archived {a} {r} true {f} d q = subst (Archived (lawOf a) (softenedAt a r)) (sym (phase-sigma (f .after) zero)) (d q)
+marked-archived : (a : RankineArguments) (r : List ℕ) (b : Bool) (f : Found) → ArchivesAt a r f → ArchivesAt a r (markedBy b f)
+marked-archived a r false f d = d
+marked-archived a r true f d = λ q. subst (Archived (lawOf a) (softenedAt a r)) (sym (phase-sigma (f .after) zero)) (d q)
 
 pub pass-with-failure-archived : (l : MaximumStressFailure) (e : CorotatedLinearElasticity) {a : RankineArguments} {xs out : List ℕ} {i : ℕ} → InPass xs out i
     → Premises a (recordAt xs i) (failureLaw (Rankine a) l e (recordAt xs i) .outcome)
     → ArchivesAt a (recordAt xs i) (passFound (failureLaw (Rankine a) l e) xs out i)
 pass-with-failure-archived l e {a} {xs} {out} {i} w g =
     let d = pass-with-failure-3 l e w g in
-    subst (ArchivesAt a (recordAt xs i)) (sym (d .found)) (marked-archived (failureLaw (Rankine a) l e (recordAt xs i) .failed) (found-archived (d .law)))
+    subst (ArchivesAt a (recordAt xs i)) (sym (d .found)) (marked-archived a (recordAt xs i) (failureLaw (Rankine a) l e (recordAt xs i) .failed) _ (found-archived (d .law)))
 
 pub sheet-archived : {s xs out : List ℕ} {i : ℕ} → InSheet s xs out i → SheetPremises s i → ArchivesAt (argumentsIn s) (recordIn s i) (sheetFound s xs out i)
 sheet-archived w g = found-archived (sheet-3 w g)
