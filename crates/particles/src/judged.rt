@@ -48,12 +48,7 @@ fn verdict_after(
 }
 
 // A refused law skips the verdict.
-fn verdict(
-    l: MaximumStressFailure,
-    e: CorotatedLinearElasticity,
-    phase: f64,
-    d: Updated,
-) -> Verdict
+fn verdict(l: MaximumStressFailure, e: CorotatedLinearElasticity, phase: f64, d: Updated) -> Verdict
     ensures { λ r. ⌜ r ≡ unlessRefused (d .outcome) (verdictAfter l e phase (d .state)) ⌝ }
 {
     let o = d.outcome;
