@@ -530,7 +530,7 @@ class Pictures(InFolder):
 
     def test_failed_particles_are_marked(self):
         path = HERE.parent / "samples" / "rankine.sheet"
-        status, err, root = self.drawn(path, "--limits", 6000, 3500, "--corotated", 1, 0.9, 576923, 384615)
+        status, err, root = self.drawn(path, "--limits", 4000, 2000, "--corotated", 1, 0.9, 576923, 384615)
         self.assertEqual((status, err), (0, ""))
         squares = [e for e in root.iter("{http://www.w3.org/2000/svg}rect") if e.get("stroke") == draw.FAILED]
         head = next(t for t in self.said(root) if t.startswith("rankine.sheet"))
