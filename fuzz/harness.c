@@ -180,27 +180,26 @@ static uint64_t want_records[ROOM], want_answers[2 * MOST], want_counts[4];
 static void want_pass(uint64_t model, const uint64_t *p, const struct judge *j, const uint64_t *records, size_t count) {
     memset(want_counts, 0, sizeof want_counts);
     for (size_t k = 0; k < count; k++) {
-        uint64_t r[FLOATS];
-        memcpy(r, records + k * FLOATS, sizeof r);
+        const uint64_t *r = records + k * FLOATS;
         int fails = 0;
         struct done d = {0};
         if (j && !(finite_words(j->limits, 2) && finite_words(j->law, 4)))
             d.status = 1;
-        else if (j && finite_words(r, FLOATS) && finite_words(p, FIELDS[model]) && !judged(j->limits, j->law, r, &fails))
-            d.status = 3;
-        else {
-            if (fails)
-                r[30] = 0;
+        else
             d = updated(model, p, FIELDS[model], r, FLOATS, 2);
-        }
+        // the verdict on the record that the law leaves, whose phase is still the one that came
+        if (j && !d.status && !judged(j->limits, j->law, d.record, &fails))
+            d.status = 3;
+        if (fails)
+            d.record[30] = 0;
         if (j)
             met[640 + model * 16 + (d.status ? d.status : 4 + fails * 2 + d.answer[0])] = 1;
-        memcpy(want_records + k * FLOATS, d.status ? records + k * FLOATS : d.record, sizeof r);
+        memcpy(want_records + k * FLOATS, d.status ? r : d.record, sizeof d.record);
         want_answers[2 * k] = d.status ? 2 : d.answer[0];
         want_answers[2 * k + 1] = d.status ? d.status : d.answer[1];
         want_counts[d.status ? 2 : d.answer[0]]++;
-        want_counts[3] += fails && !d.status;
-        verdicts[fails && !d.status] += !d.status;
+        want_counts[3] += fails;
+        verdicts[fails] += !d.status;
     }
 }
 

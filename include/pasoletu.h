@@ -363,11 +363,13 @@ uint8_t pasoletu_pass(uint64_t model, const double *parameters, size_t parameter
                       size_t records_length, uint64_t *answers, size_t answers_length, uint64_t *counts,
                       size_t counts_length);
 
-/* limits: 2; corotated: 4; counts: 4. The pass with failure: judges each record's stress as it came, sets its phase
- * to 0.0 on a yes, then applies the law.
+/* limits: 2; corotated: 4; counts: 4. The pass with failure: applies the law to each record, then judges the stress
+ * of the record as the law leaves it (its sigma and elastic hardening, with the phase as it came), then sets its
+ * phase to 0.0 on a yes. A record that the law refuses is not judged.
  * limits: (max_principal_stress, max_shear_stress); corotated: the corotated law as above; the others as in
  * pasoletu_pass, but the fourth count is how many of the records not refused have failed in this pass. A record
- * whose outcome is untouched may have a new phase. A refused record keeps all its bits, its phase too.
+ * whose outcome is untouched may have a new phase. A record whose law or stress is refused keeps all its bits;
+ * limits or a corotated law that are not finite refuse every record by 1, before the law's own numbers.
  * Refusals, before any record and with nothing written: 8; 6 for a model over 3 or a flag, also the corotated law's.
  */
 uint8_t pasoletu_pass_with_failure(uint64_t model, const double *parameters, size_t parameters_length,

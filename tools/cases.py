@@ -340,15 +340,18 @@ def principal(law, r):
     return out
 
 
+def fails(limits, s):
+    return max(s) > limits[0] or (max(s) - min(s)) / 2.0 > limits[1]
+
+
 def worked_with_failure(model, p, limits, law, r):
-    """Whether the record as it came failed, the law's amount and the record after both."""
-    if not all(map(math.isfinite, p + limits + law + r)):
+    """Whether the record failed, the law's amount and the record after both: the law first, then the verdict on the record that it leaves,
+    whose phase is still the one that came, then the phase."""
+    if not all(map(math.isfinite, limits + law)):
         raise Refused(1)
-    s = principal(law, r)
-    yes = max(s) > limits[0] or (max(s) - min(s)) / 2.0 > limits[1]
-    if yes:
-        r = r[:30] + [0.0] + r[31:]
-    return (yes, *worked(model, p, r))
+    amount, after = worked(model, p, r)
+    yes = fails(limits, principal(law, after))
+    return yes, amount, after[:30] + [0.0] + after[31:] if yes else after
 
 
 def expected(b):

@@ -530,7 +530,7 @@ class Pictures(InFolder):
 
     def test_failed_particles_are_marked(self):
         path = HERE.parent / "samples" / "rankine.sheet"
-        status, err, root = self.drawn(path, "--limits", 6000, 3500, "--corotated", 1, 0.9, 576923, 384615)
+        status, err, root = self.drawn(path, "--limits", 4000, 2000, "--corotated", 1, 0.9, 576923, 384615)
         self.assertEqual((status, err), (0, ""))
         squares = [e for e in root.iter("{http://www.w3.org/2000/svg}rect") if e.get("stroke") == draw.FAILED]
         head = next(t for t in self.said(root) if t.startswith("rankine.sheet"))
@@ -621,14 +621,48 @@ class Second(unittest.TestCase):
         self.assertAlmostEqual(r[31], 1.0 / (1.0045 * 0.975))
 
     def test_failure_by_hand(self):
-        law, r = [1.0, 0.9, 10.0, 5.0], cases.record((2.0, 1.0, 1.0))
-        self.assertEqual(cases.principal(law, r), [2.0 * 5.0 * 2.0 + 10.0 * 2.0, 20.0, 20.0])
-        self.assertTrue(cases.worked_with_failure(0, cases.SNOW, [39.0, 100.0], law, r)[0])
-        self.assertFalse(cases.worked_with_failure(0, cases.SNOW, [40.0, 10.0], law, r)[0])
-        self.assertTrue(cases.worked_with_failure(0, cases.SNOW, [40.0, 9.0], law, r)[0])
-        self.assertEqual(cases.worked_with_failure(0, cases.SNOW, [39.0, 100.0], law, r)[2][30], 0.0)
+        """Judged as it stands: Rankine's law leaves the record, whose stresses are 10, 6, 6."""
+        law, r, strong = [1.0, 0.9, 3.0, 1.0], cases.record((2.0, 1.0, 1.0)), [10.0, 0.25, 100.0, 1.0]
+        self.assertEqual(cases.principal(law, r), [2.0 * 2.0 + 3.0 * 2.0, 6.0, 6.0])
+        for limits, failed in (([9.5, 100.0], True), ([10.0, 2.0], False), ([10.0, 1.5], True)):
+            self.assertEqual(cases.worked_with_failure(1, strong, limits, law, r), (failed, None, r[:30] + [0.0 if failed else 1.0] + r[31:]))
         broken = cases.record((2.0, 1.0, 1.0), phase=0.0)
         self.assertEqual(cases.principal(law, broken), [0.0, 0.0, 0.0])
+        self.assertFalse(cases.worked_with_failure(1, strong, [9.5, 100.0], law, broken)[0])
+
+    def test_the_law_comes_before_the_verdict(self):
+        """Each as the record came: whether it is over the limits; then whether it failed."""
+        law = [1.0, 0.9, 3.0, 1.0]
+        soft, hardening = cases.record((2.0, 1.0, 1.0)), cases.record((0.9, 1.0, 1.0), pdet=0.5)
+        weak, sand = [10.0, 0.25, 1.0, 1.0], [0.6, 0.15, 0.2, 0.17, 3.0, 1.0, 1.0, 1.0]
+        for model, p, limits, r, came, failed in (
+            (0, cases.SNOW, [9.5, 100.0], soft, True, False),
+            (1, weak, [9.5, 100.0], soft, True, False),
+            (0, cases.SNOW, [100.0, 1.0], hardening, False, True),
+            (2, sand, [9.5, 100.0], soft, True, True),
+        ):
+            self.assertEqual(cases.fails(limits, cases.principal(law, r)), came)
+            amount, left = cases.worked(model, p, r)
+            # the law has seen the phase as it came: Drucker-Prager, only for failed ones, leaves this one
+            self.assertEqual(amount is None, model == 2)
+            self.assertEqual(cases.worked_with_failure(model, p, limits, law, r), (failed, amount, left[:30] + [0.0 if failed else 1.0] + left[31:]))
+
+    def test_a_refused_law_and_a_refused_stress(self):
+        law = [1.0, 0.9, 3.0, 1.0]
+        # the law's 10, though the stress of the record as it came would be refused by 3; and the limits' 1 before it
+        lost = cases.record((2.0, 1.0, 1.0), pdet=-1000.0, ehard=1.7e308)
+        for limits, number in (([-1.0, 100.0], 10), ([cases.NAN, 100.0], 1)):
+            with self.assertRaises(cases.Refused) as caught:
+                cases.worked_with_failure(0, cases.SNOW, limits, law, lost)
+            self.assertEqual(caught.exception.args, (number,))
+        # a stress that is refused only by the hardening that the law leaves
+        r, stiff = cases.record((0.9, 1.0, 1.0), pdet=0.5), [1.0, 0.9, 0.0, 1e307]
+        self.assertTrue(all(map(math.isfinite, cases.principal(stiff, r))))
+        with self.assertRaises(cases.Refused) as caught:
+            cases.worked_with_failure(0, cases.SNOW, [1.0, 1.0], stiff, r)
+        self.assertEqual(caught.exception.args, (3,))
+        # and one that only the hardening that it came with refuses
+        self.assertFalse(cases.worked_with_failure(0, cases.SNOW, [9.5, 100.0], law, cases.record((2.0, 1.0, 1.0), ehard=1.7e308))[0])
 
 
 @unittest.skipUnless(LIBRARY, "there is no proved library")

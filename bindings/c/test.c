@@ -330,7 +330,7 @@ static void update(void)
 static void passes(void)
 {
     const double bad[3] = {0.025, infinity(), 10}, limits[2] = {9.5, 100}, corotated[4] = {1, 0.9, 3, 1};
-    const double odd[4] = {0.5, 0.9, 3, 1}, higher[2] = {12, 100};
+    const double odd[4] = {0.5, 0.9, 3, 1}, lower[2] = {1e-7, 100};
     double r[N * PASOLETU_FLOATS], was[N * PASOLETU_FLOATS];
     uint64_t a[N * PASOLETU_ANSWERS + 1], c[4];
     for (int k = 0; k < N; k++)
@@ -361,19 +361,77 @@ static void passes(void)
     CHECK(pasoletu_pass(PASOLETU_SNOW, SNOW, 3, r, 0, a, 0, c, 3) == 0);
     CHECK(c[0] == 0 && c[1] == 0 && c[2] == 0);
 
-    /* With failure: particle 2 as it came has the principal stresses 10, 6, 6; particle 0 none. */
+    /* With failure: particle 2 has the principal stresses 10, 6, 6 as it came and about 1e-6 as Snow leaves it; particle 0 none. */
     memcpy(r, was, sizeof r);
     CHECK(pasoletu_pass_with_failure(PASOLETU_SNOW, SNOW, 3, limits, 2, odd, 4, r, N * 36, a, N * 2, c, 4) == 6);
     CHECK(pasoletu_pass_with_failure(PASOLETU_SNOW, SNOW, 3, limits, 1, corotated, 4, r, N * 36, a, N * 2, c, 4) == 8);
     CHECK(pasoletu_pass_with_failure(PASOLETU_SNOW, SNOW, 3, limits, 2, corotated, 4, r, N * 36, a, N * 2, c, 3) == 8);
     CHECK(same(r, was, N * 36));
     CHECK(pasoletu_pass_with_failure(PASOLETU_SNOW, SNOW, 3, limits, 2, corotated, 4, r, N * 36, a, N * 2, c, 4) == 0);
-    CHECK(r[PASOLETU_PHASE] == 1.0 && r[2 * 36 + PASOLETU_PHASE] == 0.0 && a[4] == PASOLETU_STORED);
+    CHECK(r[PASOLETU_PHASE] == 1.0 && r[2 * 36 + PASOLETU_PHASE] == 1.0 && a[4] == PASOLETU_STORED);
     CHECK(a[2] == PASOLETU_REFUSED && same(r + 36, was + 36, 36) && same(r + 3 * 36, was + 3 * 36, 36));
-    CHECK(c[0] == 0 && c[1] == 2 && c[2] == 2 && c[3] == 1);
+    CHECK(c[0] == 0 && c[1] == 2 && c[2] == 2 && c[3] == 0);
     memcpy(r, was, sizeof r);
-    CHECK(pasoletu_pass_with_failure(PASOLETU_SNOW, SNOW, 3, higher, 2, corotated, 4, r, N * 36, a, N * 2, c, 4) == 0);
-    CHECK(r[2 * 36 + PASOLETU_PHASE] == 1.0 && a[4] == PASOLETU_STORED && c[3] == 0);
+    CHECK(pasoletu_pass_with_failure(PASOLETU_SNOW, SNOW, 3, lower, 2, corotated, 4, r, N * 36, a, N * 2, c, 4) == 0);
+    CHECK(r[PASOLETU_PHASE] == 1.0 && r[2 * 36 + PASOLETU_PHASE] == 0.0 && a[4] == PASOLETU_STORED && c[3] == 1);
+}
+
+/* A pass with failure over one record: its outcome. */
+static uint64_t judge(uint64_t model, const double *p, size_t np, const double *limits, const double *law, double *r, uint64_t *a, uint64_t *c)
+{
+    a[0] = a[1] = c[0] = c[1] = c[2] = c[3] = 99;
+    CHECK(pasoletu_pass_with_failure(model, p, np, limits, 2, law, 4, r, 36, a, 2, c, 4) == 0);
+    return a[0];
+}
+
+/* The law comes first, then the verdict on what it leaves, by the phase as it came. */
+static void judged_after_the_law(void)
+{
+    const double law[4] = {1, 0.9, 3, 1}, stiff[4] = {1, 0.9, 0, 1e307}, limits[2] = {9.5, 100}, shear[2] = {100, 1};
+    const double always[2] = {-1, 100}, none[2] = {nan_with_payload(), 100};
+    const double weak[4] = {10, 0.25, 1, 1}, strong[4] = {10, 0.25, 100, 1}, sand[8] = {0.6, 0.15, 0.2, 0.17, 3, 1, 1, 1};
+    double r[PASOLETU_FLOATS], was[PASOLETU_FLOATS];
+    uint64_t a[2], c[4];
+
+    /* The stresses 10, 6, 6 of sigma (2, 1, 1): Snow and a weak Rankine relax them, a strong Rankine leaves them. */
+    at_rest(r);
+    r[PASOLETU_SIGMA] = 2;
+    memcpy(was, r, sizeof was);
+    CHECK(judge(PASOLETU_SNOW, SNOW, 3, limits, law, r, a, c) == PASOLETU_STORED && c[3] == 0);
+    CHECK(r[PASOLETU_PHASE] == 1.0 && r[PASOLETU_SIGMA] == 1.0045);
+    memcpy(r, was, sizeof r);
+    CHECK(judge(PASOLETU_RANKINE, weak, 4, limits, law, r, a, c) == PASOLETU_STORED && c[3] == 0);
+    CHECK(r[PASOLETU_PHASE] == 1.0 && r[PASOLETU_SIGMA] < 1.1);
+    memcpy(r, was, sizeof r);
+    CHECK(judge(PASOLETU_RANKINE, strong, 4, limits, law, r, a, c) == PASOLETU_UNTOUCHED && c[3] == 1);
+    CHECK(r[PASOLETU_PHASE] == 0.0);
+
+    /* Drucker-Prager only for failed ones sees the phase as it came, and works the record in the next pass. */
+    memcpy(r, was, sizeof r);
+    CHECK(judge(PASOLETU_DRUCKER_PRAGER, sand, 8, limits, law, r, a, c) == PASOLETU_UNTOUCHED && c[0] == 1 && c[3] == 1);
+    CHECK(r[PASOLETU_PHASE] == 0.0 && same(r, was, PASOLETU_PHASE) && same(r + 31, was + 31, 5));
+    CHECK(judge(PASOLETU_DRUCKER_PRAGER, sand, 8, limits, law, r, a, c) == PASOLETU_STORED && c[3] == 0);
+    CHECK(r[PASOLETU_PHASE] == 0.0 && r[PASOLETU_SIGMA] == 1.0);
+
+    /* Crushed snow fails by the hardening that the law leaves: 218 for 1. With mu 1e307 that stress is refused, and all is undone. */
+    at_rest(r);
+    r[PASOLETU_SIGMA] = 0.9;
+    r[PASOLETU_PLASTIC_DETERMINANT] = 0.5;
+    memcpy(was, r, sizeof was);
+    CHECK(judge(PASOLETU_SNOW, SNOW, 3, shear, law, r, a, c) == PASOLETU_STORED && c[3] == 1);
+    CHECK(r[PASOLETU_PHASE] == 0.0 && r[PASOLETU_SIGMA] == 0.975);
+    memcpy(r, was, sizeof r);
+    CHECK(judge(PASOLETU_SNOW, SNOW, 3, shear, stiff, r, a, c) == PASOLETU_REFUSED && a[1] == 3);
+    CHECK(same(r, was, 36) && c[0] == 0 && c[1] == 0 && c[2] == 1 && c[3] == 0);
+
+    /* The law's 10 and no verdict, though the stress as it came would be refused by 3; the limits' 1 before both. */
+    r[PASOLETU_PLASTIC_DETERMINANT] = -1000;
+    r[PASOLETU_ELASTIC_HARDENING] = 1.7e308;
+    memcpy(was, r, sizeof was);
+    CHECK(judge(PASOLETU_SNOW, SNOW, 3, always, law, r, a, c) == PASOLETU_REFUSED && a[1] == 10);
+    CHECK(same(r, was, 36) && c[2] == 1 && c[3] == 0);
+    CHECK(judge(PASOLETU_SNOW, SNOW, 3, none, law, r, a, c) == PASOLETU_REFUSED && a[1] == 1);
+    CHECK(same(r, was, 36) && c[2] == 1 && c[3] == 0);
 }
 
 static void sheets(void)
@@ -445,6 +503,7 @@ int main(void)
     parts_of_laws();
     update();
     passes();
+    judged_after_the_law();
     sheets();
     printf("%d passed, %d failed\n", passed, failed);
     return failed != 0;

@@ -82,6 +82,21 @@ fn fit(model: u64, p: &[u64], judge: Option<&Judge>, words: usize, places: usize
         && counts == if judge.is_some() { 4 } else { 3 }
 }
 
+/// The law, and then the verdict on the record that it leaves: no law writes phase, so that it is the one that came.
+fn judged(model: usize, p: &[u64], j: &Judge, r: &mut [u64]) -> ((u64, u64), bool) {
+    if !j.limits.iter().chain(&j.law).all(|x| finite(*x)) {
+        return ((2, 1), false);
+    }
+    let o = step(model, p, r);
+    if o.0 == 2 {
+        return (o, false);
+    }
+    match principal(&floats(&j.law), r) {
+        Some(s) => (o, fails(&floats(&j.limits), s)),
+        None => ((2, 3), false),
+    }
+}
+
 /// What a pass is to leave: records, answers, counts; or its refusal.
 fn passed(model: u64, p: &[u64], judge: Option<&Judge>, records: &mut [u64], answers: &mut [u64], counts: &mut [u64]) -> u8 {
     if !fit(model, p, judge, records.len(), answers.len(), counts.len()) {
@@ -93,25 +108,14 @@ fn passed(model: u64, p: &[u64], judge: Option<&Judge>, records: &mut [u64], ans
     counts.fill(0);
     for (k, r) in records.chunks_mut(36).enumerate() {
         let was = r.to_vec();
-        let mut yes = false;
-        let mut o = (2, 3);
-        let given = |w: &[u64]| w.iter().all(|x| finite(*x));
-        match judge {
-            Some(j) if !(given(&j.limits) && given(&j.law) && given(p) && given(r)) => o = (2, 1),
-            Some(j) => {
-                if let Some(s) = principal(&floats(&j.law), r) {
-                    yes = fails(&floats(&j.limits), s);
-                    if yes {
-                        r[30] = 0;
-                    }
-                    o = step(model as usize, p, r);
-                }
-            }
-            None => o = step(model as usize, p, r),
-        }
+        let (o, yes) = match judge {
+            Some(j) => judged(model as usize, p, j, r),
+            None => (step(model as usize, p, r), false),
+        };
         if o.0 == 2 {
             r.copy_from_slice(&was);
         } else if yes {
+            r[30] = 0;
             counts[3] += 1;
         }
         answers[2 * k] = o.0;
@@ -223,10 +227,14 @@ fn drawn(d: &mut Draw, model: usize, most: u64) -> (Vec<u64>, Vec<u64>) {
     (first[..k].to_vec(), records)
 }
 
-fn judge(d: &mut Draw, records: &[u64]) -> Judge {
+/// Limits about as large as the stresses of the first record, as it came or as the law leaves it.
+fn judge(d: &mut Draw, model: usize, p: &[u64], records: &[u64]) -> Judge {
     let law = d.inputs(29)[..4].to_vec();
     let r = d.record();
-    let r: Vec<u64> = if records.is_empty() { r.iter().map(|x| x.to_bits()).collect() } else { records[..36].to_vec() };
+    let mut r: Vec<u64> = if records.is_empty() { r.iter().map(|x| x.to_bits()).collect() } else { records[..36].to_vec() };
+    if d.one_in(2) {
+        step(model, p, &mut r);
+    }
     let s = principal(&floats(&law), &r).unwrap_or([1.0, 2.0, 3.0]);
     let scale = |d: &mut Draw| 2.0 * (d.below(1000) as f64) / 1000.0;
     let mut limits = vec![(s[0].abs().max(s[2].abs()) * scale(d)).to_bits(), ((s[0] - s[2]).abs() * scale(d)).to_bits()];
@@ -283,7 +291,7 @@ fn one_pass(d: &mut Draw, with_failure: bool, t: &mut Tally) {
     let mut model = d.below(4);
     let most = if d.one_in(200) { 300 } else { 4 };
     let (mut p, mut records) = drawn(d, model as usize, most);
-    let mut j = with_failure.then(|| judge(d, &records));
+    let mut j = with_failure.then(|| judge(d, model as usize, &p, &records));
     let (mut answers, mut counts) = (vec![MARK; records.len() / 36 * 2], vec![MARK; if with_failure { 4 } else { 3 }]);
     if d.one_in(24) {
         model = 4 + d.below(3);

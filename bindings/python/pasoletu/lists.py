@@ -111,8 +111,8 @@ def pass_with_failure(
     elasticity: CorotatedLinearElasticity,
     particles: Iterable[Particle],
 ) -> Passed:
-    """The pass with failure, in place: judges each particle's stress as it came, sets its phase to 0.0 on a yes, then applies
-    the law."""
+    """The pass with failure, in place: applies the law to each particle, judges the stress of what it leaves by the phase as it came,
+    and sets the phase to 0.0 on a yes. A refused law is not judged; a refused stress leaves the particle as it came."""
     _of_type("pass_with_failure", "limits", limits, MaximumStressFailure)
     return _pass_particles("pass_with_failure", model, particles, judge("pass_with_failure", limits, elasticity))
 

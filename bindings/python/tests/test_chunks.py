@@ -22,7 +22,7 @@ LAWS = (
 )
 # Seconds, after which a worker is taken for lost.
 WAIT = 300
-LIMITS, ELASTICITY = MaximumStressFailure(2e4, 1e5), CorotatedLinearElasticity(True, 0.9, 4e4, 6e4)
+LIMITS, ELASTICITY = MaximumStressFailure(2e4, 1e4), CorotatedLinearElasticity(True, 0.9, 4e4, 6e4)
 
 
 def drawn(count):

@@ -260,15 +260,49 @@ class Passes(Tests):
             self.assertEqual(particles[2].singular_values, [1.0045, 1.0, 1.0])
 
     def test_with_failure(self):
-        # The principal stresses of the second are 10, 6, 6.
+        # The principal stresses of the second are 10, 6, 6, and the law leaves both as they stand.
         law = CorotatedLinearElasticity(True, 0.9, 3.0, 1.0)
         for principal, phase, failed in ((9.5, 0.0, 1), (12.0, 1.0, 0)):
             particles = [Particle(), Particle.stretched([2.0, 1.0, 1.0])]
-            passed = pasoletu.pass_with_failure(SnowPlasticity(), MaximumStressFailure(principal, 100.0), law, particles)
+            passed = pasoletu.pass_with_failure(RankinePlasticity(10.0, 0.25, 100.0, 1.0), MaximumStressFailure(principal, 100.0), law, particles)
             self.assertEqual([p.phase for p in particles], [1.0, phase])
-            self.assertEqual((passed.stored, passed.failed), (2, failed))
+            self.assertEqual((passed.untouched, passed.failed), (2, failed))
         bad = pasoletu.pass_with_failure(SnowPlasticity(), MaximumStressFailure(NAN, 1.0), law, particles)
         self.assertEqual((bad.refused, bad.outcomes[0].place), (2, "the limits' max_principal_stress"))
+
+    def test_the_verdict_is_on_what_the_law_leaves(self):
+        elasticity, limits = CorotatedLinearElasticity(True, 0.9, 3.0, 1.0), MaximumStressFailure(9.5, 100.0)
+        stretched = lambda: Particle.stretched([2.0, 1.0, 1.0])
+        crushed = lambda: Particle.from_floats(Particle.stretched([0.9, 1.0, 1.0]).floats()[:31] + [0.5, 1.0, 1.0, 0.0, 0.0])
+        sand = DruckerPragerPlasticity(0.6, 0.15, 0.2, 0.17, 3.0, 1.0, only_active_when_failed=True)
+        for law, limits, drawn, failed in (
+            # relaxed below the limits; hardened from 1 to 218, over the shear limit; for failed ones alone, and this came whole
+            (SnowPlasticity(), limits, stretched, False),
+            (RankinePlasticity(10.0, 0.25, 1.0, 1.0), limits, stretched, False),
+            (SnowPlasticity(), MaximumStressFailure(100.0, 1.0), crushed, True),
+            (sand, limits, stretched, True),
+        ):
+            alone, judged = drawn(), [drawn()]
+            outcome = law.update_particle(alone)
+            passed = pasoletu.pass_with_failure(law, limits, elasticity, judged)
+            self.assertEqual((list(passed.outcomes), passed.failed), ([outcome], int(failed)))
+            alone.phase = 0.0 if failed else 1.0
+            self.assertEqual(bits(judged[0]), bits(alone))
+            self.assertEqual(isinstance(outcome, Untouched), law is sand)
+
+    def test_a_refused_law_or_stress_is_no_verdict(self):
+        # As it came its stress would be refused by 3: the law's 10 comes, and before it the limits' 1. The last is refused as hardened alone.
+        elasticity, stiff = CorotatedLinearElasticity(True, 0.9, 3.0, 1.0), CorotatedLinearElasticity(True, 0.9, 0.0, 1e307)
+        for limits, law, scalars, number in (
+            ((-1.0, 100.0), elasticity, [-1000.0, 1.0, 1.7e308, 0.0, 0.0], 10),
+            ((NAN, 100.0), elasticity, [-1000.0, 1.0, 1.7e308, 0.0, 0.0], 1),
+            ((1.0, 1.0), stiff, [0.5, 1.0, 1.0, 0.0, 0.0], 3),
+        ):
+            particle = Particle.from_floats(Particle.stretched([0.9, 1.0, 1.0]).floats()[:31] + scalars)
+            was = bits(particle)
+            passed = pasoletu.pass_with_failure(SnowPlasticity(), MaximumStressFailure(*limits), law, [particle])
+            self.assertEqual((passed.outcomes[0].number, passed.refused, passed.failed), (number, 1, 0))
+            self.assertEqual(bits(particle), was)
 
     def test_a_buffer_is_worked_in_place(self):
         records = array.array("d", Particle.stretched([2.0, 1.0, 1.0]).floats() + Particle(phase=PAYLOAD).floats())

@@ -130,7 +130,8 @@ pub fn pass_into(model: impl Into<Model>, particles: &mut [Particle], answers: &
     Pass::plain("pass_into", model).run(particles, answers)
 }
 
-/// [`pass_into`] with failure: judges each particle's stress as it came, sets its phase to 0.0 on a yes, then applies the law.
+/// [`pass_into`] with failure: applies the law to each particle, judges the stress of what it leaves by the phase as it came, and sets
+/// the phase to 0.0 on a yes. A refused law is not judged; a refused stress leaves the particle as it came.
 pub fn pass_with_failure_into(
     model: impl Into<Model>,
     limits: &MaximumStressFailure,

@@ -227,16 +227,60 @@ fn a_pass_is_each_update() {
     assert_eq!(pass(SnowPlasticity::new(), &mut []).outcomes, []);
 }
 
-/// The principal stresses of the second are 10, 6, 6.
+const SPLIT: CorotatedLinearElasticity =
+    CorotatedLinearElasticity { split_stress_on_failure: true, cfl_coeff: 0.9, lambda: 3.0, mu: 1.0 };
+
+/// A pass with failure over one particle: its outcome, whether it failed, and the particle after it.
+fn judged(model: impl Into<Model>, limits: [f64; 2], particle: Particle) -> (Outcome, bool, Particle) {
+    let limits = MaximumStressFailure::new(limits[0], limits[1]).unwrap();
+    let mut particles = [particle];
+    let passed = pass_with_failure(model, &limits, &SPLIT, &mut particles);
+    (passed.outcomes[0].unwrap(), passed.failed == 1, particles[0])
+}
+
+/// The principal stresses are 10, 6, 6, and the law leaves the particle, so that it is judged as it stands.
 #[test]
 fn failure_sets_the_phase() {
-    let law = CorotatedLinearElasticity { split_stress_on_failure: true, cfl_coeff: 0.9, lambda: 3.0, mu: 1.0 };
-    for (principal, phase, failed) in [(9.5, 0.0, 1), (12.0, 1.0, 0)] {
-        let limits = MaximumStressFailure::new(principal, 100.0).unwrap();
-        let mut particles = [Particle::REST, Particle::stretched([2.0, 1.0, 1.0])];
-        let passed = pass_with_failure(SnowPlasticity::new(), &limits, &law, &mut particles);
-        assert_eq!((particles[0].phase, particles[1].phase), (1.0, phase));
-        assert_eq!((passed.stored, passed.failed), (2, failed));
-        assert_eq!(particles[1].singular_values[0], 1.0045);
+    let law = RankinePlasticity::new(10.0, 0.25, 100.0, 1.0).unwrap();
+    let stretched = Particle::stretched([2.0, 1.0, 1.0]);
+    for (limits, phase) in [([9.5, 100.0], 0.0), ([10.0, 2.0], 1.0), ([10.0, 1.5], 0.0)] {
+        let after = Particle { phase, ..stretched };
+        assert_eq!(judged(law, limits, stretched), (Outcome::Untouched, phase == 0.0, after));
     }
+    let failed = Particle { phase: 0.0, ..stretched };
+    assert_eq!(judged(law, [9.5, 100.0], failed), (Outcome::Untouched, false, failed));
+}
+
+/// The same stresses, which the law relaxes before they are judged.
+#[test]
+fn what_yields_below_the_limits_has_not_failed() {
+    let laws: [Model; 2] = [SnowPlasticity::new().into(), RankinePlasticity::new(10.0, 0.25, 1.0, 1.0).unwrap().into()];
+    for law in laws {
+        let mut alone = Particle::stretched([2.0, 1.0, 1.0]);
+        let outcome = law.update_particle(&mut alone).unwrap();
+        assert_eq!(judged(law, [9.5, 100.0], Particle::stretched([2.0, 1.0, 1.0])), (outcome, false, alone));
+        assert!(matches!(outcome, Outcome::Stored(_)) && alone.phase == 1.0);
+    }
+}
+
+/// Crushed snow hardens, from 1 to 218: over the shear limit only as the law leaves it.
+#[test]
+fn what_the_law_hardens_fails_by_what_it_leaves() {
+    let crushed = Particle { plastic_deformation_gradient_det: 0.5, ..Particle::stretched([0.9, 1.0, 1.0]) };
+    let mut alone = crushed;
+    let outcome = SnowPlasticity::new().update_particle(&mut alone).unwrap();
+    assert_eq!(judged(SnowPlasticity::new(), [100.0, 1.0], crushed), (outcome, true, Particle { phase: 0.0, ..alone }));
+    assert_eq!(alone.singular_values[0], 0.975);
+}
+
+/// Drucker-Prager only for failed particles meets the phase as it came, and the new one in the next pass.
+#[test]
+fn the_law_sees_the_phase_as_it_came() {
+    let law = DruckerPragerPlasticity { only_active_when_failed: true, ..DruckerPragerPlasticity::new(1e5, 0.3).unwrap() };
+    let stretched = Particle::stretched([2.0, 1.0, 1.0]);
+    let failed = Particle { phase: 0.0, ..stretched };
+    assert_eq!(judged(law, [9.5, 100.0], stretched), (Outcome::Untouched, true, failed));
+    let (outcome, again, after) = judged(law, [9.5, 100.0], failed);
+    assert!(matches!(outcome, Outcome::Stored(_)) && !again);
+    assert_eq!((after.phase, after.singular_values), (0.0, [1.0; 3]));
 }

@@ -60,7 +60,7 @@ fn the_pass() {
 
 #[test]
 fn the_pass_with_failure() {
-    let limits = MaximumStressFailure::new(3e4, 2e4).unwrap();
+    let limits = MaximumStressFailure::new(3e3, 2e3).unwrap();
     let elasticity = CorotatedLinearElasticity::new(1e5, 0.3).unwrap();
     for law in laws() {
         let one = |p: &mut [Particle]| pasoletu::pass_with_failure(law, &limits, &elasticity, p);

@@ -128,6 +128,37 @@ fn the_pass_with_failure_refuses_by_its_limits() {
     assert_eq!(particles, [Particle::stretched([2.0, 1.0, 1.0]); 2]);
 }
 
+/// A pass with failure by Snow over one particle: its number; no verdict is counted and the particle keeps every bit.
+fn refused_with_failure(limits: [f64; 2], law: CorotatedLinearElasticity, particle: Particle) -> u8 {
+    let limits = MaximumStressFailure { max_principal_stress: limits[0], max_shear_stress: limits[1] };
+    let mut particles = [particle];
+    let passed = pass_with_failure(SnowPlasticity::new(), &limits, &law, &mut particles);
+    assert_eq!((passed.untouched, passed.stored, passed.refused, passed.failed), (0, 0, 1, 0));
+    assert_eq!(particles[0].floats().map(f64::to_bits), particle.floats().map(f64::to_bits));
+    passed.outcomes[0].unwrap_err().number
+}
+
+/// The stress of the particle as it came would be refused by 3 and its verdict would be yes: the law's number comes.
+#[test]
+fn a_refused_law_is_not_judged() {
+    let law = CorotatedLinearElasticity { split_stress_on_failure: true, cfl_coeff: 0.9, lambda: 3.0, mu: 1.0 };
+    let lost = Particle {
+        plastic_deformation_gradient_det: -1000.0,
+        elastic_hardening: 1.7e308,
+        ..Particle::stretched([0.9, 1.0, 1.0])
+    };
+    assert_eq!(refused_with_failure([-1.0, 100.0], law, lost), 10);
+    assert_eq!(refused_with_failure([f64::NAN, 100.0], law, lost), 1);
+}
+
+/// Snow hardens it from 1 to 218, with which twice mu is over all numbers.
+#[test]
+fn a_refused_stress_undoes_the_law() {
+    let law = CorotatedLinearElasticity { split_stress_on_failure: true, cfl_coeff: 0.9, lambda: 0.0, mu: 1e307 };
+    let crushed = Particle { plastic_deformation_gradient_det: 0.5, ..Particle::stretched([0.9, 1.0, 1.0]) };
+    assert_eq!(refused_with_failure([1.0, 1.0], law, crushed), 3);
+}
+
 fn sheet(model: u8, parameters: &[f64], particles: &[Particle]) -> Vec<u8> {
     let mut s = vec![model];
     s.extend(parameters.iter().flat_map(|x| x.to_le_bytes()));

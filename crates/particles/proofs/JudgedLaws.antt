@@ -1,83 +1,99 @@
--- The pass with failure keeps a record's length, a record that the law refuses after a yes is as it came, and the refusal beside the
--- principal stresses is their walk's. Assumes nothing.
-use mathlib.Core.Bool.{cond}
-use mathlib.Core.Path.{_≡_, refl, ap, _∙_}
+-- The pass with failure keeps a record's length; a record fails exactly on a yes where nothing is refused. Assumes nothing.
+use mathlib.Core.Path.{_≡_, refl, sym, ap, _∙_}
+use mathlib.Core.Bool.{Bool, true, false, cond}
 use mathlib.Core.List.{List}
+use Prim.Native.Nat.{ℕ}
+use lib.ListN.{length, length-set}
 use native.Mathlib.Omega.{arith}
-use Prim.Native.Nat.{ℕ, zero, suc}
-use lib.Dec.{eqb, eqb·suc-zero}
+use lib.Dec.{eqb}
+use borrow.Author.Tests.{ne-eqb}
+use Rattle.record.specs.Layout.{stateAt}
 use lib.Ieee.{Float}
-use lib.ListN.{length, set, getD, length-set}
-use lib.Seq.{set-set, set-getD}
-use Rattle.tensor.specs.Matrix as tensor
 use Rattle.walk.specs.Walk.{Walk, Ended, given, refused, result}
 use Rattle.walk.specs.Exact.{path}
 use Rattle.walk.specs.Answers.{vectorAs, refusalIn, refused-when, stops-positive}
+use Rattle.failure_maximum_stress.specs.Failure.{verdictOf}
 use Rattle.plasticity.specs.declared.Outcome.{Outcome}
 use Rattle.plasticity.specs.declared.Outcome.the-variants as outcome
-use Rattle.record.specs.Layout.{putPhase}
 use Rattle.failure_maximum_stress.specs.declared.MaximumStressFailure.{MaximumStressFailure}
 use Rattle.failure_maximum_stress.specs.declared.Verdict.{Verdict}
 use Rattle.failure_maximum_stress.specs.declared.Verdict.the-variants.{No, Yes, Refused}
-use Rattle.failure_maximum_stress.specs.Failure.{verdictOf}
 use Rattle.elasticity_corotated_linear.specs.declared.CorotatedLinearElasticity.{CorotatedLinearElasticity}
 use Rattle.model.specs.declared.Model.{Model}
-use Rattle.particles.specs.Plain.{recordLaw}
-use Rattle.particles.specs.Judged.{verdictOn, judgedAt, unlessRefused, failedLaw, byVerdict, failureLaw}
+use Rattle.particles.specs.Pass.{Worked, codeOf}
+use Rattle.particles.specs.Plain.{updatedAt, recordLaw}
+use Rattle.particles.specs.Judged.{verdictOn, judgeFinite, verdictAfter, unlessRefused, judgedAt, refusedRecord, marked, failureLaw}
 use Rattle.particles.specs.declared.step.Step.{Step}
 use Rattle.particles.specs.declared.step.Step.the-variants.{Plain, Judged}
 use Rattle.particles.specs.Step.{stepLaw}
 use Rattle.particles.proofs.PassLaws.{Keeps, record-keeps}
 
-unless-length : (o : Outcome) (r a : List ℕ) → length a ≡ length r → length (unlessRefused o r a) ≡ length r
-unless-length outcome.Untouched r a h = h
-unless-length (outcome.Stored x) r a h = h
-unless-length (outcome.Refused n) r a h = refl
-
--- the law on a record of which one place was written
-pub written-length : (m : Model) (r : List ℕ) (i x : ℕ) → length (recordLaw m (set r i x) .after) ≡ length r
-written-length m r i x = record-keeps m (set r i x) ∙ length-set r i x
-
--- and of which one place is written after it
-pub back-length : (m : Model) (r : List ℕ) (i x j y : ℕ) → length (set (recordLaw m (set r i x) .after) j y) ≡ length r
-back-length m r i x j y = length-set (recordLaw m (set r i x) .after) j y ∙ written-length m r i x
-
-failed-keeps : (m : Model) → Keeps (failedLaw m)
-unfolding failedLaw
-failed-keeps m r =
-    let w = recordLaw m (putPhase r tensor.zero) in
-    unless-length (w .outcome) r (w .after) (written-length m r _ _)
-
-by-verdict-length : (v : Verdict) (m : Model) (r : List ℕ) → length (byVerdict v m r .after) ≡ length r
-by-verdict-length No m r = record-keeps m r
-by-verdict-length Yes m r = failed-keeps m r
-by-verdict-length (Refused n) m r = refl
+marked-length : (v : Verdict) (r : List ℕ) (w : Worked) → length (w .after) ≡ length r → length (marked v r w .after) ≡ length r
+marked-length No r w h = h
+marked-length Yes r w h = length-set (w .after) _ _ ∙ h
+marked-length (Refused n) r w h = refl
 
 pub failure-keeps : (m : Model) (l : MaximumStressFailure) (e : CorotatedLinearElasticity) → Keeps (failureLaw m l e)
 unfolding failureLaw
-failure-keeps m l e r = by-verdict-length (judgedAt m l e r) m r
+failure-keeps m l e r = go (judgeFinite l e)
+  where
+    go : (b : Bool) → length (cond b (marked (judgedAt m l e r) r (recordLaw m r)) (refusedRecord 1 r) .after) ≡ length r
+    go true = marked-length (judgedAt m l e r) r (recordLaw m r) (record-keeps m r)
+    go false = refl
 
 -- every step of a pass keeps a record's length
 pub step-keeps : (s : Step) → Keeps (stepLaw s)
 step-keeps (Plain m) = record-keeps m
 step-keeps (Judged m l e) = failure-keeps m l e
 
--- what the law refuses it does not write
-pub refused-after : (m : Model) (r : List ℕ) (n : ℕ) → recordLaw m r .outcome ≡ outcome.Refused n → recordLaw m r .after ≡ r
-unfolding recordLaw
-refused-after m r n e = simp e
-
--- a place written and then put back
-pub put-back : (r : List ℕ) (i x : ℕ) → set (set r i x) i (getD r i 0) ≡ r
-put-back r i x = set-set r i x (getD r i 0) ∙ set-getD r i 0
-
--- no walk refuses by 0
+-- no walk refuses by 0, so that its refusal is handed on
 handed : (l : MaximumStressFailure) (w : Walk (List Float)) (x : Ended (List Float)) → result w ≡ x
     → cond (eqb (vectorAs x .refusal) 0) (verdictOf l (vectorAs x .vector)) (Refused (vectorAs x .refusal)) ≡ verdictOn l x
 handed l w (given v) e = refl
-handed l w (refused zero) e = let q = stops-positive (path w) 0 (refused-when w 0 .0 (ap refusalIn e)) in absurd (omega arith)
-handed l w (refused (suc n)) e = rw (eqb·suc-zero n)
+handed l w (refused n) e = rw (ne-eqb n 0 (λ z. let q = stops-positive (path w) n (refused-when w n .0 (ap refusalIn e)) in omega (arith, q, z))) refl
 
 pub verdict-handed : (l : MaximumStressFailure) (w : Walk (List Float))
     → cond (eqb (vectorAs (result w) .refusal) 0) (verdictOf l (vectorAs (result w) .vector)) (Refused (vectorAs (result w) .refusal)) ≡ verdictOn l (result w)
 verdict-handed l w = handed l w (result w) refl
+
+-- ---- a record fails exactly on a yes where nothing is refused
+pub record Failed (m : Model) (l : MaximumStressFailure) (e : CorotatedLinearElasticity) (r : List ℕ) : Type 0 where
+  pub inputs : judgeFinite l e ≡ true
+  pub stands : (n : ℕ) → recordLaw m r .outcome ≡ outcome.Refused n → ⊥
+  pub yes : verdictAfter l e (stateAt r .scalars .phase) (updatedAt m r .state) ≡ Yes
+
+never : false ≡ true → ⊥
+never p = let q : _≡_ {A = ℕ} 0 1 = cc in omega arith
+
+other : (n : ℕ) (o : Outcome) → (codeOf o ≡ 2 → ⊥) → o ≡ outcome.Refused n → ⊥
+other n o h e = h (ap codeOf e)
+
+only-yes : (v : Verdict) (r : List ℕ) (w : Worked) → w .failed ≡ false → marked v r w .failed ≡ true → v ≡ Yes
+only-yes No r w f h = absurd (never (sym f ∙ h))
+only-yes Yes r w f h = refl
+only-yes (Refused n) r w f h = absurd (never h)
+
+skipped : (o : Outcome) (v : Verdict) → unlessRefused o v ≡ Yes → (v ≡ Yes) × (codeOf o ≡ 2 → ⊥)
+skipped outcome.Untouched v h = (h, λ z. omega (arith, z))
+skipped (outcome.Stored a) v h = (h, λ z. omega (arith, z))
+skipped (outcome.Refused n) v h = absurd (let q : _≡_ {A = ℕ} 0 1 = cc in omega arith)
+
+judged-yes : (o : Outcome) (v : Verdict) → ((n : ℕ) → o ≡ outcome.Refused n → ⊥) → v ≡ Yes → unlessRefused o v ≡ Yes
+judged-yes outcome.Untouched v h e = e
+judged-yes (outcome.Stored a) v h e = e
+judged-yes (outcome.Refused n) v h e = absurd (h n refl)
+
+module _ (m : Model) (l : MaximumStressFailure) (e : CorotatedLinearElasticity) (r : List ℕ) where
+  pub failed-when : failureLaw m l e r .failed ≡ true → Failed m l e r
+  unfolding failureLaw judgedAt recordLaw
+  failed-when h = go (judgeFinite l e) refl h
+    where
+      go : (b : Bool) → judgeFinite l e ≡ b → cond b (marked (judgedAt m l e r) r (recordLaw m r)) (refusedRecord 1 r) .failed ≡ true → Failed m l e r
+      go true f k =
+          let y = skipped (updatedAt m r .outcome) _ (only-yes (judgedAt m l e r) r (recordLaw m r) refl k) in
+          record { inputs = f; stands = λ n. other n (updatedAt m r .outcome) (y .1); yes = y .0 }
+      go false f k = absurd (never k)
+
+  pub failed-then : Failed m l e r → failureLaw m l e r .failed ≡ true
+  unfolding failureLaw judgedAt recordLaw
+  failed-then f = rw (f .inputs, judged-yes (updatedAt m r .outcome) _ (f .stands) (f .yes)) refl

@@ -1,5 +1,5 @@
--- A record with a float that isn't finite is refused by 1, by every law and by the verdict, and keeps its bits. Assumes nothing.
-use mathlib.Core.Path.{_≡_, refl, sym, ap}
+-- A record with a float that isn't finite is refused by 1, by every law and by the pass with failure, and keeps its bits. Assumes nothing.
+use mathlib.Core.Path.{_≡_, refl, sym, ap, _∙_}
 use mathlib.Core.Bool.{Bool, true, false, cond, _&&_}
 use mathlib.Core.List.{List}
 use Prim.Native.Nat.{ℕ}
@@ -25,17 +25,12 @@ use Rattle.plasticity_nacc.proofs.Laws as nacc-laws
 use Rattle.plasticity_nacc.specs.Law as nacc-law
 use Rattle.plasticity_nacc.specs.Nacc as nacc
 use Rattle.failure_maximum_stress.specs.declared.MaximumStressFailure.{MaximumStressFailure}
-use Rattle.failure_maximum_stress.specs.declared.Verdict.{Verdict}
-use Rattle.failure_maximum_stress.specs.declared.Verdict.the-variants as verdict
-use Rattle.failure_maximum_stress.specs.Failure.{limitsFinite}
 use Rattle.elasticity_corotated_linear.specs.declared.CorotatedLinearElasticity.{CorotatedLinearElasticity}
-use Rattle.elasticity_corotated_linear.specs.Law.{lawFinite}
-use Rattle.elasticity_corotated_linear.specs.Principal.{principalWalk}
 use Rattle.model.specs.declared.Model.{Model}
 use Rattle.model.specs.declared.Model.the-variants.{Snow, Rankine, DruckerPrager, Nacc}
-use Rattle.model.specs.Model.{modelFinite, modelUpdate}
-use Rattle.particles.specs.Plain.{updatedAt, kept, recordLaw}
-use Rattle.particles.specs.Judged.{verdictOn, judgedOf, judgedAt, byVerdict, failureLaw}
+use Rattle.model.specs.Model.{modelUpdate}
+use Rattle.particles.specs.Plain.{updatedAt, kept, keptBy, recordLaw}
+use Rattle.particles.specs.Judged.{judgeFinite, verdictAfter, unlessRefused, judgedAt, refusedRecord, marked, failureLaw}
 
 -- of a test whose last part fails
 last-fails : {A : Type 0} (a b : Bool) (x y : A) → b ≡ false → cond (a && b) x y ≡ y
@@ -65,19 +60,34 @@ refused-law m r q =
     let e = not-finite (uAt r) (vtAt r) (stateAt r) q m in
     (sym (ap (λ (d : Updated). d .outcome) e), sym (ap (λ (d : Updated). kept m (d .outcome) r (d .state)) e))
 
-refused-verdict : (m : Model) (l : MaximumStressFailure) (e : CorotatedLinearElasticity) (r : List ℕ) → recordFinite r ≡ false
-    → verdict.Refused 1 ≡ judgedAt m l e r
-unfolding judgedAt judgedOf
-refused-verdict m l e r q =
-    let s = stateAt r in
-    sym (last-fails (modelFinite m && limitsFinite l && lawFinite e) (recordFinite r)
-    (verdictOn l (walk.result (principalWalk e (s .scalars .phase) (s .scalars .«elastic_hardening») (s .sigma)))) (verdict.Refused 1) q)
-
 pub refused-failure : (m : Model) (l : MaximumStressFailure) (e : CorotatedLinearElasticity) (r : List ℕ) → recordFinite r ≡ false
-    → (outcome.Refused 1 ≡ failureLaw m l e r .outcome) × ((false ≡ failureLaw m l e r .failed) × (r ≡ failureLaw m l e r .after))
-unfolding failureLaw
+    → failureLaw m l e r ≡ refusedRecord 1 r
+unfolding failureLaw judgedAt recordLaw updatedAt
 refused-failure m l e r q =
-    let v = refused-verdict m l e r q in (
-      ap (λ (t : Verdict). byVerdict t m r .outcome) v,
-      (ap (λ (t : Verdict). byVerdict t m r .failed) v, ap (λ (t : Verdict). byVerdict t m r .after) v),
-    )
+    ap (λ (d : Updated). cond (judgeFinite l e) (marked (unlessRefused (d .outcome) (verdictAfter l e (stateAt r .scalars .phase) (d .state))) r (keptBy m d r)) (refusedRecord 1 r))
+    (not-finite (uAt r) (vtAt r) (stateAt r) q m) ∙ same (judgeFinite l e) (refusedRecord 1 r)
+  where
+    same : {A : Type 0} (b : Bool) (x : A) → cond b x x ≡ x
+    same true x = refl
+    same false x = refl
+
+-- 1 comes first, of the record, the limits and the corotated law
+pub refused-first : (m : Model) (l : MaximumStressFailure) (e : CorotatedLinearElasticity) (r : List ℕ) → recordFinite r && judgeFinite l e ≡ false
+    → failureLaw m l e r ≡ refusedRecord 1 r
+unfolding failureLaw
+refused-first m l e r q = go (recordFinite r) refl q
+  where
+    go : (b : Bool) → recordFinite r ≡ b → b && judgeFinite l e ≡ false → failureLaw m l e r ≡ refusedRecord 1 r
+    go true p h = rw h refl
+    go false p h = refused-failure m l e r p
+
+both : (a b : Bool) → a && b ≡ true → (a ≡ true) × (b ≡ true)
+both true b h = (refl, h)
+both false true h = (h, refl)
+both false false h = (h, h)
+
+-- all of them are finite
+pub finite-first : (m : Model) (l : MaximumStressFailure) (e : CorotatedLinearElasticity) (r : List ℕ) → recordFinite r && judgeFinite l e ≡ true
+    → (recordFinite r ≡ true) × (failureLaw m l e r ≡ marked (judgedAt m l e r) r (recordLaw m r))
+unfolding failureLaw
+finite-first m l e r q = let h = both (recordFinite r) (judgeFinite l e) q in (h .0, rw (h .1) refl)

@@ -30,7 +30,7 @@ put-length (Rankine a) r s = simp length-set
 put-length (DruckerPrager p) r s = simp length-set
 put-length (Nacc a) r s = simp length-set
 
-kept-length : (m : Model) (o : Outcome) (r : List ℕ) (s : State) → length (kept m o r s) ≡ length r
+pub kept-length : (m : Model) (o : Outcome) (r : List ℕ) (s : State) → length (kept m o r s) ≡ length r
 kept-length m Untouched r s = refl
 kept-length m (Stored a) r s = put-length m r s
 kept-length m (Refused n) r s = refl

@@ -47,9 +47,11 @@ kept m Untouched r s = r
 kept m (Stored a) r s = putState m r s
 kept m (Refused n) r s = r
 
+abbrev pub keptBy : Model → Updated → List ℕ → Worked
+keptBy m d r = record { outcome = d .outcome; failed = false; after = kept m (d .outcome) r (d .state) }
+
 unfoldable pub recordLaw : Model → List ℕ → Worked
-recordLaw m r =
-    record { outcome = updatedAt m r .outcome; failed = false; after = kept m (updatedAt m r .outcome) r (updatedAt m r .state) }
+recordLaw m r = keptBy m (updatedAt m r) r
 
 -- one record by itself: refusal 8 where the list is no record
 abbrev pub recordOutcome : Model → List ℕ → Outcome

@@ -1,4 +1,4 @@
--- The steps that a pass can take with each record (RULES, section 7): the plastic law, or the verdict and then the law.
+-- The steps that a pass can take with each record (RULES, section 7): the plastic law, or that and then the verdict.
 use mathlib.Core.List.{List}
 use Prim.Native.Nat.{ℕ}
 use Rattle.particles.specs.declared.step.Step.{Step}

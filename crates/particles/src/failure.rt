@@ -21,7 +21,7 @@ pub enum PassedWithFailure {
     Refused(u8),
 }
 
-// The pass that judges each record before its law: with the limits l on the stress by the corotated law e.
+// The pass that judges each record after its law: with the limits l on the stress, by the corotated law e, of what the law leaves.
 // A list that is no whole number of records, or an answer list of another length, is refused by 8 and nothing is written.
 pub fn pass_with_failure(
     m: Model,

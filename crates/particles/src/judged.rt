@@ -1,4 +1,4 @@
-// One record of the pass with failure: the verdict, and then the law.
+// One record of the pass with failure: the law, and then the verdict on what it leaves.
 use crate::plain;
 use crate::step::Stepped;
 use elasticity_corotated_linear::CorotatedLinearElasticity;
@@ -6,17 +6,18 @@ use failure_maximum_stress::MaximumStressFailure;
 use failure_maximum_stress::Verdict;
 use model::Model;
 use plasticity::Outcome;
+use plasticity::State;
+use plasticity::Updated;
 use tensor::VectorAnswer;
 ghost use mathlib.Core.Path.{_≡_};
-ghost use mathlib.Core.Bool.{true, cond, _&&_};
+ghost use mathlib.Core.Bool.{true, cond};
 ghost use lib.Dec.{eqb};
 ghost use lib.ListN.{length};
 ghost use Rattle.record.specs.Layout.{floats, recordFinite};
-ghost use Rattle.failure_maximum_stress.specs.Failure.{limitsFinite, verdictOf};
+ghost use Rattle.failure_maximum_stress.specs.Failure.{verdictOf};
 ghost use Rattle.failure_maximum_stress.specs.declared.Verdict.the-variants as verdict;
-ghost use Rattle.elasticity_corotated_linear.specs.Law.{lawFinite};
-ghost use Rattle.model.specs.Model.{modelFinite};
-ghost use Rattle.particles.specs.Judged.{judgedAt, failedLaw, failureLaw, standing};
+ghost use Rattle.particles.specs.Judged.{verdictAfter, unlessRefused, judgedAt, marked, failureLaw};
+ghost use Rattle.particles.specs.Plain.{keptBy, recordLaw};
 
 // A refused stress is handed on.
 fn verdict_on(l: MaximumStressFailure, stresses: VectorAnswer) -> Verdict
@@ -30,83 +31,57 @@ fn verdict_on(l: MaximumStressFailure, stresses: VectorAnswer) -> Verdict
     }
 }
 
-fn parameters_finite(m: Model, l: MaximumStressFailure, e: CorotatedLinearElasticity) -> bool
-    ensures { λ r. ⌜ r ≡ modelFinite m && limitsFinite l && lawFinite e ⌝ }
-{
-    model::model_finite(m) & l.limits_finite() & e.law_finite()
-}
-
-// The verdict on a finite record as it stands.
-fn verdict(m: Model, l: MaximumStressFailure, e: CorotatedLinearElasticity, r: &[u64]) -> Verdict
-    requires { ⌜ (length (now r) ≡ floats) × (recordFinite (now r) ≡ true) ⌝ }
-    ensures { λ x. ⌜ x ≡ judgedAt m l e (now (r .entry)) ⌝ }
-{
-    if parameters_finite(m, l, e) {
-        let s = record::read_state(r);
-        let sigma = s.sigma;
-        verdict_on(
-            l,
-            e.principal_stresses(s.scalars.phase, s.scalars.elastic_hardening, sigma),
-        )
-    } else {
-        Verdict::Refused(answers::NOT_FINITE)
-    }
-}
-
-// The law on a record that failed: phase is 0.0, but if the law refuses it is as it came.
-fn failed_step(m: Model, r: &mut [u64]) -> Outcome
-    requires { ⌜ length (now r) ≡ floats ⌝ }
-    ensures { λ x. ⌜ (x ≡ failedLaw m (now (r .entry)) .outcome) × (now (r .exit) ≡ failedLaw m (now (r .entry)) .after) ⌝ }
-{
-    let phase = r[record::PHASE];
-    r[record::PHASE] = numbers::bits_of(0.0);
-    let o = plain::step(m, r);
-    match o {
-        Outcome::Untouched => {}
-        Outcome::Stored(_) => {}
-        Outcome::Refused(_) => {
-            r[record::PHASE] = phase;
-        }
-    }
-    o
-}
-
-fn not_refused(o: Outcome) -> bool
-    ensures { λ r. ⌜ r ≡ standing o ⌝ }
-{
-    match o {
-        Outcome::Untouched => true,
-        Outcome::Stored(_) => true,
-        Outcome::Refused(_) => false,
-    }
-}
-
-// One finite record: a refused stress skips the law.
-fn finite_step(
-    m: Model,
+// The verdict on sigma and elastic hardening as the law leaves them, with the phase as it came.
+fn verdict_after(
     l: MaximumStressFailure,
     e: CorotatedLinearElasticity,
-    r: &mut [u64],
-) -> Stepped
-    requires { ⌜ (length (now r) ≡ floats) × (recordFinite (now r) ≡ true) ⌝ }
-    ensures outcome { λ x. ⌜ x .outcome ≡ failureLaw m l e (now (r .entry)) .outcome ⌝ }
-    ensures failed { λ x. ⌜ x .failed ≡ failureLaw m l e (now (r .entry)) .failed ⌝ }
-    ensures record { λ x. ⌜ now (r .exit) ≡ failureLaw m l e (now (r .entry)) .after ⌝ }
+    phase: f64,
+    left: State,
+) -> Verdict
+    ensures { λ r. ⌜ r ≡ verdictAfter l e phase left ⌝ }
 {
-    let v = verdict(m, l, e, &r[..]);
+    let sigma = left.sigma;
+    verdict_on(
+        l,
+        e.principal_stresses(phase, left.scalars.elastic_hardening, sigma),
+    )
+}
+
+// A refused law skips the verdict.
+fn verdict(l: MaximumStressFailure, e: CorotatedLinearElasticity, phase: f64, d: Updated) -> Verdict
+    ensures { λ r. ⌜ r ≡ unlessRefused (d .outcome) (verdictAfter l e phase (d .state)) ⌝ }
+{
+    let o = d.outcome;
+    let left = d.state;
+    match o {
+        Outcome::Untouched => verdict_after(l, e, phase, left),
+        Outcome::Stored(_) => verdict_after(l, e, phase, left),
+        Outcome::Refused(_) => Verdict::No,
+    }
+}
+
+// What the law left is written, but where the stress is refused; a yes sets phase 0.0.
+fn mark(m: Model, d: Updated, v: Verdict, r: &mut [u64]) -> Stepped
+    requires { ⌜ length (now r) ≡ floats ⌝ }
+    ensures outcome { λ x. ⌜ x .outcome ≡ marked v (now (r .entry)) (keptBy m d (now (r .entry))) .outcome ⌝ }
+    ensures failed { λ x. ⌜ x .failed ≡ marked v (now (r .entry)) (keptBy m d (now (r .entry))) .failed ⌝ }
+    ensures record { λ x. ⌜ now (r .exit) ≡ marked v (now (r .entry)) (keptBy m d (now (r .entry))) .after ⌝ }
+{
+    let o = d.outcome;
     match v {
         Verdict::No => {
-            let o = plain::finite_step(m, r);
+            plain::keep(m, d, r);
             Stepped {
                 outcome: o,
                 failed: false,
             }
         }
         Verdict::Yes => {
-            let o = failed_step(m, r);
+            plain::keep(m, d, r);
+            r[record::PHASE] = numbers::bits_of(0.0);
             Stepped {
                 outcome: o,
-                failed: not_refused(o),
+                failed: true,
             }
         }
         Verdict::Refused(n) => Stepped {
@@ -116,7 +91,25 @@ fn finite_step(
     }
 }
 
-// One record: its patterns are tested at once, as by `plain::step`.
+// One finite record, with finite limits and corotated law: the law first, then the verdict on what it leaves.
+fn finite_step(
+    m: Model,
+    l: MaximumStressFailure,
+    e: CorotatedLinearElasticity,
+    r: &mut [u64],
+) -> Stepped
+    requires { ⌜ (length (now r) ≡ floats) × (recordFinite (now r) ≡ true) ⌝ }
+    ensures outcome { λ x. ⌜ x .outcome ≡ marked (judgedAt m l e (now (r .entry))) (now (r .entry)) (recordLaw m (now (r .entry))) .outcome ⌝ }
+    ensures failed { λ x. ⌜ x .failed ≡ marked (judgedAt m l e (now (r .entry))) (now (r .entry)) (recordLaw m (now (r .entry))) .failed ⌝ }
+    ensures record { λ x. ⌜ now (r .exit) ≡ marked (judgedAt m l e (now (r .entry))) (now (r .entry)) (recordLaw m (now (r .entry))) .after ⌝ }
+{
+    let phase = record::float(&r[..], record::PHASE);
+    let d = plain::updated(m, &r[..]);
+    let v = verdict(l, e, phase, d);
+    mark(m, d, v, r)
+}
+
+// One record: limits and corotated law are inputs of it, and its patterns are tested at once, as by `plain::step`.
 pub fn step(
     m: Model,
     l: MaximumStressFailure,
@@ -128,7 +121,7 @@ pub fn step(
     ensures failed { λ x. ⌜ x .failed ≡ failureLaw m l e (now (r .entry)) .failed ⌝ }
     ensures record { λ x. ⌜ now (r .exit) ≡ failureLaw m l e (now (r .entry)) .after ⌝ }
 {
-    if record::all_finite(&r[..]) {
+    if record::all_finite(&r[..]) & (l.limits_finite() & e.law_finite()) {
         return finite_step(m, l, e, r);
     }
     Stepped {

@@ -7,10 +7,10 @@ ghost use mathlib.Core.Path.{_≡_};
 ghost use mathlib.Core.Bool.{true};
 ghost use lib.ListN.{length};
 ghost use Rattle.record.specs.Layout.{floats, recordFinite};
-ghost use Rattle.particles.specs.Plain.{updatedAt, recordLaw};
+ghost use Rattle.particles.specs.Plain.{updatedAt, kept, recordLaw};
 
 // The law on a finite record.
-fn updated(m: Model, r: &[u64]) -> Updated
+pub fn updated(m: Model, r: &[u64]) -> Updated
     requires { ⌜ (length (now r) ≡ floats) × (recordFinite (now r) ≡ true) ⌝ }
     ensures { λ x. ⌜ x ≡ updatedAt m (now (r .entry)) ⌝ }
 {
@@ -22,12 +22,11 @@ fn updated(m: Model, r: &[u64]) -> Updated
     )
 }
 
-// One finite record: what is refused or untouched keeps its bits.
-pub fn finite_step(m: Model, r: &mut [u64]) -> Outcome
-    requires { ⌜ (length (now r) ≡ floats) × (recordFinite (now r) ≡ true) ⌝ }
-    ensures { λ x. ⌜ (x ≡ recordLaw m (now (r .entry)) .outcome) × (now (r .exit) ≡ recordLaw m (now (r .entry)) .after) ⌝ }
+// What the law leaves of the record: one that is refused or untouched keeps its bits.
+pub fn keep(m: Model, d: Updated, r: &mut [u64])
+    requires { ⌜ length (now r) ≡ floats ⌝ }
+    ensures { λ _. ⌜ now (r .exit) ≡ kept m (d .outcome) (now (r .entry)) (d .state) ⌝ }
 {
-    let d = updated(m, &r[..]);
     let o = d.outcome;
     match o {
         Outcome::Untouched => {}
@@ -37,7 +36,16 @@ pub fn finite_step(m: Model, r: &mut [u64]) -> Outcome
         }
         Outcome::Refused(_) => {}
     }
-    o
+}
+
+// One finite record.
+pub fn finite_step(m: Model, r: &mut [u64]) -> Outcome
+    requires { ⌜ (length (now r) ≡ floats) × (recordFinite (now r) ≡ true) ⌝ }
+    ensures { λ x. ⌜ (x ≡ recordLaw m (now (r .entry)) .outcome) × (now (r .exit) ≡ recordLaw m (now (r .entry)) .after) ⌝ }
+{
+    let d = updated(m, &r[..]);
+    keep(m, d, r);
+    d.outcome
 }
 
 // One record. A float that isn't finite is the first refusal of every law, so all its patterns are tested at once.

@@ -10,7 +10,7 @@ ghost use lib.ListN.{length};
 ghost use Rattle.record.specs.Layout.{floats};
 ghost use Rattle.particles.specs.Step.{stepLaw};
 
-// The plastic law; or the verdict, with these limits on the stress by this law, and then the plastic law.
+// The plastic law; or that, and then the verdict, with these limits on the stress by this law.
 pub enum Step {
     Plain(Model),
     Judged(Model, MaximumStressFailure, CorotatedLinearElasticity),

@@ -48,9 +48,6 @@ module _ (r : List ℕ) (s : State) (h : length r ≡ floats) where
       → stateAt (putPlasticHardening (putShape r s) (s .scalars .«plastic_hardening»)) .scalars .«plastic_hardening» ≡ s .scalars .«plastic_hardening»
   stored-hardening f = same (putShape r s) _ (s .scalars .«plastic_hardening») (simp length-set (omega arith)) f
 
--- a verdict's phase changes neither sigma nor the hardening
+-- a verdict's phase changes no sigma
 pub phase-sigma : (r : List ℕ) (x : Float) → stateAt (putPhase r x) .sigma ≡ stateAt r .sigma
 phase-sigma r x = row-other r _ _ _ (omega arith)
-
-pub phase-hardening : (r : List ℕ) (x : Float) → stateAt (putPhase r x) .scalars .«plastic_hardening» ≡ stateAt r .scalars .«plastic_hardening»
-phase-hardening r x = other r _ _ _ (λ e. omega arith)

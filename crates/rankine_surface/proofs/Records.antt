@@ -1,5 +1,5 @@
 -- Demand 3 of a record that Rankine's law works, and of a record in a pass
-use mathlib.Core.Bool.{false}
+use mathlib.Core.Bool.{Bool, true, false, cond}
 use mathlib.Core.Path.{_≡_, refl, sym, ap, _∙_, subst}
 use mathlib.Core.List.{List}
 use Prim.Native.Nat.{ℕ}
@@ -24,15 +24,15 @@ use Rattle.plasticity_rankine.specs.Rankine.{rankineUpdate}
 use Rattle.model.specs.declared.Model.the-variants.{Rankine}
 use Rattle.particles.specs.Plain.{updatedAt, kept, recordLaw}
 use Rattle.particles.specs.Pass.{recordAt}
-use Rattle.particles.specs.Judged.{judgedAt, unlessRefused, failedLaw, byVerdict, failureLaw}
+use Rattle.particles.specs.Judged.{judgeFinite, judgedAt, refusedRecord, marked, failureLaw}
 use Rattle.particles.proofs.PassLaws.{record-keeps}
 use Rattle.particles.proofs.JudgedLaws.{failure-keeps}
 use Rattle.rankine_surface.specs.Axes.{Each}
 use Rattle.rankine_surface.specs.Surface.{Accepted, F64, Small, Ranges, numbersOf, logsOf, Archived, Inside, Returned, Demand3By}
-use Rattle.rankine_surface.specs.Record.{Premises, Found, foundOf, InsideAt, ReturnedAt, Demand3At, softenedAt, projectedAt, InPass, passFound, metBy, metAt}
+use Rattle.rankine_surface.specs.Record.{Premises, Found, foundOf, InsideAt, ReturnedAt, Demand3At, softenedAt, projectedAt, InPass, passFound, markedBy, LawStep}
 use Rattle.rankine_surface.proofs.Strains.{exps-f64}
 use Rattle.rankine_surface.proofs.Update.{demand-3-by}
-use Rattle.rankine_surface.proofs.Places.{stored-sigma, stored-hardening, phase-sigma, phase-hardening}
+use Rattle.rankine_surface.proofs.Places.{stored-sigma, stored-hardening}
 use Rattle.rankine_surface.proofs.Passes.{in-pass, found}
 
 -- the record that the update v leaves
@@ -83,44 +83,30 @@ pass-3 {a} {xs} {out} {i} w g =
     let k = record-keeps (Rankine a) in
     subst (Demand3At a (recordAt xs i)) (sym (found law k xs out i w)) (record-3 (in-pass law k xs out i w) g)
 
--- ---- the pass with failure: the law meets the record with a phase that may be new
-new-phase : (a : RankineArguments) (r : List ℕ) (o : Outcome) → Premises a r o → Premises a (putPhase r zero) o
-new-phase a r o g =
-    let h = sym (phase-hardening r zero) in
-    let e = sym (phase-sigma r zero) in
-    record {
-      accepted = g .accepted;
-      ranges = subst (λ (x : Float). Ranges (lawOf a) (sub (a .«tensile_strength») (sub x one))) h (g .ranges);
-      s-finite = subst (λ (x : Float). T (finite (sub (a .«tensile_strength») (sub x one)))) h (g .s-finite);
-      strains = subst (λ (x : List Float). Each Small (numbersOf (logsOf x))) e (g .strains);
-      strength = g .strength;
-    }
+-- ---- the pass with failure: the law meets the record as it came, and phase is set after it
+module _ (a : RankineArguments) (l : MaximumStressFailure) (e : CorotatedLinearElasticity) (r : List ℕ) where
+  step-found : (b : Bool) (v : Verdict) → let w = cond b (marked v r (recordLaw (Rankine a) r)) (refusedRecord 1 r) in
+      Accepted (w .outcome) → (foundOf w ≡ markedBy (w .failed) (foundOf (recordLaw (Rankine a) r))) × Accepted (recordLaw (Rankine a) r .outcome)
+  unfolding recordLaw
+  step-found true verdict.No h = (refl, h)
+  step-found true verdict.Yes h = (refl, h)
+  step-found true (verdict.Refused n) h = absurd h
+  step-found false v h = absurd h
 
-not-refused : (o : Outcome) (r s : List ℕ) → Accepted o → unlessRefused o r s ≡ s
-not-refused outcome.Untouched r s h = refl
-not-refused (outcome.Stored x) r s h = refl
-not-refused (outcome.Refused n) r s h = absurd h
-
-failed-3 : (a : RankineArguments) (r : List ℕ) → length r ≡ floats → Premises a r (failedLaw (Rankine a) r .outcome)
-    → Demand3At a (putPhase r zero) (foundOf (failedLaw (Rankine a) r))
-unfolding failedLaw
-failed-3 a r k g =
-    let w = recordLaw (Rankine a) (putPhase r zero) in
-    subst (λ (s : List ℕ). Demand3At a (putPhase r zero) (foundOf (record { outcome = w .outcome; failed = false; after = s })))
-    (sym (not-refused (w .outcome) r (w .after) (g .accepted))) (record-3 (length-set r _ _ ∙ k) (new-phase a r (w .outcome) g))
-
-by-verdict-3 : (v : Verdict) (a : RankineArguments) (r : List ℕ) → length r ≡ floats → Premises a r (byVerdict v (Rankine a) r .outcome)
-    → Demand3At a (metBy v r) (foundOf (byVerdict v (Rankine a) r))
-by-verdict-3 verdict.No a r k g = record-3 k g
-by-verdict-3 verdict.Yes a r k g = failed-3 a r k g
-by-verdict-3 (verdict.Refused n) a r k g = absurd (g .accepted)
+  law-found : Accepted (failureLaw (Rankine a) l e r .outcome)
+      → (foundOf (failureLaw (Rankine a) l e r) ≡ markedBy (failureLaw (Rankine a) l e r .failed) (foundOf (recordLaw (Rankine a) r))) × Accepted (recordLaw (Rankine a) r .outcome)
+  unfolding failureLaw
+  law-found h = step-found (judgeFinite l e) (judgedAt (Rankine a) l e r) h
 
 pub pass-with-failure-3 : (l : MaximumStressFailure) (e : CorotatedLinearElasticity) {a : RankineArguments} {xs out : List ℕ} {i : ℕ} → InPass xs out i
     → Premises a (recordAt xs i) (failureLaw (Rankine a) l e (recordAt xs i) .outcome)
-    → Demand3At a (metAt (Rankine a) l e (recordAt xs i)) (passFound (failureLaw (Rankine a) l e) xs out i)
-unfolding failureLaw
+    → LawStep a l e (recordAt xs i) (passFound (failureLaw (Rankine a) l e) xs out i)
 pass-with-failure-3 l e {a} {xs} {out} {i} w g =
     let law = failureLaw (Rankine a) l e in
     let k = failure-keeps (Rankine a) l e in
-    subst (Demand3At a (metAt (Rankine a) l e (recordAt xs i))) (sym (found law k xs out i w))
-    (by-verdict-3 (judgedAt (Rankine a) l e (recordAt xs i)) a (recordAt xs i) (in-pass law k xs out i w) g)
+    let f = law-found a l e (recordAt xs i) (g .accepted) in
+    record {
+      law = record-3 (in-pass law k xs out i w)
+          (record { accepted = f .1; ranges = g .ranges; s-finite = g .s-finite; strains = g .strains; strength = g .strength });
+      found = found law k xs out i w ∙ f .0;
+    }

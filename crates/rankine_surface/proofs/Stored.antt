@@ -11,6 +11,7 @@ use Rattle.plasticity.specs.declared.Outcome.{Outcome}
 use Rattle.plasticity.specs.declared.Outcome.the-variants.{Stored}
 use Rattle.plasticity.specs.declared.State.{State}
 use Rattle.plasticity.specs.declared.Updated.{Updated}
+use Rattle.tensor.specs.Matrix.{zero}
 use Rattle.record.specs.Layout.{floats}
 use Rattle.failure_maximum_stress.specs.declared.MaximumStressFailure.{MaximumStressFailure}
 use Rattle.elasticity_corotated_linear.specs.declared.CorotatedLinearElasticity.{CorotatedLinearElasticity}
@@ -22,9 +23,10 @@ use Rattle.particles.specs.Plain.{recordLaw}
 use Rattle.particles.specs.Pass.{codeOf, recordAt}
 use Rattle.particles.specs.Judged.{failureLaw}
 use Rattle.rankine_surface.specs.Surface.{TakenBy, Archived, Archives, softened, firstTest, logStrains}
-use Rattle.rankine_surface.specs.Record.{Premises, Found, foundOf, Demand3At, ArchivesAt, firstTestAt, InPass, passFound, metAt}
+use Rattle.rankine_surface.specs.Record.{Premises, Found, foundOf, Demand3At, ArchivesAt, softenedAt, firstTestAt, InPass, passFound, markedBy}
 use Rattle.rankine_surface.specs.Sheet.{argumentsIn, recordIn, InSheet, SheetPremises, sheetFound}
 use Rattle.rankine_surface.proofs.Update.{demand-3-by}
+use Rattle.rankine_surface.proofs.Places.{phase-sigma}
 use Rattle.rankine_surface.proofs.Records.{record-3, pass-3, pass-with-failure-3}
 use Rattle.rankine_surface.proofs.Sheets.{sheet-3}
 
@@ -53,10 +55,17 @@ pub pass-archived : {a : RankineArguments} {xs out : List ℕ} {i : ℕ} → InP
     → ArchivesAt a (recordAt xs i) (passFound (recordLaw (Rankine a)) xs out i)
 pass-archived w g = found-archived (pass-3 w g)
 
+-- phase changes no sigma
+marked-archived : (a : RankineArguments) (r : List ℕ) (b : Bool) (f : Found) → ArchivesAt a r f → ArchivesAt a r (markedBy b f)
+marked-archived a r false f d = d
+marked-archived a r true f d = λ q. subst (Archived (lawOf a) (softenedAt a r)) (sym (phase-sigma (f .after) zero)) (d q)
+
 pub pass-with-failure-archived : (l : MaximumStressFailure) (e : CorotatedLinearElasticity) {a : RankineArguments} {xs out : List ℕ} {i : ℕ} → InPass xs out i
     → Premises a (recordAt xs i) (failureLaw (Rankine a) l e (recordAt xs i) .outcome)
-    → ArchivesAt a (metAt (Rankine a) l e (recordAt xs i)) (passFound (failureLaw (Rankine a) l e) xs out i)
-pass-with-failure-archived l e w g = found-archived (pass-with-failure-3 l e w g)
+    → ArchivesAt a (recordAt xs i) (passFound (failureLaw (Rankine a) l e) xs out i)
+pass-with-failure-archived l e {a} {xs} {out} {i} w g =
+    let d = pass-with-failure-3 l e w g in
+    subst (ArchivesAt a (recordAt xs i)) (sym (d .found)) (marked-archived a (recordAt xs i) (failureLaw (Rankine a) l e (recordAt xs i) .failed) _ (found-archived (d .law)))
 
 pub sheet-archived : {s xs out : List ℕ} {i : ℕ} → InSheet s xs out i → SheetPremises s i → ArchivesAt (argumentsIn s) (recordIn s i) (sheetFound s xs out i)
 sheet-archived w g = found-archived (sheet-3 w g)

@@ -1,6 +1,6 @@
 -- Demand 3 of a record and of a pass: what is found of a record afterwards, by its bits and its two answers (RULES, section 7).
 use mathlib.Core.Path.{_≡_}
-use mathlib.Core.Bool.{Bool, not}
+use mathlib.Core.Bool.{Bool, true, false, not}
 use mathlib.Core.List.{List}
 use Prim.Native.Nat.{ℕ, _+_, _*_, _/_, _<_}
 use lib.Dec.{T}
@@ -13,14 +13,13 @@ use Rattle.plasticity.specs.declared.Outcome.{Outcome}
 use Rattle.plasticity.specs.declared.Outcome.the-variants.{Untouched, Stored}
 use Rattle.record.specs.Layout.{floats, stateAt, putPhase}
 use Rattle.failure_maximum_stress.specs.declared.MaximumStressFailure.{MaximumStressFailure}
-use Rattle.failure_maximum_stress.specs.declared.Verdict.{Verdict}
-use Rattle.failure_maximum_stress.specs.declared.Verdict.the-variants as verdict
 use Rattle.elasticity_corotated_linear.specs.declared.CorotatedLinearElasticity.{CorotatedLinearElasticity}
 use Rattle.plasticity_rankine.specs.declared.RankineArguments.{RankineArguments}
 use Rattle.plasticity_rankine.specs.Law.{lawOf}
-use Rattle.model.specs.declared.Model.{Model}
+use Rattle.model.specs.declared.Model.the-variants.{Rankine}
 use Rattle.particles.specs.Pass.{Worked, codeOf, valueOf, recordAt, wellSized, passRecords, passAnswers}
-use Rattle.particles.specs.Judged.{judgedAt}
+use Rattle.particles.specs.Plain.{recordLaw}
+use Rattle.particles.specs.Judged.{failureLaw}
 use Rattle.rankine_surface.specs.Axes.{Each}
 use Rattle.rankine_surface.specs.Surface.{Accepted, Ranges, Small, F64, demanded, Below, OnSurface, Archived, numbersOf, expsOf, logStrains, softened, firstTest, projectedStrains}
 
@@ -107,11 +106,13 @@ passFound law xs out i =
       after = recordAt (passRecords law xs out) i;
     }
 
--- the record as the law meets it in the pass with failure: "phase may be new"
-abbrev pub metBy : Verdict → List ℕ → List ℕ
-metBy verdict.No r = r
-metBy verdict.Yes r = putPhase r zero
-metBy (verdict.Refused n) r = r
+-- ---- in the pass with failure: demand 3 is read on the law's step
+-- what the step found; a record that failed has phase 0.0 besides
+abbrev pub markedBy : Bool → Found → Found
+markedBy false f = f
+markedBy true f = record { code = f .code; value = f .value; after = putPhase (f .after) zero }
 
-abbrev pub metAt : Model → MaximumStressFailure → CorotatedLinearElasticity → List ℕ → List ℕ
-metAt m l e r = metBy (judgedAt m l e r) r
+-- the law's step on the record as it came, and what is found of the record in the pass
+pub record LawStep (a : RankineArguments) (l : MaximumStressFailure) (e : CorotatedLinearElasticity) (r : List ℕ) (f : Found) : Type 0 where
+  pub law : Demand3At a r (foundOf (recordLaw (Rankine a) r))
+  pub found : f ≡ markedBy (failureLaw (Rankine a) l e r .failed) (foundOf (recordLaw (Rankine a) r))

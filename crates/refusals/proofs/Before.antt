@@ -9,7 +9,7 @@ use Rattle.record.specs.Layout.{uAt, vtAt, stateAt}
 use Rattle.refusals.specs.Refusals.{walkOf, failureWalk}
 use Rattle.refusals.specs.Before.{outcomeBefore, updatedBefore, NothingElse}
 use Rattle.refusals.proofs.Updates.{walked, record-walked}
-use Rattle.refusals.proofs.Failure as failure
+use Rattle.refusals.proofs.Failure.{failure-walked}
 
 told : (s : State) (x : Ended Change) → updatedBefore (updatedOf s x) ≡ updatedOf s (endedBefore x)
 told s (given untouched) = refl
@@ -24,6 +24,6 @@ nothing-else =
     record {
       update = λ m u vt s. ap updatedBefore (walked m u vt s) ∙ as-before s (walkOf m u vt s);
       law = λ m r. ap outcomeBefore (record-walked m r) ∙ ap (λ v. v .outcome) (as-before (stateAt r) (walkOf m (uAt r) (vtAt r) (stateAt r)));
-      failure-law = λ m l e r. ap outcomeBefore (failure.walked m l e r) ∙ ap (λ v. v .outcome) (as-before (stateAt r) (failureWalk m l e r));
+      failure-law = λ m l e r. ap outcomeBefore (failure-walked m l e r) ∙ ap (λ v. v .outcome) (as-before (stateAt r) (failureWalk m l e r));
       call = λ f x. bare-before (lowOf f) (highOf f) x (at f x);
     }

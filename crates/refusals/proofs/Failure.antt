@@ -1,4 +1,4 @@
--- The law with failure answers a record as its walk does: the verdict, and the record with phase 0.0 after it. Assumes nothing.
+-- The law with failure answers a record as its walk does: the law's steps, then the stresses of what it leaves. Assumes nothing.
 use mathlib.Core.Path.{_≡_, refl, sym, ap, _∙_}
 use mathlib.Core.Logic.{_⊎_, inl, inr, ⊎-elim, _↔_}
 use mathlib.Core.Bool.{Bool, true, false, cond, _&&_, false≢true}
@@ -9,19 +9,18 @@ use lib.Ieee.{Float}
 use Rattle.numbers.specs.Floats.{finite}
 use Rattle.numbers.proofs.Laws.{and-both}
 use Rattle.tensor.specs.Axes.{allOf}
-use Rattle.tensor.specs.Matrix as matrix
 use Rattle.tensor.specs.Finite.{rowFinite}
 use Rattle.tensor.specs.Answer.{answeredVector, refusedVector}
 use Rattle.plasticity.specs.State.{inputsFinite}
 use Rattle.plasticity.specs.declared.Outcome.{Outcome}
 use Rattle.plasticity.specs.declared.Outcome.the-variants as outcome
 use Rattle.plasticity.specs.declared.State.{State}
-use Rattle.walk.specs.Walk.{Ended, given, refused, result}
+use Rattle.walk.specs.Walk.{_then_, end, Ended, given, refused, result}
 use Rattle.walk.specs.Exact.{andThen, result-then}
 use Rattle.walk.specs.Answers.{vectorAs}
 use Rattle.walk.specs.Every.{all-append}
 use Rattle.walk.specs.Update.{Change, untouched, stored, updatedOf, floats-finite}
-use Rattle.record.specs.Layout.{uAt, vtAt, stateAt, putPhase}
+use Rattle.record.specs.Layout.{uAt, vtAt, stateAt}
 use Rattle.failure_maximum_stress.specs.declared.MaximumStressFailure.{MaximumStressFailure}
 use Rattle.failure_maximum_stress.specs.declared.Verdict.{Verdict}
 use Rattle.failure_maximum_stress.specs.declared.Verdict.the-variants.{No, Yes, Refused}
@@ -32,12 +31,14 @@ use Rattle.elasticity_corotated_linear.proofs.Laws.{principal-law}
 use Rattle.model.specs.declared.Model.{Model}
 use Rattle.model.specs.declared.Model.the-variants.{Snow, Rankine, DruckerPrager, Nacc}
 use Rattle.model.specs.Model.{modelFinite}
-use Rattle.particles.specs.Plain.{recordLaw}
-use Rattle.particles.specs.Judged.{verdictOn, judgedInputs, judgedOf, judgedAt, failedLaw, byVerdict, failureLaw}
-use Rattle.refusals.specs.Refusals.{SomeNotFinite, RecordNotFinite, parametersOf, recordFloats, recordSteps, failureOf, stressesOf, judged, failureSteps, failureWalk, failurePath, Refuses}
+use Rattle.plasticity.specs.declared.Updated.{Updated}
+use Rattle.particles.specs.Pass.{Worked}
+use Rattle.particles.specs.Plain.{updatedAt, keptBy, recordLaw}
+use Rattle.particles.specs.Judged.{verdictOn, judgeFinite, verdictAfter, unlessRefused, judgedAt, refusedRecord, marked, failureLaw}
+use Rattle.refusals.specs.Refusals.{SomeNotFinite, RecordNotFinite, parametersOf, recordFloats, recordSteps, failureOf, leftBy, stressesOf, failureSteps, failureWalk, failurePath, Refuses}
 use Rattle.refusals.proofs.Inner.{inner-then, principal-inner, steps-inner}
-use Rattle.refusals.proofs.Inputs.{some-append, phased}
-use Rattle.refusals.proofs.Updates.{outcome-numbers, record-walked, input-places}
+use Rattle.refusals.proofs.Inputs.{some-append}
+use Rattle.refusals.proofs.Updates.{outcome-numbers, walked, input-places}
 
 -- ---- the inputs
 parameters : (m : Model) → allOf finite (parametersOf m) ≡ modelFinite m
@@ -51,22 +52,8 @@ five true true c d e = refl
 five true false c d e = refl
 five false b c d e = refl
 
-ordered : (l e m i : Bool) → (l && e) && (m && i) ≡ m && l && e && i
-ordered true true true i = refl
-ordered true true false i = refl
-ordered true false true i = refl
-ordered true false false i = refl
-ordered false e true i = refl
-ordered false e false i = refl
-
 record-inputs : (m : Model) (r : List ℕ) → allOf finite (parametersOf m ++ recordFloats r) ≡ modelFinite m && allOf finite (recordFloats r)
 record-inputs m r = all-append finite (parametersOf m) (recordFloats r) ∙ ap (λ b. b && allOf finite (recordFloats r)) (parameters m)
-
--- ---- the outcome is the answer's, whatever the state
-same : (s t : State) (x : Ended Change) → updatedOf s x .outcome ≡ updatedOf t x .outcome
-same s t (given untouched) = refl
-same s t (given (stored new a)) = refl
-same s t (refused n) = refl
 
 taken : (b : Bool) (x y : Ended Change) → b ≡ true → cond b x y ≡ x
 taken true x y q = refl
@@ -76,40 +63,12 @@ both : (a b : Bool) → a ≡ true → b ≡ true → a && b ≡ true
 both true b p q = q
 both false b p q = p
 
--- a record whose inputs are finite is worked by the steps
-run : (m : Model) (r : List ℕ) (s : State) → modelFinite m ≡ true → allOf finite (recordFloats r) ≡ true → recordLaw m r .outcome ≡ updatedOf s (result (recordSteps m r)) .outcome
-run m r s p q =
-    record-walked m r
-    ∙ ap (λ x. updatedOf (stateAt r) x .outcome) (taken (allOf finite (parametersOf m ++ recordFloats r)) (result (recordSteps m r)) (refused 1) (record-inputs m r ∙ both (modelFinite m) (allOf finite (recordFloats r)) p q))
-    ∙ same (stateAt r) s (result (recordSteps m r))
-
-module _ (m : Model) (r : List ℕ) (s : State) where
-  abbrev zeroed : List ℕ
-  zeroed = putPhase r matrix.zero
-
-  -- by the verdict: the steps on the record or on the record with phase 0.0
-  verdict : (limits row over : Bool) → limits ≡ true → row ≡ true → recordLaw m r .outcome ≡ updatedOf s (result (recordSteps m r)) .outcome
-      → recordLaw m zeroed .outcome ≡ updatedOf s (result (recordSteps m zeroed)) .outcome
-      → byVerdict (cond (limits && row) (cond over Yes No) (Refused 1)) m r .outcome ≡ updatedOf s (result (recordSteps m (cond over zeroed r))) .outcome
-  unfolding failedLaw
-  verdict true true true q p e f = f
-  verdict true true false q p e f = e
-  verdict true false over q p e f = absurd (false≢true p)
-  verdict false row over q p e f = absurd (false≢true q)
-
-  -- on the stresses, or on their refusal
-  on-stresses : (l : MaximumStressFailure) (x : Ended (List Float)) → ((v : List Float) → x ≡ given v → rowFinite v ≡ true) → limitsFinite l ≡ true
-      → recordLaw m r .outcome ≡ updatedOf s (result (recordSteps m r)) .outcome
-      → recordLaw m zeroed .outcome ≡ updatedOf s (result (recordSteps m zeroed)) .outcome
-      → byVerdict (verdictOn l x) m r .outcome ≡ updatedOf s (andThen x (λ v. result (recordSteps m (judged l r v)))) .outcome
-  unfolding verdictOf
-  on-stresses l (given v) p q e f = verdict (limitsFinite l) (rowFinite v) (exceedsOf l v) q (p v refl) e f
-  on-stresses l (refused n) p q e f = refl
-
-  first : (j : Bool) (v : Verdict) (y : Ended Change) → (j ≡ true → byVerdict v m r .outcome ≡ updatedOf s y .outcome)
-      → byVerdict (cond j v (Refused 1)) m r .outcome ≡ updatedOf s (cond j y (refused 1)) .outcome
-  first true v y f = f refl
-  first false v y f = refl
+-- a law whose inputs are finite answers as its steps do
+run : (m : Model) (r : List ℕ) → modelFinite m ≡ true → allOf finite (recordFloats r) ≡ true → updatedAt m r ≡ updatedOf (stateAt r) (result (recordSteps m r))
+unfolding updatedAt
+run m r p q =
+    walked m (uAt r) (vtAt r) (stateAt r)
+    ∙ ap (updatedOf (stateAt r)) (taken (allOf finite (parametersOf m ++ recordFloats r)) (result (recordSteps m r)) (refused 1) (record-inputs m r ∙ both (modelFinite m) (allOf finite (recordFloats r)) p q))
 
 -- principal stresses that are handed out are finite
 handed : (v w : List Float) (b : Bool) → rowFinite w ≡ b → vectorAs (given v) ≡ cond b (record { refusal = 0; vector = w }) (refusedVector 3) → rowFinite v ≡ true
@@ -120,42 +79,82 @@ stresses-finite : (x : Ended (List Float)) (w : List Float) → vectorAs x ≡ a
 unfolding answeredVector
 stresses-finite x w e v q = handed v w (rowFinite w) refl (sym (ap vectorAs q) ∙ e)
 
-module _ (m : Model) (l : MaximumStressFailure) (e : CorotatedLinearElasticity) (r : List ℕ) where
-  abbrev ok : Bool
-  ok = judgedInputs m l e (uAt r) (vtAt r) (stateAt r)
+module _ (m : Model) (l : MaximumStressFailure) (e : CorotatedLinearElasticity) (r : List ℕ) (q : limitsFinite l ≡ true) where
+  abbrev s : State
+  s = stateAt r
 
-  all-inputs : allOf finite (failureOf l e ++ (parametersOf m ++ recordFloats r)) ≡ ok
+  -- a yes and a no keep the law's outcome
+  verdict : (limits row over : Bool) → limits ≡ true → row ≡ true → (w : Worked) → marked (cond (limits && row) (cond over Yes No) (Refused 1)) r w .outcome ≡ w .outcome
+  verdict true true true f p w = refl
+  verdict true true false f p w = refl
+  verdict true false over f p w = absurd (false≢true p)
+  verdict false row over f p w = absurd (false≢true f)
+
+  -- on the stresses, or on their refusal
+  on-stresses : (c : Change) (x : Ended (List Float)) → ((v : List Float) → x ≡ given v → rowFinite v ≡ true)
+      → marked (verdictOn l x) r (keptBy m (updatedOf s (given c)) r) .outcome ≡ updatedOf s (andThen x (λ v. given c)) .outcome
+  unfolding verdictOf
+  on-stresses c (given v) p = verdict (limitsFinite l) (rowFinite v) (exceedsOf l v) q (p v refl) (keptBy m (updatedOf s (given c)) r)
+  on-stresses c (refused n) p = refl
+
+  judged-stresses : (c : Change) → marked (verdictAfter l e (s .scalars .phase) (leftBy r c)) r (keptBy m (updatedOf s (given c)) r) .outcome ≡ updatedOf s (result (stressesOf e r c then (λ v. end c))) .outcome
+  unfolding verdictAfter
+  judged-stresses c =
+      let t = leftBy r c in
+      on-stresses c (result (stressesOf e r c)) (stresses-finite (result (stressesOf e r c)) _ (principal-law e (s .scalars .phase) (t .scalars .«elastic_hardening») (t .sigma)))
+      ∙ ap (λ x. updatedOf s x .outcome) (sym (result-then (stressesOf e r c) (λ v. end c)))
+
+  -- on what the law leaves, or on its refusal
+  on-law : (x : Ended Change) → marked (unlessRefused (updatedOf s x .outcome) (verdictAfter l e (s .scalars .phase) (updatedOf s x .state))) r (keptBy m (updatedOf s x) r) .outcome
+      ≡ updatedOf s (andThen x (λ c. result (stressesOf e r c then (λ v. end c)))) .outcome
+  on-law (given untouched) = judged-stresses untouched
+  on-law (given (stored new a)) = judged-stresses (stored new a)
+  on-law (refused n) = refl
+
+module _ (m : Model) (l : MaximumStressFailure) (e : CorotatedLinearElasticity) (r : List ℕ) where
+  abbrev inner : Bool
+  inner = modelFinite m && inputsFinite (uAt r) (vtAt r) (stateAt r)
+
+  all-inputs : allOf finite (failureOf l e ++ (parametersOf m ++ recordFloats r)) ≡ judgeFinite l e && inner
   all-inputs =
       all-append finite (failureOf l e) (parametersOf m ++ recordFloats r)
       ∙ rw (record-inputs m r, floats-finite (uAt r) (vtAt r) (stateAt r), five (finite (l .«max_principal_stress»)) (finite (l .«max_shear_stress»)) (finite (e .«cfl_coeff»)) (finite (e .lambda)) (finite (e .mu)))
-      (ordered (limitsFinite l) (lawFinite e) (modelFinite m) (inputsFinite (uAt r) (vtAt r) (stateAt r)))
+      refl
 
-  abbrev law : Ended Change
-  law = andThen (result (stressesOf e r)) (λ v. result (recordSteps m (judged l r v)))
+  abbrev Law : Updated → Worked
+  Law d = marked (unlessRefused (d .outcome) (verdictAfter l e (stateAt r .scalars .phase) (d .state))) r (keptBy m d r)
 
-  run-by : ok ≡ true → byVerdict (verdictOn l (result (stressesOf e r))) m r .outcome ≡ updatedOf (stateAt r) law .outcome
-  run-by q =
-      let test = inputsFinite (uAt r) (vtAt r) (stateAt r) in
-      let a = and-both (modelFinite m && limitsFinite l && lawFinite e) test q in
-      let b = and-both (modelFinite m && limitsFinite l) (lawFinite e) (a .0) in
-      let c = and-both (modelFinite m) (limitsFinite l) (b .0) in
-      let t = floats-finite (uAt r) (vtAt r) (stateAt r) ∙ a .1 in
-      let s = stateAt r in
-      on-stresses m r s l (result (stressesOf e r)) (stresses-finite (result (stressesOf e r)) _ (principal-law e (s .scalars .phase) (s .scalars .«elastic_hardening») (s .sigma))) (c .1)
-      (run m r s (c .0) t) (run m (putPhase r matrix.zero) s (c .0) (phased r t))
+  ran : judgeFinite l e ≡ true → inner ≡ true → Law (updatedAt m r) .outcome ≡ updatedOf (stateAt r) (result (failureSteps m e r)) .outcome
+  ran f i =
+      let g = and-both (limitsFinite l) (lawFinite e) f in
+      let h = and-both (modelFinite m) (inputsFinite (uAt r) (vtAt r) (stateAt r)) i in
+      ap (λ d. Law d .outcome) (run m r (h .0) (floats-finite (uAt r) (vtAt r) (stateAt r) ∙ h .1))
+      ∙ on-law m l e r (g .0) (result (recordSteps m r))
+      ∙ ap (λ x. updatedOf (stateAt r) x .outcome) (sym (result-then (recordSteps m r) (λ c. stressesOf e r c then (λ v. end c))))
 
-  pub walked : failureLaw m l e r .outcome ≡ updatedOf (stateAt r) (result (failureWalk m l e r)) .outcome
-  unfolding failureLaw judgedAt judgedOf
-  walked =
-      first m r (stateAt r) ok (verdictOn l (result (stressesOf e r))) law run-by
-      ∙ rw (all-inputs, result-then (stressesOf e r) (λ v. recordSteps m (judged l r v)))
+  not-run : inner ≡ false → Law (updatedAt m r) .outcome ≡ outcome.Refused 1
+  unfolding updatedAt
+  not-run i =
+      ap (λ d. Law d .outcome) (walked m (uAt r) (vtAt r) (stateAt r)
+      ∙ ap (λ b. updatedOf (stateAt r) (cond b (result (recordSteps m r)) (refused 1))) (record-inputs m r ∙ ap (λ b. modelFinite m && b) (floats-finite (uAt r) (vtAt r) (stateAt r)) ∙ i))
+
+  first : (f i : Bool) → judgeFinite l e ≡ f → inner ≡ i
+      → cond f (Law (updatedAt m r)) (refusedRecord 1 r) .outcome ≡ updatedOf (stateAt r) (cond (f && i) (result (failureSteps m e r)) (refused 1)) .outcome
+  first true true p q = ran p q
+  first true false p q = not-run q
+  first false i p q = refl
+
+  pub failure-walked : failureLaw m l e r .outcome ≡ updatedOf (stateAt r) (result (failureWalk m l e r)) .outcome
+  unfolding failureLaw judgedAt recordLaw
+  failure-walked = first (judgeFinite l e) inner refl refl ∙ ap (λ b. updatedOf (stateAt r) (cond b (result (failureSteps m e r)) (refused 1)) .outcome) (sym all-inputs)
 
   pub failure-refuses : Refuses (failureLaw m l e r .outcome) (failurePath m l e r)
   failure-refuses =
       let s = stateAt r in
-      outcome-numbers s (failureLaw m l e r .outcome) (failureOf l e ++ (parametersOf m ++ recordFloats r)) (failureSteps m l e r)
-      (inner-then (stressesOf e r) _ (principal-inner e (s .scalars .phase) (s .scalars .«elastic_hardening») (s .sigma)) (λ v. let r' = judged l r v in steps-inner m (uAt r') (vtAt r') (stateAt r')))
-      walked
+      outcome-numbers s (failureLaw m l e r .outcome) (failureOf l e ++ (parametersOf m ++ recordFloats r)) (failureSteps m e r)
+      (inner-then (recordSteps m r) _ (steps-inner m (uAt r) (vtAt r) s)
+      (λ c. let t = leftBy r c in inner-then (stressesOf e r c) _ (principal-inner e (s .scalars .phase) (t .scalars .«elastic_hardening») (t .sigma)) (λ v. tt)))
+      failure-walked
 
   pub failure-one : (failureLaw m l e r .outcome ≡ outcome.Refused 1) ↔ (SomeNotFinite (failureOf l e) ⊎ (SomeNotFinite (parametersOf m) ⊎ RecordNotFinite r))
   failure-one =

@@ -6,13 +6,11 @@ use mathlib.Core.List.{List, [], _∷_, _++_}
 use Prim.Native.Nat.{ℕ, zero, suc, _+_, _≤_, _<_}
 use native.Mathlib.Nat.{eq-or-lt-of-le}
 use native.Mathlib.Omega.{arith}
-use lib.ListN.{getD, set}
-use lib.Ieee.{Float, binary64, ofBits, toBits}
+use lib.Ieee.{Float}
 use Rattle.numbers.specs.Floats.{finite}
 use Rattle.tensor.specs.Axes.{allOf}
-use Rattle.tensor.specs.Matrix as matrix
 use Rattle.walk.specs.Update.{floatsOf}
-use Rattle.record.specs.Layout.{floats, floatAt, bits, putPhase}
+use Rattle.record.specs.Layout.{floats, floatAt}
 use Rattle.refusals.specs.Refusals.{NotFinite, SomeNotFinite, recordFloats, RecordNotFinite}
 use Rattle.refusals.proofs.Numbers.{not-finite}
 
@@ -72,27 +70,3 @@ module _ (r : List ℕ) where
 
   holds : allOf finite (recordFloats r) ≡ true → (k : ℕ) → k < floats → finite (floatAt r k) ≡ true
   holds q k h = ⊎-elim (λ t. t) (λ z. absurd (no-both (allOf finite (recordFloats r)) q (not-finite (recordFloats r) .1 (places .1 (k, h, z))))) (decide (finite (floatAt r k)))
-
--- ---- the record with phase 0.0
-zero-finite : finite (ofBits binary64 (bits matrix.zero)) ≡ true
-unfolding finite ofBits toBits
-zero-finite = refl
-
-written : (r : List ℕ) (i v k : ℕ) → (getD (set r i v) k 0 ≡ v) ⊎ (getD (set r i v) k 0 ≡ getD r k 0)
-written [] i v k = inr refl
-written (x ∷ r) zero v zero = inl refl
-written (x ∷ r) zero v (suc k) = inr refl
-written (x ∷ r) (suc i) v zero = inr refl
-written (x ∷ r) (suc i) v (suc k) = written r i v k
-
-pub phased : (r : List ℕ) → allOf finite (recordFloats r) ≡ true → allOf finite (recordFloats (putPhase r matrix.zero)) ≡ true
-phased r t = ⊎-elim (λ q. q) (λ q. absurd (never (places r' .0 (not-finite (recordFloats r') .0 q)))) (decide (allOf finite (recordFloats r')))
-  where
-    r' : List ℕ
-    r' = putPhase r matrix.zero
-
-    never : RecordNotFinite (putPhase r matrix.zero) → ⊥
-    never (k, h, q) =
-        let same : (n : ℕ) → getD (putPhase r matrix.zero) k 0 ≡ n → finite (ofBits binary64 n) ≡ true → ⊥ =
-        λ n e f. no-both (finite (floatAt (putPhase r matrix.zero) k)) (ap (λ (x : ℕ). finite (ofBits binary64 x)) e ∙ f) q in
-        ⊎-elim (λ e. same (bits matrix.zero) e zero-finite) (λ e. same (getD r k 0) e (holds r t k h)) (written r 30 (bits matrix.zero) k)

@@ -4,7 +4,7 @@
 -- Calls and Laws say the same of the calls by themselves, Ran of a sheet that is run. 4 to 7 are a sheet's: `sheet` specs/Refused.
 use mathlib.Core.Path.{_≡_}
 use mathlib.Core.Logic.{_⊎_, _↔_}
-use mathlib.Core.Bool.{false, cond}
+use mathlib.Core.Bool.{false}
 use mathlib.Core.List.{List, [], _∷_, _++_}
 use Prim.Native.Nat.{ℕ, _+_, _*_, _≤_, _<_}
 use lib.ListN.{length, getD}
@@ -17,14 +17,13 @@ use Rattle.answers.specs.declared.Answer.the-variants as answers
 use Rattle.plasticity.specs.declared.Outcome.{Outcome}
 use Rattle.plasticity.specs.declared.Outcome.the-variants.{Refused}
 use Rattle.plasticity.specs.declared.State.{State}
-use Rattle.tensor.specs.Matrix.{zero}
 use Rattle.walk.specs.Expr.{num, value}
-use Rattle.walk.specs.Walk.{Function, lowOf, highOf, at, Walk, inputs, ask, end, _then_}
+use Rattle.walk.specs.Walk.{Function, lowOf, highOf, at, Walk, inputs, ask, end, _then_, given}
 use Rattle.walk.specs.Exact.{Met, input, argument, worked, tested, result-of, path}
-use Rattle.walk.specs.Update.{Change, floatsOf}
+use Rattle.walk.specs.Update.{Change, updatedOf, floatsOf}
 use Rattle.walk.specs.Numbers as walk
 use Rattle.walk.specs.Numbers.{Stops, Comes, Clear}
-use Rattle.record.specs.Layout.{floats, floatAt, uAt, vtAt, stateAt, putPhase}
+use Rattle.record.specs.Layout.{floats, floatAt, uAt, vtAt, stateAt}
 use Rattle.plasticity_snow.specs.Snow as snow
 use Rattle.plasticity_rankine.specs.Law as rankine-law
 use Rattle.plasticity_rankine.specs.Rankine as rankine
@@ -32,7 +31,6 @@ use Rattle.plasticity_drucker_prager.specs.Law as drucker-prager-law
 use Rattle.plasticity_drucker_prager.specs.DruckerPrager as drucker-prager
 use Rattle.plasticity_nacc.specs.Law as nacc-law
 use Rattle.plasticity_nacc.specs.Nacc as nacc
-use Rattle.failure_maximum_stress.specs.Failure.{exceedsOf}
 use Rattle.failure_maximum_stress.specs.declared.MaximumStressFailure.{MaximumStressFailure}
 use Rattle.elasticity_corotated_linear.specs.declared.CorotatedLinearElasticity.{CorotatedLinearElasticity}
 use Rattle.elasticity_corotated_linear.specs.Law as corotated
@@ -114,19 +112,19 @@ pathOf m r = path (walkOf m (uAt r) (vtAt r) (stateAt r))
 abbrev pub failureOf : MaximumStressFailure → CorotatedLinearElasticity → List Float
 failureOf l e = l .«max_principal_stress» ∷ l .«max_shear_stress» ∷ corotated.parametersOf e
 
-abbrev pub stressesOf : CorotatedLinearElasticity → List ℕ → Walk (List Float)
-stressesOf e r = principalWalk e (stateAt r .scalars .phase) (stateAt r .scalars .«elastic_hardening») (stateAt r .sigma)
+-- what the law leaves of the record, and the principal stresses of it, with the phase as it came
+abbrev pub leftBy : List ℕ → Change → State
+leftBy r c = updatedOf (stateAt r) (given c) .state
 
--- on a yes the law works the record with phase 0.0
-abbrev pub judged : MaximumStressFailure → List ℕ → List Float → List ℕ
-judged l r stresses = cond (exceedsOf l stresses) (putPhase r zero) r
+abbrev pub stressesOf : CorotatedLinearElasticity → List ℕ → Change → Walk (List Float)
+stressesOf e r c = principalWalk e (stateAt r .scalars .phase) (leftBy r c .scalars .«elastic_hardening») (leftBy r c .sigma)
 
--- the principal stresses, and then the law's steps
-abbrev pub failureSteps : Model → MaximumStressFailure → CorotatedLinearElasticity → List ℕ → Walk Change
-failureSteps m l e r = stressesOf e r then (λ stresses. recordSteps m (judged l r stresses))
+-- the law's steps, and then the stresses: the verdict on them refuses nothing
+abbrev pub failureSteps : Model → CorotatedLinearElasticity → List ℕ → Walk Change
+failureSteps m e r = recordSteps m r then (λ c. stressesOf e r c then (λ stresses. end c))
 
 abbrev pub failureWalk : Model → MaximumStressFailure → CorotatedLinearElasticity → List ℕ → Walk Change
-failureWalk m l e r = inputs (failureOf l e ++ (parametersOf m ++ recordFloats r)) (failureSteps m l e r)
+failureWalk m l e r = inputs (failureOf l e ++ (parametersOf m ++ recordFloats r)) (failureSteps m e r)
 
 abbrev pub failurePath : Model → MaximumStressFailure → CorotatedLinearElasticity → List ℕ → List Met
 failurePath m l e r = path (failureWalk m l e r)

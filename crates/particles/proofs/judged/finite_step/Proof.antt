@@ -1,33 +1,21 @@
--- `particles::judged::finite_step` meets its contract: what its calls ensure, on each path.
-use Rattle.particles.specs.Plain.{recordLaw}
-use Rattle.particles.specs.Judged.{failureLaw, failedLaw}
+-- `particles::judged::finite_step` meets its contract: the law, the verdict on what it leaves, and the mark.
+use mathlib.Core.Path.{_∙_}
 use borrow.Author.Needs.{needs}
+use Rattle.particles.specs.Plain.{recordLaw}
+use Rattle.particles.specs.Judged.{judgedAt}
 use Rattle.particles.proofs.judged.finite_step.Statement.{statement}
 use Rattle.particles.proofs.judged.finite_step.Tie as tie
 
 returns : tie.Need-returns
-unfolding failureLaw recordLaw
+unfolding recordLaw judgedAt
 returns c =
-    let t = rw (c .before .before .before .before .before .before .verdict .ensures) at (c .before .before .before .before .enum-told .given .1) in
-    let s = c .before .before .finite-step .ensures in
-    (simp (s .0, t), (simp t, simp (s .1, t)))
-
-returns-2 : tie.Need-returns-2
-unfolding failureLaw failedLaw
-returns-2 c =
-    let t = rw (c .before .before .before .before .before .before .before .verdict .ensures) at (c .before .before .before .before .before .enum-told2 .given .1) in
-    let s = c .before .before .before .failed-step .ensures in
-    (simp (s .0, t), (simp (c .not-refused .ensures, s .0, t), simp (s .1, t)))
-
-returns-3 : tie.Need-returns-3
-unfolding failureLaw
-returns-3 c =
-    let t = rw (c .before .before .before .verdict .ensures) at (c .before .v .given .1) in
-    (simp t, (simp t, simp t))
+    let k = c .before .before .mark .ensures in
+    let v = c .before .before .before .before .verdict .ensures in
+    let u = c .before .before .before .before .before .updated .ensures in
+    let p = c .before .before .before .before .before .before .before .float .ensures in
+    (k .0 ∙ simp (v, u, p), (k .1 .0 ∙ simp (v, u, p), k .1 .1 ∙ simp (v, u, p)))
 
 pub finite-step-spec : {M : Type 1} → statement M
 finite-step-spec =
     tie.close
-    (tie.spec (λ c κs. search needs) (λ c. search needs) (λ c κs. search needs) (λ c. search needs)
-    (λ c κs. search needs) (λ c κs. search needs) (λ c. search needs) (λ c. search needs) returns
-    (λ c. search needs) returns-2 (λ c. search needs) returns-3)
+    (tie.spec (λ c κs. search needs) (λ c κs. search needs) (λ c κs. search needs) (λ c κs. search needs) (λ c. search needs) returns)

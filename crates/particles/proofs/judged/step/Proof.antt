@@ -1,23 +1,33 @@
--- `particles::judged::step` meets its contract: what its calls ensure, on each path.
-use mathlib.Core.Path.{sym, _∙_}
+-- `particles::judged::step` meets its contract: 1 comes first.
+use mathlib.Core.Path.{_≡_, refl, sym, ap, _∙_}
 use borrow.Author.Needs.{needs}
-use Rattle.particles.proofs.NotFinite.{refused-failure}
+use Rattle.particles.specs.Pass.{Worked}
+use Rattle.particles.proofs.NotFinite.{refused-first, finite-first}
 use Rattle.particles.proofs.judged.step.Statement.{statement}
 use Rattle.particles.proofs.judged.step.Tie as tie
 
 finite-step-requires : tie.Need-finite-step-requires
 finite-step-requires c κs =
-    (c .before .before .before .before .before .pre, sym (c .before .before .all-finite .ensures) ∙ c .before .if1 .taken)
+    let a = c .before .before .before .before .before .before .before .args in
+    let t = simp (c .before .before .law-finite .ensures, c .before .before .before .limits-finite .ensures, c .before .before .before .before .all-finite .ensures) at (c .before .if1 .taken) in
+    (c .before .before .before .before .before .before .before .pre, finite-first (a .m) (a .l) (a .e) (a .r .now) t .0)
 
 returns : tie.Need-returns
-returns c = let e = c .before .before .finite-step .ensures in (e .0, e .1)
+returns c =
+    let a = c .before .before .before .before .before .before .before .before .before .before .args in
+    let t = simp (c .before .before .before .before .before .law-finite .ensures, c .before .before .before .before .before .before .limits-finite .ensures, c .before .before .before .before .before .before .before .all-finite .ensures) at (c .before .before .before .before .if1 .taken) in
+    let q = sym (finite-first (a .m) (a .l) (a .e) (a .r .now) t .1) in
+    let k = c .before .before .finite-step .ensures in
+    (k .0 ∙ ap (λ (w : Worked). w .outcome) q, (k .1 .0 ∙ ap (λ (w : Worked). w .failed) q, k .1 .1 ∙ ap (λ (w : Worked). w .after) q))
 
 returns-2 : tie.Need-returns-2
 returns-2 c =
-    let s = c .before .before .before .before in
-    refused-failure (s .args .m) (s .args .l) (s .args .e) (s .args .r .now) (sym (c .before .all-finite .ensures) ∙ c .if1 .left)
+    let a = c .before .before .before .before .before .before .args in
+    let t = simp (c .before .law-finite .ensures, c .before .before .limits-finite .ensures, c .before .before .before .all-finite .ensures) at (c .if1 .left) in
+    let q = sym (refused-first (a .m) (a .l) (a .e) (a .r .now) t) in
+    (ap (λ (w : Worked). w .outcome) q, (ap (λ (w : Worked). w .failed) q, ap (λ (w : Worked). w .after) q))
 
 pub step-spec : {M : Type 1} → statement M
 step-spec =
     tie.close
-    (tie.spec (λ c κs. search needs) finite-step-requires (λ c. search needs) returns (λ c. search needs) returns-2)
+    (tie.spec (λ c κs. search needs) (λ c κs. search needs) (λ c κs. search needs) finite-step-requires (λ c. search needs) returns (λ c. search needs) returns-2)

@@ -1,16 +1,15 @@
--- A refused stress is handed on.
+-- `particles::judged::verdict_on` meets its contract: a refused stress is handed on.
 use borrow.Author.Needs.{needs}
 use borrow.Author.Tests.{eq-eqb, ne-eqb}
+use mathlib.Core.Path.{refl}
 use Rattle.particles.proofs.judged.verdict_on.Statement.{statement}
 use Rattle.particles.proofs.judged.verdict_on.Tie as tie
 
 returns : tie.Need-returns
-returns c =
-    simp (c .particle-failed .ensures, eq-eqb _ _ (c .before .before .if1 .taken))
+returns c = rw (eq-eqb _ 0 (c .before .before .if1 .taken)) (c .particle-failed .ensures)
 
 returns-2 : tie.Need-returns-2
-returns-2 c =
-    simp (ne-eqb _ _ (c .if1 .left))
+returns-2 c = rw (ne-eqb _ 0 (c .if1 .left)) refl
 
 pub verdict-on-spec : {M : Type 1} → statement M
 verdict-on-spec =

@@ -1,0 +1,111 @@
+-- Records in the pass with failure (RULES, section 7): each as it came, and as the law leaves it. By computation.
+use mathlib.Core.Path.{_≡_, refl}
+use mathlib.Core.Bool.{true, false}
+use mathlib.Core.List.{List, [], _∷_}
+use Prim.Native.Nat.{ℕ}
+use lib.Ieee as Ieee
+use lib.Ieee.{Float, binary64, ofBits, toBits, fits, round, size}
+use Rattle.exact.specs.Units.{mag, L}
+use Rattle.exact.specs.Value.{val}
+use Rattle.exact.specs.RootOf.{sqrtOf, floorRoot, rootIn}
+use Rattle.numbers.specs.Floats.{finite, isNumber}
+use Rattle.answers.specs.Range.{sideOf}
+use Rattle.exponential.specs.Worked.{expOf, expBits, packOf, partOf, tailOf}
+use Rattle.logarithm.specs.Worked as ln
+use Rattle.physics.specs.Physics.{lambdaOf, shearModulusOf}
+use Rattle.tensor.specs.Matrix.{one, sumOf, dotOf, scaledRowOf}
+use Rattle.plasticity.specs.declared.Outcome.the-variants.{Untouched}
+use Rattle.walk.specs.Matrix.{total, sum, product, entry}
+use Rattle.walk.specs.Update.{floatsOf}
+use Rattle.plasticity_snow.specs.Snow.{defaults, snowWalk, floats, runWalk, hardenWalk, storeWalk}
+use Rattle.plasticity_rankine.specs.Law.{argumentsOf}
+use Rattle.plasticity_rankine.specs.Sorting.{orderOf}
+use Rattle.plasticity_rankine.specs.Projection.{thirdWalk, secondWalk, firstWalk}
+use Rattle.plasticity_rankine.specs.Rankine as rankine
+use Rattle.plasticity_drucker_prager.specs.declared.DruckerPragerPlasticity.{DruckerPragerPlasticity}
+use Rattle.plasticity_drucker_prager.specs.Law.{defaultsOf}
+use Rattle.plasticity_drucker_prager.specs.DruckerPrager as drucker
+use Rattle.failure_maximum_stress.specs.declared.MaximumStressFailure.{MaximumStressFailure}
+use Rattle.failure_maximum_stress.specs.declared.Verdict.{Verdict}
+use Rattle.failure_maximum_stress.specs.declared.Verdict.the-variants.{No, Yes}
+use Rattle.failure_maximum_stress.specs.Failure.{overLimit, verdictOf}
+use Rattle.elasticity_corotated_linear.specs.declared.CorotatedLinearElasticity.{CorotatedLinearElasticity}
+use Rattle.elasticity_corotated_linear.specs.Principal.{principalWalk}
+use Rattle.record.specs.Layout.{stateAt}
+use Rattle.model.specs.declared.Model.the-variants.{Snow, Rankine, DruckerPrager}
+use Rattle.particles.specs.Plain.{updatedAt, recordLaw}
+use Rattle.particles.specs.Judged.{verdictAfter, judgedAt, refusedRecord, failureLaw}
+
+abbrev f64 : ℕ → Float
+f64 x = ofBits binary64 x
+
+abbrev limitsAt : ℕ → ℕ → MaximumStressFailure
+limitsAt principal shear = record { «max_principal_stress» = f64 principal; «max_shear_stress» = f64 shear }
+
+abbrev lawAt : ℕ → ℕ → CorotatedLinearElasticity
+lawAt lambda mu = record { «split_stress_on_failure» = true; «cfl_coeff» = one; lambda = f64 lambda; mu = f64 mu }
+
+-- lambda 3, mu 1; limits 9.5 and 100
+abbrev law : CorotatedLinearElasticity
+law = lawAt 0x4008_0000_0000_0000 0x3ff0_0000_0000_0000
+
+abbrev limits : MaximumStressFailure
+limits = limitsAt 0x4023_0000_0000_0000 0x4059_0000_0000_0000
+
+-- F, U and V^T the identity, sigma x, 1 and 1, plastic determinant d, phase and hardenings 1, gain and alpha 0
+abbrev unit : ℕ
+unit = 0x3ff0_0000_0000_0000
+
+abbrev rows : List ℕ → List ℕ
+rows l = unit ∷ 0 ∷ 0 ∷ 0 ∷ unit ∷ 0 ∷ 0 ∷ 0 ∷ unit ∷ l
+
+abbrev of : ℕ → ℕ → List ℕ
+of x d = rows (rows (x ∷ unit ∷ unit ∷ rows (unit ∷ d ∷ unit ∷ unit ∷ 0 ∷ 0 ∷ [])))
+
+-- sigma 2; and sigma 0.9 with plastic determinant 0.5
+abbrev stretched : List ℕ
+stretched = of 0x4000_0000_0000_0000 unit
+
+abbrev crushed : List ℕ
+crushed = of 0x3fec_cccc_cccc_cccd 0x3fe0_0000_0000_0000
+
+-- the verdict on the record as it came
+abbrev came : MaximumStressFailure → CorotatedLinearElasticity → List ℕ → Verdict
+came l e r = verdictAfter l e (stateAt r .scalars .phase) (stateAt r)
+
+-- soft snow: over the limit as it came, and merely about to yield
+soft-snow : (came limits law stretched ≡ Yes) × (failureLaw (Snow defaults) limits law stretched .failed ≡ false)
+unfolding failureLaw judgedAt verdictAfter updatedAt recordLaw snowWalk floats floatsOf runWalk hardenWalk storeWalk principalWalk overLimit verdictOf total product entry sumOf dotOf scaledRowOf expOf expBits packOf partOf tailOf mag L finite isNumber ofBits Ieee.add Ieee.sub Ieee.mul Ieee.div Ieee.neg Ieee.le Ieee.lt Ieee.eq
+soft-snow = (refl, refl)
+
+-- so a Rankine record: mu and lambda are 4, strength and rate 1
+weak-rankine : let m = Rankine (argumentsOf (f64 0x4024_0000_0000_0000) (f64 0x3fd0_0000_0000_0000) one one) in
+    (came limits law stretched ≡ Yes) × (failureLaw m limits law stretched .failed ≡ false)
+unfolding failureLaw judgedAt verdictAfter updatedAt recordLaw rankine.argumentsWalk rankine.floats floatsOf rankine.runWalk rankine.strainedWalk firstWalk secondWalk thirdWalk rankine.wayWalk rankine.movedWalk rankine.hardenWalk rankine.expsWalk rankine.storeWalk principalWalk overLimit verdictOf total sum product entry orderOf lambdaOf shearModulusOf ln.lnOf ln.exponentOf ln.fractionOf ln.partOf expOf expBits packOf partOf tailOf sqrtOf floorRoot rootIn mag val L fits finite isNumber ofBits toBits round size Ieee.add Ieee.sub Ieee.mul Ieee.div Ieee.neg Ieee.le Ieee.lt Ieee.eq sumOf dotOf scaledRowOf
+weak-rankine = (refl, refl)
+
+-- the other way round, with limits 100 and 1: the law hardens it from 1 to 218
+hardened-snow : let l = limitsAt 0x4059_0000_0000_0000 unit in (came l law crushed ≡ No) × (failureLaw (Snow defaults) l law crushed .failed ≡ true)
+unfolding failureLaw judgedAt verdictAfter updatedAt recordLaw snowWalk floats floatsOf runWalk hardenWalk storeWalk principalWalk overLimit verdictOf total product entry sumOf dotOf scaledRowOf expOf expBits packOf partOf tailOf mag L finite isNumber ofBits Ieee.add Ieee.sub Ieee.mul Ieee.div Ieee.neg Ieee.le Ieee.lt Ieee.eq
+hardened-snow = (refl, refl)
+
+-- with mu 1e307 that hardening's stress is refused: the record is as it came
+stress-refused : failureLaw (Snow defaults) limits (lawAt 0 0x7fac_7b1f_3cac_7433) crushed ≡ refusedRecord 3 crushed
+unfolding failureLaw judgedAt verdictAfter updatedAt recordLaw snowWalk floats floatsOf runWalk hardenWalk storeWalk principalWalk overLimit verdictOf total product entry sumOf dotOf scaledRowOf expOf expBits packOf partOf tailOf mag L finite isNumber ofBits Ieee.add Ieee.sub Ieee.mul Ieee.div Ieee.neg Ieee.le Ieee.lt Ieee.eq
+stress-refused = refl
+
+-- Snow's exponential is asked above its range: 10, and no verdict on the record, which limit -1 would have failed
+law-refused : let r = of unit 0xc08f_4000_0000_0000 in
+    let l = limitsAt 0xbff0_0000_0000_0000 unit in (came l law r ≡ Yes) × (failureLaw (Snow defaults) l law r ≡ refusedRecord 10 r)
+unfolding failureLaw judgedAt verdictAfter updatedAt recordLaw snowWalk floats floatsOf runWalk hardenWalk sideOf principalWalk overLimit verdictOf product finite isNumber ofBits Ieee.add Ieee.sub Ieee.mul Ieee.div Ieee.neg Ieee.le Ieee.lt Ieee.eq
+law-refused = (refl, refl)
+
+-- Drucker-Prager only for failed records meets the phase as it came: it leaves the record, which then fails
+abbrev only-failed : DruckerPragerPlasticity
+only-failed =
+    let p = defaultsOf one one in
+    record { h0 = p .h0; h1 = p .h1; h2 = p .h2; h3 = p .h3; lambda = one; mu = one; «only_active_when_failed» = true; «volume_correction» = one }
+
+whole-sand : let w = failureLaw (DruckerPrager only-failed) limits law stretched in (w .outcome ≡ Untouched) × (w .failed ≡ true)
+unfolding failureLaw judgedAt verdictAfter updatedAt recordLaw drucker.druckerWalk drucker.floats drucker.runWalk floatsOf principalWalk overLimit verdictOf product finite isNumber ofBits Ieee.add Ieee.sub Ieee.mul Ieee.div Ieee.neg Ieee.le Ieee.lt Ieee.eq Ieee.ne
+whole-sand = (refl, refl)
