@@ -43,4 +43,5 @@ extern "C" {
     pub fn pasoletu_pass_with_failure(model: u64, parameters: *const u64, parameters_length: usize, limits: *const u64, limits_length: usize, corotated: *const u64, corotated_length: usize, records: *mut u64, records_length: usize, answers: *mut u64, answers_length: usize, counts: *mut u64, counts_length: usize) -> u8;
     pub fn pasoletu_read_sheet(bytes: *const u8, bytes_length: usize, header: *mut u64, header_length: usize, records: *mut u64, records_length: usize) -> u8;
     pub fn pasoletu_run_sheet(bytes: *const u8, bytes_length: usize, records: *mut u64, records_length: usize, answers: *mut u64, answers_length: usize, counts: *mut u64, counts_length: usize) -> u8;
+    pub fn pasoletu_write_sheet(model: u64, parameters: *const u64, parameters_length: usize, records: *const u64, records_length: usize, bytes: *mut u8, bytes_length: usize, written: *mut u64, written_length: usize) -> u8;
 }

@@ -10,6 +10,7 @@ enum {
     READS_ON,     // a byte read past the end
     ONE_MISSED,   // a record with a NaN that is not refused by 1
     SIDES,        // 2 and 10 exchanged
+    PAST_SHEET,   // the byte of the room past the sheet's end cleared
 };
 
 static int fault_is(int kind) {
@@ -93,6 +94,26 @@ static uint8_t broken_run_sheet(const uint8_t *s, size_t ns, uint64_t *r, size_t
     return spoiled(n, r, nr, c, nc);
 }
 
+static uint8_t broken_write_sheet(uint64_t model, const uint64_t *p, size_t np, const uint64_t *r, size_t nr, uint8_t *b, size_t nb, uint64_t *w, size_t nw) {
+    uint8_t n = pasoletu_write_sheet(model, p, np, r, nr, b, nb, w, nw);
+    peeked(r, 8 * nr);
+    if (fault_is(BIT) && n == 0)
+        b[w[0] - 1] ^= 1;
+    if (fault_is(PAST_END))
+        b[nb] = 1;
+    if (fault_is(BEFORE_START))
+        b[-1] = 1;
+    if (fault_is(COUNT) && n == 0)
+        w[0] += 1;
+    if (fault_is(REFUSAL) && n >= 8)
+        return n - 2;
+    if (fault_is(LEAVES) && n && nb)
+        b[0] = 0;
+    if (fault_is(PAST_SHEET) && n == 0 && w[0] < nb)
+        b[w[0]] = 0;
+    return n;
+}
+
 #if TARGET == 2 // elsewhere it is what a pass is compared with
 #define pasoletu_update broken_update
 #endif
@@ -100,3 +121,4 @@ static uint8_t broken_run_sheet(const uint8_t *s, size_t ns, uint64_t *r, size_t
 #define pasoletu_pass_with_failure broken_pass_with_failure
 #define pasoletu_read_sheet broken_read_sheet
 #define pasoletu_run_sheet broken_run_sheet
+#define pasoletu_write_sheet broken_write_sheet

@@ -23,3 +23,6 @@ uint8_t pasoletu_read_sheet(const uint8_t *bytes, size_t bytes_length, uint64_t 
                             uint64_t *records, size_t records_length);
 uint8_t pasoletu_run_sheet(const uint8_t *bytes, size_t bytes_length, uint64_t *records, size_t records_length,
                            uint64_t *answers, size_t answers_length, uint64_t *counts, size_t counts_length);
+uint8_t pasoletu_write_sheet(uint64_t model, const uint64_t *parameters, size_t parameters_length,
+                             const uint64_t *records, size_t records_length, uint8_t *bytes, size_t bytes_length,
+                             uint64_t *written, size_t written_length);

@@ -1,4 +1,5 @@
-// One fuzz target a build, chosen by TARGET: 0 read_sheet, 1 run_sheet, 2 update, 3 pass, 4 pass_with_failure.
+// One fuzz target a build, chosen by TARGET: 0 read_sheet, 1 run_sheet, 2 update, 3 pass, 4 pass_with_failure,
+// 5 write_sheet.
 // README.md says what is checked. The first thing that does not hold is printed, and the run stops there.
 #include "rooms.h"
 #include "calls.h"
@@ -8,12 +9,14 @@
 #endif
 #include <math.h>
 #include <stdarg.h>
+#define SHEETS (TARGET < 2 || TARGET == 5) // an input is a sheet's bytes
 #include "mutate.h"
 
 #define ROOM (MOST * FLOATS)
+#define LONGEST (1 + 8 * 8 + 2 + 8 * ROOM) // bytes of a sheet
 #define PASSED 8 // records in an input for the passes
 
-static struct room sheet_room, parameters_room, limits_room, law_room, records_room, answers_room, out_room, one_room, two_room;
+static struct room sheet_room, parameters_room, limits_room, law_room, records_room, answers_room, out_room, one_room, two_room, bytes_room, few_room;
 
 // What was met is told to the fuzzer as coverage, since the library itself is not instrumented.
 __attribute__((section("__libfuzzer_extra_counters"))) static uint8_t met[1024];
@@ -105,13 +108,15 @@ static void check_stored(uint64_t model, const uint64_t *p, const uint64_t *was,
 
 // What a run has met in all, printed at its end: a target that never reaches a law's outcome has not tried it.
 // An outcome is untouched, stored, or refused by 1, 2, 3 or 10.
-static unsigned long outcomes[4][6], verdicts[2], refusals[9];
+static unsigned long outcomes[4][6], verdicts[2], refusals[9], writes[10];
 
 static void print_met(void) {
     static const char *names[4] = {"snow", "rankine", "drucker_prager", "nacc"};
-    if (TARGET < 2)
+    if (SHEETS)
         fprintf(stderr, "met: sheets read %lu, refused 4: %lu, 5: %lu, 6: %lu, 7: %lu\n", refusals[0], refusals[4], refusals[5], refusals[6], refusals[7]);
-    for (int k = 0; k < (TARGET ? 4 : 0); k++)
+    if (TARGET == 5)
+        fprintf(stderr, "met: sheets written %lu, refused 6: %lu, 7: %lu, 8: %lu, 9: %lu\n", writes[0], writes[6], writes[7], writes[8], writes[9]);
+    for (int k = 0; k < (TARGET % 5 ? 4 : 0); k++)
         fprintf(stderr, "met: %s untouched %lu, stored %lu, refused 1: %lu, 2: %lu, 3: %lu, 10: %lu\n", names[k], outcomes[k][0], outcomes[k][1], outcomes[k][2], outcomes[k][3], outcomes[k][4], outcomes[k][5]);
     if (TARGET == 4)
         fprintf(stderr, "met: failed %lu, not failed %lu\n", verdicts[1], verdicts[0]);
@@ -299,6 +304,80 @@ static void run_sheet_target(const uint8_t *b, size_t n) {
         one_run(b, n, 0, &x, exact - FLOATS, exact / FLOATS * 2 - 2, 4);
 }
 
+// ---- sheets out: 8, 6, 7 and 9 in this order, or the bytes of a second writer at the front of the room
+
+static uint8_t spelled[LONGEST];
+
+static void one_write(uint64_t model, const uint64_t *p, size_t np, const uint64_t *records, size_t nr, size_t room, size_t nw) {
+    size_t count = nr / FLOATS, length = 0;
+    uint8_t want = 0;
+    if (nw != 1 || nr % FLOATS || !lengths_fit(model, np))
+        want = 8;
+    else if (model >= MODELS || !flag_fits(model, p))
+        want = 6;
+    else if (count > MOST)
+        want = 7;
+    else {
+        length = spell_second(spelled, model, p, records, count);
+        want = length > room ? 9 : 0;
+    }
+    struct room *lent = room + 64 > few_room.bytes ? &bytes_room : &few_room;
+    uint8_t *b = lend_bytes(lent, room);
+    uint64_t *w = lend(&out_room, NULL, nw);
+    uint8_t got = pasoletu_write_sheet(model, show(&parameters_room, p, np), np, show(&records_room, records, nr), nr, b, room, w, nw);
+    check(got == want, "write_sheet: answer, should be", got, want);
+    if (!want) {
+        memcpy(wanted_bytes(lent, room), spelled, length);
+        wanted(&out_room, nw)[0] = length;
+    }
+    check_room(lent, want ? "a refused write_sheet wrote its room" : "write_sheet's room");
+    check_room(&out_room, want ? "a refused write_sheet wrote its length" : "write_sheet's length");
+    writes[want]++;
+    met[740 + want * 4 + model % MODELS] = 1;
+}
+
+// A sheet that was read is written again, to its own bytes, in rooms round its length.
+static void same_bytes(const uint8_t *b, size_t n, const struct sheet *x) {
+    size_t nr = x->count * FLOATS, np = FIELDS[x->model];
+    one_write(x->model, x->p, np, sheet_records, nr, n, 1);
+    check(memcmp(b, spelled, n) == 0, "a sheet that was read is not written to the same bytes: length, count", n, x->count);
+    one_write(x->model, x->p, np, sheet_records, nr, n + 1 + n % 61, 1);
+    one_write(x->model, x->p, np, sheet_records, nr, n - 1, 1);
+    one_write(x->model, x->p, np, sheet_records, nr, n % 7 ? below(n) : 0, n % 5 ? 1 : n % 2 * 2);
+}
+
+// Any bytes as a model, lengths, parameters and records: the records are the input's words over and over.
+static void any_sheet(const uint8_t *b, size_t n) {
+    static uint64_t records[ROOM + FLOATS];
+    struct place s = {b, n, 0, 0};
+    uint64_t first = take_byte(&s), lengths = take_byte(&s), many = take_byte(&s), p[9], words[9];
+    uint64_t model = first < 0xe0 ? first % MODELS : first < 0xf0 ? first % 8 : draw();
+    size_t np = FIELDS[model % MODELS] + (lengths % 16 ? 0 : lengths & 16 ? 1 : -1);
+    for (int k = 0; k < 9; k++)
+        words[k] = take_word(&s);
+    memcpy(p, words, sizeof p);
+    if (model < MODELS && FLAG[model] >= 0 && lengths & 32)
+        p[FLAG[model]] = lengths & 64 ? ONE : lengths & 128 ? 1ULL << 63 : 0;
+    size_t nr = (many < 248 ? many % 6 : many % 2 ? 126 + below(4) : 199 + below(3)) * FLOATS + (lengths % 32 == 1 ? 1 + many % 35 : 0);
+    if (nr > ROOM + FLOATS)
+        nr = ROOM + FLOATS;
+    for (size_t k = 0; k < nr; k++)
+        records[k] = words[k % 9] + k / 9 * 0x9e3779b97f4a7c15ULL;
+    size_t exact = model < MODELS ? 1 + 8 * FIELDS[model] + (nr / FLOATS < 128 ? 1 : 2) + 8 * nr : 1;
+    if (exact > LONGEST)
+        exact = LONGEST;
+    one_write(model, p, np, records, nr, exact, 1);
+    one_write(model, p, np, records, nr, exact - 1, 1);
+    one_write(model, p, np, records, nr, below(lengths % 16 ? PAGE : LONGEST + 1), lengths % 64 == 2 ? many % 3 : 1);
+}
+
+static void write_sheet_target(const uint8_t *b, size_t n) {
+    struct sheet x = sheet_told(b, n);
+    if (!x.refusal)
+        same_bytes(b, n, &x);
+    any_sheet(b, n);
+}
+
 // ---- the passes and one update: an input is a byte for the model, a byte for lengths, then the words; past the input's end all are 0
 
 static struct place from;
@@ -348,6 +427,8 @@ int LLVMFuzzerInitialize(int *argc, char ***argv) {
     sheet_room = room_of(1 << 17);
     records_room = room_of(8 * (ROOM + 36));
     answers_room = room_of(8 * (2 * MOST + 2));
+    bytes_room = room_of(LONGEST + 64);
+    few_room = room_of(2 * PAGE);
     struct room *small[] = {&parameters_room, &limits_room, &law_room, &out_room, &one_room, &two_room};
     for (int k = 0; k < 6; k++)
         *small[k] = room_of(PAGE);
@@ -362,6 +443,8 @@ int LLVMFuzzerTestOneInput(const uint8_t *b, size_t n) {
         read_sheet_target(b, n);
     else if (TARGET == 1)
         run_sheet_target(b, n);
+    else if (TARGET == 5)
+        write_sheet_target(b, n);
     else
         law_target(b, n);
     return 0;

@@ -32,11 +32,11 @@ struct layout {
 
 static struct layout layout(const uint8_t *b, size_t n) {
     struct layout l;
-    size_t head = TARGET < 2 ? (n && b[0] & 0x80 ? 2 : 1) : 2;
+    size_t head = SHEETS ? (n && b[0] & 0x80 ? 2 : 1) : 2;
     l.model = n ? b[0] % 4 : 0;
     l.words = head;
     size_t words = FIELDS[l.model] + (TARGET == 4 ? 6 : 0);
-    size_t count = TARGET < 2 ? (n > head + 8 * words && b[head + 8 * words] & 0x80 ? 2 : 1) : 0;
+    size_t count = SHEETS ? (n > head + 8 * words && b[head + 8 * words] & 0x80 ? 2 : 1) : 0;
     l.first = head + 8 * words + count;
     l.records = n > l.first ? (n - l.first) / 288 : 0;
     return l;
@@ -110,11 +110,11 @@ static size_t put_number(uint8_t *b, size_t n) {
 
 // A whole input from nothing.
 static size_t fresh(uint8_t *b, size_t most) {
-    size_t model = below(4), at = 0, count = below(16) ? below(4) : TARGET < 2 ? below(202) : below(9);
+    size_t model = below(4), at = 0, count = below(16) ? below(4) : SHEETS ? below(202) : below(9);
     if (most < 2 + 64 + 48 + 2)
         return LLVMFuzzerMutate(b, 0, most);
     at = put_number(b, model);
-    if (TARGET >= 2)
+    if (!SHEETS)
         b[at++] = 0;
     put_parameters(b + at, model);
     at += 8 * FIELDS[model];
@@ -125,7 +125,7 @@ static size_t fresh(uint8_t *b, size_t most) {
     }
     if (TARGET == 2)
         count = 1;
-    if (TARGET < 2)
+    if (SHEETS)
         at += put_number(b + at, count);
     for (size_t k = 0; k < count && at + 288 <= most; k++, at += 288)
         put_record(b + at);
@@ -191,14 +191,14 @@ size_t LLVMFuzzerCustomMutator(uint8_t *b, size_t n, size_t most, unsigned seed)
         n -= 288;
     } else if (what == 14) { // cut, or longer
         return below(2) ? below(n + 1) : LLVMFuzzerMutate(b, n, most);
-    } else if (TARGET >= 2) {
+    } else if (!SHEETS) {
         if (below(2))
             b[0] = below(4) ? below(4) : draw();
         else
             b[1] = below(2) ? 0 : below(4) ? below(9) : draw();
         return n;
     }
-    if (TARGET < 2)
+    if (SHEETS)
         change_count(b, l);
     return n;
 }

@@ -73,6 +73,16 @@ static const uint8_t *show_bytes(struct room *r, const uint8_t *given, size_t n,
     return r->read + at;
 }
 
+// The last n bytes of the pages, all of which are marked.
+static uint8_t *lend_bytes(struct room *r, size_t n) {
+    return (uint8_t *)lend(r, NULL, 0) - n;
+}
+
+// Where the lent list of n bytes is to hold what it should.
+static uint8_t *wanted_bytes(struct room *r, size_t n) {
+    return r->want + r->bytes - n;
+}
+
 // Where the lent list of n words is to hold what it should.
 static uint64_t *wanted(struct room *r, size_t n) {
     return (uint64_t *)(r->want + r->bytes) - n;

@@ -100,6 +100,29 @@ static void records_second(const uint8_t *b, const struct sheet *x, uint64_t *ou
         out[k] = take_word(&s);
 }
 
+// A number in one or two groups; how many bytes it takes.
+static size_t spell_number(uint8_t *b, uint64_t n) {
+    b[0] = n < 128 ? n : n | 0x80;
+    if (n < 128)
+        return 1;
+    b[1] = n >> 7;
+    return 2;
+}
+
+static size_t spell_words(uint8_t *b, const uint64_t *w, size_t n) {
+    for (size_t k = 0; k < 8 * n; k++)
+        b[k] = w[k / 8] >> k % 8 * 8;
+    return 8 * n;
+}
+
+// The bytes of a sheet that can be written; how many they are.
+static size_t spell_second(uint8_t *b, uint64_t model, const uint64_t *p, const uint64_t *records, size_t count) {
+    size_t at = spell_number(b, model);
+    at += spell_words(b + at, p, FIELDS[model]);
+    at += spell_number(b + at, count);
+    return at + spell_words(b + at, records, count * FLOATS);
+}
+
 // Whether the principal stresses of a record can be told, and then whether they fail. `law` is flag, cfl, lambda, mu.
 static int judged(const uint64_t *limits, const uint64_t *law, const uint64_t *r, int *fails) {
     double lambda = value(law[2]), mu = value(law[3]), phase = value(r[30]), h = value(r[33]);

@@ -66,6 +66,7 @@ enum {
     PASOLETU_UNKNOWN = 6,      /* unknown model, or a flag that is neither 0.0 nor 1.0 */
     PASOLETU_TOO_MANY = 7,     /* the sheet has over 200 particles, or bytes after the last */
     PASOLETU_LENGTH = 8,       /* a list has the wrong length */
+    PASOLETU_NO_ROOM = 9,      /* the lent room is shorter than the sheet */
     PASOLETU_ABOVE_RANGE = 10  /* a function would get an argument above its range */
 };
 
@@ -92,6 +93,8 @@ static inline const char *pasoletu_refusal_text(uint64_t refusal)
         return "the sheet has over 200 particles, or bytes after the last: split the sheet, or send it alone";
     case PASOLETU_LENGTH:
         return "a list has the wrong length: give 36 floats and 2 answers a particle, 9 floats a matrix, 3 a vector";
+    case PASOLETU_NO_ROOM:
+        return "the lent room is shorter than the sheet: lend 57667 bytes, which hold every sheet";
     case PASOLETU_ABOVE_RANGE:
         return "a function would get an argument above its range (torn; of Snow: crushed): look at the singular "
                "values and the hardenings";
@@ -394,6 +397,17 @@ uint8_t pasoletu_read_sheet(const uint8_t *bytes, size_t bytes_length, uint64_t 
  * Refusals, nothing written: as pasoletu_read_sheet, 8 also for answers or counts of the wrong length. */
 uint8_t pasoletu_run_sheet(const uint8_t *bytes, size_t bytes_length, double *records, size_t records_length,
                            uint64_t *answers, size_t answers_length, uint64_t *counts, size_t counts_length);
+
+/* written: 1. Writes a sheet: model, parameters and records become bytes. parameters: as many as the model has;
+ * records: whole ones, at most PASOLETU_SHEET_MOST; bytes: room for the sheet (PASOLETU_SHEET_BYTES are always
+ * enough), whose first places take it, and the rest keeps its bytes; written: how many bytes the sheet has. Floats
+ * pass as bits: a NaN is written here and refused by the law. pasoletu_read_sheet gives back every bit, and a sheet
+ * that it read is written to the same bytes.
+ * Refusals, nothing written: 8 for records that are not whole, parameters not as many as the model has, or written
+ * not of 1; 6 for a model over 3 or a flag; 7 for over 200 records; 9 for a room shorter than the sheet. */
+uint8_t pasoletu_write_sheet(uint64_t model, const double *parameters, size_t parameters_length, const double *records,
+                             size_t records_length, uint8_t *bytes, size_t bytes_length, uint64_t *written,
+                             size_t written_length);
 
 /* ==== End of what tools/table makes ==== */
 

@@ -112,10 +112,56 @@ class Command(InFolder):
     def test_nothing_is_said_without_explain(self):
         self.assertEqual(self.slope(self.sheet, answer="sheet refused 4\n").stderr, b"")
 
-    def test_there_is_no_writer(self):
-        for words in (("-o", "new.sheet"), ("-onew.sheet",)):
-            self.ended(self.slope(*words, self.sheet), 2, "", "no writer")
-        self.assertFalse((self.folder / "new.sheet").exists())
+    def writes(self, *words, updated=b"\7", answer=ANSWER, sheet=b""):
+        """The command round a program that writes `updated` where it is asked for the sheet."""
+        (self.folder / "answer").write_text(answer)
+        (self.folder / "updated").write_bytes(updated)
+        program = script(self.folder / "program", """\
+            #!/bin/sh
+            cat >/dev/null
+            [ "$*" = -o ] && exec cat '%s'
+            cat '%s'
+            """ % (self.folder / "updated", self.folder / "answer"))
+        return self.run_command(SLOPE, *words, sheet=sheet, PASOLETU_SLOPE=program)
+
+    def left(self):
+        """What stands in the folder but for a test's own files."""
+        return sorted(p.name for p in self.folder.iterdir() if p.name not in ("answer", "updated", "program", "a.sheet"))
+
+    def test_the_updated_sheet_is_written(self):
+        new = self.folder / "new.sheet"
+        for words in (("-o", new, self.sheet), ("-o%s" % new, self.sheet), (self.sheet, "-o", new)):
+            self.ended(self.writes(*words), 0, ANSWER)
+            self.assertEqual(new.read_bytes(), b"\7")
+            new.unlink()
+        self.ended(self.writes("-o", new, sheet=b"\0"), 0, ANSWER)
+        self.assertEqual((new.read_bytes(), self.left()), (b"\7", ["new.sheet"]))
+
+    def test_it_may_take_the_place_of_the_sheet(self):
+        self.ended(self.writes("-o", self.sheet, self.sheet), 0, ANSWER)
+        self.assertEqual(self.sheet.read_bytes(), b"\7")
+
+    def test_refused_particles_stand_in_it(self):
+        answer = "particles 1\n0 refused 1\nend\n"
+        self.ended(self.writes("-o", "new.sheet", self.sheet, answer=answer), 3, answer)
+        self.assertEqual((self.folder / "new.sheet").read_bytes(), b"\7")
+
+    def test_a_refused_sheet_is_not_written(self):
+        (self.folder / "new.sheet").write_bytes(b"old")
+        self.ended(self.writes("-o", "new.sheet", self.sheet, answer="sheet refused 4\n"), 3, "sheet refused 4\n", "new.sheet was not written")
+        self.assertEqual((self.folder / "new.sheet").read_bytes(), b"old")
+
+    def test_no_part_of_a_sheet_is_written(self):
+        (self.folder / "new.sheet").write_bytes(b"old")
+        for part in (b"", b"\7\7"):
+            self.ended(self.writes("-o", "new.sheet", self.sheet, updated=part), 1, ANSWER, "new.sheet was not written")
+        self.assertEqual(((self.folder / "new.sheet").read_bytes(), self.left()), (b"old", ["new.sheet"]))
+        self.ended(self.writes("-o", "none/new.sheet", self.sheet), 1, ANSWER, "none/new.sheet was not written")
+
+    def test_o_is_for_one_sheet_and_needs_a_name(self):
+        for words in (("-o", "new.sheet", self.sheet, self.sheet), (self.sheet, "-o"), ("-o", "-", self.sheet)):
+            self.ended(self.writes(*words), 2, "", "slope: -o ")
+        self.assertEqual(self.left(), [])
 
     def test_options(self):
         self.ended(self.slope("--no-such"), 2, "", "there is no option --no-such")
@@ -147,6 +193,24 @@ class Proved(InFolder):
             want = expected.split("-- %s\n" % path.name)[1].split("-- ")[0]
             ran = self.run_command(SLOPE, sheet=path.read_bytes(), PASOLETU_SLOPE=proved_program())
             self.ended(ran, 3 if "refused" in want else 0, want)
+
+    def test_updated_sheets(self):
+        """A sheet's head stands, and so does every record that is not stored; the updated sheet is one that the program reads."""
+        for path in sorted((TOP / "crates" / "slope_cases" / "data").iterdir()):
+            given = path.read_bytes()
+            ran = self.run_command(SLOPE, "-o", "new.sheet", sheet=given, PASOLETU_SLOPE=proved_program())
+            lines = ran.stdout.decode().splitlines()
+            if lines[0].startswith("sheet"):
+                self.assertFalse((self.folder / "new.sheet").exists())
+                continue
+            new, first = (self.folder / "new.sheet").read_bytes(), len(given) - 288 * (len(lines) - 2)
+            self.assertEqual((len(new), new[:first]), (len(given), given[:first]))
+            for k, line in enumerate(lines[1:-1]):
+                at = slice(first + 288 * k, first + 288 * (k + 1))
+                self.assertTrue(new[at] == given[at] or " stored " in line, (path.name, line))
+            again = self.run_command(SLOPE, "new.sheet", PASOLETU_SLOPE=proved_program())
+            self.assertEqual(again.stdout.decode().splitlines()[0], lines[0])
+            (self.folder / "new.sheet").unlink()
 
     def test_the_documents_example(self):
         sheet = TOP / "samples" / "snow.sheet"

@@ -18,7 +18,7 @@ MADE = (
     "beside/externs.rs",
     "fuzz/calls.h",
 )
-READ = ("VERSION", "calls.toml", "tools/table", "tools/making", "crates/answers/src", "crates/host/src", "crates/replay/src")
+READ = ("VERSION", "calls.toml", "tools/table", "tools/making", "crates/answers/src", "crates/model/specs", "crates/host/src", "crates/replay/src")
 
 
 class Copy(unittest.TestCase):
@@ -94,6 +94,14 @@ class Check(Copy):
     def test_another_number_in_replay_is_told(self):
         self.edit("crates/replay/src/elementary.rt", "if k == 3 {", "if k == 33 {")
         self.told("crates/replay: call 3 is (None, 1, 1), in the table ('sin', 1, 1)")
+
+    def test_another_flag_or_number_of_parameters_is_told(self):
+        self.edit("crates/model/specs/Kinds.antt", "kinds Nacc = false ∷ false", "kinds Nacc = false ∷ true")
+        self.told("crates/model: Nacc is ('nacc', [False, True, False, True, False, False]), in the table")
+        self.edit("crates/model/specs/Kinds.antt", "kinds Snow = false ∷", "kinds Snow =")
+        self.told("crates/model: Snow is ('snow', [False, False]), in the table ('snow', [False, False, False])")
+        self.edit("crates/model/specs/Kinds.antt", "kinds Rankine =", "kinds rankine of =")
+        self.told("crates/model: the models are 3, in the table 4")
 
     def test_another_length_in_replay_is_told(self):
         self.edit("crates/replay/src/reading.rt", "    39,\n", "    38,\n")

@@ -471,6 +471,57 @@ static void sheets(void)
     CHECK(pasoletu_run_sheet(s, whole, r, 36, a, 2, c, 4) == 5);
 }
 
+static void sheets_out(void)
+{
+    static double r[(PASOLETU_SHEET_MOST + 1) * PASOLETU_FLOATS], back[2 * PASOLETU_FLOATS];
+    static uint8_t s[PASOLETU_SHEET_BYTES + 1], was[PASOLETU_SHEET_BYTES + 1];
+    const uint64_t odd = UINT64_C(0x7ff00000dead0001); /* a signalling NaN */
+    const size_t whole = 1 + 6 * 8 + 1 + 2 * PASOLETU_FLOATS * 8, floats = 2 * PASOLETU_FLOATS;
+    double p[8] = {1e4, 0.3, 0.05, 1.0, 3.0, 2.36, 0.0, 1.0};
+    uint64_t h[PASOLETU_HEADER], n[2] = {99, 99};
+    for (int k = 0; k < (PASOLETU_SHEET_MOST + 1) * PASOLETU_FLOATS; k++)
+        r[k] = 0.5 + k;
+    memcpy(p + 1, &odd, 8);
+    memcpy(r + 40, &odd, 8);
+    memset(s, 0x55, sizeof s);
+    memset(was, 0x55, sizeof was);
+
+    /* 8, 6, 7 and 9 in this order; nothing is written. */
+    CHECK(pasoletu_write_sheet(PASOLETU_NACC, p, 6, r, floats, s, whole, n, 0) == 8);
+    CHECK(pasoletu_write_sheet(PASOLETU_NACC, p, 6, r, floats, s, whole, n, 2) == 8);
+    CHECK(pasoletu_write_sheet(PASOLETU_NACC, p, 6, r, floats - 1, s, whole, n, 1) == 8);
+    CHECK(pasoletu_write_sheet(PASOLETU_NACC, p, 5, r, floats, s, whole, n, 1) == 8);
+    CHECK(pasoletu_write_sheet(PASOLETU_NACC, p, 7, r, floats, s, whole, n, 1) == 8);
+    CHECK(pasoletu_write_sheet(4, p, 6, r, floats + 1, s, whole, n, 1) == 8);
+    CHECK(pasoletu_write_sheet(4, p, 6, r, floats, s, 0, n, 1) == 6);
+    CHECK(pasoletu_write_sheet(UINT64_MAX, p, 0, r, floats, s, 0, n, 1) == 6);
+    p[3] = -0.0;
+    CHECK(pasoletu_write_sheet(PASOLETU_NACC, p, 6, r, floats, s, whole, n, 1) == 6);
+    p[3] = 0.5;
+    CHECK(pasoletu_write_sheet(PASOLETU_NACC, p, 6, r, 201 * PASOLETU_FLOATS, s, 0, n, 1) == 6);
+    p[3] = 1.0;
+    CHECK(pasoletu_write_sheet(PASOLETU_NACC, p, 6, r, 201 * PASOLETU_FLOATS, s, 0, n, 1) == 7);
+    CHECK(pasoletu_write_sheet(PASOLETU_NACC, p, 6, r, floats, s, whole - 1, n, 1) == 9);
+    CHECK(pasoletu_write_sheet(PASOLETU_NACC, p, 6, r, floats, s, 0, n, 1) == 9);
+    CHECK(memcmp(s, was, sizeof s) == 0 && n[0] == 99 && n[1] == 99);
+
+    /* Written, and read back in every bit. */
+    CHECK(pasoletu_write_sheet(PASOLETU_NACC, p, 6, r, floats, s, sizeof s, n, 1) == 0);
+    CHECK(n[0] == whole && n[1] == 99 && memcmp(s + whole, was, sizeof s - whole) == 0);
+    CHECK(s[0] == PASOLETU_NACC && memcmp(s + 1, p, 48) == 0 && s[49] == 2 && memcmp(s + 50, r, floats * 8) == 0);
+    CHECK(pasoletu_read_sheet(s, whole, h, PASOLETU_HEADER, back, floats) == 0);
+    CHECK(h[0] == PASOLETU_NACC && same(h + 1, p, 6) && h[9] == 2 && same(back, r, floats));
+    memset(was, 0x55, sizeof was);
+    CHECK(pasoletu_write_sheet(h[0], p, 6, back, floats, was, whole, n, 1) == 0);
+    CHECK(memcmp(s, was, sizeof s) == 0);
+
+    /* The longest: 200 records of the model with the most parameters. */
+    CHECK(pasoletu_write_sheet(PASOLETU_DRUCKER_PRAGER, p, 8, r, 200 * PASOLETU_FLOATS, s, PASOLETU_SHEET_BYTES - 1, n, 1) == 9);
+    CHECK(pasoletu_write_sheet(PASOLETU_DRUCKER_PRAGER, p, 8, r, 200 * PASOLETU_FLOATS, s, PASOLETU_SHEET_BYTES, n, 1) == 0);
+    CHECK(n[0] == PASOLETU_SHEET_BYTES && s[65] == 0xc8 && s[66] == 1 && s[PASOLETU_SHEET_BYTES] == 0x55);
+    CHECK(pasoletu_write_sheet(PASOLETU_SNOW, p, 3, r, 0, s, 26, n, 1) == 0 && n[0] == 26 && s[25] == 0);
+}
+
 /* WANTED_VERSION is what the file VERSION says. */
 static void version(void)
 {
@@ -484,7 +535,7 @@ static void version(void)
 static void refusal_texts(void)
 {
     for (uint64_t k = 0; k <= PASOLETU_ABOVE_RANGE; k++)
-        CHECK(k == 9 || strchr(pasoletu_refusal_text(k), ':') != NULL);
+        CHECK(strchr(pasoletu_refusal_text(k), ':') != NULL);
     CHECK(strstr(pasoletu_refusal_text(2), "below its range (crushed") != NULL);
     CHECK(strstr(pasoletu_refusal_text(10), "above its range (torn") != NULL);
     CHECK(strcmp(pasoletu_refusal_text(4), "the sheet ends early: send the sheet again, whole") == 0);
@@ -505,6 +556,7 @@ int main(void)
     passes();
     judged_after_the_law();
     sheets();
+    sheets_out();
     printf("%d passed, %d failed\n", passed, failed);
     return failed != 0;
 }

@@ -1,11 +1,12 @@
-"""Holds the proved crates to the table: crates/answers' refusals, crates/host's calls, and crates/replay's numbers and lengths. They are written by hand,
-since their contracts and proofs are; here they are only read."""
+"""Holds the proved crates to the table: crates/answers' refusals, crates/model's parameters and flags, crates/host's calls, and crates/replay's numbers and
+lengths. They are written by hand, since their contracts and proofs are; here they are only read."""
 import re
 
 from .rust import beside_row
 
-KINDS = {"f64": "f64", "u8": "u8", "u32": "u32", "u64": "u64", "&[u8]": "u8[]", "&[u64]": "[]", "&mut [u64]": "[] written"}
+KINDS = {"f64": "f64", "u8": "u8", "u32": "u32", "u64": "u64", "&[u8]": "u8[]", "&[u64]": "[]", "&mut [u8]": "u8[] written", "&mut [u64]": "[] written"}
 REFUSAL = re.compile(r"pub const (\w+): u8 = (\d+);")
+KINDS_OF = re.compile(r"^kinds (\w+) = ((?:(?:true|false) ∷ )+)\[\]$", re.M)
 EXTERN = re.compile(r'pub extern "C" fn pasoletu_(\w+)\((.*?)\)\s*->\s*u8', re.S)
 BRANCH = re.compile(r"\bk == (\d+) \{|\belse \{|\bhost::(?:\w+::)?pasoletu_(\w+)\(|\bupdated\(\s*(\d+),")
 
@@ -14,9 +15,7 @@ def spelled(a):
     """An argument as crates/host has it: floats of lists are words."""
     if not a.is_list:
         return a.kind
-    if a.kind == "u8":
-        return "u8[]"
-    return "[] written" if a.written else "[]"
+    return ("u8" if a.kind == "u8" else "") + ("[] written" if a.written else "[]")
 
 
 def refusals(top, table):
@@ -26,6 +25,16 @@ def refusals(top, table):
         yield f"crates/answers: {r.name}", None if found == r.number else f"is {found}, in the table {r.number}"
     for name in sorted(there.keys() - {r.name for r in table.refusals}):
         yield f"crates/answers: {name}", "is not in calls.toml: add its row"
+
+
+def models(top, table):
+    """How many parameters each model has and which are flags: crates/model/specs/Kinds alone says it in the crates."""
+    there = KINDS_OF.findall((top / "crates/model/specs/Kinds.antt").read_text())
+    yield "crates/model: the models", None if len(there) == len(table.models) else f"are {len(there)}, in the table {len(table.models)}"
+    for m, (name, kinds) in zip(table.models, there):
+        wanted = m.title.replace("-", "").lower(), [p.flag for p in m.parameters]
+        found = name.lower(), [kind == "true" for kind in re.findall("true|false", kinds)]
+        yield f"crates/model: {name}", None if found == wanted else f"is {found}, in the table {wanted}"
 
 
 def host_calls(top):
@@ -88,5 +97,6 @@ def replay(top, table):
 def held(top, table):
     """Each thing that is held, with what is wrong with it or None."""
     yield from refusals(top, table)
+    yield from models(top, table)
     yield from host(top, table)
     yield from replay(top, table)

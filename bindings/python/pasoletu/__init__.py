@@ -27,7 +27,7 @@ from .laws import (
     RankinePlasticity,
     SnowPlasticity,
 )
-from .lists import Ran, Sheet, law, pass_particles, pass_records, pass_with_failure, read_sheet, run
+from .lists import Ran, Sheet, law, pass_particles, pass_records, pass_with_failure, read_sheet, run, write_sheet
 from .outcome import Outcomes, Passed, Stored, Untouched
 from .particle import Particle
 from .refusal import REFUSALS, Refused
@@ -66,4 +66,5 @@ __all__ = [
     "refusal",
     "run",
     "utils",
+    "write_sheet",
 ]

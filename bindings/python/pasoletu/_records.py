@@ -23,6 +23,8 @@ def lent(told: str, records: Any) -> ctypes.Array[ctypes.c_double]:
     """The records' own room. TypeError for what holds no writable doubles, ValueError for doubles in any other shape or order,
     refused by 8 for a list of one dimension that has no whole records."""
     view = _doubles(told, records)
+    if view.readonly:
+        raise TypeError("%s: records can only be read, and the pass works in place: pass a copy of it" % told)
     _rows(told, view)
     if not view.c_contiguous:
         raise ValueError(
@@ -33,6 +35,13 @@ def lent(told: str, records: Any) -> ctypes.Array[ctypes.c_double]:
     if len(room) and ctypes.addressof(room) % BYTES:
         raise ValueError("%s: records does not begin at a multiple of %d bytes: pass a copy of it" % (told, BYTES))
     return room
+
+
+def copied(told: str, records: Any) -> ctypes.Array[ctypes.c_double]:
+    """A copy of the records in the same shapes, row after row, whatever their order in memory; they may be read-only."""
+    view = _doubles(told, records)
+    _rows(told, view)
+    return (ctypes.c_double * (view.nbytes // BYTES)).from_buffer_copy(view.tobytes())
 
 
 def _doubles(told: str, records: Any) -> memoryview:
@@ -48,8 +57,6 @@ def _doubles(told: str, records: Any) -> memoryview:
         raise TypeError(
             "%s: records holds %s, not doubles: pass records.astype(numpy.float64), or an array('d')" % (told, held)
         )
-    if view.readonly:
-        raise TypeError("%s: records can only be read, and the pass works in place: pass a copy of it" % told)
     return view
 
 

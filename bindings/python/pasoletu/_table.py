@@ -60,6 +60,7 @@ NOT_SHORTEST = 5
 UNKNOWN = 6
 TOO_MANY = 7
 LENGTH = 8
+NO_ROOM = 9
 ABOVE_RANGE = 10
 REFUSALS: dict[int, Refusal] = {
     1: Refusal(
@@ -101,6 +102,11 @@ REFUSALS: dict[int, Refusal] = {
         "LENGTH",
         "a list has the wrong length",
         "give 36 floats and 2 answers a particle, 9 floats a matrix, 3 a vector",
+    ),
+    9: Refusal(
+        "NO_ROOM",
+        "the lent room is shorter than the sheet",
+        "lend 57667 bytes, which hold every sheet",
     ),
     10: Refusal(
         "ABOVE_RANGE",
@@ -429,6 +435,13 @@ CALLS: dict[str, tuple[Argument, ...]] = {
         Argument("records", "f64", 0, True),
         Argument("answers", "u64", 0, True),
         Argument("counts", "u64", 4, True),
+    ),
+    "write_sheet": (
+        Argument("model", "u64", None, False),
+        Argument("parameters", "f64", 0, False),
+        Argument("records", "f64", 0, False),
+        Argument("bytes", "u8", 0, True),
+        Argument("written", "u64", 1, True),
     ),
 }
 ARGTYPES: dict[str, tuple[type, ...]] = {

@@ -3,12 +3,13 @@ from __future__ import annotations
 
 import ctypes
 import functools
-from typing import Any, Iterable, NamedTuple, Optional
+import os
+from typing import Any, Iterable, NamedTuple, Optional, Union
 
 from ._arguments import Law, doubles, first_not_finite
 from ._arrays import Array, flat, table
 from ._library import ask, words
-from ._records import Records, lent
+from ._records import Records, copied, lent
 from ._table import (
     ANSWERS,
     FLOATS,
@@ -17,6 +18,7 @@ from ._table import (
     HEADER_MODEL,
     HEADER_PARAMETERS,
     MODELS,
+    SHEET_BYTES,
     SHEET_MOST,
 )
 from .laws import PLASTICITIES, CorotatedLinearElasticity, MaximumStressFailure, Plasticity
@@ -88,11 +90,16 @@ def _list(law: Law) -> ctypes.Array[ctypes.c_double]:
     return doubles(type(law).__name__, "parameters", law.parameters())
 
 
-def _pass_particles(told: str, model: Plasticity, particles: Iterable[Particle], by: Optional[Judge]) -> Passed:
-    held = list(particles)
+def _room(told: str, held: list[Particle]) -> ctypes.Array[ctypes.c_double]:
+    """The particles' records."""
     for k, particle in enumerate(held):
         _of_type(told, "particles[%d]" % k, particle, Particle)
-    room = doubles(told, "particles", (x for particle in held for x in particle.floats()))
+    return doubles(told, "particles", (x for particle in held for x in particle.floats()))
+
+
+def _pass_particles(told: str, model: Plasticity, particles: Iterable[Particle], by: Optional[Judge]) -> Passed:
+    held = list(particles)
+    room = _room(told, held)
     passed = Pass(told, model, room, by).run(room)
     for k, (particle, outcome) in enumerate(zip(held, passed.outcomes)):
         if not isinstance(outcome, Refused):
@@ -142,6 +149,8 @@ class Sheet:
     model      the law
     records    its records, a record a row: numpy's array where numpy is installed, else a memoryview
     particles  copies of them as objects, made when they are first asked for
+
+    bytes(sheet) is the sheet of the law and the records as they stand now: of one that was only read, the same bytes.
     """
 
     def __init__(self, model: Plasticity, room: ctypes.Array[ctypes.c_double]) -> None:
@@ -157,6 +166,15 @@ class Sheet:
     @functools.cached_property
     def particles(self) -> list[Particle]:
         return [Particle.from_floats(self._room[FLOATS * k:FLOATS * (k + 1)]) for k in range(len(self))]
+
+    def __bytes__(self) -> bytes:
+        return _written("bytes", self.model, self._room)
+
+    def write(self, file: Union[str, "os.PathLike[str]"]) -> None:
+        """Writes bytes(sheet) to the file of this name; what is refused writes no file."""
+        data = _written("Sheet.write", self.model, self._room)
+        with open(file, "wb") as out:
+            out.write(data)
 
 
 class Ran(Sheet):
@@ -210,3 +228,24 @@ def run(data: bytes) -> Ran:
         raise Refused(status, "run")
     passed = Passed(answers, counts[1:], Pass("run", sheet.model, room, None).refusal)
     return Ran(sheet.model, room, passed)
+
+
+def write_sheet(model: Plasticity, particles: Union[Iterable[Particle], Records]) -> bytes:
+    """The bytes of a sheet: a law and its particles, or their records as pass_records takes them. Floats pass as bits: a NaN is
+    written here and refused by the law. read_sheet gives back every bit. Refused by 7 for over 200 particles, by 8 for records of
+    one dimension that are not whole."""
+    _of_type("write_sheet", "model", model, Plasticity)
+    given: Any = particles
+    try:
+        memoryview(given)
+    except TypeError:
+        return _written("write_sheet", model, _room("write_sheet", list(given)))
+    return _written("write_sheet", model, copied("write_sheet", given))
+
+
+def _written(told: str, model: Plasticity, records: ctypes.Array[ctypes.c_double]) -> bytes:
+    room, written = (ctypes.c_uint8 * SHEET_BYTES)(), words(1)
+    status = ask("write_sheet", model.model, _list(model), records, room, written)
+    if status:
+        raise Refused(status, told)
+    return bytes(memoryview(room)[:written[0]])

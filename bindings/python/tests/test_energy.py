@@ -28,7 +28,7 @@ def parts(law, hardening, f):
     if math.isnan(k) or math.isnan(j):
         return 3
     if not 2.0**-60 <= j <= 2.0**60:
-        return 2
+        return 2 if j < 2.0**-60 else 10
     w = elementary.inv_cbrt(j)
     a = [[w * x for x in row] for row in f]
     s = [[a[0][r] * a[0][c] + a[1][r] * a[1][c] + a[2][r] * a[2][c] for c in range(3)] for r in range(3)]
@@ -94,7 +94,7 @@ class Energy(unittest.TestCase):
             if bits(told[0]) != bits(told[1]):
                 differ += 1
                 self.assertLess(determinant(f), 1.0)
-        for name in ("refused 1", "refused 2", "refused 3", "j below 1", "j from 1 up"):
+        for name in ("refused 1", "refused 2", "refused 3", "refused 10", "j below 1", "j from 1 up"):
             self.assertGreater(kinds[name], 50, kinds)
         self.assertGreater(differ, 200)
 

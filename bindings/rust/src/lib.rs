@@ -21,7 +21,7 @@
 //!
 //! - `std` (by default): [`Refusal`] is a `std::error::Error`.
 //! - `alloc` (by default, with `std`): the passes and sheets that answer in a `Vec`. Without it the crate needs `core` alone:
-//!   [`pass_into`], [`pass_with_failure_into`] and [`read_sheet_into`] write in the caller's room.
+//!   [`pass_into`], [`pass_with_failure_into`], [`read_sheet_into`] and [`write_sheet_into`] write in the caller's room.
 //! - `parallel`: `parallel::pass` and `parallel::pass_with_failure` over all cores, by rayon. It needs rayon, which the manifest
 //!   in the folder `parallel` names and this one does not.
 #![no_std]
@@ -56,13 +56,13 @@ mod vectors;
 pub use elasticity::{CorotatedLinearElasticity, EnergySplit, NeoHookeanElasticity};
 pub use failure::MaximumStressFailure;
 pub use fluid::MonaghanSphEos;
-pub use lists::{pass_into, pass_with_failure_into, read_sheet_into, Answer, Counts};
+pub use lists::{pass_into, pass_with_failure_into, read_sheet_into, write_sheet_into, Answer, Counts};
 pub use particle::Particle;
 pub use plasticity::{DruckerPragerPlasticity, Model, NaccPlasticity, Outcome, RankinePlasticity, SnowPlasticity};
 pub use refusal::Refusal;
 #[cfg(feature = "alloc")]
-pub use sheets::{read_sheet, run_sheet, Ran, Sheet};
-pub use table::SHEET_MOST;
+pub use sheets::{read_sheet, run_sheet, write_sheet, Ran, Sheet};
+pub use table::{SHEET_BYTES, SHEET_MOST};
 #[cfg(feature = "alloc")]
 pub use vectors::{pass, pass_with_failure, Passed};
 

@@ -1,8 +1,8 @@
-//! The passes and the reading of a sheet in the caller's room (docs/RULES.md, section 7): nothing is allocated.
+//! The passes, and the reading and writing of a sheet, in the caller's room (docs/RULES.md, section 7): nothing is allocated.
 use crate::plasticity::Parameters;
 use crate::table::{
-    pasoletu_pass, pasoletu_pass_with_failure, pasoletu_read_sheet, ANSWERS, HEADER, HEADER_COUNT, HEADER_MODEL,
-    HEADER_PARAMETERS, MOST_PARAMETERS, STORED, UNTOUCHED,
+    pasoletu_pass, pasoletu_pass_with_failure, pasoletu_read_sheet, pasoletu_write_sheet, ANSWERS, HEADER, HEADER_COUNT,
+    HEADER_MODEL, HEADER_PARAMETERS, MOST_PARAMETERS, STORED, UNTOUCHED,
 };
 use crate::{CorotatedLinearElasticity, MaximumStressFailure, Model, Outcome, Particle, Refusal};
 
@@ -154,4 +154,21 @@ pub fn read_sheet_into(bytes: &[u8], particles: &mut [Particle]) -> Result<(Mode
     }
     let parameters = &header[HEADER_PARAMETERS..HEADER_PARAMETERS + MOST_PARAMETERS];
     Ok((Model::of_sheet(header[HEADER_MODEL], parameters), header[HEADER_COUNT] as usize))
+}
+
+/// Writes a sheet into the first of the bytes: how many it has. [`SHEET_BYTES`](crate::SHEET_BYTES) are always enough room; the rest
+/// keeps what it held. Floats pass as bits: a NaN is written here and refused by the law. Refused, with nothing written, by 7 for over
+/// [`SHEET_MOST`](crate::SHEET_MOST) particles, and by 9 for too little room.
+pub fn write_sheet_into(model: impl Into<Model>, particles: &[Particle], bytes: &mut [u8]) -> Result<usize, Refusal> {
+    let law = model.into().parameters();
+    let (records, floats) = (particles.as_ptr().cast(), particles.len() * Particle::FLOATS);
+    let mut written = 0u64;
+    let status = unsafe {
+        let (p, b) = (law.values.as_ptr(), bytes.as_mut_ptr());
+        pasoletu_write_sheet(law.model, p, law.count, records, floats, b, bytes.len(), &mut written, 1)
+    };
+    if status != 0 {
+        return Err(Refusal::new(status, "write_sheet_into"));
+    }
+    Ok(written as usize)
 }

@@ -1,12 +1,12 @@
-//! Sheets into a `Vec` (docs/RULES.md, section 7).
-use crate::lists::{floats_of, read_sheet_into, Answer, Counts, Pass};
-use crate::table::{pasoletu_run_sheet, ANSWERS, SHEET_MOST};
+//! Sheets from and into a `Vec` (docs/RULES.md, section 7).
+use crate::lists::{floats_of, read_sheet_into, write_sheet_into, Answer, Counts, Pass};
+use crate::table::{pasoletu_run_sheet, ANSWERS, SHEET_BYTES, SHEET_MOST};
 use crate::vectors::belongs;
 use crate::{Model, Particle, Passed, Refusal};
 use alloc::vec;
 use alloc::vec::Vec;
 
-/// A sheet that was read.
+/// A sheet: read, or made of a law and particles.
 #[derive(Clone, Debug, PartialEq)]
 pub struct Sheet {
     /// The law that the sheet names.
@@ -53,4 +53,48 @@ pub fn run_sheet(bytes: &[u8]) -> Result<Ran, Refusal> {
     let [_, untouched, stored, refused] = counts;
     let passed = Pass::plain(NAME, model).told(&particles, &answers, Counts { untouched, stored, refused, failed: 0 });
     Ok(Ran { model, particles, passed })
+}
+
+/// The bytes of a sheet. Floats pass as bits: a NaN is written here and refused by the law. [`read_sheet`] gives back every bit, and a
+/// sheet that was read is written to the same bytes. Refused by 7 for over [`SHEET_MOST`] particles.
+///
+/// ```
+/// use pasoletu::{read_sheet, write_sheet, Particle, SnowPlasticity};
+///
+/// let bytes = write_sheet(SnowPlasticity::new(), &[Particle::REST])?;
+/// assert_eq!(bytes.len(), 1 + 3 * 8 + 1 + 36 * 8);
+/// assert_eq!(read_sheet(&bytes)?.bytes()?, bytes);
+/// # Ok::<(), pasoletu::Refusal>(())
+/// ```
+pub fn write_sheet(model: impl Into<Model>, particles: &[Particle]) -> Result<Vec<u8>, Refusal> {
+    write("write_sheet", model.into(), particles)
+}
+
+fn write(call: &'static str, model: Model, particles: &[Particle]) -> Result<Vec<u8>, Refusal> {
+    let mut bytes = vec![0; SHEET_BYTES];
+    let length = write_sheet_into(model, particles, &mut bytes).map_err(|r| r.of(call))?;
+    bytes.truncate(length);
+    Ok(bytes)
+}
+
+impl Sheet {
+    /// Its bytes, as [`write_sheet`] makes them.
+    pub fn bytes(&self) -> Result<Vec<u8>, Refusal> {
+        write("Sheet::bytes", self.model, &self.particles)
+    }
+
+    /// Writes its bytes to a file or another writer, or nothing where it is refused.
+    #[cfg(feature = "std")]
+    pub fn write(&self, to: &mut impl std::io::Write) -> std::io::Result<()> {
+        let bytes =
+            write("Sheet::write", self.model, &self.particles).map_err(|r| std::io::Error::new(std::io::ErrorKind::Other, r))?;
+        to.write_all(&bytes)
+    }
+}
+
+impl Ran {
+    /// The updated records as a sheet; a refused particle stands in it with every bit it had.
+    pub fn sheet(&self) -> Sheet {
+        Sheet { model: self.model, particles: self.particles.clone() }
+    }
 }

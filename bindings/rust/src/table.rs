@@ -24,6 +24,8 @@ impl Refusal {
     pub const TOO_MANY: u8 = 7;
     /// A list has the wrong length.
     pub const LENGTH: u8 = 8;
+    /// The lent room is shorter than the sheet.
+    pub const NO_ROOM: u8 = 9;
     /// A function would get an argument above its range (torn; of Snow: crushed).
     pub const ABOVE_RANGE: u8 = 10;
 }
@@ -39,6 +41,7 @@ pub fn words(number: u8) -> Option<(&'static str, &'static str)> {
         6 => ("unknown model, or a flag that is neither 0.0 nor 1.0", "check the model's number and its flags"),
         7 => ("the sheet has over 200 particles, or bytes after the last", "split the sheet, or send it alone"),
         8 => ("a list has the wrong length", "give 36 floats and 2 answers a particle, 9 floats a matrix, 3 a vector"),
+        9 => ("the lent room is shorter than the sheet", "lend 57667 bytes, which hold every sheet"),
         10 => ("a function would get an argument above its range (torn; of Snow: crushed)", "look at the singular values and the hardenings"),
         _ => return None,
     })
@@ -137,4 +140,5 @@ extern "C" {
     pub fn pasoletu_pass_with_failure(model: u64, parameters: *const f64, parameters_length: usize, limits: *const f64, limits_length: usize, corotated: *const f64, corotated_length: usize, records: *mut f64, records_length: usize, answers: *mut u64, answers_length: usize, counts: *mut u64, counts_length: usize) -> u8;
     pub fn pasoletu_read_sheet(bytes: *const u8, bytes_length: usize, header: *mut u64, header_length: usize, records: *mut f64, records_length: usize) -> u8;
     pub fn pasoletu_run_sheet(bytes: *const u8, bytes_length: usize, records: *mut f64, records_length: usize, answers: *mut u64, answers_length: usize, counts: *mut u64, counts_length: usize) -> u8;
+    pub fn pasoletu_write_sheet(model: u64, parameters: *const f64, parameters_length: usize, records: *const f64, records_length: usize, bytes: *mut u8, bytes_length: usize, written: *mut u64, written_length: usize) -> u8;
 }

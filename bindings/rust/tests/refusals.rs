@@ -92,7 +92,8 @@ fn new_refuses() {
     assert_eq!(number(RankinePlasticity::new(1e5, 0.5, 1.0, 1.0)), 3);
     assert_eq!(number(DruckerPragerPlasticity::new(f64::INFINITY, 0.3)), 1);
     assert_eq!(number(NaccPlasticity::with_m(1e5, -1.0, 0.0, true, 1.0, 1.0)), 3);
-    assert_eq!(number(NaccPlasticity::new(1e5, 0.3, 0.0, true, 1.0, 9.0)), 2);
+    assert_eq!(number(NaccPlasticity::new(1e5, 0.3, 0.0, true, 1.0, 9.0)), Refusal::ABOVE_RANGE);
+    assert_eq!(number(NaccPlasticity::new(1e5, 0.3, 0.0, true, 1.0, -9.0)), Refusal::BELOW_RANGE);
     assert_eq!(number(NeoHookeanElasticity::new(1e5, 0.5)), 3);
     assert_eq!(number(CorotatedLinearElasticity::new(f64::NAN, 0.3)), 1);
     assert_eq!(number(MonaghanSphEos::new(f64::NAN, 2, 0.0)), 1);
@@ -103,8 +104,9 @@ fn new_refuses() {
 
 #[test]
 fn single_calls_refuse() {
-    assert_eq!(number(elementary::exp(700.5)), 2);
-    assert_eq!(number(elementary::ln(0.0)), 2);
+    assert_eq!(number(elementary::exp(700.5)), Refusal::ABOVE_RANGE);
+    assert_eq!(number(elementary::exp(-700.5)), Refusal::BELOW_RANGE);
+    assert_eq!(number(elementary::ln(0.0)), Refusal::BELOW_RANGE);
     assert_eq!(number(elementary::sin(f64::NAN)), 1);
     assert_eq!(number(utils::solve_quadratic(1.0, 0.0, 1.0)), 2);
     assert_eq!(number(utils::inv_exact(1e-310)), 3);

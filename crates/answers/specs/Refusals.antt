@@ -33,6 +33,10 @@ tooMany = 7
 abbrev pub wrongLength : ℕ
 wrongLength = 8
 
+-- a lent room is shorter than the sheet
+abbrev pub noRoom : ℕ
+noRoom = 9
+
 -- an elementary function on the path taken would get an argument above its range: in 2's place in the order
 abbrev pub aboveRange : ℕ
 aboveRange = 10

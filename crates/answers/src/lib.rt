@@ -21,6 +21,8 @@ pub const TOO_MANY: u8 = 7;
 
 pub const LENGTH: u8 = 8;
 
+pub const NO_ROOM: u8 = 9;
+
 pub const ABOVE_RANGE: u8 = 10;
 
 // A number, or the refusal's number.

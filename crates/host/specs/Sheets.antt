@@ -1,4 +1,4 @@
--- What the reading and the run of a sheet answer and write (RULES, sections 6 and 7).
+-- What the reading, the run and the writing of a sheet answer and write (RULES, sections 6 and 7).
 use mathlib.Core.Bool.{cond}
 use mathlib.Core.List.{List, [], _∷_, _++_}
 use Prim.Native.Nat.{ℕ}
@@ -8,6 +8,9 @@ use Rattle.sheet_run.specs.declared.Ran.{Ran}
 use Rattle.sheet_run.specs.Run.{ranOf, ranRecords, ranAnswers}
 use Rattle.sheet.specs.declared.Header.{Header}
 use Rattle.sheet.specs.Sheet.{readOf, roomOf}
+use Rattle.writer.specs.declared.Written.{Written}
+use Rattle.writer.specs.declared.Written.the-variants.{Length, Refused}
+use Rattle.writer.specs.Writer as writer
 
 -- the eight places of a header's parameters
 abbrev pub eightOf : List ℕ → List ℕ
@@ -49,3 +52,24 @@ answersRun s xs out counts = cond (eqb (length counts) 4) (ranAnswers s xs out) 
 
 abbrev pub countsRun : List ℕ → List ℕ → List ℕ → List ℕ → List ℕ
 countsRun s xs out counts = cond (eqb (length counts) 4) (ranCounts (ranOf s xs out) counts) counts
+
+-- the number of a refusal; a sheet that was written has its length beside 0
+abbrev pub writtenCode : Written → ℕ
+writtenCode (Length n) = 0
+writtenCode (Refused n) = n
+
+abbrev pub writtenRoom : Written → List ℕ → List ℕ
+writtenRoom (Length n) written = n ∷ []
+writtenRoom (Refused n) written = written
+
+-- 8 where the length's room has not 1 place; else the writing's refusal
+abbrev pub writeCode : ℕ → List ℕ → List ℕ → List ℕ → List ℕ → ℕ
+writeCode model p words bytes written =
+    cond (eqb (length written) 1) (writtenCode (writer.writtenOf model p words (length bytes))) 8
+
+abbrev pub bytesWritten : ℕ → List ℕ → List ℕ → List ℕ → List ℕ → List ℕ
+bytesWritten model p words bytes written = cond (eqb (length written) 1) (writer.roomOf model p words bytes) bytes
+
+abbrev pub lengthWritten : ℕ → List ℕ → List ℕ → List ℕ → List ℕ → List ℕ
+lengthWritten model p words bytes written =
+    cond (eqb (length written) 1) (writtenRoom (writer.writtenOf model p words (length bytes)) written) written

@@ -1,10 +1,11 @@
-// A sheet of bytes: read, or run to its answers.
+// A sheet of bytes: read, run to its answers, or written.
 use crate::lists_out::copy;
 use sheet::Header;
 use sheet_run::Ran;
+use writer::Written;
 ghost use mathlib.Core.Path.{_≡_};
 ghost use lib.ListN.{length};
-ghost use Rattle.host.specs.Sheets.{headerRoom, ranCounts, readCode, headerRead, recordsRead, runCode, recordsRun, answersRun, countsRun};
+ghost use Rattle.host.specs.Sheets.{headerRoom, ranCounts, readCode, headerRead, recordsRead, runCode, recordsRun, answersRun, countsRun, writtenCode, writtenRoom, writeCode, bytesWritten, lengthWritten};
 
 // Model, the eight parameters, count, and the place of the first record.
 fn put_header(h: Header, header: &mut [u64]) -> u8
@@ -54,6 +55,20 @@ fn put_ran(ran: Ran, counts: &mut [u64]) -> u8
     ran.refusal
 }
 
+fn put_written(w: Written, written: &mut [u64]) -> u8
+    requires { ⌜ length (now written) ≡ 1 ⌝ }
+    ensures { λ r. ⌜ r ≡ writtenCode w ⌝ }
+    ensures { λ r. ⌜ now (written .exit) ≡ writtenRoom w (now (written .entry)) ⌝ }
+{
+    match w {
+        Written::Length(n) => {
+            copy(&[n as u64], written);
+            0
+        }
+        Written::Refused(n) => n,
+    }
+}
+
 #[no_mangle]
 pub extern "C" fn pasoletu_read_sheet(bytes: &[u8], header: &mut [u64], records: &mut [u64]) -> u8
     ensures { λ r. ⌜ r ≡ readCode (now (bytes .entry)) (now (header .entry)) (now (records .entry)) ⌝ }
@@ -84,4 +99,23 @@ pub extern "C" fn pasoletu_run_sheet(
     }
     let ran = sheet_run::run_sheet(bytes, records, answers);
     put_ran(ran, counts)
+}
+
+#[no_mangle]
+pub extern "C" fn pasoletu_write_sheet(
+    model: u64,
+    parameters: &[u64],
+    records: &[u64],
+    bytes: &mut [u8],
+    written: &mut [u64],
+) -> u8
+    ensures { λ r. ⌜ r ≡ writeCode model (now (parameters .entry)) (now (records .entry)) (now (bytes .entry)) (now (written .entry)) ⌝ }
+    ensures { λ r. ⌜ now (bytes .exit) ≡ bytesWritten model (now (parameters .entry)) (now (records .entry)) (now (bytes .entry)) (now (written .entry)) ⌝ }
+    ensures { λ r. ⌜ now (written .exit) ≡ lengthWritten model (now (parameters .entry)) (now (records .entry)) (now (bytes .entry)) (now (written .entry)) ⌝ }
+{
+    if written.len() != 1 {
+        return 8;
+    }
+    let w = writer::write(model, parameters, records, bytes);
+    put_written(w, written)
 }

@@ -1,9 +1,11 @@
-// What is printed of a sheet (RULES, section 7): the count, a line a particle, and "end"; or the refusal alone.
+// What is printed of a sheet (RULES, section 7): the count, a line a particle, and "end"; or the refusal alone. Or the sheet itself,
+// with its updated records.
 mod whole;
 
 use libc::STDOUT_FILENO;
 pub use whole::Input;
 pub use whole::read_whole;
+use writer::Written;
 ghost use mathlib.Core.Path.{_≡_};
 ghost use mathlib.Core.Bool.{false};
 ghost use Prim.Native.Nat.{_<_};
@@ -98,4 +100,34 @@ pub fn print_answer(room: &[u8], n: usize) -> bool
     } else {
         print_sheet(&answers, r.particles)
     }
+}
+
+// The first k bytes; whether all of them were written.
+fn write_front(out: &[u8], k: usize) -> bool {
+    if out.len() < k {
+        return false;
+    }
+    io::write_all(STDOUT_FILENO, &out[..k])
+}
+
+// Runs the sheet and writes it with its updated records, nothing of a refused one; whether all of it was written.
+fn write_run(s: &[u8]) -> bool {
+    let mut records = [0u64; sheet::MOST_WORDS];
+    let mut answers = [0u64; sheet::MOST_ANSWERS];
+    let mut out = [0u8; sheet::LONGEST];
+    let w = sheet_out::run_out(s, &mut records, &mut answers, &mut out);
+    match w {
+        Written::Length(k) => write_front(&out, k),
+        Written::Refused(_) => true,
+    }
+}
+
+// The same of the sheet in the first n bytes of the room.
+pub fn write_updated(room: &[u8], n: usize) -> bool
+    ensures { λ r. ⌜ (length (now (room .entry)) < n → r ≡ false) ⌝ }
+{
+    if room.len() < n {
+        return false;
+    }
+    write_run(&room[..n])
 }

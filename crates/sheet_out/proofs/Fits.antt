@@ -1,0 +1,87 @@
+-- A sheet that was run has its records in the list and its parameters in the header; what is written is no longer than the room.
+-- Assumes nothing.
+use mathlib.Core.Path.{_≡_, refl, sym, ap, _∙_, subst}
+use mathlib.Core.Bool.{Bool, true, false, cond}
+use mathlib.Core.List.{List, _++_}
+use Prim.Native.Nat.{ℕ, _+_, _*_, _-_, _/_, _≤_}
+use native.Mathlib.Omega.{arith}
+use lib.Dec.{eqb}
+use lib.ListN.{length, drop, length-append, length-drop, length-replicate}
+use borrow.Author.Tests.{eqb-true, eq-eqb}
+use Rattle.record.specs.Layout.{floats}
+use Rattle.model.specs.Kinds.{kindsOf}
+use Rattle.model.proofs.KindLaws.{kinds-most}
+use Rattle.particles.specs.Pass.{worked, wellSized, passRecords}
+use Rattle.particles.proofs.PassLaws.{record-keeps, worked-length}
+use Rattle.sheet.specs.declared.Header.{Header}
+use Rattle.sheet.specs.Sheet.{headerOf, readOf, roomOf}
+use Rattle.sheet.proofs.Taken.{Taken, taken}
+use Rattle.sheet_run.specs.Run.{lawOf, recordsIn, answersIn, frontRecords, ranOf, ranRecords}
+use Rattle.sheet_run.proofs.Rooms.{read-fits, room-length}
+use Rattle.sheet_run.proofs.Parts.{not-refused, header-own, parts, well, quotient}
+use Rattle.sheet_run.proofs.Parts as ran
+use Rattle.writer.specs.declared.Written.{Written}
+use Rattle.writer.specs.declared.Written.the-variants.{Length, Refused}
+use Rattle.writer.specs.Writer.{sheetOf, refusalOf, writtenOf}
+use Rattle.writer.proofs.Reasons.{fine}
+use Rattle.sheet_out.specs.Out.{frontWritten, outOf}
+
+pub records-fit : (s xs out : List ℕ) → ranOf s xs out .refusal ≡ 0 → headerOf s .count * floats ≤ length xs
+records-fit s xs out e =
+    let n = not-refused s xs out e .1 in
+    rw (← header-own s (length xs) n) (read-fits s (length xs) n)
+
+pub header-read : (s xs out : List ℕ) → ranOf s xs out .refusal ≡ 0 → headerOf s .refusal ≡ 0
+header-read s xs out e =
+    let n = not-refused s xs out e .1 in
+    sym (ap (λ (g : Header). g .refusal) (header-own s (length xs) n)) ∙ n
+
+pub parameters-fit : (s : List ℕ) → headerOf s .refusal ≡ 0 → length (kindsOf (headerOf s .model)) ≤ length (headerOf s .parameters)
+parameters-fit s z =
+    let t = taken s z in
+    let k = kinds-most (t .model) in
+    subst (λ (g : Header). length (kindsOf (g .model)) ≤ length (g .parameters)) (t .is) (simp (length-append, length-replicate) (omega (arith, k)))
+
+-- the run leaves the list's length
+pub ran-length : (s xs out : List ℕ) → ranOf s xs out .refusal ≡ 0 → length (ranRecords s xs out) ≡ length xs
+unfolding frontRecords
+ran-length s xs out e =
+    let n = not-refused s xs out e in
+    let h = readOf s (length xs) in
+    let a = recordsIn h (roomOf s xs) in
+    let b = answersIn h out in
+    let q = parts s xs out (n .0) (n .1) in
+    let k = length a / floats in
+    let p = passRecords (lawOf h) a b in
+    let m : length p ≡ k * floats =
+    ap length (ran.taken (wellSized a b) (worked (lawOf h) a k) a (well a b (h .count) q))
+    ∙ worked-length (lawOf h) (record-keeps _) a k (omega arith) in
+    let d = quotient a b (h .count) (q .0) in
+    let f = read-fits s (length xs) (n .1) in
+    let r = room-length s xs in
+    rw (n .0, eq-eqb (h .refusal) 0 (n .1)) (length-append p (drop (h .count * floats) (roomOf s xs)) ∙ simp length-drop (omega (arith, m, d, f, r)))
+
+-- the length told, 0 beside a refusal
+abbrev pub lengthOf : Written → ℕ
+lengthOf (Length n) = n
+lengthOf (Refused n) = 0
+
+either : (b : Bool) (n k room : ℕ) → (b ≡ true → n ≤ room) → lengthOf (cond b (Length n) (Refused k)) ≤ room
+either true n k room f = f refl
+either false n k room f = omega arith
+
+pub written-most : (model : ℕ) (p words : List ℕ) (room : ℕ) → lengthOf (writtenOf model p words room) ≤ room
+unfolding writtenOf
+written-most model p words room =
+    let r = refusalOf model p words room in
+    either (eqb r 0) (length (sheetOf model p words)) r room (λ e. fine model p words room (eqb-true r 0 e) .place)
+
+front : (b : Bool) (w : Written) (k room : ℕ) → lengthOf w ≤ room → lengthOf (cond b w (Refused k)) ≤ room
+front true w k room f = f
+front false w k room f = omega arith
+
+pub out-most : (s xs out : List ℕ) (room : ℕ) → lengthOf (outOf s xs out room) ≤ room
+unfolding frontWritten
+out-most s xs out room =
+    front (eqb (ranOf s xs out .refusal) 0) (frontWritten (headerOf s) (ranRecords s xs out) room) (ranOf s xs out .refusal) room
+    (written-most _ _ _ room)

@@ -1,0 +1,5 @@
+pub mod Puts
+pub mod Stages
+pub mod Cases
+pub mod Reasons
+pub mod Back
