@@ -3,10 +3,10 @@ use mathlib.Core.Bool.{cond, _&&_}
 use mathlib.Core.List.{List, [], _∷_, _++_, map}
 use lib.Ieee as Ieee
 use lib.Ieee.{Float}
-use Rattle.physics.specs.Physics as physics
 use Rattle.tensor.specs.Matrix as tensor
 use Rattle.tensor.specs.declared.MatrixAnswer.{MatrixAnswer}
 use Rattle.walk.specs.Expr.{Expr, num, _-_, _*_}
+pub use Rattle.walk.specs.Constants.{zero, two}
 use Rattle.walk.specs.Walk.{Walk, Test, less, flag, inputs, work, works, mosts, leasts, split, result}
 use Rattle.walk.specs.Every.{flat}
 use Rattle.walk.specs.Update.{recomposed}
@@ -18,12 +18,6 @@ use Rattle.elasticity_corotated_linear.specs.declared.CorotatedLinearEla
 -- p is the law, h the elastic hardening, s is sigma, j the determinant of F, e stands for sigma - 1 or a part of it, pos and neg for what is made of its parts.
 
 -- ---- of the stress, the principal stresses and the energies
-abbrev pub zero : Expr
-zero = num tensor.zero
-
-abbrev pub two : Expr
-two = num physics.two
-
 abbrev pub lessOne : List Float → List Expr
 lessOne s = map (λ x. num x - one) s
 

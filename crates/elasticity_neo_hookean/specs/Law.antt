@@ -5,11 +5,11 @@ use lib.Ieee.{Float, binary64, ofBits}
 use Rattle.answers.specs.Refusals.{notFinite, noNumber}
 use Rattle.numbers.specs.Floats.{finite}
 use Rattle.answers.specs.declared.Answer.{Answer}
-use Rattle.physics.specs.Physics as physics
 use Rattle.physics.specs.Physics.{lameOf}
 use Rattle.physics.specs.declared.Lame.{Lame}
 use Rattle.tensor.specs.Axes.{allOf}
 use Rattle.walk.specs.Expr.{Expr, num, _+_, _-_, _*_, _/_, value}
+pub use Rattle.walk.specs.Constants.{two}
 use Rattle.walk.specs.Walk.{Walk, inputs, result, answerAs}
 use Rattle.walk.specs.Every.{flat}
 use Rattle.walk.specs.Tensor.{one, rows, turned, times}
@@ -17,9 +17,6 @@ use Rattle.walk.specs.Answers.{returned}
 use Rattle.elasticity_neo_hookean.specs.declared.NeoHookeanElasticity.{NeoHookeanElasticity}
 use Rattle.elasticity_neo_hookean.specs.declared.Made.{Made}
 use Rattle.elasticity_neo_hookean.specs.declared.Made.the-variants.{Law, Refused}
-
-abbrev pub two : Expr
-two = num physics.two
 
 -- the number of axes
 abbrev pub dim : Expr

@@ -3,6 +3,7 @@ use mathlib.Core.Path.{_≡_, refl}
 use Prim.Native.Nat.{ℕ}
 use lib.Ieee as Ieee
 use lib.Ieee.{Float, binary64, ofBits}
+use Rattle.numbers.specs.Constants.{two}
 use Rattle.numbers.specs.Floats.{finite, isNumber}
 use Rattle.answers.specs.declared.Answer.{Answer}
 use Rattle.answers.specs.declared.Answer.the-variants.{Value}
@@ -12,9 +13,6 @@ use Rattle.eos_monaghan_sph.specs.Pressure.{floats, pressureSteps, press
 
 abbrev ten : Float
 ten = ofBits binary64 0x4024_0000_0000_0000
-
-abbrev two : Float
-two = ofBits binary64 0x4000_0000_0000_0000
 
 abbrev pressureAt : ℕ → Float → Answer
 pressureAt gamma density =

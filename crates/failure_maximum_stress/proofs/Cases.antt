@@ -2,6 +2,7 @@
 use mathlib.Core.Path.{_≡_, refl}
 use lib.Ieee as Ieee
 use lib.Ieee.{Float, binary64, ofBits}
+use Rattle.numbers.specs.Constants.{two, four}
 use Rattle.numbers.specs.Floats.{finite, isNumber}
 use Rattle.tensor.specs.Matrix.{three, zero, one}
 use Rattle.failure_maximum_stress.specs.Failure.{verdictOf, overLimit}
@@ -10,12 +11,6 @@ use Rattle.failure_maximum_stress.specs.declared.Verdict.the-variants.{N
 
 abbrev limits : Float → Float → MaximumStressFailure
 limits principal shear = record { «max_principal_stress» = principal; «max_shear_stress» = shear }
-
-abbrev two : Float
-two = ofBits binary64 0x4000_0000_0000_0000
-
-abbrev four : Float
-four = ofBits binary64 0x4010_0000_0000_0000
 
 abbrev five : Float
 five = ofBits binary64 0x4014_0000_0000_0000

@@ -4,13 +4,11 @@ use lib.Ieee.{Float}
 use Rattle.numbers.specs.Constants as constants
 use Rattle.answers.specs.declared.Answer.{Answer}
 use Rattle.walk.specs.Expr.{Expr, num, neg, _+_, _-_, _*_, _/_, value}
+pub use Rattle.walk.specs.Constants.{two}
 use Rattle.walk.specs.Walk.{Walk, exp, sin, root, inputs, ask, work, results, end, _then_, result, answerAs}
 use Rattle.plasticity_drucker_prager.specs.declared.DruckerPragerPlasticity.{DruckerPragerPlasticity}
 use Rattle.plasticity_drucker_prager.specs.Law as law
 use Rattle.plasticity_drucker_prager.specs.Law.{parametersOf}
-
-abbrev pub two : Expr
-two = num law.two
 
 -- the Rust's literal
 abbrev three : Expr

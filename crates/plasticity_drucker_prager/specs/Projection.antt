@@ -14,6 +14,7 @@ use Rattle.tensor.specs.Answer.{zeroRow}
 use Rattle.plasticity.specs.declared.Outcome.{Outcome}
 use Rattle.plasticity.specs.declared.Outcome.the-variants as outcome
 use Rattle.walk.specs.Expr.{Expr, num, _+_, _-_, _*_, _/_, value, nums}
+pub use Rattle.walk.specs.Constants.{zero}
 use Rattle.walk.specs.Walk.{Walk, exp, ln, root, less, at-most, zeros, inputs, ask, asks, work, works, branch, results, end, _then_, Ended, given, refused}
 use Rattle.walk.specs.Matrix.{sum, dot}
 use Rattle.plasticity_drucker_prager.specs.declared.Branch.{Branch}
@@ -23,9 +24,6 @@ use Rattle.plasticity_drucker_prager.specs.declared.Projected.{Projected
 use Rattle.plasticity_drucker_prager.specs.declared.Results.{Results}
 use Rattle.plasticity_drucker_prager.specs.Law.{parametersOf}
 use Rattle.plasticity_drucker_prager.specs.Alpha.{two}
-
-abbrev pub zero : Expr
-zero = num tensor.zero
 
 -- ---- where it ends, with what the last test compared with 0: the deviatoric entries, the trace, gamma (and the deviatoric norm)
 pub data Way : Type 0 where

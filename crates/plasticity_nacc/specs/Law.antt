@@ -4,6 +4,7 @@ use mathlib.Core.List.{List, [], _∷_}
 use lib.Ieee.{Float, binary64, ofBits}
 use Rattle.answers.specs.Refusals.{notFinite, noNumber}
 use Rattle.numbers.specs.Constants.{three}
+pub use Rattle.numbers.specs.Constants.{two}
 use Rattle.numbers.specs.Floats.{finite}
 use Rattle.answers.specs.Range.{onPath}
 use Rattle.answers.specs.declared.Answer.{Answer}
@@ -16,9 +17,6 @@ use Rattle.plasticity_nacc.specs.declared.Made.{Made}
 use Rattle.plasticity_nacc.specs.declared.Made.the-variants.{Law, Refused}
 use Rattle.plasticity_nacc.specs.declared.NaccArguments.{NaccArguments}
 use Rattle.plasticity_nacc.specs.declared.NaccPlasticity.{NaccPlasticity}
-
-abbrev pub two : Float
-two = ofBits binary64 0x4000_0000_0000_0000
 
 -- the number of axes
 abbrev pub dim : Float

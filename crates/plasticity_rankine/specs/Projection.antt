@@ -2,7 +2,9 @@
 -- 10 the results of a call by itself.
 use mathlib.Core.List.{List, [], _∷_, _++_}
 use Prim.Native.Nat.{ℕ}
-use lib.Ieee.{Float, binary64, ofBits}
+use lib.Ieee.{Float}
+use Rattle.numbers.specs.Constants as constants
+pub use Rattle.numbers.specs.Constants.{two}
 use Rattle.tensor.specs.Matrix.{three}
 use Rattle.tensor.specs.Answer.{zeroRow, answeredVector, refusedVector}
 use Rattle.tensor.specs.declared.VectorAnswer.{VectorAnswer}
@@ -18,11 +20,9 @@ use Rattle.plasticity_rankine.specs.declared.Sorted.{Sorted}
 use Rattle.plasticity_rankine.specs.Law.{lawOf, parametersOf, argumentsFloats, moduli}
 use Rattle.plasticity_rankine.specs.Sorting.{orderOf, arrangeOf, restoredOf}
 
-abbrev pub two : Float
-two = ofBits binary64 0x4000_0000_0000_0000
-
+-- the Rust's literal 3
 abbrev pub thrice : Float
-thrice = ofBits binary64 0x4008_0000_0000_0000
+thrice = constants.three
 
 -- ---- the formulas: c <= b <= a are the strains, S their sum in index order, s the softened strength
 -- the left sides of the three tests

@@ -2,6 +2,7 @@
 use mathlib.Core.Bool.{Bool}
 use mathlib.Core.List.{List, [], _∷_, _++_, map}
 use lib.Ieee.{Float, binary64, ofBits}
+pub use Rattle.numbers.specs.Constants.{one}
 use Rattle.numbers.specs.Floats.{finite, maxOf, minOf}
 use Rattle.tensor.specs.Axes.{allOf}
 use Rattle.tensor.specs.Matrix.{add, sub, recomposeOf, rowsOf}
@@ -12,9 +13,6 @@ use Rattle.walk.specs.Walk.{Walk, exp, inputs, ask, most, least, results, end, 
 use Rattle.walk.specs.Matrix.{product}
 use Rattle.walk.specs.Update.{Change, stored, updatedOf, recomposed, floatsOf}
 use Rattle.plasticity_snow.specs.declared.SnowPlasticity.{SnowPlasticity}
-
-abbrev pub one : Float
-one = ofBits binary64 0x3ff0_0000_0000_0000
 
 -- defaults 0.025, 0.0045, 10
 abbrev pub defaults : SnowPlasticity

@@ -1,4 +1,5 @@
 pub mod Expr
+pub mod Constants
 pub mod Number
 pub mod Walk
 pub mod Exact

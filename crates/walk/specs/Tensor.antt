@@ -12,13 +12,11 @@ use Rattle.tensor.specs.Matrix.{three, add, mul, detOf, transposeOf, mulOf, rec
 use Rattle.tensor.specs.Decomposed.{deviatoricOf}
 use Rattle.tensor.specs.Inverse.{cofactorsOf, matOverOf}
 use Rattle.tensor.specs.Number.{matNumber}
+pub use Rattle.walk.specs.Constants.{one}
 use Rattle.walk.specs.Expr.{Expr, num, _+_, _-_, _*_, _/_, value, values, nums}
 use Rattle.walk.specs.Matrix.{total, dots, value-total, value-dots, value-entry, values-nums}
 use Rattle.walk.specs.Every.{flat, all-flat}
 use Rattle.walk.specs.Update.{recomposed}
-
-abbrev pub one : Expr
-one = num tensor.one
 
 -- what a matrix is worth, and a matrix of numbers
 abbrev pub worth : List (List Expr) → List (List Float)
