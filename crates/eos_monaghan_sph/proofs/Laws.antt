@@ -59,6 +59,13 @@ timestep-shared law mass volume density j velocity width q =
     let a = inputsFinite law mass volume density in
     and-left a (finite j) (and-left (a && finite j) (rowFinite velocity) (and-left (a && finite j && rowFinite velocity) (finite width) q))
 
+pub timestep-own : (law : MonaghanSphEos) (mass volume density j : Float) (velocity : List Float) (width : Float)
+    → inputsFinite law mass volume density && finite j && rowFinite velocity && finite width ≡ true → rowFinite velocity && finite width ≡ true
+timestep-own law mass volume density j velocity width q =
+    let a = inputsFinite law mass volume density && finite j in
+    let v = rowFinite velocity in
+    rw (and-right a v (and-left (a && v) (finite width) q), and-right (a && v) (finite width) q) refl
+
 -- ---- the pressure: the largest negative one is finite
 module _ (law : MonaghanSphEos) (mass volume density : Float) where
   least-finite : inputsFinite law mass volume density ≡ true → finite (law .«max_neg_pressure») ≡ true

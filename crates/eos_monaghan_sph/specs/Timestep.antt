@@ -3,10 +3,9 @@ use mathlib.Core.List.{List, [], _∷_, _++_}
 use lib.Ieee as Ieee
 use lib.Ieee.{Float, binary64, ofBits}
 use Rattle.numbers.specs.Constants as constants
-use Rattle.numbers.specs.Floats.{maxOf, minOf}
 use Rattle.answers.specs.declared.Answer.{Answer}
 use Rattle.walk.specs.Expr.{Expr, num, neg, _-_, _*_, _/_, value}
-use Rattle.walk.specs.Walk.{Walk, root, flag, inputs, ask, work, split, _then_, result, answerAs}
+use Rattle.walk.specs.Walk.{Walk, root, flag, inputs, ask, work, most, least, split, _then_, result, answerAs}
 use Rattle.walk.specs.Matrix.{dot}
 use Rattle.walk.specs.Tensor.{one}
 use Rattle.walk.specs.Answers.{returned}
@@ -20,17 +19,24 @@ argument j mass volume p =
     let d = num constants.three in
     density0 mass volume * (num j - one) / (k * neg p * d)
 
--- ---- the Courant-Friedrichs-Lewy step: the velocity's square, at least 1, over the density fluctuation 0.1
--- squares of finite numbers have no NaN that the maximum could hide
-abbrev pub cSquare : List Float → Expr
-cSquare velocity = num (maxOf (value (dot velocity velocity)) constants.one) / num (ofBits binary64 0x3fb9_9999_9999_999a)
+-- ---- the Courant-Friedrichs-Lewy step: the width over the root of the velocity's square, at least 1, over the density fluctuation
+abbrev pub densityFluctuation : Float
+densityFluctuation = ofBits binary64 0x3fb9_9999_9999_999a
+
+abbrev pub cSquare : Expr → Expr
+cSquare square = square / num densityFluctuation
+
+abbrev pub cfl : List Float → Float → (Expr → Walk Float) → Walk Float
+cfl velocity width k =
+    most 7 (dot velocity velocity) one (λ square.
+    ask 8 root (cSquare square) (λ c. k (num width / c)))
 
 unfoldable pub cflSteps : List Float → Float → Walk Float
-cflSteps velocity width = ask 7 root (cSquare velocity) (λ c. returned 8 (num width / c))
+cflSteps velocity width = cfl velocity width (λ step. returned 10 step)
 
--- the smaller of the two: a finite width over a root of 10 or more is no NaN that the minimum could hide
+-- the smaller of the two
 unfoldable pub smallerSteps : List Float → Float → Float → Walk Float
-smallerSteps velocity width single = ask 7 root (cSquare velocity) (λ c. returned 8 (num (minOf single (value (num width / c)))))
+smallerSteps velocity width single = cfl velocity width (λ step. least 9 (num single) step (λ dt. returned 10 dt))
 
 unfoldable pub singleSteps : List Float → Float → Float → Expr → Walk Float
 singleSteps velocity width lead a =

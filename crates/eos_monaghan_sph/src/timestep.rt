@@ -2,6 +2,11 @@ use crate::MonaghanSphEos;
 use crate::pressure;
 use answers::Answer;
 ghost use mathlib.Core.Path.{_≡_};
+ghost use mathlib.Core.Bool.{true, _&&_};
+ghost use Rattle.numbers.specs.Constants.{one};
+ghost use Rattle.numbers.specs.Floats.{finite, isNumber, maxOf};
+ghost use Rattle.tensor.specs.Matrix.{dotOf};
+ghost use Rattle.tensor.specs.Finite.{rowFinite};
 ghost use Rattle.walk.specs.Expr.{num, value};
 ghost use Rattle.walk.specs.Walk.{result, answerAs, asked};
 ghost use Rattle.eos_monaghan_sph.specs.Timestep.{argument, cSquare, cflSteps, smallerSteps, singleSteps, timestepSteps, timestepBoundOf};
@@ -15,14 +20,16 @@ fn argument(j: f64, mass: f64, volume: f64, p: f64) -> f64
     density0 * (j - 1.0) / (6.0 * pressure * 3.0)
 }
 
+// Squares of finite numbers have no NaN that the maximum could hide.
 fn c_square(velocity: [f64; 3]) -> f64
-    ensures { λ r. ⌜ r ≡ value (cSquare velocity) ⌝ }
+    ensures { λ r. ⌜ r ≡ value (cSquare (num (maxOf (dotOf velocity velocity) one))) ⌝ }
 {
     numbers::max(tensor::dot(velocity, velocity), 1.0) / 0.1
 }
 
 // The Courant-Friedrichs-Lewy step.
 fn cfl(velocity: [f64; 3], width: f64) -> Answer
+    requires { ⌜ rowFinite velocity ≡ true ⌝ }
     ensures { λ r. ⌜ r ≡ answerAs (result (cflSteps velocity width)) ⌝ }
 {
     match square_root::sqrt_on_path(c_square(velocity)) {
@@ -31,8 +38,9 @@ fn cfl(velocity: [f64; 3], width: f64) -> Answer
     }
 }
 
-// The smaller of that and the single-particle step.
+// The smaller of that and the single-particle step. Neither is a NaN that the minimum could hide.
 fn smaller(velocity: [f64; 3], width: f64, single: f64) -> Answer
+    requires { ⌜ rowFinite velocity && finite width && isNumber single ≡ true ⌝ }
     ensures { λ r. ⌜ r ≡ answerAs (result (smallerSteps velocity width single)) ⌝ }
 {
     match square_root::sqrt_on_path(c_square(velocity)) {
@@ -43,6 +51,7 @@ fn smaller(velocity: [f64; 3], width: f64, single: f64) -> Answer
 
 // lead is the cell's width over j, a what the root is taken of.
 fn single(velocity: [f64; 3], width: f64, lead: f64, a: f64) -> Answer
+    requires { ⌜ rowFinite velocity && finite width ≡ true ⌝ }
     ensures { λ r. ⌜ r ≡ answerAs (result (singleSteps velocity width lead (num a))) ⌝ }
 {
     match square_root::sqrt_on_path(a) {
@@ -60,6 +69,7 @@ fn single(velocity: [f64; 3], width: f64, lead: f64, a: f64) -> Answer
 
 // There is no single-particle step where the root's argument is negative or a NaN.
 fn bound(j: f64, mass: f64, volume: f64, velocity: [f64; 3], width: f64, p: f64) -> Answer
+    requires { ⌜ rowFinite velocity && finite width ≡ true ⌝ }
     ensures { λ r. ⌜ r ≡ answerAs (result (timestepSteps j mass volume velocity width p)) ⌝ }
 {
     let lead = width / j;
@@ -83,6 +93,7 @@ fn bound_from(
     width: f64,
     pressure: Answer,
 ) -> Answer
+    requires { ⌜ rowFinite velocity && finite width ≡ true ⌝ }
     ensures { λ r. ⌜ r ≡ answerAs (asked pressure (λ p. result (timestepSteps j mass volume velocity width p))) ⌝ }
 {
     match pressure {

@@ -213,7 +213,7 @@ module _ (law : MonaghanSphEos) (mass volume density : Float) where
 
   timestep-inner : (j : Float) (velocity : List Float) (width p : Float) → Inner (monaghan-timestep.timestepSteps j mass volume velocity width p)
   unfolding monaghan-timestep.timestepSteps monaghan-timestep.singleSteps monaghan-timestep.smallerSteps monaghan-timestep.cflSteps
-  timestep-inner j velocity width p = λ lead. (λ r single c. tt, λ c. tt)
+  timestep-inner j velocity width p = λ lead. (λ r single square c dt. tt, λ square c. tt)
 
   timestep-gives : (j : Float) (velocity : List Float) (width : Float)
       → Gives (monaghan-timestep.timestepBoundOf law j mass volume density velocity width) (path (monaghan-timestep.timestepWalk law j mass volume density velocity width))

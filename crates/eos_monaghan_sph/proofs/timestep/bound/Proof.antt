@@ -1,8 +1,19 @@
 -- The width over j is tested, then the sign of the root's argument tells the step.
+use Rattle.numbers.specs.Floats.{finite}
+use Rattle.tensor.specs.Finite.{rowFinite}
+use Rattle.walk.specs.Every.{and-left}
 use Rattle.eos_monaghan_sph.specs.Timestep.{singleSteps, timestepSteps}
 use borrow.Author.Needs.{needs}
 use Rattle.eos_monaghan_sph.proofs.timestep.bound.Statement.{statement}
 use Rattle.eos_monaghan_sph.proofs.timestep.bound.Tie as tie
+
+single-requires : tie.Need-single-requires
+single-requires c κs = c .before .before .before .before .pre
+
+cfl-requires : tie.Need-cfl-requires
+cfl-requires c κs =
+    let a = c .before .before .before .before .args in
+    and-left (rowFinite (a .velocity)) (finite (a .width)) (c .before .before .before .before .pre)
 
 returns : tie.Need-returns
 unfolding timestepSteps singleSteps
@@ -27,5 +38,4 @@ returns-3 c =
 pub bound-spec : {M : Type 1} → statement M
 bound-spec =
     tie.close
-    (tie.spec (λ c κs. search needs) (λ c κs. search needs) (λ c κs. search needs) (λ c κs. search needs) returns
-    returns-2 returns-3)
+    (tie.spec (λ c κs. search needs) (λ c κs. search needs) single-requires cfl-requires returns returns-2 returns-3)

@@ -3,6 +3,9 @@ use borrow.Author.Needs.{needs}
 use Rattle.eos_monaghan_sph.proofs.timestep.bound_from.Statement.{statement}
 use Rattle.eos_monaghan_sph.proofs.timestep.bound_from.Tie as tie
 
+bound-requires : tie.Need-bound-requires
+bound-requires c κs = c .before .before .before .pre
+
 returns : tie.Need-returns
 returns c =
     simp (c .bound .ensures, c .before .before .pressure .given .1)
@@ -14,4 +17,4 @@ returns-2 c =
 pub bound-from-spec : {M : Type 1} → statement M
 bound-from-spec =
     tie.close
-    (tie.spec (λ c. search needs) (λ c κs. search needs) (λ c. search needs) returns returns-2)
+    (tie.spec (λ c. search needs) bound-requires (λ c. search needs) returns returns-2)

@@ -4,6 +4,11 @@ use borrow.Author.Needs.{needs}
 use Rattle.eos_monaghan_sph.proofs.timestep.single.Statement.{statement}
 use Rattle.eos_monaghan_sph.proofs.timestep.single.Tie as tie
 
+smaller-requires : tie.Need-smaller-requires
+smaller-requires c κs =
+    let t0 = simp (c .before .is-number .ensures) at (c .if1 .taken) in
+    simp (c .before .before .before .before .before .before .pre, t0)
+
 returns : tie.Need-returns
 unfolding singleSteps
 returns c =
@@ -27,5 +32,5 @@ returns-3 c =
 pub single-spec : {M : Type 1} → statement M
 single-spec =
     tie.close
-    (tie.spec (λ c κs. search needs) (λ c. search needs) (λ c κs. search needs) (λ c κs. search needs)
+    (tie.spec (λ c κs. search needs) (λ c. search needs) (λ c κs. search needs) smaller-requires
     (λ c. search needs) returns returns-2 returns-3)
