@@ -24,6 +24,7 @@ DIVIDES = re.compile(r"v?(i?div|f(i?div|sqrt)|(div|sqrt|rsqrt|rcp)[sp])")
 HEAD = re.compile(r"([0-9a-f]+) <(.*)>:$")
 LINE = re.compile(r" *([0-9a-f]+):\t((?:[0-9a-f]{2} )+) *\t([^\t]*)(?:\t.*R_X86_64_\w+\t(?:\.text\.)?(.*?)(?:[-+]0x[0-9a-f]+)?)?$")
 JUMP = re.compile(r"(?:notrack |bnd )*j\w+ +(?:([0-9a-f]+) )?")
+ENDS = re.compile(r"(?:notrack |bnd |repz? )*(?:jmp|ret|ud2|hlt)")
 LEAVES = re.compile(r"(?:notrack |bnd )*(?:call|j\w+) ")
 
 Instruction = collections.namedtuple("Instruction", "at words")
@@ -38,9 +39,22 @@ class Function:
         found = [(at, JUMP.match(words)) for at, words in self.lines]
         return [(at, jump[1] and int(jump[1], 16)) for at, jump in found if jump]
 
+    def leads(self, first, last):
+        """Whether the instruction at last can come after the one at first."""
+        after = {at: following for (at, _), (following, _) in zip(self.lines, self.lines[1:])}
+        ends = {at for at, words in self.lines if ENDS.match(words)}
+        jumps = dict(self.jumps())
+        met, left = set(), [first]
+        while left:
+            at = left.pop()
+            if at not in met:
+                met.add(at)
+                left += [to for to in (jumps.get(at), None if at in ends else after.get(at)) if to is not None]
+        return last in met
+
     def loops(self):
-        """The first and the last address of each loop: a jump back."""
-        return [(to, at) for at, to in self.jumps() if to is not None and to <= at]
+        """The first and the last address of each loop: a jump back to where it can come from again (an ending that several share is none)."""
+        return [(to, at) for at, to in self.jumps() if to is not None and to <= at and self.leads(to, at)]
 
 
 def functions(text):

@@ -778,6 +778,12 @@ class NoDivision(InFolder):
     def test_a_jump_in_the_loop(self):
         self.wrong("digits: jumps inside the loop", "r += 2;", 'r += 2; if (n & r) { __asm__ volatile("nop"); n -= 3; }')
 
+    def test_a_jump_back_to_an_ending(self):
+        shared = '({ __asm__ volatile("jmp 2f\\n1: jmp 3f\\n2: jmp 1b\\n3:"); digits(n + 1) + 1; })'
+        status, said, err = self.built(self.RIGHT.replace("digits(n + 1) + 1", shared))
+        self.assertEqual((status, err), (0, ""), said)
+        self.assertRegex(said, r"pasoletu_sqrt: [0-9]+ bytes, [0-9]+ instructions, loops: 0\n")
+
     def test_no_root(self):
         for code, words in (("int other;", "the library has no pasoletu_sqrt"), ("int pasoletu_sqrt(int n) { return n; }", "no loop was found")):
             status, said, err = self.built(code)
