@@ -394,10 +394,11 @@ def printed_by(program):
     lines = []
     for path in SHEETS:
         try:
-            with open(path, "rb") as f:
-                out = subprocess.run([program], stdin=f, stdout=subprocess.PIPE).stdout
+            with open(program, "rb"), open(path, "rb") as f:
+                out = subprocess.run(shell.words(program), stdin=f, stdout=subprocess.PIPE).stdout
         except OSError as e:
-            raise shell.Wrong("%s: cannot be run (%s): ./install.sh PREFIX or bin/slope makes the program" % (program, e.strerror))
+            raise shell.Wrong("%s: cannot be run (%s): ./install.sh PREFIX or bin/slope makes the program; PASOLETU_EMULATOR names what runs it "
+                              "on another processor than x86-64" % (program, e.strerror))
         lines += ["-- " + path.name] + out.decode(errors="replace").splitlines()
     return lines
 

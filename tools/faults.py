@@ -81,7 +81,7 @@ def nonblocking(fd):
 
 class Cases:
     def __init__(self, program, command):
-        self.program, self.command = [str(program)], str(command)
+        self.program, self.command = shell.words(program), str(command)
         self.big = TOP / "crates" / "slope_cases" / "data" / "06"  # 200 particles
         self.sample = TOP / "samples" / "rankine.sheet"
         self.count = self.wrong = 0

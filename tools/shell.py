@@ -42,6 +42,11 @@ def program():
     return pathlib.Path(ran.stdout.strip())
 
 
+def words(program):
+    """The words that run a program: before it those of PASOLETU_EMULATOR, as bin/slope has it."""
+    return os.environ.get("PASOLETU_EMULATOR", "").split() + [str(program)]
+
+
 def called(name, standard):
     return standard if name == "-" else str(name)
 

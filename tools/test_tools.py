@@ -851,6 +851,11 @@ class Tools(InFolder):
         self.assertEqual(process.returncode, 1)
         self.assertIn(b"byte 740: call 0 is refused by 2, by the second reading 10", process.stdout)
 
+    def test_cases_by_an_emulator(self):
+        program = self.file("slope", "cat >/dev/null; echo emulated")
+        with unittest.mock.patch.dict(os.environ, {"PASOLETU_EMULATOR": "sh -e"}):
+            self.assertEqual(cases.printed_by(program)[1], "emulated")
+
     def test_cases_with_a_wrong_program(self):
         self.assertEqual(ran("cases.py", "check", "--program", "/bin/true", env=self.env).returncode, 1)
 
