@@ -16,7 +16,7 @@ use Rattle.tensor.specs.Matrix as tensor
 use Rattle.tensor.specs.Matrix.{add, sub, mul, detOf, sumOf, productOf}
 use Rattle.tensor.specs.Answer.{answered, answeredVector, refusedMatrix, refusedVector}
 use Rattle.tensor.specs.Finite.{rowFinite, matFinite}
-use Rattle.walk.specs.Expr.{Expr, num, _+_, _*_, value, values, whole-tells}
+use Rattle.walk.specs.Expr.{Expr, num, _+_, _*_, value, values, whole-tells, add-left, add-right, sub-left, mul-left, mul-right}
 use Rattle.walk.specs.Walk.{Walk, less, work, works, mosts, leasts, split, Ended, refused, result, answerAs}
 use Rattle.walk.specs.Number.{finite-number, sub-number}
 use Rattle.walk.specs.Steps.{mosts-answer, leasts-answer}
@@ -115,30 +115,6 @@ parts-law s q a b c d phase w v =
     ∙ rw (mosts-answer c e zero (λ pos. leasts d e zero (λ neg. v pos neg)) (numbers-less s q) zero-number, leasts-answer d e zero (λ neg. v (positiveOf e) neg) (numbers-less s q) zero-number)
 
 -- ---- a NaN is handed on
-add-right : (x : Float) → add x nan ≡ nan
-unfolding Ieee.add
-add-right nan = refl
-add-right (inf s) = refl
-add-right (fin s m e) = refl
-
-add-left : (x : Float) → add nan x ≡ nan
-unfolding Ieee.add
-add-left x = refl
-
-mul-right : (x : Float) → mul x nan ≡ nan
-unfolding Ieee.mul
-mul-right nan = refl
-mul-right (inf s) = refl
-mul-right (fin s m e) = refl
-
-mul-left : (x : Float) → mul nan x ≡ nan
-unfolding Ieee.mul
-mul-left x = refl
-
-sub-left : (x : Float) → sub nan x ≡ nan
-unfolding Ieee.sub Ieee.add
-sub-left x = refl
-
 nan-finite : finite nan ≡ false
 unfolding finite
 nan-finite = refl

@@ -1,6 +1,6 @@
 -- The pass with failure keeps a record's length; a record fails exactly on a yes where nothing is refused. Assumes nothing.
 use mathlib.Core.Path.{_≡_, refl, sym, ap, _∙_}
-use mathlib.Core.Bool.{Bool, true, false, cond}
+use mathlib.Core.Bool.{Bool, true, false, cond, false≢true}
 use mathlib.Core.List.{List}
 use Prim.Native.Nat.{ℕ}
 use lib.ListN.{length, length-set}
@@ -62,16 +62,13 @@ pub record Failed (m : Model) (l : MaximumStressFailure) (e : CorotatedLinearEla
   pub stands : (n : ℕ) → recordLaw m r .outcome ≡ outcome.Refused n → ⊥
   pub yes : verdictAfter l e (stateAt r .scalars .phase) (updatedAt m r .state) ≡ Yes
 
-never : false ≡ true → ⊥
-never p = let q : _≡_ {A = ℕ} 0 1 = cc in omega arith
-
 other : (n : ℕ) (o : Outcome) → (codeOf o ≡ 2 → ⊥) → o ≡ outcome.Refused n → ⊥
 other n o h e = h (ap codeOf e)
 
 only-yes : (v : Verdict) (r : List ℕ) (w : Worked) → w .failed ≡ false → marked v r w .failed ≡ true → v ≡ Yes
-only-yes No r w f h = absurd (never (sym f ∙ h))
+only-yes No r w f h = absurd (false≢true (sym f ∙ h))
 only-yes Yes r w f h = refl
-only-yes (Refused n) r w f h = absurd (never h)
+only-yes (Refused n) r w f h = absurd (false≢true h)
 
 skipped : (o : Outcome) (v : Verdict) → unlessRefused o v ≡ Yes → (v ≡ Yes) × (codeOf o ≡ 2 → ⊥)
 skipped outcome.Untouched v h = (h, λ z. omega (arith, z))
@@ -92,7 +89,7 @@ module _ (m : Model) (l : MaximumStressFailure) (e : CorotatedLinearElasticity) 
       go true f k =
           let y = skipped (updatedAt m r .outcome) _ (only-yes (judgedAt m l e r) r (recordLaw m r) refl k) in
           record { inputs = f; stands = λ n. other n (updatedAt m r .outcome) (y .1); yes = y .0 }
-      go false f k = absurd (never k)
+      go false f k = absurd (false≢true k)
 
   pub failed-then : Failed m l e r → failureLaw m l e r .failed ≡ true
   unfolding failureLaw judgedAt recordLaw

@@ -5,6 +5,7 @@ use mathlib.Core.List.{List}
 use Prim.Native.Nat.{ℕ}
 use lib.Ieee.{Float}
 use Rattle.numbers.specs.Floats.{finite}
+use Rattle.numbers.proofs.Laws.{and-both}
 use Rattle.tensor.specs.Axes.{allOf}
 use Rattle.walk.specs.Update.{updatedOf}
 use Rattle.walk.specs.Walk as walk
@@ -81,13 +82,8 @@ refused-first m l e r q = go (recordFinite r) refl q
     go true p h = rw h refl
     go false p h = refused-failure m l e r p
 
-both : (a b : Bool) → a && b ≡ true → (a ≡ true) × (b ≡ true)
-both true b h = (refl, h)
-both false true h = (h, refl)
-both false false h = (h, h)
-
 -- all of them are finite
 pub finite-first : (m : Model) (l : MaximumStressFailure) (e : CorotatedLinearElasticity) (r : List ℕ) → recordFinite r && judgeFinite l e ≡ true
     → (recordFinite r ≡ true) × (failureLaw m l e r ≡ marked (judgedAt m l e r) r (recordLaw m r))
 unfolding failureLaw
-finite-first m l e r q = let h = both (recordFinite r) (judgeFinite l e) q in (h .0, rw (h .1) refl)
+finite-first m l e r q = let h = and-both (recordFinite r) (judgeFinite l e) q in (h .0, rw (h .1) refl)

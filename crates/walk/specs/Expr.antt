@@ -58,17 +58,17 @@ module _ (f : Float → Float → Float) (left : (y : Float) → f nan y ≡ nan
   hands-on (fin s m e) (inf t) = refl
   hands-on (fin s m e) (fin t n d) = refl
 
-add-left : (y : Float) → add nan y ≡ nan
+pub add-left : (y : Float) → add nan y ≡ nan
 unfolding Ieee.add
 add-left y = refl
 
-add-right : (x : Float) → add x nan ≡ nan
+pub add-right : (x : Float) → add x nan ≡ nan
 unfolding Ieee.add
 add-right nan = refl
 add-right (inf s) = refl
 add-right (fin s m e) = refl
 
-sub-left : (y : Float) → sub nan y ≡ nan
+pub sub-left : (y : Float) → sub nan y ≡ nan
 unfolding Ieee.sub Ieee.add
 sub-left y = refl
 
@@ -78,11 +78,11 @@ sub-right nan = refl
 sub-right (inf s) = refl
 sub-right (fin s m e) = refl
 
-mul-left : (y : Float) → mul nan y ≡ nan
+pub mul-left : (y : Float) → mul nan y ≡ nan
 unfolding Ieee.mul
 mul-left y = refl
 
-mul-right : (x : Float) → mul x nan ≡ nan
+pub mul-right : (x : Float) → mul x nan ≡ nan
 unfolding Ieee.mul
 mul-right nan = refl
 mul-right (inf s) = refl

@@ -8,6 +8,7 @@ use native.Mathlib.Numerals.{add-one}
 use lib.ListN.{length, getD, take, drop, length-drop}
 use lib.Seq.{drop-cons, take-at, drop-at}
 use borrow.Author.Tests.{lt-ltb, ne-eqb}
+use Rattle.numbers.proofs.Laws.{and-both}
 use Rattle.model.specs.Kinds.{kindsOf, allowed, flagsAllowed}
 use Rattle.model.proofs.KindLaws.{kinds-most}
 use Rattle.sheet.specs.Sheet.{most, sheetFloats, headerOf}
@@ -23,11 +24,6 @@ use Rattle.writer.proofs.Stages.{sheet-length}
 use Rattle.writer.proofs.Reasons.{told, written, fine}
 
 -- ---- flags by place, and one by one
-both : (a b : Bool) → a && b ≡ true → (a ≡ true) × (b ≡ true)
-both true b h = (refl, h)
-both false true h = (h, refl)
-both false false h = (h, h)
-
 -- the places from i on
 abbrev From : List Bool → ℕ → List ℕ → Type 0
 From flags i p = length p ≡ i + length flags
@@ -40,7 +36,7 @@ fitting [] i p n b f = subst (Fits []) (sym (nothing (drop i p) (length-drop i p
     nothing (x ∷ l) e = absurd (omega (arith, e))
 fitting (flag ∷ flags) i p n b f =
     let c = drop-cons p i 0 (omega (arith, n)) in
-    let a = both (allowed flag (getD p i 0)) (flagsAllowed (i + 1) flags p) f in
+    let a = and-both (allowed flag (getD p i 0)) (flagsAllowed (i + 1) flags p) f in
     let d = subst (Below (2 ^ 64)) c b in
     let r = fitting flags (i + 1) p (n ∙ omega arith) (subst (λ (k : ℕ). Below (2 ^ 64) (drop k p)) (sym (add-one i)) (d .1)) (a .1) in
     subst (Fits (flag ∷ flags)) (sym c) (d .0, a .0, subst (λ (k : ℕ). Fits flags (drop k p)) (add-one i) r)

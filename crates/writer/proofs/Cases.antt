@@ -7,6 +7,7 @@ use native.Mathlib.Omega.{arith}
 use lib.Dec.{eqb, ltb, leb}
 use lib.ListN.{length}
 use borrow.Author.Tests.{leb-true, eqb-true, le-leb, lt-leb, le-ltb, eq-eqb, ne-eqb}
+use Rattle.numbers.proofs.Laws.{and-both}
 use Rattle.model.specs.Kinds.{last, kindsOf, flagsAllowed, parametersFit, modelKnown}
 use Rattle.sheet.specs.Sheet.{most, sheetFloats}
 use Rattle.sheet.specs.Spelling.{spellNumber}
@@ -22,15 +23,11 @@ number-most n = go (ltb n 128)
     go true = omega arith
     go false = omega arith
 
-both-left : (a b : Bool) → a && b ≡ true → a ≡ true
-both-left true b h = refl
-both-left false b h = h
-
 module _ (model : ℕ) (p : List ℕ) where
   -- a known model's parameters are as many as it has
   known-low : modelKnown model p ≡ true → model ≤ last
   unfolding modelKnown
-  known-low k = leb-true model last (both-left (leb model last) (flagsAllowed 0 (kindsOf model) p) k)
+  known-low k = leb-true model last (and-both (leb model last) (flagsAllowed 0 (kindsOf model) p) k .0)
 
   pub parameters-many : parametersFit model p ≡ true → modelKnown model p ≡ true → length p ≡ length (kindsOf model)
   parameters-many f k = eqb-true (length p) (length (kindsOf model)) (rw (le-ltb last model (known-low k)) at f)
