@@ -40,3 +40,27 @@ noRoom = 9
 -- an elementary function on the path taken would get an argument above its range: in 2's place in the order
 abbrev pub aboveRange : ℕ
 aboveRange = 10
+
+-- a record's stored determinant isn't that of its F
+abbrev pub wrongDeterminant : ℕ
+wrongDeterminant = 11
+
+-- a zone or a particle out of range, over 256 tallies, or lists of unlike lengths
+abbrev pub outOfRange : ℕ
+outOfRange = 12
+
+-- a tally would pass its end
+abbrev pub tallyFull : ℕ
+tallyFull = 13
+
+-- the factors worked out miss their check
+abbrev pub notAccepted : ℕ
+notAccepted = 14
+
+-- a part, or a second end, after a sheet's end
+abbrev pub afterEnd : ℕ
+afterEnd = 15
+
+-- over 4,096 records in a report
+abbrev pub tooLong : ℕ
+tooLong = 16

@@ -25,6 +25,18 @@ pub const NO_ROOM: u8 = 9;
 
 pub const ABOVE_RANGE: u8 = 10;
 
+pub const WRONG_DETERMINANT: u8 = 11;
+
+pub const OUT_OF_RANGE: u8 = 12;
+
+pub const TALLY_FULL: u8 = 13;
+
+pub const NOT_ACCEPTED: u8 = 14;
+
+pub const AFTER_END: u8 = 15;
+
+pub const TOO_LONG: u8 = 16;
+
 // A number, or the refusal's number.
 pub enum Answer {
     Value(f64),
