@@ -11,8 +11,8 @@ mod table;
 pub use table::*;
 
 /// A call of the C library: its name there, its arguments in order, how many words go in and come out, the place of a flag among
-/// those that go in. Of an update the inputs are the law's parameters and the 36 floats; the outputs the 36 floats and the two places
-/// of the answer.
+/// those that go in. Of an update the inputs are the law's parameters and the 37 floats; the outputs the 37 floats and the two places
+/// of the answer. The Rust knows no determinant in a record: it is handed the 36 before it.
 pub struct Call {
     pub name: &'static str,
     pub arguments: &'static [usize],
@@ -207,7 +207,7 @@ pub fn call(n: usize, i: &[u64], o: &mut [u64]) {
         SPHERICAL_PART => put(o, utils::spherical_part(&matrix(i, 0))),
         n if is_update(n) => {
             let k = parameters(n - UPDATE);
-            o[..36].copy_from_slice(&i[k..]);
+            o[..FLOATS].copy_from_slice(&i[k..]);
             update(n - UPDATE, i, o);
         }
         NEO_HOOKEAN_FPK_STRESS => put_matrix(o, neo().fpk_stress(&matrix(i, 4), f(i, 3))),

@@ -31,6 +31,14 @@ extern "C" {
     pub fn pasoletu_corotated_kirchhoff_stress(law: *const u64, law_length: usize, phase: f64, hardening: f64, f: *const u64, f_length: usize, u: *const u64, u_length: usize, sigma: *const u64, sigma_length: usize, vt: *const u64, vt_length: usize, out: *mut u64, out_length: usize) -> u8;
     pub fn pasoletu_corotated_elastic_energy_density(law: *const u64, law_length: usize, hardening: f64, sigma: *const u64, sigma_length: usize, out: *mut u64, out_length: usize) -> u8;
     pub fn pasoletu_corotated_pos_energy(law: *const u64, law_length: usize, hardening: f64, f: *const u64, f_length: usize, sigma: *const u64, sigma_length: usize, out: *mut u64, out_length: usize) -> u8;
+    pub fn pasoletu_record_neo_hookean_fpk_stress(law: *const u64, law_length: usize, record: *const u64, record_length: usize, out: *mut u64, out_length: usize) -> u8;
+    pub fn pasoletu_record_neo_hookean_kirchhoff_stress(law: *const u64, law_length: usize, record: *const u64, record_length: usize, out: *mut u64, out_length: usize) -> u8;
+    pub fn pasoletu_record_neo_hookean_elastic_energy_density(law: *const u64, law_length: usize, record: *const u64, record_length: usize, out: *mut u64, out_length: usize) -> u8;
+    pub fn pasoletu_record_neo_hookean_elastic_energy_density_in(law: *const u64, law_length: usize, one_split: f64, record: *const u64, record_length: usize, out: *mut u64, out_length: usize) -> u8;
+    pub fn pasoletu_record_neo_hookean_pos_energy(law: *const u64, law_length: usize, record: *const u64, record_length: usize, out: *mut u64, out_length: usize) -> u8;
+    pub fn pasoletu_record_corotated_kirchhoff_stress(law: *const u64, law_length: usize, record: *const u64, record_length: usize, out: *mut u64, out_length: usize) -> u8;
+    pub fn pasoletu_record_corotated_elastic_energy_density(law: *const u64, law_length: usize, record: *const u64, record_length: usize, out: *mut u64, out_length: usize) -> u8;
+    pub fn pasoletu_record_corotated_pos_energy(law: *const u64, law_length: usize, record: *const u64, record_length: usize, out: *mut u64, out_length: usize) -> u8;
     pub fn pasoletu_monaghan_pressure(pressure0: f64, gamma: u32, viscosity: f64, max_neg_pressure: f64, mass: f64, volume0: f64, density: f64, out: *mut u64, out_length: usize) -> u8;
     pub fn pasoletu_monaghan_kirchhoff_stress(pressure0: f64, gamma: u32, viscosity: f64, max_neg_pressure: f64, mass: f64, volume0: f64, density: f64, determinant: f64, velocity_gradient: *const u64, velocity_gradient_length: usize, out: *mut u64, out_length: usize) -> u8;
     pub fn pasoletu_monaghan_timestep_bound(pressure0: f64, gamma: u32, viscosity: f64, max_neg_pressure: f64, determinant: f64, mass: f64, volume0: f64, density: f64, velocity: *const u64, velocity_length: usize, cell_width: f64, out: *mut u64, out_length: usize) -> u8;
@@ -41,6 +49,7 @@ extern "C" {
     pub fn pasoletu_update(model: u64, parameters: *const u64, parameters_length: usize, record: *mut u64, record_length: usize, answer: *mut u64, answer_length: usize) -> u8;
     pub fn pasoletu_pass(model: u64, parameters: *const u64, parameters_length: usize, records: *mut u64, records_length: usize, answers: *mut u64, answers_length: usize, counts: *mut u64, counts_length: usize) -> u8;
     pub fn pasoletu_pass_with_failure(model: u64, parameters: *const u64, parameters_length: usize, limits: *const u64, limits_length: usize, corotated: *const u64, corotated_length: usize, records: *mut u64, records_length: usize, answers: *mut u64, answers_length: usize, counts: *mut u64, counts_length: usize) -> u8;
+    pub fn pasoletu_fill_determinants(records: *mut u64, records_length: usize) -> u8;
     pub fn pasoletu_read_sheet(bytes: *const u8, bytes_length: usize, header: *mut u64, header_length: usize, records: *mut u64, records_length: usize) -> u8;
     pub fn pasoletu_run_sheet(bytes: *const u8, bytes_length: usize, records: *mut u64, records_length: usize, answers: *mut u64, answers_length: usize, counts: *mut u64, counts_length: usize) -> u8;
     pub fn pasoletu_write_sheet(model: u64, parameters: *const u64, parameters_length: usize, records: *const u64, records_length: usize, bytes: *mut u8, bytes_length: usize, written: *mut u64, written_length: usize) -> u8;

@@ -43,6 +43,11 @@ pub const RANKINE_PROJECT: usize = 37;
 pub const DRUCKER_PRAGER_ALPHA: usize = 38;
 pub const DECOMPOSED_TIMES: usize = 39;
 
+// Floats of a record, and those before the determinant. Models from LAWS up name the same laws, for sheets whose records have all.
+pub const FLOATS: usize = 37;
+pub const BARE: usize = 36;
+pub const LAWS: usize = 4;
+
 // How many parameters each model has.
 pub const PARAMETERS: [usize; 4] = [3, 4, 8, 6];
 
@@ -68,10 +73,10 @@ pub const CALLS: [Call; 40] = [
     c("strain_rate", &[9], 9, None),
     c("deviatoric_part", &[9], 9, None),
     c("spherical_part", &[9], 1, None),
-    c("update snow", &[3, 36], 38, None),
-    c("update rankine", &[4, 36], 38, None),
-    c("update drucker_prager", &[8, 36], 38, Some(6)),
-    c("update nacc", &[6, 36], 38, Some(3)),
+    c("update snow", &[3, 37], 39, None),
+    c("update rankine", &[4, 37], 39, None),
+    c("update drucker_prager", &[8, 37], 39, Some(6)),
+    c("update nacc", &[6, 37], 39, Some(3)),
     c("neo_hookean_fpk_stress", &[3, NUMBER, 9], 9, None),
     c("neo_hookean_kirchhoff_stress", &[3, NUMBER, NUMBER, 9], 9, None),
     c("neo_hookean_elastic_energy_density", &[3, NUMBER, NUMBER, 9], 1, None),
@@ -91,4 +96,4 @@ pub const CALLS: [Call; 40] = [
 ];
 
 // The calls on lists of particles and on sheets, which have no number.
-pub const LISTS: [&str; 4] = ["pass", "pass_with_failure", "read_sheet", "run_sheet"];
+pub const LISTS: [&str; 5] = ["pass", "pass_with_failure", "fill_determinants", "read_sheet", "run_sheet"];

@@ -11,6 +11,8 @@ enum {
     ONE_MISSED,   // a record with a NaN that is not refused by 1
     SIDES,        // 2 and 10 exchanged
     PAST_SHEET,   // the byte of the room past the sheet's end cleared
+    ELEVEN_MISSED, // a wrong determinant that is not refused by 11
+    OLD_ONE,      // the determinant that came, kept beside a new F
 };
 
 static int fault_is(int kind) {
@@ -47,6 +49,8 @@ static uint64_t turned(uint64_t n) {
         return 3;
     if (fault_is(SIDES) && (n == 2 || n == 10))
         return 12 - n;
+    if (fault_is(ELEVEN_MISSED) && n == 11)
+        return 3;
     return n;
 }
 
@@ -58,8 +62,11 @@ static void peeked(const void *p, size_t bytes) {
 }
 
 static uint8_t broken_update(uint64_t model, const uint64_t *p, size_t np, uint64_t *r, size_t nr, uint64_t *a, size_t na) {
+    uint64_t came = nr ? r[nr - 1] : 0;
     uint8_t n = pasoletu_update(model, p, np, r, nr, a, na);
     peeked(p, 8 * np);
+    if (fault_is(OLD_ONE) && n == 0)
+        r[nr - 1] = came;
     return spoiled(turned(n), r, nr, a, na);
 }
 
@@ -78,6 +85,10 @@ static uint8_t broken_pass_with_failure(uint64_t model, const uint64_t *p, size_
     if (n == 0 && na && a[0] == 2)
         a[1] = turned(a[1]);
     return spoiled(n, r, nr, c, nc);
+}
+
+static uint8_t broken_fill_determinants(uint64_t *r, size_t nr) {
+    return spoiled(pasoletu_fill_determinants(r, nr), r, nr, NULL, 0);
 }
 
 static uint8_t broken_read_sheet(const uint8_t *s, size_t ns, uint64_t *h, size_t nh, uint64_t *r, size_t nr) {
@@ -119,6 +130,7 @@ static uint8_t broken_write_sheet(uint64_t model, const uint64_t *p, size_t np, 
 #endif
 #define pasoletu_pass broken_pass
 #define pasoletu_pass_with_failure broken_pass_with_failure
+#define pasoletu_fill_determinants broken_fill_determinants
 #define pasoletu_read_sheet broken_read_sheet
 #define pasoletu_run_sheet broken_run_sheet
 #define pasoletu_write_sheet broken_write_sheet

@@ -3,13 +3,34 @@
 #include <stddef.h>
 #include <stdint.h>
 
-#define FLOATS 36
+#define FLOATS 37
 #define MOST 200
-#define MODELS 4
+// Models from LAWS up name the same laws, for sheets whose records have all floats; those below have BARE a record.
+#define LAWS 4
+#define MODELS 8
+#define BARE 36
 // How many parameters each model has, and the place of its flag or -1.
-static const size_t FIELDS[MODELS] = {3, 4, 8, 6};
-static const int FLAG[MODELS] = {-1, -1, 6, 3};
+static const size_t FIELDS[MODELS] = {3, 4, 8, 6, 3, 4, 8, 6};
+static const int FLAG[MODELS] = {-1, -1, 6, 3, -1, -1, 6, 3};
 
+uint8_t pasoletu_record_neo_hookean_fpk_stress(const uint64_t *law, size_t law_length, const uint64_t *record,
+                                               size_t record_length, uint64_t *out, size_t out_length);
+uint8_t pasoletu_record_neo_hookean_kirchhoff_stress(const uint64_t *law, size_t law_length, const uint64_t *record,
+                                                     size_t record_length, uint64_t *out, size_t out_length);
+uint8_t pasoletu_record_neo_hookean_elastic_energy_density(const uint64_t *law, size_t law_length,
+                                                           const uint64_t *record, size_t record_length, uint64_t *out,
+                                                           size_t out_length);
+uint8_t pasoletu_record_neo_hookean_elastic_energy_density_in(const uint64_t *law, size_t law_length,
+                                                              uint64_t one_split, const uint64_t *record,
+                                                              size_t record_length, uint64_t *out, size_t out_length);
+uint8_t pasoletu_record_neo_hookean_pos_energy(const uint64_t *law, size_t law_length, const uint64_t *record,
+                                               size_t record_length, uint64_t *out, size_t out_length);
+uint8_t pasoletu_record_corotated_kirchhoff_stress(const uint64_t *law, size_t law_length, const uint64_t *record,
+                                                   size_t record_length, uint64_t *out, size_t out_length);
+uint8_t pasoletu_record_corotated_elastic_energy_density(const uint64_t *law, size_t law_length, const uint64_t *record,
+                                                         size_t record_length, uint64_t *out, size_t out_length);
+uint8_t pasoletu_record_corotated_pos_energy(const uint64_t *law, size_t law_length, const uint64_t *record,
+                                             size_t record_length, uint64_t *out, size_t out_length);
 uint8_t pasoletu_update(uint64_t model, const uint64_t *parameters, size_t parameters_length, uint64_t *record,
                         size_t record_length, uint64_t *answer, size_t answer_length);
 uint8_t pasoletu_pass(uint64_t model, const uint64_t *parameters, size_t parameters_length, uint64_t *records,
@@ -19,6 +40,7 @@ uint8_t pasoletu_pass_with_failure(uint64_t model, const uint64_t *parameters, s
                                    const uint64_t *limits, size_t limits_length, const uint64_t *corotated,
                                    size_t corotated_length, uint64_t *records, size_t records_length, uint64_t *answers,
                                    size_t answers_length, uint64_t *counts, size_t counts_length);
+uint8_t pasoletu_fill_determinants(uint64_t *records, size_t records_length);
 uint8_t pasoletu_read_sheet(const uint8_t *bytes, size_t bytes_length, uint64_t *header, size_t header_length,
                             uint64_t *records, size_t records_length);
 uint8_t pasoletu_run_sheet(const uint8_t *bytes, size_t bytes_length, uint64_t *records, size_t records_length,

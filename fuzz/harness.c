@@ -78,10 +78,12 @@ static void check_side(const uint64_t *p, const uint64_t *was, uint8_t status) {
 
 // Section 7: F is recomposed, U and V^T stay, and of the six scalars only those that the law names may change.
 static void check_stored(uint64_t model, const uint64_t *p, const uint64_t *was, const struct done *d) {
-    static const uint8_t named[4][6] = {{0, 1, 0, 1, 0, 0}, {0, 0, 1, 0, 0, 0}, {0, 1, 1, 0, 1, 0}, {0, 0, 0, 0, 0, 1}};
+    static const uint8_t named[LAWS][6] = {{0, 1, 0, 1, 0, 0}, {0, 0, 1, 0, 0, 0}, {0, 1, 1, 0, 1, 0}, {0, 0, 0, 0, 0, 1}};
     const uint64_t *r = d->record;
+    model %= LAWS;
     check(finite_words(r, FLOATS) && finite_words(d->answer + 1, 1), "a stored float is not finite", model, 0);
-    for (int k = 9; k < FLOATS; k++) {
+    check(r[BARE] == determinant(r), "the stored determinant is not that of F: bits, should be", r[BARE], determinant(r));
+    for (int k = 9; k < BARE; k++) {
         int free = (k >= 18 && k < 21) || (k >= 30 && named[model][k - 30]);
         check(free || r[k] == was[k], "an update changed a float that its law does not name: place, bits", k, r[k]);
     }
@@ -92,7 +94,7 @@ static void check_stored(uint64_t model, const uint64_t *p, const uint64_t *was,
                 a[k] = value(r[9 + 3 * i + k]) * value(r[18 + k]) * value(r[21 + 3 * k + j]);
             check(bits(a[0] + a[1] + a[2]) == r[3 * i + j], "F is not U sigma V^T: place, bits", 3 * i + j, r[3 * i + j]);
         }
-    static const int amount[4] = {33, 32, -1, 35};
+    static const int amount[LAWS] = {33, 32, -1, 35};
     if (model == 2)
         check(bits(value(was[32]) + value(d->answer[1])) == r[32], "dq is not what the hardening grew by", d->answer[1], r[32]);
     else
@@ -107,25 +109,29 @@ static void check_stored(uint64_t model, const uint64_t *p, const uint64_t *was,
 }
 
 // What a run has met in all, printed at its end: a target that never reaches a law's outcome has not tried it.
-// An outcome is untouched, stored, or refused by 1, 2, 3 or 10.
-static unsigned long outcomes[4][6], verdicts[2], refusals[9], writes[10];
+// An outcome is untouched, stored, or refused by 1, 2, 3, 10 or 11.
+static unsigned long outcomes[LAWS][7], verdicts[2], refusals[9], writes[10], fills[9];
 
 static void print_met(void) {
-    static const char *names[4] = {"snow", "rankine", "drucker_prager", "nacc"};
+    static const char *names[LAWS] = {"snow", "rankine", "drucker_prager", "nacc"};
     if (SHEETS)
         fprintf(stderr, "met: sheets read %lu, refused 4: %lu, 5: %lu, 6: %lu, 7: %lu\n", refusals[0], refusals[4], refusals[5], refusals[6], refusals[7]);
     if (TARGET == 5)
         fprintf(stderr, "met: sheets written %lu, refused 6: %lu, 7: %lu, 8: %lu, 9: %lu\n", writes[0], writes[6], writes[7], writes[8], writes[9]);
-    for (int k = 0; k < (TARGET % 5 ? 4 : 0); k++)
-        fprintf(stderr, "met: %s untouched %lu, stored %lu, refused 1: %lu, 2: %lu, 3: %lu, 10: %lu\n", names[k], outcomes[k][0], outcomes[k][1], outcomes[k][2], outcomes[k][3], outcomes[k][4], outcomes[k][5]);
+    for (int k = 0; k < (TARGET % 5 ? LAWS : 0); k++)
+        fprintf(stderr, "met: %s untouched %lu, stored %lu, refused 1: %lu, 2: %lu, 3: %lu, 10: %lu, 11: %lu\n", names[k], outcomes[k][0], outcomes[k][1], outcomes[k][2], outcomes[k][3], outcomes[k][4], outcomes[k][5], outcomes[k][6]);
+    if (TARGET == 3)
+        fprintf(stderr, "met: lists filled %lu, refused 8: %lu\n", fills[0], fills[8]);
     if (TARGET == 4)
         fprintf(stderr, "met: failed %lu, not failed %lu\n", verdicts[1], verdicts[0]);
 }
 
 static void tell(uint64_t model, const uint64_t *was, const struct done *d) {
     uint8_t kind = d->status ? d->status : 16 + d->answer[0];
+    model %= LAWS;
     met[model * 32 + kind] = 1;
-    outcomes[model][d->status == 10 ? 5 : d->status ? 1 + d->status : d->answer[0]]++;
+    unsigned place = d->status >= 10 ? d->status - 5 : d->status + 1;
+    outcomes[model][d->status ? place : d->answer[0]]++;
     if (d->status || d->answer[0] == 0)
         return;
     unsigned same = 0;
@@ -153,8 +159,10 @@ static struct done updated(uint64_t model, const uint64_t *p, size_t np, const u
     } else {
         int one = !finite_words(p, np) || !finite_words(was, FLOATS);
         check((d.status == 1) == one, "refusal 1 comes exactly where a float is not finite: answer, should be 1", d.status, one);
-        check(d.status <= 3 || d.status == 10, "update: answer", d.status, 0);
-        if (model == 0 && !one)
+        int eleven = !one && was[BARE] != determinant(was);
+        check((d.status == 11) == eleven, "refusal 11 comes exactly where the stored determinant has other bits than F's, and after 1: answer, should be 11", d.status, eleven);
+        check(d.status <= 3 || d.status == 10 || d.status == 11, "update: answer", d.status, 0);
+        if (model % LAWS == 0 && !one && !eleven)
             check_side(p, was, d.status);
         if (d.status == 0) {
             check(a[0] <= 1 && (a[0] == 1 || a[1] == 0), "update's answer places", a[0], a[1]);
@@ -198,7 +206,7 @@ static void want_pass(uint64_t model, const uint64_t *p, const struct judge *j, 
         if (fails)
             d.record[30] = 0;
         if (j)
-            met[640 + model * 16 + (d.status ? d.status : 4 + fails * 2 + d.answer[0])] = 1;
+            met[640 + model % LAWS * 16 + (d.status ? d.status : 4 + fails * 2 + d.answer[0])] = 1;
         memcpy(want_records + k * FLOATS, d.status ? r : d.record, sizeof d.record);
         want_answers[2 * k] = d.status ? 2 : d.answer[0];
         want_answers[2 * k + 1] = d.status ? d.status : d.answer[1];
@@ -230,6 +238,19 @@ static void one_pass(uint64_t model, const uint64_t *p, size_t np, const struct 
     check_room(&records_room, want ? "a refused pass wrote its records" : "a pass's records");
     check_room(&answers_room, want ? "a refused pass wrote its answers" : "a pass's answers");
     check_room(&out_room, want ? "a refused pass wrote its counts" : "a pass's counts");
+}
+
+// The determinants of a list filled in: 8 for one that is not of whole records, else each last float, whatever stood there.
+static void one_fill(const uint64_t *records, size_t nr) {
+    uint8_t want = nr % FLOATS ? 8 : 0;
+    uint64_t *r = lend(&records_room, records, nr);
+    uint8_t got = pasoletu_fill_determinants(r, nr);
+    check(got == want, "fill_determinants: answer, should be", got, want);
+    if (!want)
+        for (uint64_t *w = wanted(&records_room, nr), *end = w + nr; w < end; w += FLOATS)
+            w[BARE] = determinant(w);
+    check_room(&records_room, want ? "a refused fill_determinants wrote its records" : "fill_determinants's records");
+    fills[want]++;
 }
 
 // ---- sheets
@@ -284,7 +305,7 @@ static void read_sheet_target(const uint8_t *b, size_t n) {
     size_t exact = x.refusal ? 0 : x.count * FLOATS;
     one_read(b, n, 0, &x, 11, ROOM);
     one_read(b, n, 1, &x, 11, exact);
-    one_read(b, n, 0, &x, 11, exact + 1 + n % 35);
+    one_read(b, n, 0, &x, 11, exact + 1 + n % (FLOATS - 1));
     one_read(b, n, 0, &x, n % 2 ? 10 : 12, ROOM);
     if (exact)
         one_read(b, n, 0, &x, 11, exact - FLOATS);
@@ -297,7 +318,7 @@ static void run_sheet_target(const uint8_t *b, size_t n) {
         want_pass(x.model, x.p, NULL, sheet_records, x.count);
     one_run(b, n, 0, &x, ROOM, 2 * MOST, 4);
     one_run(b, n, 1, &x, exact, exact / FLOATS * 2, 4);
-    one_run(b, n, 0, &x, exact + 1 + n % 35, exact / FLOATS * 2, 4);
+    one_run(b, n, 0, &x, exact + 1 + n % (FLOATS - 1), exact / FLOATS * 2, 4);
     one_run(b, n, 0, &x, ROOM, 2 * MOST + (n % 2 ? 1 : -1), 4);
     one_run(b, n, 0, &x, ROOM, 2 * MOST, n % 3 ? 3 : 5);
     if (exact)
@@ -333,7 +354,7 @@ static void one_write(uint64_t model, const uint64_t *p, size_t np, const uint64
     check_room(lent, want ? "a refused write_sheet wrote its room" : "write_sheet's room");
     check_room(&out_room, want ? "a refused write_sheet wrote its length" : "write_sheet's length");
     writes[want]++;
-    met[740 + want * 4 + model % MODELS] = 1;
+    met[740 + want * MODELS + model % MODELS] = 1;
 }
 
 // A sheet that was read is written again, to its own bytes, in rooms round its length.
@@ -351,19 +372,19 @@ static void any_sheet(const uint8_t *b, size_t n) {
     static uint64_t records[ROOM + FLOATS];
     struct place s = {b, n, 0, 0};
     uint64_t first = take_byte(&s), lengths = take_byte(&s), many = take_byte(&s), p[9], words[9];
-    uint64_t model = first < 0xe0 ? first % MODELS : first < 0xf0 ? first % 8 : draw();
+    uint64_t model = first < 0xe0 ? first % MODELS : first < 0xf0 ? first % (2 * MODELS) : draw();
     size_t np = FIELDS[model % MODELS] + (lengths % 16 ? 0 : lengths & 16 ? 1 : -1);
     for (int k = 0; k < 9; k++)
         words[k] = take_word(&s);
     memcpy(p, words, sizeof p);
     if (model < MODELS && FLAG[model] >= 0 && lengths & 32)
         p[FLAG[model]] = lengths & 64 ? ONE : lengths & 128 ? 1ULL << 63 : 0;
-    size_t nr = (many < 248 ? many % 6 : many % 2 ? 126 + below(4) : 199 + below(3)) * FLOATS + (lengths % 32 == 1 ? 1 + many % 35 : 0);
+    size_t nr = (many < 248 ? many % 6 : many % 2 ? 126 + below(4) : 199 + below(3)) * FLOATS + (lengths % 32 == 1 ? 1 + many % (FLOATS - 1) : 0);
     if (nr > ROOM + FLOATS)
         nr = ROOM + FLOATS;
     for (size_t k = 0; k < nr; k++)
         records[k] = words[k % 9] + k / 9 * 0x9e3779b97f4a7c15ULL;
-    size_t exact = model < MODELS ? 1 + 8 * FIELDS[model] + (nr / FLOATS < 128 ? 1 : 2) + 8 * nr : 1;
+    size_t exact = model < MODELS ? 1 + 8 * FIELDS[model] + (nr / FLOATS < 128 ? 1 : 2) + 8 * sheet_floats(model) * (nr / FLOATS) : 1;
     if (exact > LONGEST)
         exact = LONGEST;
     one_write(model, p, np, records, nr, exact, 1);
@@ -408,7 +429,7 @@ static void law_target(const uint8_t *b, size_t n) {
     size_t na = nr / FLOATS * 2, nc = TARGET == 4 ? 4 : 3;
     switch (lengths & 0x3f) {
     case 1: nr += 1; break;
-    case 2: nr += nr ? -1 : 35; break;
+    case 2: nr += nr ? -1 : BARE; break;
     case 3: na += 1; break;
     case 4: na += na ? -1 : 2; break;
     case 5: nc += 1; break;
@@ -416,6 +437,8 @@ static void law_target(const uint8_t *b, size_t n) {
     case 7: j.nl += lengths >> 6 & 1 ? 1 : -1; break;
     case 8: j.nw += lengths >> 6 & 1 ? 1 : -1; break;
     }
+    if (TARGET == 3)
+        one_fill(records, nr);
     if (TARGET == 2)
         updated(model, p, np, records, nr, na);
     else
@@ -425,7 +448,7 @@ static void law_target(const uint8_t *b, size_t n) {
 int LLVMFuzzerInitialize(int *argc, char ***argv) {
     (void)argc, (void)argv;
     sheet_room = room_of(1 << 17);
-    records_room = room_of(8 * (ROOM + 36));
+    records_room = room_of(8 * (ROOM + FLOATS));
     answers_room = room_of(8 * (2 * MOST + 2));
     bytes_room = room_of(LONGEST + 64);
     few_room = room_of(2 * PAGE);

@@ -25,20 +25,26 @@ static double odd_float(void) {
     return odd[below(sizeof odd / sizeof *odd)];
 }
 
-// Where an input's parts stand: the words before the records, and the records.
+// Where an input's parts stand: the words before the records, and the records, each of so many floats and bytes.
 struct layout {
-    size_t model, words, first, records;
+    size_t model, words, first, records, floats, bytes;
 };
+
+static size_t floats_of(size_t model) {
+    return SHEETS ? sheet_floats(model) : FLOATS;
+}
 
 static struct layout layout(const uint8_t *b, size_t n) {
     struct layout l;
     size_t head = SHEETS ? (n && b[0] & 0x80 ? 2 : 1) : 2;
-    l.model = n ? b[0] % 4 : 0;
+    l.model = n ? b[0] % MODELS : 0;
+    l.floats = floats_of(l.model);
+    l.bytes = 8 * l.floats;
     l.words = head;
     size_t words = FIELDS[l.model] + (TARGET == 4 ? 6 : 0);
     size_t count = SHEETS ? (n > head + 8 * words && b[head + 8 * words] & 0x80 ? 2 : 1) : 0;
     l.first = head + 8 * words + count;
-    l.records = n > l.first ? (n - l.first) / 288 : 0;
+    l.records = n > l.first ? (n - l.first) / l.bytes : 0;
     return l;
 }
 
@@ -64,7 +70,8 @@ static void stretch(double *x, size_t n) {
 // Parameters that a user might give.
 static void put_parameters(uint8_t *b, size_t model) {
     double young = pow(10.0, between(2.0, 7.0)), poisson = below(8) ? between(0.0, 0.49) : between(-1.0, 1.0), flag = below(2);
-    double p[4][8] = {{between(0.0, 0.1), between(0.0, 0.02), between(1.0, 20.0)},
+    model %= LAWS;
+    double p[LAWS][8] = {{between(0.0, 0.1), between(0.0, 0.02), between(1.0, 20.0)},
                       {young, poisson, young * pow(10.0, between(-5.0, 0.0)), pow(10.0, between(-2.0, 6.0))},
                       {between(0.0, 1.2), between(0.0, 0.4), between(0.0, 0.5), between(0.0, 0.4), young * between(0.1, 2.0), young * between(0.1, 1.0), flag, between(0.0, 1.5)},
                       {young, poisson, between(0.0, 1.0), flag, between(0.0, 5.0), between(0.1, 3.0)}};
@@ -73,9 +80,20 @@ static void put_parameters(uint8_t *b, size_t model) {
         put_word(b + 8 * k, p[model][k]);
 }
 
+// The determinant of the F that stands in a record of all floats; now and then a neighbour, the other sign, or any float.
+static void put_determinant(uint8_t *b) {
+    uint64_t f[9];
+    for (int k = 0; k < 9; k++)
+        f[k] = bits(word_there(b + 8 * k));
+    uint64_t w = determinant(f);
+    if (!below(24))
+        w = below(3) ? w ^ (below(2) ? 1 : 1ULL << 63) : bits(odd_float());
+    put_word(b + 8 * BARE, value(w));
+}
+
 // A record that a law may take: factors near the identity or turned, sigma spread by one of some widths.
-static void put_record(uint8_t *b) {
-    double r[36], c = cos(between(0.0, 6.3)), s = sqrt(1.0 - c * c);
+static void put_record(uint8_t *b, size_t floats) {
+    double r[BARE], c = cos(between(0.0, 6.3)), s = sqrt(1.0 - c * c);
     double width[] = {1e-9, 1e-3, 0.03, 0.3, 2.0, 41.0}, w = width[below(6)], shift = below(2) ? 0.0 : between(-w, w);
     double turn[9] = {c, -s, 0, s, c, 0, 0, 0, 1};
     for (int k = 0; k < 9; k++) {
@@ -94,8 +112,13 @@ static void put_record(uint8_t *b) {
     r[34] = below(2) ? 0.0 : between(-0.2, 0.2);
     r[35] = between(-0.5, 0.1);
     stretch(r + 9, 27);
-    for (int k = 0; k < 36; k++)
+    if (!below(24)) // flat, of either zero, or too far stretched
+        for (int k = 0; k < 9; k++)
+            r[k] = below(2) ? 0.0 : below(2) ? -0.0 : below(2) ? 1.0 : r[k] * 1e150;
+    for (int k = 0; k < BARE; k++)
         put_word(b + 8 * k, r[k]);
+    if (floats == FLOATS)
+        put_determinant(b);
 }
 
 static size_t put_number(uint8_t *b, size_t n) {
@@ -110,7 +133,7 @@ static size_t put_number(uint8_t *b, size_t n) {
 
 // A whole input from nothing.
 static size_t fresh(uint8_t *b, size_t most) {
-    size_t model = below(4), at = 0, count = below(16) ? below(4) : SHEETS ? below(202) : below(9);
+    size_t model = below(MODELS), bytes = 8 * floats_of(model), at = 0, count = below(16) ? below(4) : SHEETS ? below(202) : below(9);
     if (most < 2 + 64 + 48 + 2)
         return LLVMFuzzerMutate(b, 0, most);
     at = put_number(b, model);
@@ -127,8 +150,8 @@ static size_t fresh(uint8_t *b, size_t most) {
         count = 1;
     if (SHEETS)
         at += put_number(b + at, count);
-    for (size_t k = 0; k < count && at + 288 <= most; k++, at += 288)
-        put_record(b + at);
+    for (size_t k = 0; k < count && at + bytes <= most; k++, at += bytes)
+        put_record(b + at, floats_of(model));
     return at;
 }
 
@@ -159,7 +182,7 @@ static void change_count(uint8_t *b, struct layout l) {
 size_t LLVMFuzzerCustomMutator(uint8_t *b, size_t n, size_t most, unsigned seed) {
     drawing = seed;
     struct layout l = layout(b, n);
-    size_t what = below(16), words = (l.first - l.words) / 8 + 36 * l.records;
+    size_t what = below(16), words = (l.first - l.words) / 8 + l.floats * l.records;
     if (what < 2 || n < l.first)
         return below(4) ? fresh(b, most) : LLVMFuzzerMutate(b, n, most);
     if (what < 4)
@@ -168,32 +191,34 @@ size_t LLVMFuzzerCustomMutator(uint8_t *b, size_t n, size_t most, unsigned seed)
         size_t k = below(words), other = below(words), head = (l.first - l.words) / 8;
         size_t at = k < head ? l.words + 8 * k : l.first + 8 * (k - head), from = other < head ? l.words + 8 * other : l.first + 8 * (other - head);
         change_word(b, n, at, from);
+        if (k >= head && l.floats == FLOATS && below(4)) // else nearly all would be refused by 11
+            put_determinant(b + l.first + l.bytes * ((k - head) / l.floats));
         return n;
     }
     if (what == 10 && l.records) {
-        put_record(b + l.first + 288 * below(l.records));
+        put_record(b + l.first + l.bytes * below(l.records), l.floats);
         return n;
     }
     if (what == 11) {
         put_parameters(b + l.words, l.model);
         return n;
     }
-    if (what == 12 && n + 288 <= most) { // one record more
-        size_t k = below(l.records + 1), at = l.first + 288 * k;
-        memmove(b + at + 288, b + at, n - at);
-        put_record(b + at);
+    if (what == 12 && n + l.bytes <= most) { // one record more
+        size_t k = below(l.records + 1), at = l.first + l.bytes * k;
+        memmove(b + at + l.bytes, b + at, n - at);
+        put_record(b + at, l.floats);
         l.records++;
-        n += 288;
+        n += l.bytes;
     } else if (what == 13 && l.records) { // one record fewer
-        size_t at = l.first + 288 * below(l.records);
-        memmove(b + at, b + at + 288, n - at - 288);
+        size_t at = l.first + l.bytes * below(l.records);
+        memmove(b + at, b + at + l.bytes, n - at - l.bytes);
         l.records--;
-        n -= 288;
+        n -= l.bytes;
     } else if (what == 14) { // cut, or longer
         return below(2) ? below(n + 1) : LLVMFuzzerMutate(b, n, most);
     } else if (!SHEETS) {
         if (below(2))
-            b[0] = below(4) ? below(4) : draw();
+            b[0] = below(4) ? below(MODELS) : draw();
         else
             b[1] = below(2) ? 0 : below(4) ? below(9) : draw();
         return n;

@@ -1,4 +1,4 @@
-// RULES' sections 6 and 7 a second time: the sheet, the finite test, the principal stresses of a pass with failure.
+// RULES' sections 4, 6 and 7 a second time: the determinant, the sheet, the finite test, the principal stresses of a pass with failure.
 #define ONE 0x3ff0000000000000ULL
 
 static double value(uint64_t w) {
@@ -18,6 +18,18 @@ static int finite_words(const uint64_t *w, size_t n) {
         if ((w[k] >> 52 & 0x7ff) == 0x7ff)
             return 0;
     return 1;
+}
+
+// Of the F that a record begins with, along the first row. Any NaN is 7ff8000000000000.
+static uint64_t determinant(const uint64_t *r) {
+    double a = value(r[0]), b = value(r[1]), c = value(r[2]), d = value(r[3]), e = value(r[4]), f = value(r[5]), g = value(r[6]), h = value(r[7]), i = value(r[8]);
+    double x = a * (e * i - f * h) - b * (d * i - f * g) + c * (d * h - e * g);
+    return x != x ? 0x7ff8000000000000ULL : bits(x);
+}
+
+// How many floats a record has in a sheet.
+static size_t sheet_floats(uint64_t model) {
+    return model < LAWS ? BARE : FLOATS;
 }
 
 static int is_flag(uint64_t w) {
@@ -85,7 +97,7 @@ static struct sheet read_second(const uint8_t *b, size_t n) {
     if (!s.refusal && x.count > MOST)
         s.refusal = 7;
     x.at = s.at;
-    for (size_t k = 0; !s.refusal && k < x.count * FLOATS; k++)
+    for (size_t k = 0; !s.refusal && k < x.count * sheet_floats(x.model); k++)
         take_word(&s);
     if (!s.refusal && s.at < n)
         s.refusal = 7;
@@ -93,11 +105,16 @@ static struct sheet read_second(const uint8_t *b, size_t n) {
     return x;
 }
 
-// Record words of a sheet that was read.
+// Record words of a sheet that was read; the determinant is filled in where the sheet has none.
 static void records_second(const uint8_t *b, const struct sheet *x, uint64_t *out) {
-    struct place s = {b, x->at + x->count * FLOATS * 8, x->at, 0};
-    for (size_t k = 0; k < x->count * FLOATS; k++)
-        out[k] = take_word(&s);
+    size_t floats = sheet_floats(x->model);
+    struct place s = {b, x->at + x->count * floats * 8, x->at, 0};
+    for (size_t k = 0; k < x->count; k++, out += FLOATS) {
+        for (size_t i = 0; i < floats; i++)
+            out[i] = take_word(&s);
+        if (floats < FLOATS)
+            out[BARE] = determinant(out);
+    }
 }
 
 // A number in one or two groups; how many bytes it takes.
@@ -120,7 +137,9 @@ static size_t spell_second(uint8_t *b, uint64_t model, const uint64_t *p, const 
     size_t at = spell_number(b, model);
     at += spell_words(b + at, p, FIELDS[model]);
     at += spell_number(b + at, count);
-    return at + spell_words(b + at, records, count * FLOATS);
+    for (size_t k = 0; k < count; k++)
+        at += spell_words(b + at, records + k * FLOATS, sheet_floats(model));
+    return at;
 }
 
 // Whether the principal stresses of a record can be told, and then whether they fail. `law` is flag, cfl, lambda, mu.

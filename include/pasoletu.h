@@ -22,8 +22,11 @@
  * by row: m[3 * row + column]. (nalgebra, Eigen and Fortran keep columns together by default: transpose on the way.)
  * Flags are the doubles 0.0 and 1.0, told by their bits: -0.0 is refused by 6.
  *
- * The order of refusals. 8 first, then 6, then 1; then 3 for moduli that are not finite; then the law's steps in order
- * to the first 2 or 3; last 3 for a result that is not finite.
+ * Records. A record is PASOLETU_FLOATS doubles, the last of them the determinant of its F: whoever writes F fills it in
+ * (pasoletu_fill_determinants), and every call that writes F writes it too. Another one is refused by 11.
+ *
+ * The order of refusals. 8 first, then 6, then 1; then 11 for a record's determinant; then 3 for moduli that are not
+ * finite; then the law's steps in order to the first 2, 3 or 10; last 3 for a result that is not finite.
  *
  * "Section n" below is section n of docs/RULES.md, the exact rules. What each call answers is proved for every input;
  * docs/PROMISES.md leads to each statement.
@@ -43,9 +46,9 @@ extern "C" {
 
 /* ==== Made by tools/table from calls.toml and VERSION: edit those ==== */
 
-#define PASOLETU_VERSION "0.1.0"
-#define PASOLETU_VERSION_MAJOR 0
-#define PASOLETU_VERSION_MINOR 1
+#define PASOLETU_VERSION "1.0.0"
+#define PASOLETU_VERSION_MAJOR 1
+#define PASOLETU_VERSION_MINOR 0
 #define PASOLETU_VERSION_PATCH 0
 
 /* The version of this header, which install.sh installs with its library. The text is constant. */
@@ -58,16 +61,17 @@ static inline const char *pasoletu_version(void)
 
 enum {
     PASOLETU_DONE = 0,
-    PASOLETU_NOT_FINITE = 1,   /* an input is NaN or infinite */
-    PASOLETU_BELOW_RANGE = 2,  /* a function would get an argument below its range */
-    PASOLETU_NO_NUMBER = 3,    /* a NaN arose, or a modulus or a result is not finite */
-    PASOLETU_ENDS_EARLY = 4,   /* the sheet ends early */
-    PASOLETU_NOT_SHORTEST = 5, /* a number of the sheet is not spelled shortest or has over two groups */
-    PASOLETU_UNKNOWN = 6,      /* unknown model, or a flag that is neither 0.0 nor 1.0 */
-    PASOLETU_TOO_MANY = 7,     /* the sheet has over 200 particles, or bytes after the last */
-    PASOLETU_LENGTH = 8,       /* a list has the wrong length */
-    PASOLETU_NO_ROOM = 9,      /* the lent room is shorter than the sheet */
-    PASOLETU_ABOVE_RANGE = 10  /* a function would get an argument above its range */
+    PASOLETU_NOT_FINITE = 1,         /* an input is NaN or infinite */
+    PASOLETU_BELOW_RANGE = 2,        /* a function would get an argument below its range */
+    PASOLETU_NO_NUMBER = 3,          /* a NaN arose, or a modulus or a result is not finite */
+    PASOLETU_ENDS_EARLY = 4,         /* the sheet ends early */
+    PASOLETU_NOT_SHORTEST = 5,       /* a number of the sheet is not spelled shortest or has over two groups */
+    PASOLETU_UNKNOWN = 6,            /* unknown model, or a flag that is neither 0.0 nor 1.0 */
+    PASOLETU_TOO_MANY = 7,           /* the sheet has over 200 particles, or bytes after the last */
+    PASOLETU_LENGTH = 8,             /* a list has the wrong length */
+    PASOLETU_NO_ROOM = 9,            /* the lent room is shorter than the sheet */
+    PASOLETU_ABOVE_RANGE = 10,       /* a function would get an argument above its range */
+    PASOLETU_WRONG_DETERMINANT = 11  /* the record's stored determinant is not that of its F */
 };
 
 /* What a refusal means and what to do, in words. The text is constant: nothing is to be freed. */
@@ -92,12 +96,16 @@ static inline const char *pasoletu_refusal_text(uint64_t refusal)
     case PASOLETU_TOO_MANY:
         return "the sheet has over 200 particles, or bytes after the last: split the sheet, or send it alone";
     case PASOLETU_LENGTH:
-        return "a list has the wrong length: give 36 floats and 2 answers a particle, 9 floats a matrix, 3 a vector";
+        return "a list has the wrong length: give 37 floats (the determinant last) and 2 answers a particle, 9 floats "
+               "a matrix, 3 a vector";
     case PASOLETU_NO_ROOM:
-        return "the lent room is shorter than the sheet: lend 57667 bytes, which hold every sheet";
+        return "the lent room is shorter than the sheet: lend 59267 bytes, which hold every sheet";
     case PASOLETU_ABOVE_RANGE:
         return "a function would get an argument above its range (torn; of Snow: crushed): look at the singular "
                "values and the hardenings";
+    case PASOLETU_WRONG_DETERMINANT:
+        return "the record's stored determinant is not that of its F: fill it in where you write F "
+               "(fill_determinants)";
     default:
         return "no refusal of this library: header and library do not belong together";
     }
@@ -134,7 +142,7 @@ static inline const char *pasoletu_refusal_text(uint64_t refusal)
 
 /* ---- A record: the doubles of a particle (section 7) ------------------------------------------------------------- */
 
-#define PASOLETU_FLOATS 36
+#define PASOLETU_FLOATS 37
 /* The place of each part in a record. */
 #define PASOLETU_F 0                     /* 9: deformation gradient, row by row */
 #define PASOLETU_U 9                     /* 9: U of F = U diag(sigma) V^T, row by row; the host's own decomposition */
@@ -146,6 +154,7 @@ static inline const char *pasoletu_refusal_text(uint64_t refusal)
 #define PASOLETU_ELASTIC_HARDENING 33
 #define PASOLETU_LOG_GAIN 34
 #define PASOLETU_ALPHA 35
+#define PASOLETU_DETERMINANT 36          /* of the F that stands there, in every bit (pasoletu_fill_determinants) */
 
 /* The Rust's defaults of the laws that are no models. */
 #define PASOLETU_NEO_HOOKEAN_CFL_COEFF 0.5
@@ -160,7 +169,9 @@ static inline const char *pasoletu_refusal_text(uint64_t refusal)
 
 /* Sheets (section 7). */
 #define PASOLETU_SHEET_MOST 200       /* particles of a sheet */
-#define PASOLETU_SHEET_BYTES 57667    /* of the longest sheet that is not refused */
+#define PASOLETU_SHEET_BYTES 59267    /* of the longest sheet that is not refused */
+#define PASOLETU_WITH_DETERMINANT 4   /* added to a model's number: the same law, in a sheet whose records have 37 floats */
+#define PASOLETU_SHEET_FLOATS 36      /* a record in a sheet without determinants */
 #define PASOLETU_HEADER 11            /* entries of read_sheet's header */
 #define PASOLETU_HEADER_MODEL 0
 #define PASOLETU_HEADER_PARAMETERS 1  /* 8: bits of the parameters, 0 past the model's last */
@@ -298,6 +309,47 @@ uint8_t pasoletu_corotated_pos_energy(const double *law, size_t law_length, doub
                                       size_t f_length, const double *sigma, size_t sigma_length, double *out,
                                       size_t out_length);
 
+/* ---- Stress and energy of a record (sections 5 and 7) ------------------------------------------------------------ */
+/* The same stresses and energies of a record's F, phase, elastic hardening and factors, with its stored determinant.
+ * law is that of the calls above.
+ * Refusals of each: 8 for a wrong length; 6 for a flag that is neither 0.0 nor 1.0; 1 for a float of the law or one
+ * of the record's 37 that is not finite; 11 for a stored determinant that is not that of F in every bit; then those
+ * of the call above. */
+
+/* law: 3; record: 37; out: 9. pasoletu_neo_hookean_fpk_stress of the record. */
+uint8_t pasoletu_record_neo_hookean_fpk_stress(const double *law, size_t law_length, const double *record,
+                                               size_t record_length, double *out, size_t out_length);
+
+/* law: 3; record: 37; out: 9. pasoletu_neo_hookean_kirchhoff_stress of the record. */
+uint8_t pasoletu_record_neo_hookean_kirchhoff_stress(const double *law, size_t law_length, const double *record,
+                                                     size_t record_length, double *out, size_t out_length);
+
+/* law: 3; record: 37; out: 1. pasoletu_neo_hookean_elastic_energy_density of the record. */
+uint8_t pasoletu_record_neo_hookean_elastic_energy_density(const double *law, size_t law_length, const double *record,
+                                                           size_t record_length, double *out, size_t out_length);
+
+/* law: 3; record: 37; out: 1. pasoletu_neo_hookean_elastic_energy_density_in of the record; one_split is a flag. */
+uint8_t pasoletu_record_neo_hookean_elastic_energy_density_in(const double *law, size_t law_length, double one_split,
+                                                              const double *record, size_t record_length, double *out,
+                                                              size_t out_length);
+
+/* law: 3; record: 37; out: 1. pasoletu_neo_hookean_pos_energy of the record. */
+uint8_t pasoletu_record_neo_hookean_pos_energy(const double *law, size_t law_length, const double *record,
+                                               size_t record_length, double *out, size_t out_length);
+
+/* law: 4; record: 37; out: 9. pasoletu_corotated_kirchhoff_stress of the record and its factors. */
+uint8_t pasoletu_record_corotated_kirchhoff_stress(const double *law, size_t law_length, const double *record,
+                                                   size_t record_length, double *out, size_t out_length);
+
+/* law: 4; record: 37; out: 1. pasoletu_corotated_elastic_energy_density of the record: of sigma's product, not of
+ * the determinant, which is tested all the same. */
+uint8_t pasoletu_record_corotated_elastic_energy_density(const double *law, size_t law_length, const double *record,
+                                                         size_t record_length, double *out, size_t out_length);
+
+/* law: 4; record: 37; out: 1. pasoletu_corotated_pos_energy of the record. */
+uint8_t pasoletu_record_corotated_pos_energy(const double *law, size_t law_length, const double *record,
+                                             size_t record_length, double *out, size_t out_length);
+
 /* ---- Monaghan's equation of state (eos_monaghan_sph.rs; section 5) ----------------------------------------------- */
 /* gamma is read as a signed 32-bit number, so that 4294967295 means -1.
  * Refusals of each: 8 for a wrong length; 1 for an input that is not finite; 3 for a NaN on the way or a result that
@@ -347,21 +399,24 @@ uint8_t pasoletu_drucker_prager_alpha(const double *fields, size_t fields_length
 
 /* ---- One particle ------------------------------------------------------------------------------------------------ */
 
-/* record: 36; answer: 2. The plastic law on one record (sections 5 and 7). parameters: as many as the model has.
+/* record: 37; answer: 2. The plastic law on one record (sections 5 and 7). parameters: as many as the model has.
  * Returns 0: answer is (PASOLETU_UNTOUCHED, 0) and the record keeps its bits, or (PASOLETU_STORED, the amount's
- * bits) and F, sigma and those scalars that the law names are new; U and V^T stay.
- * Refusals, nothing written: 8; 6 for a model over 3 or a flag; 1, 2, 3 and 10 by the law. */
+ * bits) and F, sigma, those scalars that the law names and the determinant of that F are new; U and V^T stay.
+ * Refusals, nothing written: 8; 6 for a model over 7 or a flag; 1 for a parameter or one of the 37 that is not
+ * finite; 11 for a stored determinant that is not that of F in every bit; 1, 2, 3 and 10 by the law; 3 where the new
+ * F's determinant is not finite. */
 uint8_t pasoletu_update(uint64_t model, const double *parameters, size_t parameters_length, double *record,
                         size_t record_length, uint64_t *answer, size_t answer_length);
 
 /* ---- Lists of particles (section 7) ------------------------------------------------------------------------------ */
 
 /* counts: 3. The plastic law on every record, each by its index; the pass goes on after a refused one.
- * parameters: as many as the model has; records: 36 doubles a particle, any number of particles; answers: exactly 2
+ * parameters: as many as the model has; records: 37 doubles a particle, any number of particles; answers: exactly 2
  * numbers a particle; counts: how many are untouched, stored, refused.
  * Returns 0: all answers and counts are written. A refused record keeps its bits, and its answer is
- * (PASOLETU_REFUSED, 1, 2, 3 or 10); a parameter that is not finite refuses every record by 1.
- * Refusals, before any record and with nothing written: 8; 6 for a model over 3 or a flag. */
+ * (PASOLETU_REFUSED, 1, 2, 3, 10 or 11), as pasoletu_update would refuse it; a parameter that is not finite refuses
+ * every record by 1.
+ * Refusals, before any record and with nothing written: 8; 6 for a model over 7 or a flag. */
 uint8_t pasoletu_pass(uint64_t model, const double *parameters, size_t parameters_length, double *records,
                       size_t records_length, uint64_t *answers, size_t answers_length, uint64_t *counts,
                       size_t counts_length);
@@ -372,20 +427,28 @@ uint8_t pasoletu_pass(uint64_t model, const double *parameters, size_t parameter
  * limits: (max_principal_stress, max_shear_stress); corotated: the corotated law as above; the others as in
  * pasoletu_pass, but the fourth count is how many of the records not refused have failed in this pass. A record
  * whose outcome is untouched may have a new phase. A record whose law or stress is refused keeps all its bits;
- * limits or a corotated law that are not finite refuse every record by 1, before the law's own numbers.
- * Refusals, before any record and with nothing written: 8; 6 for a model over 3 or a flag, also the corotated law's.
+ * limits or a corotated law that are not finite refuse every record by 1, before 11 and the law's own numbers.
+ * Refusals, before any record and with nothing written: 8; 6 for a model over 7 or a flag, also the corotated law's.
  */
 uint8_t pasoletu_pass_with_failure(uint64_t model, const double *parameters, size_t parameters_length,
                                    const double *limits, size_t limits_length, const double *corotated,
                                    size_t corotated_length, double *records, size_t records_length, uint64_t *answers,
                                    size_t answers_length, uint64_t *counts, size_t counts_length);
 
+/* Makes the last float of each record the determinant of the F that stands in it, a(ei - fh) - b(di - fg) + c(dh -
+ * eg), whatever stood there; all others keep their bits. For hosts that write F, or that kept 36 floats a record. It
+ * never refuses for a float: a determinant that is not finite goes in as worked, any NaN as 7ff8000000000000, and
+ * the law refuses that record by 1.
+ * Refusals, nothing written: 8 for a list that is no whole number of records of 37, as a list of 36 a record is. */
+uint8_t pasoletu_fill_determinants(double *records, size_t records_length);
+
 /* ---- Sheets (section 7) ------------------------------------------------------------------------------------------ */
 
 /* header: 11. Reads a sheet: bytes become a header and records. header: see PASOLETU_HEADER_MODEL and the others;
  * records: room for whole records, at least as many as the sheet has (PASOLETU_SHEET_MOST * PASOLETU_FLOATS is
  * always enough): the first places take the sheet's records, the rest keeps its bits. Floats pass as bits: a NaN is
- * read here and refused by the law.
+ * read here and refused by the law. A sheet of model 0 to 3 has 36 floats a record, and the determinant of its F is
+ * filled in as pasoletu_fill_determinants does; one of model 4 to 7 has all 37.
  * Refusals, nothing written: 8 for a header not of 11 or a room not of whole records, before the sheet is looked at;
  * 4, 5, 6 and 7 in reading order; then 8 for a room too small for this sheet. */
 uint8_t pasoletu_read_sheet(const uint8_t *bytes, size_t bytes_length, uint64_t *header, size_t header_length,
@@ -401,10 +464,11 @@ uint8_t pasoletu_run_sheet(const uint8_t *bytes, size_t bytes_length, double *re
 /* written: 1. Writes a sheet: model, parameters and records become bytes. parameters: as many as the model has;
  * records: whole ones, at most PASOLETU_SHEET_MOST; bytes: room for the sheet (PASOLETU_SHEET_BYTES are always
  * enough), whose first places take it, and the rest keeps its bytes; written: how many bytes the sheet has. Floats
- * pass as bits: a NaN is written here and refused by the law. pasoletu_read_sheet gives back every bit, and a sheet
- * that it read is written to the same bytes.
+ * pass as bits: a NaN is written here and refused by the law. For models 0 to 3 the determinants are left out; for 4
+ * to 7 (a law's number + PASOLETU_WITH_DETERMINANT) they are written as they stand. pasoletu_read_sheet gives back
+ * every bit that was written, and a sheet that it read is written to the same bytes.
  * Refusals, nothing written: 8 for records that are not whole, parameters not as many as the model has, or written
- * not of 1; 6 for a model over 3 or a flag; 7 for over 200 records; 9 for a room shorter than the sheet. */
+ * not of 1; 6 for a model over 7 or a flag; 7 for over 200 records; 9 for a room shorter than the sheet. */
 uint8_t pasoletu_write_sheet(uint64_t model, const double *parameters, size_t parameters_length, const double *records,
                              size_t records_length, uint8_t *bytes, size_t bytes_length, uint64_t *written,
                              size_t written_length);

@@ -299,8 +299,8 @@ class Page(Night):
     def test_pictures(self):
         self.ended(self.night("--pictures", "2"), 3)
         self.assertEqual(len(list((self.out / "pictures").iterdir())), 2)
-        self.ended(self.night("--pictures", "all"), 3, says="drawing 4 sheets")
-        self.assertEqual(len(list((self.out / "pictures").glob("*.svg"))), 6)
+        self.ended(self.night("--pictures", "all"), 3, says="drawing 7 sheets")
+        self.assertEqual(len(list((self.out / "pictures").glob("*.svg"))), 9)
         self.ended(self.night("--pictures", "all"), 3)
 
     def test_a_sheet_that_cannot_be_drawn(self):
@@ -319,14 +319,16 @@ class Page(Night):
         ran = self.run_command(CHROMIUM, "--headless", "--no-sandbox", "--disable-gpu", "--virtual-time-budget=5000", "--dump-dom", page.as_uri(), HOME=self.folder)
         report = json.loads(html.unescape(re.search(r'data-report="([^"]*)"', ran.stdout.decode()).group(1)))
         self.assertEqual(report["errors"], [])
-        self.assertEqual(report["verdict"], "1 sheet refused, 10 particles refused")
-        self.assertEqual(report["figures"], ["7", "163", "61", "92", "10"])
-        self.assertEqual([row[:3] for row in report["why"]], [["1", "6 particles", "5"], ["2", "3 particles", "3"], ["4", "1 sheet", "1"], ["10", "1 particle", "1"]])
+        self.assertEqual(report["verdict"], "1 sheet refused, 17 particles refused")
+        self.assertEqual(report["figures"], ["10", "211", "85", "109", "17"])
+        self.assertEqual([row[:3] for row in report["why"]], [["1", "9 particles", "7"], ["2", "4 particles", "4"], ["4", "1 sheet", "1"], ["10", "1 particle", "1"], ["11", "3 particles", "2"]])
         self.assertEqual([row[0] for row in report["worst"]],
-                         ["cut.sheet", "a <b> & c.sheet", "drucker_prager.sheet", "nacc.sheet", "rankine.sheet", "snow_slope.sheet"])
+                         ["cut.sheet", "rankine_determinants.sheet", "a <b> & c.sheet", "overflow.sheet", "zero_signs.sheet", "drucker_prager.sheet", "nacc.sheet",
+                          "rankine.sheet", "snow_slope.sheet"])
         self.assertEqual(report["worst"][0][1:5], ["NACC", "0", "0", "the sheet is refused by 4: the sheet ends early"])
-        self.assertIn("every particle, so look at the law's parameters first", report["worst"][1][4])
-        self.assertEqual(report["worst"][2][4], "by 1: particle 12; by 2: particle 27")
+        self.assertEqual(report["worst"][1][1:5:3], ["Rankine", "by 1: particle 12; by 2: particle 27; by 11: particle 31"])
+        self.assertIn("every particle, so look at the law's parameters first", report["worst"][2][4])
+        self.assertEqual(report["worst"][5][4], "by 1: particle 12; by 2: particle 27")
         self.assertEqual((report["before"], report["clicked"], report["back"]), ("none", "block", "none"))
         self.assertEqual(report["width"], 1000)
         self.assertEqual(report["outside"], [], "the page asks for nothing outside itself")

@@ -22,6 +22,13 @@ SHEETS = sorted((HERE / "data").iterdir())
 I = [1.0, 0, 0, 0, 1.0, 0, 0, 0, 1.0]
 NAN, INF = float("nan"), float("inf")
 SNOW = [0.025, 0.0045, 10.0]
+MODELS = 8  # 4 to 7 name the laws of 0 to 3, for sheets whose records end with the determinant
+BARE = 36  # floats of a record before the determinant
+
+
+def floats_of(model):
+    """How many floats a record has in a sheet of this model."""
+    return BARE + model // len(LAWS)
 
 
 def floats(xs):
@@ -32,16 +39,30 @@ def number(n):
     return bytes([n]) if n < 128 else bytes([n % 128 + 128, n // 128])
 
 
+def determinant(f):
+    """Of nine floats by rows, along the first row. Any NaN is 7ff8000000000000."""
+    a, b, c, d, e, g, h, i, j = f
+    x = a * (e * j - g * i) - b * (d * j - g * h) + c * (d * i - e * h)
+    return x if x == x else NAN
+
+
+def completed(r):
+    """A record's floats before the determinant, with the one of the F that stands there."""
+    return r[:BARE] + [determinant(r[:9])]
+
+
 def record(sigma=(1.0, 1.0, 1.0), phase=1.0, pdet=1.0, phard=1.0, ehard=1.0, gain=0.0, alpha=0.0, f=None):
-    return (f or I) + I + list(sigma) + I + [phase, pdet, phard, ehard, gain, alpha]
+    return completed((f or I) + I + list(sigma) + I + [phase, pdet, phard, ehard, gain, alpha])
 
 
 def sheet(records, parameters=SNOW, model=0, count=None):
-    return number(model) + floats(parameters) + number(len(records) if count is None else count) + b"".join(map(floats, records))
+    """A sheet's bytes: of models 0 to 3 the determinants are left out."""
+    n = floats_of(model)
+    return number(model) + floats(parameters) + number(len(records) if count is None else count) + b"".join(floats(r[:n]) for r in records)
 
 
-def broken(place, value):
-    r = record()
+def broken(place, value, r=None):
+    r = r or record()
     r[place] = value
     return r
 
@@ -67,10 +88,10 @@ def cases():
     yield good[:26]
     yield good[:-1]
     yield good + b"\0"
-    yield number(0) + floats(SNOW) + b"\x81\0" + floats(record())
+    yield number(0) + floats(SNOW) + b"\x81\0" + floats(record()[:BARE])
     yield b"\x80\0" + good[1:]
     yield b"\x80\x80\1" + good[1:]
-    yield number(4) + good[1:]
+    yield number(MODELS) + good[1:]
     yield number(200) + good[1:]
     # Rankine: each branch, ties, both kinds of refusal on the path, a modulus that is not finite
     strong, weak = [1e5, 0.3, 1e6, 2.0], [1e5, 0.3, 500.0, 2.0]
@@ -96,6 +117,35 @@ def cases():
                  record((0.8, 1.1, 1.1), alpha=-0.05), record(alpha=1.0), record((0.99, 1.0, 1.0), alpha=-300.0), record((0.0, 1.0, 1.0))], clay, 3)
     yield sheet([record((0.8, 1.1, 1.1), alpha=-0.05), record((0.5, 0.5, 0.5), alpha=-0.01)], clay[:3] + [0.0] + clay[4:], 3)
     yield number(3) + floats(clay[:3] + [0.5]) + number(0)
+    # A record of 36 whose F is finite and whose determinant isn't: plus and minus infinity, a NaN. The sheet is read, the record refused by 1
+    big = [1e200, 0.0, 0.0, 0.0, 1e200, 0.0, 0.0, 0.0, 1.0]
+    yield sheet([record(), record(f=big), record(f=[-1e200] + big[1:]), record(f=[1e200] * 9), record()])
+    # With determinants: right; wrong by a bit, by a sign, -0.0 for 0.0 and the other way; 1 before 11, 11 before the law's 2 and 3
+    right, flat, turned = record((0.99, 1.0, 1.001)), record(f=[0.0] * 9), record(f=[-0.0, 0.0, -0.0] + I[3:])
+    yield sheet([right, broken(36, 1.0 + 2.0 ** -52), broken(36, -1.0), flat, broken(36, -0.0, flat[:]), turned,
+                 broken(36, 0.0, turned[:]), broken(36, NAN), broken(36, INF), broken(35, NAN, broken(36, 2.0)),
+                 broken(36, 2.0, record(pdet=1e6)), record(pdet=1e6), right], SNOW, 4)
+    yield sheet([record((1.2, 0.95, 0.95)), broken(36, 2.0, record((0.0, 1.0, 1.0))), record((0.9, 0.9, 0.9)), broken(4, 2.0)], weak, 5)
+    yield sheet([broken(36, 0.0)], [1e5, 0.5, 500.0, 2.0], 5)
+    # a bad parameter comes before 11
+    yield sheet([record(), broken(36, 2.0)], sand[:5] + [NAN, 0.0, 1.0], 6)
+    yield sheet([record(), record((0.6, 1.2, 0.9)), broken(36, 0.5, record(phase=1.0))], sand + [1.0, 0.5], 6)
+    yield sheet([record((0.8, 1.1, 1.1), alpha=-0.05), broken(36, 0.5, record((0.8, 1.1, 1.1), alpha=-0.05))], clay, 7)
+    # the new F's determinant isn't finite: F is, with factors that are no rotations
+    far = record((1e-150, 1.0, 1.0))
+    far[9:18], far[21:30] = [1e120, 0.0, 0.0, 0.0, 1e120, 0.0, 0.0, 0.0, 1e120], I
+    yield sheet([far, record()], SNOW, 4)
+    yield sheet([far, record()])
+    # ends early and bytes after the last, by the longer record; the most records of 37
+    whole = sheet([record(), record()], SNOW, 4)
+    yield whole[:-8]
+    yield whole[:-1]
+    yield whole + b"\0"
+    yield b"\4" + good[1:]
+    yield number(0) + whole[1:]
+    yield sheet([record((1.0 + k / 1000.0, 1.0, 1.0 - k / 1000.0), pdet=1.0 + k / 4096.0) for k in range(200)], SNOW, 4)
+    yield sheet([record()] * 201, SNOW, 4)
+    yield number(6) + floats(sand + [-0.0, 1.0]) + number(0)
 
 
 def words(b):
@@ -119,15 +169,16 @@ def read_number(b, at):
 
 
 def read(b):
+    """Model, parameters and records, each with its determinant: filled in where the sheet has none."""
     model, at = read_number(b, 0)
-    if model > 3:
+    if model >= MODELS:
         raise Refused(6, 0)
-    parameters = []
-    for k in range((3, 4, 8, 6)[model]):
+    law, parameters = model % len(LAWS), []
+    for k in range((3, 4, 8, 6)[law]):
         if len(b) < at + 8:
             raise Refused(4, len(b))
         bits = b[at:at + 8]
-        if (model, k) in ((2, 6), (3, 3)) and bits not in (floats([0.0]), floats([1.0])):
+        if (law, k) in ((2, 6), (3, 3)) and bits not in (floats([0.0]), floats([1.0])):
             raise Refused(6, at)
         parameters += words(bits)
         at += 8
@@ -135,9 +186,11 @@ def read(b):
     count, at = read_number(b, at)
     if count > 200:
         raise Refused(7, place)
-    if len(b) - at != count * 288:
-        raise Refused(*((4, len(b)) if len(b) - at < count * 288 else (7, at + count * 288)))
-    return model, parameters, [words(b[at + 288 * k:at + 288 * (k + 1)]) for k in range(count)]
+    size = 8 * floats_of(model)
+    if len(b) - at != count * size:
+        raise Refused(*((4, len(b)) if len(b) - at < count * size else (7, at + count * size)))
+    records = [words(b[at + size * k:at + size * (k + 1)]) for k in range(count)]
+    return model, parameters, records if model >= len(LAWS) else [completed(r) for r in records]
 
 
 def rust_max(a, b):
@@ -308,16 +361,21 @@ def recompose(u, sigma, vt):
 
 
 def worked(model, p, r):
-    """The amount, nothing where the law leaves the record untouched; and the record after it."""
+    """The amount, nothing where the law leaves the record untouched; and the record after it. 1 over the parameters and all 37, then 11
+    where the stored determinant has other bits than that of F, then the law, then whether the new F's determinant is finite."""
     if not all(map(math.isfinite, p + r)):
         raise Refused(1)
-    told = LAWS[model](p, r)
+    if floats(r[BARE:]) != floats([determinant(r[:9])]):
+        raise Refused(11)
+    told = LAWS[model % len(LAWS)](p, r)
     if told is None:
         return None, r
     amount, sigma, scalars = told
     f = recompose(r[9:18], sigma, r[21:30])
     finite(*f)
-    return amount, f + r[9:18] + list(sigma) + r[21:30] + [scalars.get(k, r[k]) for k in range(30, 36)]
+    after = completed(f + r[9:18] + list(sigma) + r[21:30] + [scalars.get(k, r[k]) for k in range(30, BARE)])
+    finite(*after[BARE:])
+    return amount, after
 
 
 def principal(law, r):

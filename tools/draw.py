@@ -42,7 +42,7 @@ LEFT, TOP, WIDE, HIGH = 92, 74, 600, 500
 BESIDE = LEFT + WIDE + 26  # where the legend begins
 PICTURE = 1000
 MOST_SURFACES = 4
-NOT_FINITE = 1
+NOT_FINITE, WRONG_DETERMINANT = 1, 11
 SOME_REFUSED = 3  # the command's status where a particle was refused
 PROVED, SECOND = "the proved library", "the second implementation in tools/cases.py"
 
@@ -498,6 +498,8 @@ def not_finite(names, floats):
 
 def why(model, p, q):
     """What of its inputs a refused particle is refused for, where that can be named."""
+    if q.value == WRONG_DETERMINANT:
+        return "determinant is %r, that of F %r" % (q.before[cases.BARE], cases.determinant(q.before[:9]))
     if q.value != NOT_FINITE:
         return ""
     return not_finite(["parameter " + name for name in sheet.PARAMETERS[model]], p) or not_finite(sheet.PLACES, q.before)
@@ -634,7 +636,7 @@ def draw(args):
         raise Wrong("%s: the picture's name must end in .svg%s" % (args.svg, "" if args.png else ", or be - for standard output"))
     failure = failure_of(args)
     data = sheet.read(args.sheet)
-    model, p, _ = sheet.load(data, args.sheet)
+    model, _, p, _ = sheet.load(data, args.sheet)
     particles, who, warnings = worked(data, failure, args.second)
     if warnings and not args.second:
         print("draw.py: %s" % warnings[0], file=sys.stderr)

@@ -82,7 +82,7 @@ def nonblocking(fd):
 class Cases:
     def __init__(self, program, command):
         self.program, self.command = shell.words(program), str(command)
-        self.big = TOP / "crates" / "slope_cases" / "data" / "06"  # 200 particles
+        self.big = TOP / "crates" / "slope_cases" / "data" / "50"  # 200 particles with determinants
         self.sample = TOP / "samples" / "rankine.sheet"
         self.count = self.wrong = 0
 
@@ -123,7 +123,7 @@ class Cases:
         b = self.sample.read_bytes()[:25 + 8 * 36]
         one = (TOP / "samples" / "snow.sheet").read_bytes()
         self.tell("input byte by byte, 2 ms apart", piped(p, [bytes([x]) for x in one], 0.002), whole=self.good(TOP / "samples" / "snow.sheet"))
-        self.tell("input of 200 particles in parts of 997 bytes", piped(p, [self.big.read_bytes()[k:k + 997] for k in range(0, 57627, 997)]), whole=self.good(self.big))
+        self.tell("input of 200 particles in parts of 997 bytes", piped(p, [self.big.read_bytes()[k:k + 997] for k in range(0, self.big.stat().st_size, 997)]), whole=self.good(self.big))
         self.tell("input that stops in the middle of a record", piped(p, [b]), whole=b"sheet refused 4\n")
 
         def halted(q):

@@ -29,6 +29,11 @@ TABLE = _table()
 NUMBERS = sorted(TABLE.REFUSALS)
 
 
+def law(number):
+    """The law that a model's number names, with determinants or without; nothing for an unknown one."""
+    return TABLE.MODELS[number % len(TABLE.MODELS)] if number < TABLE.WITH_DETERMINANT + len(TABLE.MODELS) else None
+
+
 class Sheet(NamedTuple):
     """A sheet: its name below the folder of sheets, the SHA-256 of its bytes, the law that it names."""
 
@@ -39,7 +44,7 @@ class Sheet(NamedTuple):
     @classmethod
     def read(cls, folder, name):
         data = (folder / name).read_bytes()
-        return cls(name, hashlib.sha256(data).hexdigest(), TABLE.MODELS.get(data[0]) if data else None)
+        return cls(name, hashlib.sha256(data).hexdigest(), law(data[0]) if data else None)
 
     def _file(self, folder, ending):
         """A file of this sheet's bytes. Its characters need no quoting anywhere; of two sheets that share it the bytes are the same."""

@@ -1,5 +1,6 @@
 #!/usr/bin/env python3
-"""Writes the sheets of samples/ with 40 particles each, the same bytes at every run; samples/snow.sheet is the example of docs/RULES.md and stays.
+"""Writes the sheets of samples/, the same bytes at every run: the laws' with 40 particles each, and three about the determinant;
+samples/snow.sheet is the example of docs/RULES.md and stays.
 
   tools/samples.py [FOLDER]   (default samples/)
 """
@@ -62,7 +63,7 @@ def nacc(k):
     return particle(k, s, alpha=(-0.05, -0.05, -0.025)[k % 3])
 
 
-SAMPLES = {
+LAWS = {
     "snow_slope": ("snow", {}, snow),
     "rankine": ("rankine", {"young_modulus": 1e6, "poisson_ratio": 0.3, "tensile_strength": 5000.0, "softening_rate": 1e5}, rankine),
     "drucker_prager": ("drucker_prager", {"young_modulus": 1e6, "poisson_ratio": 0.3}, drucker_prager),
@@ -70,17 +71,52 @@ SAMPLES = {
 }
 
 
-def sample(name):
-    """A sample's bytes. Particle 12 has a phase that is no number and is refused by 1, particle 27 a sigma of 0 and is refused by 2, of Snow a
-    plastic determinant far out and is refused by 10."""
-    model, given, at = SAMPLES[name]
+def of_a_law(name):
+    """Particle 12 has a phase that is no number and is refused by 1, particle 27 a sigma of 0 and is refused by 2, of Snow a plastic
+    determinant far out and is refused by 10."""
+    model, given, at = LAWS[name]
     records = [at(k) for k in range(COUNT)]
     records[12][30] = cases.NAN
     if model == "snow":
         records[27][31] = -100.0
     else:
         records[27] = particle(27, [0.0, 1.0, 1.0])
-    return sheet.written(model, sheet.parameters(model, given, name), records, name)
+    return model, sheet.parameters(model, given, name), records
+
+
+def written(name, kept, model, values, records):
+    return sheet.written(model, kept, values, records, name)
+
+
+def rankine_determinants(name):
+    """Rankine's particles with their determinants. Particle 31's is one bit off, as if F had been written without it: refused by 11."""
+    model, values, records = of_a_law("rankine")
+    records[31][36] = math.nextafter(records[31][36], math.inf)
+    return written(name, True, model, values, records)
+
+
+def zero_signs(name):
+    """Flat particles, with a determinant of 0.0 (0, 1) and of -0.0 (2, 3): the other zero is another number, refused by 11 (1, 3)."""
+    flat = sheet.record({"F": [0.0] * 9, "U": sheet.IDENTITY, "sigma": [1.0, 1.0, 1.0], "V^T": sheet.IDENTITY}, {}, name)
+    turned = cases.completed([-0.0, 0.0, -0.0] + sheet.IDENTITY[3:] + flat[9:])
+    return written(name, True, "snow", cases.SNOW, [flat, flat[:36] + [-0.0], turned, turned[:36] + [0.0]])
+
+
+def overflow(name):
+    """A sheet without determinants whose particle 1 has a finite F with an infinite determinant, particle 2 one that is no number: both
+    are read and refused by 1."""
+    rest = sheet.record({}, {}, name)
+    big = [1e200, 0.0, 0.0, 0.0, 1e200, 0.0, 0.0, 0.0, 1.0]
+    return written(name, False, "snow", cases.SNOW, [cases.completed(f + rest[9:]) for f in (sheet.IDENTITY, big, [1e200] * 9, sheet.IDENTITY)])
+
+
+SAMPLES = {name: lambda name: written(name, False, *of_a_law(name)) for name in LAWS}
+SAMPLES |= {"rankine_determinants": rankine_determinants, "zero_signs": zero_signs, "overflow": overflow}
+
+
+def sample(name):
+    """A sample's bytes."""
+    return SAMPLES[name](name)
 
 
 def write(folder):

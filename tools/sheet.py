@@ -1,7 +1,7 @@
 #!/usr/bin/env python3
 """Makes sheets of particles from a table, and prints a sheet.
 
-  tools/sheet.py make IN.csv OUT.sheet --model MODEL [--parameters NAME=VALUE ..] [--split]
+  tools/sheet.py make IN.csv OUT.sheet --model MODEL [--determinants] [--parameters NAME=VALUE ..] [--split]
   tools/sheet.py make IN.json OUT.sheet [--split]
   tools/sheet.py print X.sheet [--json]
 
@@ -17,11 +17,16 @@ MODEL is snow, rankine, drucker_prager or nacc. Its parameters, in the sheet's o
   nacc            young_modulus poisson_ratio cohesion hardening_enabled hardening_factor m
 In brackets: what is taken where none is given. The others must be given. Angles are in radians; a flag is 0 or 1.
 
-A CSV has a row of column names, then a row a particle. A JSON has {"model": .., "parameters": {..}, "particles": [{..}, ..]}.
+A sheet keeps 36 floats a particle; the reader fills in F's determinant. --determinants makes a sheet that keeps the determinant too, the
+37th float: its model's number is 4 to 7.
+
+A CSV has a row of column names, then a row a particle. A JSON has {"model": .., "determinants": false, "parameters": {..}, "particles": [{..}, ..]},
+of which "determinants" may be left out.
 A particle has
   F, U, V^T       in a CSV nine columns each, F11 F12 F13 F21 .. F33; in a JSON nine numbers or three rows of three
   sigma           in a CSV sigma1 sigma2 sigma3; in a JSON three numbers
   phase (1)  plastic_determinant (1)  plastic_hardening (1)  elastic_hardening (1)  log_gain (0)  alpha (0)
+  determinant     in a sheet that keeps it: that of F where it is left out; another than that is refused by the law (11)
 Names are taken exactly as they stand here. An empty cell or a missing name takes the number in brackets. Of the matrices there may be given
   F alone                  U, sigma and V^T are numpy's decomposition of it (Debian: python3-numpy)
   sigma alone              U and V^T are the identity, F is diagonal
@@ -60,10 +65,11 @@ ELASTIC = ["young_modulus", "poisson_ratio"]
 SCALARS = {"phase": 1.0, "plastic_determinant": 1.0, "plastic_hardening": 1.0, "elastic_hardening": 1.0, "log_gain": 0.0, "alpha": 0.0}
 ENTRIES = {"F": 9, "U": 9, "sigma": 3, "V^T": 9}
 COLUMNS = {name: [name + ("%d%d" % (k // 3 + 1, k % 3 + 1) if n == 9 else "%d" % (k + 1)) for k in range(n)] for name, n in ENTRIES.items()}
-PLACES = [place for places in COLUMNS.values() for place in places] + list(SCALARS)
+DETERMINANT = "determinant"
+PLACES = [place for places in COLUMNS.values() for place in places] + [*SCALARS, DETERMINANT]
 IDENTITY = [1.0, 0.0, 0.0, 0.0, 1.0, 0.0, 0.0, 0.0, 1.0]
 MOST = 200
-MOST_BYTES = 2 + 8 * 8 + 2 + MOST * 288
+MOST_BYTES = 2 + 8 * 8 + 2 + MOST * 8 * (cases.BARE + 1)
 LONGEST_CELL = 1100  # a double's longest exact decimal has 1,077 characters
 LONGEST_FIELD = 1 << 24  # of the CSV reader, so that an over-long cell is still read and its column told
 
@@ -143,7 +149,9 @@ def matrices(given, where):
 
 
 def record(given, scalars, where):
-    return matrices(given, where) + [scalars.get(name, SCALARS[name]) for name in SCALARS]
+    """The 37 floats; the determinant is that of F where it isn't given."""
+    r = cases.completed(matrices(given, where) + [scalars.get(name, SCALARS[name]) for name in SCALARS])
+    return r[:cases.BARE] + [scalars.get(DETERMINANT, r[cases.BARE])]
 
 
 # ---- the law
@@ -183,19 +191,22 @@ def with_moduli(have, where):
     return {n: x for n, x in have.items() if n not in ELASTIC} | {"lambda": lame, "mu": mu}
 
 
-# ---- tables: each gives the model, its parameters, and the records one by one as they are asked for
+# ---- tables: each gives the law, whether the sheet keeps determinants, its parameters, and the records one by one as they are asked for
 
 
 def from_json(text, where):
     whole = parsed(text, where)
     if not isinstance(whole, dict) or "model" not in whole or not isinstance(whole.get("particles"), list) or not isinstance(whole.get("parameters", {}), dict):
         raise Wrong('%s: a JSON sheet is {"model": .., "parameters": {..}, "particles": [..]}' % where)
-    unknown = sorted(whole.keys() - {"model", "parameters", "particles"})
+    unknown = sorted(whole.keys() - {"model", "determinants", "parameters", "particles"})
     if unknown:
-        raise Wrong("%s: unknown name %s beside model, parameters and particles" % (where, shown(unknown[0])))
+        raise Wrong("%s: unknown name %s beside model, determinants, parameters and particles" % (where, shown(unknown[0])))
+    kept = whole.get("determinants", False)
+    if not isinstance(kept, bool):
+        raise Wrong("%s: determinants is %s, and should be true or false" % (where, shown(kept)))
     model = model_of(whole["model"], where)
-    records = (json_record(p, "%s, particle %d" % (where, k)) for k, p in enumerate(whole["particles"]))
-    return model, parameters(model, whole.get("parameters", {}), where), records
+    records = (json_record(p, kept, "%s, particle %d" % (where, k)) for k, p in enumerate(whole["particles"]))
+    return model, kept, parameters(model, whole.get("parameters", {}), where), records
 
 
 def parsed(text, where):
@@ -215,15 +226,17 @@ def parsed(text, where):
         raise Wrong("%s: this is no JSON of a sheet: it has lists in lists without end" % where)
 
 
-def json_record(particle, where):
+def json_record(particle, kept, where):
     if not isinstance(particle, dict):
         raise Wrong("%s: a particle is an object with names such as sigma and phase" % where)
     given, scalars = {}, {}
     for name, value in particle.items():
-        if name in SCALARS:
+        if name in SCALARS or kept and name == DETERMINANT:
             scalars[name] = number(value, "%s, %s" % (where, name))
         elif name in ENTRIES:
             given[name] = entries(name, value, "%s, %s" % (where, name))
+        elif name == DETERMINANT:
+            raise Wrong('%s: this sheet keeps no determinants: add "determinants": true beside its model' % where)
         else:
             raise Wrong("%s: unknown name %s: the names are %s" % (where, shown(name), ", ".join([*ENTRIES, *SCALARS])))
     return record(given, scalars, where)
@@ -238,19 +251,19 @@ def entries(name, value, where):
     return [number(x, "%s entry %d" % (where, k + 1)) for k, x in enumerate(flat)]
 
 
-def from_csv(stream, model, given, where):
+def from_csv(stream, model, kept, given, where):
     if model is None:
         raise Wrong("%s: a CSV has no place for the model: add --model snow, or one of %s" % (where, ", ".join(MODELS[1:])))
     model = model_of(model, "--model")
-    return model, parameters(model, given, "--parameters"), csv_records(stream, where)
+    return model, kept, parameters(model, given, "--parameters"), csv_records(stream, kept, where)
 
 
-def csv_records(stream, where):
+def csv_records(stream, kept, where):
     csv.field_size_limit(LONGEST_FIELD)
     with io.TextIOWrapper(stream, encoding="utf-8-sig", newline="") as text:
         rows = csv.reader(text, strict=True)
         try:
-            names = header(next(rows, []), "%s, row 1" % where)
+            names = header(next(rows, []), kept, "%s, row 1" % where)
             particles = filter(None, rows)
             first = next(particles, None)
             if first is None:
@@ -263,12 +276,14 @@ def csv_records(stream, where):
             raise Wrong("%s, after row %d: this is no text in UTF-8" % (where, rows.line_num))
 
 
-def header(names, where):
+def header(names, kept, where):
     if not names:
         raise Wrong("%s: it is empty, and should name the columns" % where)
     if len(names) == 1 and ";" in names[0]:
         raise Wrong("%s: the columns are parted by semicolons: part them by commas, and write decimals with a point" % where)
     for k, name in enumerate(names):
+        if name == DETERMINANT and not kept:
+            raise Wrong("%s, column %d: this sheet keeps no determinants: add --determinants" % (where, k + 1))
         if name not in PLACES:
             raise Wrong("%s, column %d: unknown column %s: columns are, letter by letter, F11 .. F33, U11 .. U33, sigma1 .. sigma3, V^T11 .. V^T33, %s"
                         % (where, k + 1, shown(name), ", ".join(SCALARS)))
@@ -309,9 +324,14 @@ def chunks(records, split, where):
             raise Wrong("%s: over %d particles, and a sheet takes %d: add --split to make several sheets" % (where, MOST, MOST))
 
 
-def written(model, values, records, where):
+def number_of(model, kept):
+    """A model's number in a sheet that keeps determinants, or one that doesn't."""
+    return MODELS.index(model) + (len(MODELS) if kept else 0)
+
+
+def written(model, kept, values, records, where):
     """The sheet's bytes. Refuses what a reader would refuse."""
-    b = cases.sheet(records, values, MODELS.index(model))
+    b = cases.sheet(records, values, number_of(model, kept))
     try:
         cases.read(b)
     except cases.Refused as e:
@@ -327,45 +347,46 @@ def read(name):
 
 
 def load(b, name):
-    """Model, parameters and records of a sheet's bytes."""
+    """Law, whether determinants are kept, parameters and records of a sheet's bytes."""
     try:
         model, values, records = cases.read(b)
     except cases.Refused as e:
         raise Wrong("%s: sheet refused %d at byte %d: %s" % (shell.called(name, "standard input"), e.args[0], e.args[1], REFUSALS[e.args[0]]))
-    return MODELS[model], values, records
+    return MODELS[model % len(MODELS)], model >= len(MODELS), values, records
 
 
 # ---- printing
 
 
-def parts(r):
-    """A record's floats by name."""
+def parts(r, kept):
+    """A record's floats by name, as its sheet has them."""
     out, at = {}, 0
     for name, n in ENTRIES.items():
         out[name] = r[at:at + n]
         at += n
-    return out | dict(zip(SCALARS, r[30:]))
+    return out | dict(zip([*SCALARS, *([DETERMINANT] if kept else [])], r[30:]))
 
 
-def as_json(model, values, records):
+def as_json(model, kept, values, records):
     def spell(x):
         return [spelled(y) for y in x] if isinstance(x, list) else spelled(x)
-    lines = [json.dumps({n: spell(x) for n, x in parts(r).items()}) for r in records]
+    lines = [json.dumps({n: spell(x) for n, x in parts(r, kept).items()}) for r in records]
     head = {n: spelled(x) for n, x in zip(PARAMETERS[model], values)}
-    return '{"model": %s,\n "parameters": %s,\n "particles": [\n  %s\n ]}\n' % (json.dumps(model), json.dumps(head), ",\n  ".join(lines))
+    told = json.dumps(model) + (',\n "determinants": true' if kept else "")
+    return '{"model": %s,\n "parameters": %s,\n "particles": [\n  %s\n ]}\n' % (told, json.dumps(head), ",\n  ".join(lines))
 
 
 def short(x):
     return repr(x) if math.isfinite(x) else "%r (%s)" % (x, spelled(x))
 
 
-def as_text(model, values, records):
-    lines = ["model %d: %s" % (MODELS.index(model), model)]
+def as_text(model, kept, values, records):
+    lines = ["model %d: %s%s" % (number_of(model, kept), model, ", with determinants" if kept else "")]
     lines += ["  %-24s %s" % (n, short(x)) for n, x in zip(PARAMETERS[model], values)]
     lines.append("particles %d" % len(records))
     for k, r in enumerate(records):
         lines.append("particle %d" % k)
-        for name, x in parts(r).items():
+        for name, x in parts(r, kept).items():
             if name in ("F", "U", "V^T"):
                 lines += ["  %-20s %s" % (name if i == 0 else "", "  ".join("%-22s" % short(y) for y in x[3 * i:3 * i + 3]).rstrip()) for i in range(3)]
             elif name == "sigma":
@@ -394,10 +415,10 @@ def make(args):
     where = shell.called(args.table, "standard input")
     with shell.reading(args.table) as stream:
         if args.table.endswith(".csv") or args.table == "-" and args.model:
-            told = from_csv(stream, args.model, pairs(args.parameters), where)
+            told = from_csv(stream, args.model, args.determinants, pairs(args.parameters), where)
         elif args.table.endswith(".json") or args.table == "-":
-            if args.model or args.parameters:
-                raise Wrong("%s: a JSON says its model and parameters itself: leave --model and --parameters away" % where)
+            if args.model or args.parameters or args.determinants:
+                raise Wrong("%s: a JSON says its model, determinants and parameters itself: leave --model, --determinants and --parameters away" % where)
             told = from_json(text_of(stream, where), where)
         else:
             raise Wrong("%s: the name must end in .csv or .json, or be - for standard input" % where)
@@ -411,9 +432,9 @@ def text_of(stream, where):
         raise Wrong("%s: this is no text in UTF-8 (byte %d)" % (where, e.start))
 
 
-def make_one(model, values, records, name, where):
+def make_one(model, kept, values, records, name, where):
     [chunk] = chunks(records, False, where)
-    b = written(model, values, chunk, where)
+    b = written(model, kept, values, chunk, where)
     shell.write(name, b)
     told = "%s: %s, %d particles, %d bytes\n" % (shell.called(name, "standard output"), model, len(chunk), len(b))
     if name == "-":
@@ -422,7 +443,7 @@ def make_one(model, values, records, name, where):
         shell.say(told)
 
 
-def make_several(model, values, records, name, where):
+def make_several(model, kept, values, records, name, where):
     if name == "-":
         raise Wrong("--split makes several sheets, and - is one output: give a name such as OUT.sheet")
     path = pathlib.Path(name)
@@ -433,7 +454,7 @@ def make_several(model, values, records, name, where):
     with shell.Together() as files:
         for n, chunk in enumerate(chunks(records, True, where), 1):
             last = path.with_name("%s-%05d%s" % (path.stem, n, path.suffix))
-            files.add(last, written(model, values, chunk, where))
+            files.add(last, written(model, kept, values, chunk, where))
             count += len(chunk)
     shell.say("%s is the last of %d sheets: %s, %d particles\n" % (last, n, model, count))
 
@@ -450,6 +471,7 @@ def main(argv=None):
     m.add_argument("table", metavar="IN.csv|IN.json|-")
     m.add_argument("sheet", metavar="OUT.sheet|-")
     m.add_argument("--model")
+    m.add_argument("--determinants", action="store_true", help="keep each particle's determinant in the sheet")
     m.add_argument("--parameters", nargs="*", default=[], metavar="NAME=VALUE")
     m.add_argument("--split", action="store_true", help="make several sheets of at most %d particles" % MOST)
     m.set_defaults(work=make)

@@ -58,7 +58,7 @@ class Check(Copy):
     def test_each_stale_file_is_told(self):
         for name in MADE:
             was = (self.top / name).read_text()
-            (self.top / name).write_text(re.sub(r"0\.1\.0|36|pasoletu_exp\(|\"exp\"", "7.7.7", was))
+            (self.top / name).write_text(re.sub(r"1\.0\.0|37|pasoletu_exp\(|\"exp\"", "7.7.7", was))
             with self.subTest(name):
                 self.told(name + " is stale")
             (self.top / name).write_text(was)
@@ -104,8 +104,8 @@ class Check(Copy):
         self.told("crates/model: the models are 3, in the table 4")
 
     def test_another_length_in_replay_is_told(self):
-        self.edit("crates/replay/src/reading.rt", "    39,\n", "    38,\n")
-        self.told("crates/replay: call 20 is ('update 0', 38, 38)")
+        self.edit("crates/replay/src/reading.rt", "    40,\n", "    39,\n")
+        self.told("crates/replay: call 20 is ('update 0', 39, 39)")
 
 
 class Rows(Copy):
@@ -130,6 +130,12 @@ remedy = "turn it"
             text = (self.top / name).read_text()
             self.assertTrue("UPSIDE_DOWN" in text and "turn it" in text, name)
         self.told("crates/answers: UPSIDE_DOWN is None, in the table 250")
+
+    def test_a_reserved_refusal_needs_no_row_and_may_have_none(self):
+        self.edit("calls.toml", "reserved = [12, ", "reserved = [")
+        self.told("crates/answers: OUT_OF_RANGE is not in calls.toml: add its row")
+        self.edit("calls.toml", "reserved = [", "reserved = [11, 12, ")
+        self.told("crates/answers: 11 has its row in calls.toml now: take it off `reserved`")
 
     def test_another_refusal_in_the_proved_crate_is_told(self):
         self.edit("crates/answers/src/lib.rt", "ABOVE_RANGE: u8 = 10", "ABOVE_RANGE: u8 = 11")

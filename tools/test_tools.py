@@ -114,8 +114,9 @@ class Tables(InFolder):
                 status, text, err = quiet(sheet.main, "print", path, "--json")
                 self.assertEqual((status, err), (0, ""))
                 self.assertEqual(self.made("a.json", text), path.read_bytes(), path.name)
-                seen.add(json.loads(text)["model"])
-        self.assertEqual(seen, set(sheet.MODELS))
+                told = json.loads(text)
+                seen.add((told["model"], told.get("determinants", False)))
+        self.assertEqual(seen, {(model, kept) for model in sheet.MODELS for kept in (False, True)})
 
     def test_bits_of_odd_floats(self):
         odd = [0x7ff0000000000001, 0xfff8000000000123, 0x8000000000000000, 1, 0x7fefffffffffffff, 0x7ff0000000000000]
@@ -139,12 +140,26 @@ class Tables(InFolder):
         self.assertEqual(records[0], cases.record((1.1, 0.9, 1.0), gain=0.25, f=[1.1, 0, 0, 0, 0.9, 0, 0, 0, 1.0]))
         self.assertEqual(records[1], cases.record(phard=3.0))
 
-    def test_csv_of_all_36(self):
-        record = [float(k) + 0.5 for k in range(36)]
+    def test_csv_of_all_of_them(self):
+        """36, and the determinant is filled in; 37, and it stays as it is given."""
+        record = [float(k) + 0.5 for k in range(37)]
         names = ["%s%d%d" % (m, i, j) for m in "FU" for i in (1, 2, 3) for j in (1, 2, 3)] + ["sigma1", "sigma2", "sigma3"]
         names += ["V^T%d%d" % (i, j) for i in (1, 2, 3) for j in (1, 2, 3)] + list(sheet.SCALARS)
-        text = ",".join(names) + "\n" + ",".join(map(repr, record)) + "\n"
-        self.assertEqual(cases.read(self.made("a.csv", text, "--model", "snow"))[2], [record])
+        text = ",".join(names) + "\n" + ",".join(map(repr, record[:36])) + "\n"
+        self.assertEqual(cases.read(self.made("a.csv", text, "--model", "snow"))[::2], (0, [record[:36] + [cases.determinant(record[:9])]]))
+        self.assertEqual(cases.read(self.made("a.csv", text, "--model", "snow", "--determinants"))[::2], (4, [record[:36] + [cases.determinant(record[:9])]]))
+        text = ",".join([*names, "determinant"]) + "\n" + ",".join(map(repr, record)) + "\n"
+        self.assertEqual(cases.read(self.made("a.csv", text, "--model", "snow", "--determinants"))[::2], (4, [record]))
+        self.refused("row 1, column 37: this sheet keeps no determinants: add --determinants", "a.csv", text, "--model", "snow")
+
+    def test_determinants_of_a_json(self):
+        rest, wrong = {"model": "snow", "determinants": True, "particles": [{}]}, {"determinant": 2}
+        self.assertEqual(cases.read(self.made("a.json", json.dumps(rest)))[::2], (4, [cases.record()]))
+        self.assertEqual(cases.read(self.made("a.json", json.dumps(rest | {"particles": [wrong]})))[2][0], cases.broken(36, 2.0))
+        self.refused('particle 0: this sheet keeps no determinants: add "determinants": true', "a.json", json.dumps({"model": "snow", "particles": [wrong]}))
+        self.refused("determinants is '1', and should be true or false", "a.json", json.dumps(rest | {"determinants": 1}))
+        made = ran("sheet.py", "make", self.file("b.json", json.dumps(rest)), self.folder / "b.sheet", "--determinants")
+        self.one_sentence(made, "a JSON says its model, determinants and parameters itself")
 
     def test_defaults_are_the_laws(self):
         text = (HERE.parent / "crates" / "plasticity_drucker_prager" / "src" / "lib.rt").read_text()
@@ -413,19 +428,19 @@ class Pictures(InFolder):
         self.assertEqual(quiet(sheet.main, "make", self.folder / "a.csv", made, "--model", "snow")[0], 0)
         status, err, root = self.drawn(made)
         self.assertEqual((status, err, self.crosses(root), self.rings(root)), (0, "", 0, 0))
-        self.assertIn("refused by 1: an input is NaN or infinite; no place in the plane particle 0: F22 is nan, sigma2 is nan", self.told(root))
+        self.assertIn("refused by 1: an input is NaN or infinite; no place in the plane particle 0: F22 is nan, sigma2 is nan, determinant is nan", self.told(root))
 
     def test_nothing_that_is_not_finite_has_a_place(self):
         values = {"snow": cases.SNOW, "rankine": [1e5, 0.3, 500.0, 2.0], "drucker_prager": [0.6, 0.15, 0.2, 0.17, 5e4, 4e4, 0.0, 1.0], "nacc": [1e4, 0.3, 0.05, 1.0, 3.0, 2.36]}
         for model, p in values.items():
             plane = draw.PLANES[model](p)
             self.assertIsNotNone(draw.place(plane, cases.record((0.98, 0.99, 1.0)), False))
-            for place in range(36):
+            for place in range(37):
                 for x in NOT_FINITE:
                     for after in (False, True):
                         self.assertIsNone(draw.place(plane, cases.broken(place, x), after), (model, place, x))
-            broken = [cases.broken(place, x) for place in range(36) for x in NOT_FINITE]
-            root = self.drawn_of([cases.record((0.98, 0.99, 1.0))] + broken, p, sheet.MODELS.index(model))
+            broken = [cases.broken(place, x) for place in range(37) for x in NOT_FINITE]
+            root = self.drawn_of([cases.record((0.98, 0.99, 1.0))] + broken, p, sheet.number_of(model, True))
             self.assertEqual(self.crosses(root), 0, model)
             for place, name in enumerate(sheet.PLACES):
                 self.assertIn("particle %d: %s is nan" % (1 + 3 * place, name), self.told(root), model)
@@ -451,23 +466,30 @@ class Pictures(InFolder):
             grey = [e for e in root.iter("{http://www.w3.org/2000/svg}circle") if e.get("fill") == draw.GREY]
             self.assertEqual(len(grey), codes.count(0) + 1, path.name)  # one in the legend
             self.assertEqual("refused by" in self.told(root), 2 in codes)
-            if 2 in codes:
+            if 2 in codes and len(codes) > 4:
                 self.assertIn("particle 12: phase is nan", self.told(root))
                 number, side = (10, "above") if path.stem == "snow_slope" else (2, "below")
                 self.assertRegex(self.told(root), "refused by %d: a function would get an argument %s its range .* particle 27" % (number, side))
+
+    def test_a_wrong_determinant_is_told(self):
+        root = self.drawn(HERE.parent / "samples" / "zero_signs.sheet")[2]
+        self.assertIn("refused by 11: the record's stored determinant is not that of its F", self.told(root))
+        self.assertIn("particle 1: determinant is -0.0, that of F 0.0 particle 3: determinant is 0.0, that of F -0.0", self.told(root))
+        root = self.drawn(HERE.parent / "samples" / "overflow.sheet")[2]
+        self.assertIn("no place in the plane particle 1: determinant is inf particle 2: determinant is nan", self.told(root))
 
     def test_numbers_in_short(self):
         self.assertEqual([draw.ranges(x) for x in ([], [3], [1, 2, 3, 5, 8, 9])], ["", "3", "1-3, 5, 8-9"])
 
     def test_a_long_list_stays_in_the_picture(self):
-        root = self.drawn_of([cases.broken(k % 36, NOT_FINITE[k % 3]) for k in range(200)])
+        root = self.drawn_of([cases.broken(k % 37, NOT_FINITE[k % 3]) for k in range(200)], cases.SNOW, 4)
         for e in root.iter("{http://www.w3.org/2000/svg}text"):
             self.assertLess(float(e.get("y")), float(root.get("height")))
 
     def test_stored_particles_end_on_their_surface(self):
         for name, distance in (("rankine", 1e-12), ("drucker_prager", 1e-12), ("snow_slope", 1e-15)):
             data = (HERE.parent / "samples" / (name + ".sheet")).read_bytes()
-            model, p, _ = sheet.load(data, name)
+            model, _, p, _ = sheet.load(data, name)
             plane = draw.PLANES[model](p)
             seen = 0
             for q in draw.by_second(data, None):
@@ -488,7 +510,7 @@ class Pictures(InFolder):
 
     def test_nacc_inside_is_untouched(self):
         data = (HERE.parent / "samples" / "nacc.sheet").read_bytes()
-        model, p, _ = sheet.load(data, "nacc")
+        model, _, p, _ = sheet.load(data, "nacc")
         plane = draw.PLANES[model](p)
         codes = []
         for q in draw.by_second(data, None):
@@ -573,7 +595,7 @@ class Pictures(InFolder):
 
     def test_a_library_for_another_processor(self):
         """One that is found, and has another processor's number in its header, is told as that; one that breaks off is not here."""
-        out, file = self.folder / "out.svg", self.folder / "libpasoletu.so.0"
+        out, file = self.folder / "out.svg", self.folder / "libpasoletu.so.1"
         only = ("import sys; sys.path[:0] = sys.argv[1:3]; import draw, pasoletu._find; pasoletu._find._files = lambda: [sys.argv[3]]; "
                 "sys.exit(draw.main(sys.argv[4:]))")
         header = b"\x7fELF\x02\x01\x01" + bytes(9) + struct.pack("<HH", 3, 62 if platform.machine() == "aarch64" else 183)
@@ -620,6 +642,70 @@ class Second(unittest.TestCase):
         self.assertEqual(r[:9], [1.0045, 0, 0, 0, 1.0, 0, 0, 0, 0.975])
         self.assertAlmostEqual(r[31], 1.0 / (1.0045 * 0.975))
 
+    def test_the_determinant_by_hand(self):
+        for f, d in (([2.0, 0.0, 0.0, 0.0, 3.0, 0.0, 0.0, 0.0, 5.0], 30.0), ([0.0, 1.0, 0.0, 1.0, 0.0, 0.0, 0.0, 0.0, 1.0], -1.0), ([1.0, 2.0, 3.0, 4.0, 5.0, 6.0, 7.0, 8.0, 10.0], -3.0)):
+            self.assertEqual(cases.determinant(f), d)
+        # the order of the operations: by another the first would be 0.0, the second finite
+        self.assertEqual(cases.determinant([1.0, 1.0, 0.0, 1.0, 1.0 + 2.0 ** -52, 0.0, 0.0, 0.0, 1.0]), 2.0 ** -52)
+        self.assertEqual(cases.determinant([1e-200, 0.0, 0.0, 0.0, 1e200, 0.0, 0.0, 0.0, 1e200]), math.inf)
+        odd = cases.floats([cases.determinant([math.inf] * 9)])
+        self.assertEqual(odd, bytes.fromhex("000000000000f87f"))
+
+    def told(self, model, p, r):
+        try:
+            return cases.worked(model, p, r)[0]
+        except cases.Refused as e:
+            return e
+
+    def test_the_order_of_1_and_11(self):
+        """Of a record with a wrong determinant: 1 of any other float comes first, then 11, then what the law refuses or leaves."""
+        number = lambda *given: self.told(*given).args[0]
+        strong, sand = [10.0, 0.25, 100.0, 1.0], [0.6, 0.15, 0.2, 0.17, 3.0, 1.0, 1.0, 1.0]
+        for place in range(36):
+            self.assertEqual(number(0, cases.SNOW, cases.broken(place, cases.NAN, cases.broken(36, 2.0))), 1)
+        self.assertEqual(number(0, [0.025, cases.INF, 10.0], cases.broken(36, 2.0)), 1)
+        for model, p, r in ((0, cases.SNOW, cases.record(pdet=1e6)), (1, strong, cases.record()), (1, strong, cases.record((0.0, 1.0, 1.0))), (2, sand, cases.record()), (1, [10.0, 0.5, 1.0, 1.0], cases.record())):
+            self.assertEqual(number(model, p, cases.broken(36, 2.0, r[:])), 11)
+            told = self.told(model, p, r)
+            self.assertTrue(told is None or told.args[0] in (2, 3), told)
+        for place in range(9):
+            self.assertEqual(number(0, cases.SNOW, cases.broken(place, 2.0)), 11) if place in (0, 4, 8) else None
+
+    def test_zeros_differ_by_their_sign(self):
+        flat = cases.record(f=[0.0] * 9)
+        self.assertEqual(self.told(0, cases.SNOW, flat), 1.0)
+        self.assertEqual(self.told(0, cases.SNOW, cases.broken(36, -0.0, flat[:])).args[0], 11)
+
+    def test_the_new_determinant(self):
+        _, r = cases.worked(0, cases.SNOW, cases.record((2.0, 1.0, 0.5)))
+        self.assertEqual(r[36], 1.0045 * (1.0 * 0.975))
+        # F before and after is finite; after, its determinant is not
+        far = cases.record((1.0, 1.0, 1.0))
+        far[9:18] = [1e150, 0.0, 0.0, 0.0, 1e150, 0.0, 0.0, 0.0, 1e150]
+        self.assertEqual(self.told(0, cases.SNOW, far).args[0], 3)
+        # untouched, it is not asked for
+        self.assertIsNone(self.told(1, [10.0, 0.25, 100.0, 1.0], far))
+
+    def test_sheets_of_36_and_of_37(self):
+        records = [cases.record((2.0, 1.0, 0.5)), cases.broken(36, 7.0), cases.record(f=[1e200] * 9)]
+        for model, size in ((0, 36), (4, 37)):
+            b = cases.sheet(records, cases.SNOW, model)
+            self.assertEqual(len(b), 1 + 24 + 1 + 3 * 8 * size)
+            number, p, read = cases.read(b)
+            self.assertEqual((number, p), (model, cases.SNOW))
+            self.assertEqual(cases.sheet(read, p, number), b)
+            self.assertEqual(read[1][36], 7.0 if model else 1.0)
+            self.assertTrue(math.isnan(read[2][36]))
+        self.assertEqual(cases.expected(cases.sheet(records))[1:4], ["0 stored %r" % cases.worked(0, cases.SNOW, records[0])[0], "1 stored 1.0", "2 refused 1"])
+        self.assertEqual(cases.expected(cases.sheet(records, cases.SNOW, 4))[2:4], ["1 refused 11", "2 refused 1"])
+        for model in (8, 9, 127):
+            self.assertEqual(cases.expected(cases.number(model) + b"\0" * 25), ["sheet refused 6"])
+
+    def test_the_longest_sheet(self):
+        longest = cases.sheet([cases.record()] * 200, [0.0] * 8, 6)
+        self.assertEqual(len(longest), 1 + 64 + 2 + 200 * 37 * 8)
+        self.assertEqual(len(longest), next(c.value for g in sheet.TABLE.constants for c in g.rows if c.name == "SHEET_BYTES"))
+
     def test_failure_by_hand(self):
         """Judged as it stands: Rankine's law leaves the record, whose stresses are 10, 6, 6."""
         law, r, strong = [1.0, 0.9, 3.0, 1.0], cases.record((2.0, 1.0, 1.0)), [10.0, 0.25, 100.0, 1.0]
@@ -651,9 +737,9 @@ class Second(unittest.TestCase):
         law = [1.0, 0.9, 3.0, 1.0]
         # the law's 10, though the stress of the record as it came would be refused by 3; and the limits' 1 before it
         lost = cases.record((2.0, 1.0, 1.0), pdet=-1000.0, ehard=1.7e308)
-        for limits, number in (([-1.0, 100.0], 10), ([cases.NAN, 100.0], 1)):
+        for limits, r, number in (([-1.0, 100.0], lost, 10), ([cases.NAN, 100.0], lost, 1), ([-1.0, 100.0], cases.broken(36, 2.0), 11), ([cases.NAN, 1.0], cases.broken(36, 2.0), 1)):
             with self.assertRaises(cases.Refused) as caught:
-                cases.worked_with_failure(0, cases.SNOW, limits, law, lost)
+                cases.worked_with_failure(0, cases.SNOW, limits, law, r)
             self.assertEqual(caught.exception.args, (number,))
         # a stress that is refused only by the hardening that the law leaves
         r, stiff = cases.record((0.9, 1.0, 1.0), pdet=0.5), [1.0, 0.9, 0.0, 1e307]
@@ -679,7 +765,9 @@ class ByLibrary(InFolder):
             self.assertEqual(a.value, b.value, where)
         self.close(a.after, b.after, where, distance)
         if a.code == 2:
-            self.assertEqual(struct.pack("<36d", *a.after), struct.pack("<36d", *a.before), where)
+            self.assertEqual(cases.floats(a.after), cases.floats(a.before), where)
+        else:
+            self.assertEqual(cases.floats(a.after[36:]), cases.floats([cases.determinant(a.after[:9])]), where)
 
     def test_library_and_second_agree(self):
         failure = ([2e4, 1.5e4], [1.0, 0.9, 576923.0, 384615.0])
@@ -698,10 +786,10 @@ class ByLibrary(InFolder):
 
     def test_drawn_records_agree(self):
         """4,000 records drawn at random: each outcome, refusal and verdict, and what is stored within 1e-7."""
-        d, seen = random.Random(5), set()
+        d, seen, wrong = random.Random(5), set(), 0
         for _ in range(4000):
-            model, failure = d.randrange(4), None
-            p, r = drawn_parameters(d)[model], drawn_record(d)
+            model, failure = d.randrange(8), None
+            p, r = drawn_parameters(d)[model % 4], drawn_record(d)
             if d.random() < 0.5:
                 size = 10.0 ** d.uniform(1, 7)
                 failure = [size * d.random(), size * d.random()], [float(d.randint(0, 1)), 0.9, size * d.uniform(0, 2), size]
@@ -709,7 +797,9 @@ class ByLibrary(InFolder):
             [a], [b] = draw.by_library(LIBRARY, data, failure), draw.by_second(data, failure)
             self.agree(a, b, repr((model, p, failure, r)), 1e-7)
             seen.add((model, a.code))
-        self.assertEqual(len(seen), 11)  # three outcomes a law, but Snow leaves nothing untouched
+            wrong += a.code == 2 and a.value == 11
+        self.assertEqual(len(seen), 22)  # three outcomes a law, but Snow leaves nothing untouched
+        self.assertGreater(wrong, 50)
 
     def test_it_is_drawn_by_default(self):
         for path in SAMPLES:
@@ -834,22 +924,22 @@ class Tools(InFolder):
     def test_cases(self):
         process = ran("cases.py", "check", env=self.env)
         self.assertEqual((process.returncode, process.stderr), (0, b""))
-        self.assertIn(b"the gate's: 385 lines, 385 expected, 0 differ", process.stdout)
+        self.assertIn(b"the gate's: 663 lines, 663 expected, 0 differ", process.stdout)
         self.assertEqual(process.stdout.count(b"0 differ"), 2 if os.environ.get("PASOLETU_SLOPE") else 1)
 
     def test_replayed(self):
         process = ran("measure/replayed.py", env=self.env)
         self.assertEqual((process.returncode, process.stderr), (0, b""))
-        self.assertEqual(process.stdout, b"1048 passed, 0 failed\n")
+        self.assertEqual(process.stdout, b"1224 passed, 0 failed\n")
 
     def test_another_side_in_the_replayed_list(self):
         b = bytearray((HERE.parent / "crates" / "replay" / "data" / "list").read_bytes())
-        b[741] = 12 - b[741]  # an exponential's: 10 for 2
+        b[731] = 12 - b[731]  # an exponential's: 10 for 2
         changed = self.folder / "list"
         changed.write_bytes(b)
         process = ran("measure/replayed.py", changed, env=self.env)
         self.assertEqual(process.returncode, 1)
-        self.assertIn(b"byte 740: call 0 is refused by 2, by the second reading 10", process.stdout)
+        self.assertIn(b"byte 730: call 0 is refused by 10, by the second reading 2", process.stdout)
 
     def test_cases_by_an_emulator(self):
         program = self.file("slope", "cat >/dev/null; echo emulated")
@@ -885,7 +975,10 @@ def drawn_record(d):
                      d.choice([0.0, d.uniform(-0.2, 0.2)]), d.uniform(-0.5, 0.1))
     if d.random() < 0.1:
         r[d.randrange(36)] *= 10.0 ** d.uniform(-308, 308)
-    return list(map(float, r))
+    r = cases.completed(list(map(float, r)))
+    if d.random() < 0.1:
+        r[36] = d.choice([-r[36], math.nextafter(r[36], math.inf), 0.0, r[36]])
+    return r
 
 
 if __name__ == "__main__":

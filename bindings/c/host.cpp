@@ -32,10 +32,11 @@ int main()
         const std::vector<double> record = at_rest(sigma);
         records.insert(records.end(), record.begin(), record.end());
     }
+    const auto filled = pasoletu_fill_determinants(records.data(), records.size());
     std::vector<std::uint64_t> answers(3 * PASOLETU_ANSWERS), counts(3);
     const auto refusal = pasoletu_pass(PASOLETU_SNOW, snow.data(), snow.size(), records.data(), records.size(), answers.data(),
                                        answers.size(), counts.data(), counts.size());
-    const bool holds = refusal == PASOLETU_DONE && counts[1] == 2 && counts[2] == 1 && answers[5] == PASOLETU_NOT_FINITE &&
+    const bool holds = filled == PASOLETU_DONE && refusal == PASOLETU_DONE && counts[1] == 2 && counts[2] == 1 && answers[5] == PASOLETU_NOT_FINITE &&
                        version_in_second() == std::string(pasoletu_version());
     if (!holds)
         std::printf("host.cpp: the pass answered %d: %s\n", refusal, pasoletu_refusal_text(refusal));

@@ -8,7 +8,7 @@
 
 #define PARTICLES 3
 
-/* A particle at rest whose factors are the singular values on the axes: F = I diag(sigma) I. */
+/* A particle at rest whose factors are the singular values on the axes: F = I diag(sigma) I. Its determinant is still to be filled in. */
 static void at_rest(double *record, const double sigma[3])
 {
     for (int k = 0; k < PASOLETU_FLOATS; k++)
@@ -36,6 +36,7 @@ int main(void)
 
     for (int k = 0; k < PARTICLES; k++)
         at_rest(&records[k * PASOLETU_FLOATS], sigma[k]);
+    pasoletu_fill_determinants(records, PARTICLES * PASOLETU_FLOATS);
 
     uint8_t refusal = pasoletu_pass(PASOLETU_SNOW, snow, PASOLETU_SNOW_PARAMETERS, records, PARTICLES * PASOLETU_FLOATS,
                                     answers, PARTICLES * PASOLETU_ANSWERS, counts, 3);

@@ -299,6 +299,7 @@ static void at_rest(double *r)
         r[PASOLETU_SIGMA + k] = 1;
     r[PASOLETU_PHASE] = r[PASOLETU_PLASTIC_DETERMINANT] = 1;
     r[PASOLETU_PLASTIC_HARDENING] = r[PASOLETU_ELASTIC_HARDENING] = 1;
+    r[PASOLETU_DETERMINANT] = 1;
 }
 
 static void update(void)
@@ -308,21 +309,22 @@ static void update(void)
     uint64_t answer[2] = {77, 77};
     at_rest(r);
     memcpy(was, r, sizeof was);
-    CHECK(pasoletu_update(PASOLETU_SNOW, SNOW, 3, r, 37, answer, 2) == 8);
-    CHECK(pasoletu_update(PASOLETU_SNOW, SNOW, 3, r, 36, answer, 1) == 8);
-    CHECK(pasoletu_update(PASOLETU_SNOW, SNOW, 2, r, 36, answer, 2) == 8);
-    CHECK(pasoletu_update(4, SNOW, 3, r, 36, answer, 2) == 6);
-    CHECK(answer[0] == 77 && answer[1] == 77 && same(r, was, 36));
-    CHECK(pasoletu_update(PASOLETU_SNOW, SNOW, 3, r, 36, answer, 2) == 0); /* section 7's example */
-    CHECK(answer[0] == PASOLETU_STORED && answer[1] == UINT64_C(0x3ff0000000000000) && same(r, was, 36));
-    CHECK(pasoletu_update(PASOLETU_DRUCKER_PRAGER, cone, 8, r, 36, answer, 2) == 0); /* P12 */
+    CHECK(pasoletu_update(PASOLETU_SNOW, SNOW, 3, r, 38, answer, 2) == 8);
+    CHECK(pasoletu_update(PASOLETU_SNOW, SNOW, 3, r, 37, answer, 1) == 8);
+    CHECK(pasoletu_update(PASOLETU_SNOW, SNOW, 2, r, 37, answer, 2) == 8);
+    CHECK(pasoletu_update(PASOLETU_SNOW, SNOW, 3, r, PASOLETU_SHEET_FLOATS, answer, 2) == 8); /* a host that still keeps 36 */
+    CHECK(pasoletu_update(8, SNOW, 3, r, 37, answer, 2) == 6);
+    CHECK(answer[0] == 77 && answer[1] == 77 && same(r, was, 37));
+    CHECK(pasoletu_update(PASOLETU_SNOW, SNOW, 3, r, 37, answer, 2) == 0); /* section 7's example */
+    CHECK(answer[0] == PASOLETU_STORED && answer[1] == UINT64_C(0x3ff0000000000000) && same(r, was, 37));
+    CHECK(pasoletu_update(PASOLETU_DRUCKER_PRAGER, cone, 8, r, 37, answer, 2) == 0); /* P12 */
     CHECK(answer[0] == PASOLETU_STORED && pasoletu_amount(answer[1]) == 0.0);
-    CHECK(pasoletu_update(PASOLETU_DRUCKER_PRAGER, idle, 8, r, 36, answer, 2) == 0);
+    CHECK(pasoletu_update(PASOLETU_DRUCKER_PRAGER, idle, 8, r, 37, answer, 2) == 0);
     CHECK(answer[0] == PASOLETU_UNTOUCHED && answer[1] == 0);
     r[PASOLETU_SIGMA] = nan_with_payload();
     memcpy(was, r, sizeof was);
-    CHECK(pasoletu_update(PASOLETU_SNOW, SNOW, 3, r, 36, answer, 2) == 1);
-    CHECK(answer[0] == PASOLETU_UNTOUCHED && same(r, was, 36));
+    CHECK(pasoletu_update(PASOLETU_SNOW, SNOW, 3, r, 37, answer, 2) == 1);
+    CHECK(answer[0] == PASOLETU_UNTOUCHED && same(r, was, 37));
 }
 
 #define N 4
@@ -334,26 +336,27 @@ static void passes(void)
     double r[N * PASOLETU_FLOATS], was[N * PASOLETU_FLOATS];
     uint64_t a[N * PASOLETU_ANSWERS + 1], c[4];
     for (int k = 0; k < N; k++)
-        at_rest(r + 36 * k);
-    r[36 + PASOLETU_U] = nan_with_payload();
-    r[2 * 36 + PASOLETU_SIGMA] = 2;
-    r[3 * 36 + PASOLETU_PLASTIC_DETERMINANT] = -1000;
+        at_rest(r + 37 * k);
+    r[37 + PASOLETU_U] = nan_with_payload();
+    r[2 * 37 + PASOLETU_SIGMA] = 2;
+    r[3 * 37 + PASOLETU_PLASTIC_DETERMINANT] = -1000;
     memcpy(was, r, sizeof was);
     for (int k = 0; k < N * 2 + 1; k++)
         a[k] = 99;
     c[0] = c[1] = c[2] = c[3] = 99;
-    CHECK(pasoletu_pass(PASOLETU_SNOW, SNOW, 3, r, N * 36 - 1, a, N * 2, c, 3) == 8);
-    CHECK(pasoletu_pass(PASOLETU_SNOW, SNOW, 3, r, N * 36, a, N * 2 + 1, c, 3) == 8);
-    CHECK(pasoletu_pass(PASOLETU_SNOW, SNOW, 3, r, N * 36, a, N * 2, c, 4) == 8);
-    CHECK(pasoletu_pass(4, SNOW, 3, r, N * 36, a, N * 2, c, 3) == 6);
-    CHECK(same(r, was, N * 36) && a[0] == 99 && a[7] == 99 && c[0] == 99);
-    CHECK(pasoletu_pass(PASOLETU_SNOW, SNOW, 3, r, N * 36, a, N * 2, c, 3) == 0);
+    CHECK(pasoletu_pass(PASOLETU_SNOW, SNOW, 3, r, N * 37 - 1, a, N * 2, c, 3) == 8);
+    CHECK(pasoletu_pass(PASOLETU_SNOW, SNOW, 3, r, N * 37, a, N * 2 + 1, c, 3) == 8);
+    CHECK(pasoletu_pass(PASOLETU_SNOW, SNOW, 3, r, N * 37, a, N * 2, c, 4) == 8);
+    CHECK(pasoletu_pass(PASOLETU_SNOW, SNOW, 3, r, N * 36, a, N * 2, c, 3) == 8);
+    CHECK(pasoletu_pass(8, SNOW, 3, r, N * 37, a, N * 2, c, 3) == 6);
+    CHECK(same(r, was, N * 37) && a[0] == 99 && a[7] == 99 && c[0] == 99);
+    CHECK(pasoletu_pass(PASOLETU_SNOW, SNOW, 3, r, N * 37, a, N * 2, c, 3) == 0);
     CHECK(a[0] == PASOLETU_STORED && pasoletu_amount(a[1]) == 1.0);
-    CHECK(a[2] == PASOLETU_REFUSED && a[3] == 1 && same(r + 36, was + 36, 36));
-    CHECK(a[4] == PASOLETU_STORED && r[2 * 36 + PASOLETU_SIGMA] == 1.0045 && r[2 * 36] == 1.0045);
-    CHECK(a[6] == PASOLETU_REFUSED && a[7] == 10 && same(r + 3 * 36, was + 3 * 36, 36));
+    CHECK(a[2] == PASOLETU_REFUSED && a[3] == 1 && same(r + 37, was + 37, 37));
+    CHECK(a[4] == PASOLETU_STORED && r[2 * 37 + PASOLETU_SIGMA] == 1.0045 && r[2 * 37] == 1.0045);
+    CHECK(a[6] == PASOLETU_REFUSED && a[7] == 10 && same(r + 3 * 37, was + 3 * 37, 37));
     CHECK(a[8] == 99 && c[0] == 0 && c[1] == 2 && c[2] == 2 && c[3] == 99);
-    CHECK(pasoletu_pass(PASOLETU_SNOW, bad, 3, r, N * 36, a, N * 2, c, 3) == 0);
+    CHECK(pasoletu_pass(PASOLETU_SNOW, bad, 3, r, N * 37, a, N * 2, c, 3) == 0);
     CHECK(a[0] == PASOLETU_REFUSED && a[1] == 1 && a[6] == PASOLETU_REFUSED && a[7] == 1 && c[2] == 4);
 
     /* No particles: the pointers are not null, and the counts are 0. */
@@ -363,24 +366,24 @@ static void passes(void)
 
     /* With failure: particle 2 has the principal stresses 10, 6, 6 as it came and about 1e-6 as Snow leaves it; particle 0 none. */
     memcpy(r, was, sizeof r);
-    CHECK(pasoletu_pass_with_failure(PASOLETU_SNOW, SNOW, 3, limits, 2, odd, 4, r, N * 36, a, N * 2, c, 4) == 6);
-    CHECK(pasoletu_pass_with_failure(PASOLETU_SNOW, SNOW, 3, limits, 1, corotated, 4, r, N * 36, a, N * 2, c, 4) == 8);
-    CHECK(pasoletu_pass_with_failure(PASOLETU_SNOW, SNOW, 3, limits, 2, corotated, 4, r, N * 36, a, N * 2, c, 3) == 8);
-    CHECK(same(r, was, N * 36));
-    CHECK(pasoletu_pass_with_failure(PASOLETU_SNOW, SNOW, 3, limits, 2, corotated, 4, r, N * 36, a, N * 2, c, 4) == 0);
-    CHECK(r[PASOLETU_PHASE] == 1.0 && r[2 * 36 + PASOLETU_PHASE] == 1.0 && a[4] == PASOLETU_STORED);
-    CHECK(a[2] == PASOLETU_REFUSED && same(r + 36, was + 36, 36) && same(r + 3 * 36, was + 3 * 36, 36));
+    CHECK(pasoletu_pass_with_failure(PASOLETU_SNOW, SNOW, 3, limits, 2, odd, 4, r, N * 37, a, N * 2, c, 4) == 6);
+    CHECK(pasoletu_pass_with_failure(PASOLETU_SNOW, SNOW, 3, limits, 1, corotated, 4, r, N * 37, a, N * 2, c, 4) == 8);
+    CHECK(pasoletu_pass_with_failure(PASOLETU_SNOW, SNOW, 3, limits, 2, corotated, 4, r, N * 37, a, N * 2, c, 3) == 8);
+    CHECK(same(r, was, N * 37));
+    CHECK(pasoletu_pass_with_failure(PASOLETU_SNOW, SNOW, 3, limits, 2, corotated, 4, r, N * 37, a, N * 2, c, 4) == 0);
+    CHECK(r[PASOLETU_PHASE] == 1.0 && r[2 * 37 + PASOLETU_PHASE] == 1.0 && a[4] == PASOLETU_STORED);
+    CHECK(a[2] == PASOLETU_REFUSED && same(r + 37, was + 37, 37) && same(r + 3 * 37, was + 3 * 37, 37));
     CHECK(c[0] == 0 && c[1] == 2 && c[2] == 2 && c[3] == 0);
     memcpy(r, was, sizeof r);
-    CHECK(pasoletu_pass_with_failure(PASOLETU_SNOW, SNOW, 3, lower, 2, corotated, 4, r, N * 36, a, N * 2, c, 4) == 0);
-    CHECK(r[PASOLETU_PHASE] == 1.0 && r[2 * 36 + PASOLETU_PHASE] == 0.0 && a[4] == PASOLETU_STORED && c[3] == 1);
+    CHECK(pasoletu_pass_with_failure(PASOLETU_SNOW, SNOW, 3, lower, 2, corotated, 4, r, N * 37, a, N * 2, c, 4) == 0);
+    CHECK(r[PASOLETU_PHASE] == 1.0 && r[2 * 37 + PASOLETU_PHASE] == 0.0 && a[4] == PASOLETU_STORED && c[3] == 1);
 }
 
 /* A pass with failure over one record: its outcome. */
 static uint64_t judge(uint64_t model, const double *p, size_t np, const double *limits, const double *law, double *r, uint64_t *a, uint64_t *c)
 {
     a[0] = a[1] = c[0] = c[1] = c[2] = c[3] = 99;
-    CHECK(pasoletu_pass_with_failure(model, p, np, limits, 2, law, 4, r, 36, a, 2, c, 4) == 0);
+    CHECK(pasoletu_pass_with_failure(model, p, np, limits, 2, law, 4, r, 37, a, 2, c, 4) == 0);
     return a[0];
 }
 
@@ -409,7 +412,7 @@ static void judged_after_the_law(void)
     /* Drucker-Prager only for failed ones sees the phase as it came, and works the record in the next pass. */
     memcpy(r, was, sizeof r);
     CHECK(judge(PASOLETU_DRUCKER_PRAGER, sand, 8, limits, law, r, a, c) == PASOLETU_UNTOUCHED && c[0] == 1 && c[3] == 1);
-    CHECK(r[PASOLETU_PHASE] == 0.0 && same(r, was, PASOLETU_PHASE) && same(r + 31, was + 31, 5));
+    CHECK(r[PASOLETU_PHASE] == 0.0 && same(r, was, PASOLETU_PHASE) && same(r + 31, was + 31, 6));
     CHECK(judge(PASOLETU_DRUCKER_PRAGER, sand, 8, limits, law, r, a, c) == PASOLETU_STORED && c[3] == 0);
     CHECK(r[PASOLETU_PHASE] == 0.0 && r[PASOLETU_SIGMA] == 1.0);
 
@@ -422,53 +425,55 @@ static void judged_after_the_law(void)
     CHECK(r[PASOLETU_PHASE] == 0.0 && r[PASOLETU_SIGMA] == 0.975);
     memcpy(r, was, sizeof r);
     CHECK(judge(PASOLETU_SNOW, SNOW, 3, shear, stiff, r, a, c) == PASOLETU_REFUSED && a[1] == 3);
-    CHECK(same(r, was, 36) && c[0] == 0 && c[1] == 0 && c[2] == 1 && c[3] == 0);
+    CHECK(same(r, was, 37) && c[0] == 0 && c[1] == 0 && c[2] == 1 && c[3] == 0);
 
     /* The law's 10 and no verdict, though the stress as it came would be refused by 3; the limits' 1 before both. */
     r[PASOLETU_PLASTIC_DETERMINANT] = -1000;
     r[PASOLETU_ELASTIC_HARDENING] = 1.7e308;
     memcpy(was, r, sizeof was);
     CHECK(judge(PASOLETU_SNOW, SNOW, 3, always, law, r, a, c) == PASOLETU_REFUSED && a[1] == 10);
-    CHECK(same(r, was, 36) && c[2] == 1 && c[3] == 0);
+    CHECK(same(r, was, 37) && c[2] == 1 && c[3] == 0);
     CHECK(judge(PASOLETU_SNOW, SNOW, 3, none, law, r, a, c) == PASOLETU_REFUSED && a[1] == 1);
-    CHECK(same(r, was, 36) && c[2] == 1 && c[3] == 0);
+    CHECK(same(r, was, 37) && c[2] == 1 && c[3] == 0);
 }
 
 static void sheets(void)
 {
     static double r[3 * PASOLETU_FLOATS], rest[PASOLETU_FLOATS];
-    static uint8_t s[1 + 3 * 8 + 1 + PASOLETU_FLOATS * 8 + 1];
+    static uint8_t s[1 + 3 * 8 + 1 + PASOLETU_SHEET_FLOATS * 8 + 1];
     const size_t whole = sizeof s - 1;
     uint64_t h[PASOLETU_HEADER], a[6], c[4];
     at_rest(rest);
     s[0] = PASOLETU_SNOW; /* x86-64 keeps the low byte first, as sheets do */
     memcpy(s + 1, SNOW, sizeof SNOW);
     s[25] = 1;
-    memcpy(s + 26, rest, sizeof rest);
-    for (int k = 0; k < 3 * 36; k++)
+    memcpy(s + 26, rest, PASOLETU_SHEET_FLOATS * 8);
+    for (int k = 0; k < 3 * 37; k++)
         r[k] = MARK;
     h[0] = a[0] = c[0] = 99;
-    CHECK(pasoletu_read_sheet(s, whole, h, 10, r, 36) == 8);
+    CHECK(pasoletu_read_sheet(s, whole, h, 10, r, 37) == 8);
     CHECK(pasoletu_read_sheet(s, whole, h, 11, r, 35) == 8);
     CHECK(pasoletu_read_sheet(s, whole, h, 11, r, 0) == 8);
-    CHECK(pasoletu_read_sheet(s, whole - 1, h, 11, r, 36) == 4);
-    CHECK(pasoletu_read_sheet(s, whole + 1, h, 11, r, 36) == 7);
-    CHECK(pasoletu_run_sheet(s, whole - 1, r, 3 * 36, a, 6, c, 4) == 4);
-    CHECK(pasoletu_run_sheet(s, whole, r, 3 * 36, a, 4, c, 4) == 8);
+    CHECK(pasoletu_read_sheet(s, whole - 1, h, 11, r, 37) == 4);
+    CHECK(pasoletu_read_sheet(s, whole + 1, h, 11, r, 37) == 7);
+    CHECK(pasoletu_run_sheet(s, whole - 1, r, 3 * 37, a, 6, c, 4) == 4);
+    CHECK(pasoletu_run_sheet(s, whole, r, 3 * 37, a, 4, c, 4) == 8);
     CHECK(h[0] == 99 && a[0] == 99 && c[0] == 99 && r[0] == MARK);
-    CHECK(pasoletu_read_sheet(s, whole, h, 11, r, 3 * 36) == 0);
+    CHECK(pasoletu_read_sheet(s, whole, h, 11, r, 3 * 37) == 0);
     CHECK(h[PASOLETU_HEADER_MODEL] == PASOLETU_SNOW && same(h + PASOLETU_HEADER_PARAMETERS, SNOW, 3));
     CHECK(h[4] == 0 && h[8] == 0 && h[PASOLETU_HEADER_COUNT] == 1 && h[PASOLETU_HEADER_PLACE] == 26);
-    CHECK(same(r, rest, 36) && r[36] == MARK);
+    CHECK(same(r, rest, 37) && r[37] == MARK);
     a[2] = 99;
-    CHECK(pasoletu_run_sheet(s, whole, r, 3 * 36, a, 6, c, 4) == 0);
-    CHECK(a[0] == PASOLETU_STORED && a[1] == UINT64_C(0x3ff0000000000000) && a[2] == 99 && r[36] == MARK);
+    CHECK(pasoletu_run_sheet(s, whole, r, 3 * 37, a, 6, c, 4) == 0);
+    CHECK(a[0] == PASOLETU_STORED && a[1] == UINT64_C(0x3ff0000000000000) && a[2] == 99 && r[37] == MARK);
     CHECK(c[0] == 1 && c[1] == 0 && c[2] == 1 && c[3] == 0);
-    s[0] = 4;
-    CHECK(pasoletu_run_sheet(s, whole, r, 36, a, 2, c, 4) == 6);
+    s[0] = 8;
+    CHECK(pasoletu_run_sheet(s, whole, r, 37, a, 2, c, 4) == 6);
+    s[0] = PASOLETU_SNOW + PASOLETU_WITH_DETERMINANT; /* its records are longer */
+    CHECK(pasoletu_run_sheet(s, whole, r, 37, a, 2, c, 4) == 4);
     s[0] = 0x80;
     s[1] = 0;
-    CHECK(pasoletu_run_sheet(s, whole, r, 36, a, 2, c, 4) == 5);
+    CHECK(pasoletu_run_sheet(s, whole, r, 37, a, 2, c, 4) == 5);
 }
 
 static void sheets_out(void)
@@ -477,6 +482,7 @@ static void sheets_out(void)
     static uint8_t s[PASOLETU_SHEET_BYTES + 1], was[PASOLETU_SHEET_BYTES + 1];
     const uint64_t odd = UINT64_C(0x7ff00000dead0001); /* a signalling NaN */
     const size_t whole = 1 + 6 * 8 + 1 + 2 * PASOLETU_FLOATS * 8, floats = 2 * PASOLETU_FLOATS;
+    const uint64_t nacc = PASOLETU_NACC + PASOLETU_WITH_DETERMINANT;
     double p[8] = {1e4, 0.3, 0.05, 1.0, 3.0, 2.36, 0.0, 1.0};
     uint64_t h[PASOLETU_HEADER], n[2] = {99, 99};
     for (int k = 0; k < (PASOLETU_SHEET_MOST + 1) * PASOLETU_FLOATS; k++)
@@ -492,8 +498,9 @@ static void sheets_out(void)
     CHECK(pasoletu_write_sheet(PASOLETU_NACC, p, 6, r, floats - 1, s, whole, n, 1) == 8);
     CHECK(pasoletu_write_sheet(PASOLETU_NACC, p, 5, r, floats, s, whole, n, 1) == 8);
     CHECK(pasoletu_write_sheet(PASOLETU_NACC, p, 7, r, floats, s, whole, n, 1) == 8);
-    CHECK(pasoletu_write_sheet(4, p, 6, r, floats + 1, s, whole, n, 1) == 8);
-    CHECK(pasoletu_write_sheet(4, p, 6, r, floats, s, 0, n, 1) == 6);
+    CHECK(pasoletu_write_sheet(nacc, p, 6, r, 2 * PASOLETU_SHEET_FLOATS, s, whole, n, 1) == 8);
+    CHECK(pasoletu_write_sheet(8, p, 6, r, floats + 1, s, whole, n, 1) == 8);
+    CHECK(pasoletu_write_sheet(8, p, 6, r, floats, s, 0, n, 1) == 6);
     CHECK(pasoletu_write_sheet(UINT64_MAX, p, 0, r, floats, s, 0, n, 1) == 6);
     p[3] = -0.0;
     CHECK(pasoletu_write_sheet(PASOLETU_NACC, p, 6, r, floats, s, whole, n, 1) == 6);
@@ -501,25 +508,168 @@ static void sheets_out(void)
     CHECK(pasoletu_write_sheet(PASOLETU_NACC, p, 6, r, 201 * PASOLETU_FLOATS, s, 0, n, 1) == 6);
     p[3] = 1.0;
     CHECK(pasoletu_write_sheet(PASOLETU_NACC, p, 6, r, 201 * PASOLETU_FLOATS, s, 0, n, 1) == 7);
-    CHECK(pasoletu_write_sheet(PASOLETU_NACC, p, 6, r, floats, s, whole - 1, n, 1) == 9);
+    CHECK(pasoletu_write_sheet(nacc, p, 6, r, floats, s, whole - 1, n, 1) == 9);
+    CHECK(pasoletu_write_sheet(PASOLETU_NACC, p, 6, r, floats, s, whole - 16 - 1, n, 1) == 9);
     CHECK(pasoletu_write_sheet(PASOLETU_NACC, p, 6, r, floats, s, 0, n, 1) == 9);
     CHECK(memcmp(s, was, sizeof s) == 0 && n[0] == 99 && n[1] == 99);
 
     /* Written, and read back in every bit. */
-    CHECK(pasoletu_write_sheet(PASOLETU_NACC, p, 6, r, floats, s, sizeof s, n, 1) == 0);
+    CHECK(pasoletu_write_sheet(nacc, p, 6, r, floats, s, sizeof s, n, 1) == 0);
     CHECK(n[0] == whole && n[1] == 99 && memcmp(s + whole, was, sizeof s - whole) == 0);
-    CHECK(s[0] == PASOLETU_NACC && memcmp(s + 1, p, 48) == 0 && s[49] == 2 && memcmp(s + 50, r, floats * 8) == 0);
+    CHECK(s[0] == nacc && memcmp(s + 1, p, 48) == 0 && s[49] == 2 && memcmp(s + 50, r, floats * 8) == 0);
     CHECK(pasoletu_read_sheet(s, whole, h, PASOLETU_HEADER, back, floats) == 0);
-    CHECK(h[0] == PASOLETU_NACC && same(h + 1, p, 6) && h[9] == 2 && same(back, r, floats));
+    CHECK(h[0] == nacc && same(h + 1, p, 6) && h[9] == 2 && same(back, r, floats));
     memset(was, 0x55, sizeof was);
     CHECK(pasoletu_write_sheet(h[0], p, 6, back, floats, was, whole, n, 1) == 0);
     CHECK(memcmp(s, was, sizeof s) == 0);
 
-    /* The longest: 200 records of the model with the most parameters. */
-    CHECK(pasoletu_write_sheet(PASOLETU_DRUCKER_PRAGER, p, 8, r, 200 * PASOLETU_FLOATS, s, PASOLETU_SHEET_BYTES - 1, n, 1) == 9);
-    CHECK(pasoletu_write_sheet(PASOLETU_DRUCKER_PRAGER, p, 8, r, 200 * PASOLETU_FLOATS, s, PASOLETU_SHEET_BYTES, n, 1) == 0);
+    /* Without the determinants: read back, they are filled in, and all else is the same. */
+    CHECK(pasoletu_write_sheet(PASOLETU_NACC, p, 6, r, floats, s, sizeof s, n, 1) == 0 && n[0] == whole - 16 && s[0] == PASOLETU_NACC);
+    CHECK(memcmp(s + 50, r, 288) == 0 && memcmp(s + 50 + 288, r + PASOLETU_FLOATS, 288) == 0);
+    CHECK(pasoletu_read_sheet(s, whole - 16, h, PASOLETU_HEADER, back, floats) == 0);
+    memcpy(was, r, floats * 8); /* a room of records for a moment */
+    CHECK(pasoletu_fill_determinants(r, floats) == 0 && h[0] == PASOLETU_NACC && same(back, r, floats));
+    memcpy(r, was, floats * 8);
+    memset(s, 0x55, sizeof s);
+
+    /* The longest: 200 records, with determinants, of the model with the most parameters. */
+    CHECK(pasoletu_write_sheet(6, p, 8, r, 200 * PASOLETU_FLOATS, s, PASOLETU_SHEET_BYTES - 1, n, 1) == 9);
+    CHECK(pasoletu_write_sheet(6, p, 8, r, 200 * PASOLETU_FLOATS, s, PASOLETU_SHEET_BYTES, n, 1) == 0);
     CHECK(n[0] == PASOLETU_SHEET_BYTES && s[65] == 0xc8 && s[66] == 1 && s[PASOLETU_SHEET_BYTES] == 0x55);
     CHECK(pasoletu_write_sheet(PASOLETU_SNOW, p, 3, r, 0, s, 26, n, 1) == 0 && n[0] == 26 && s[25] == 0);
+}
+
+/* The bits of a double. */
+static uint64_t bits(double x)
+{
+    uint64_t w;
+    memcpy(&w, &x, sizeof w);
+    return w;
+}
+
+/* Snow on one record: the refusal, or 0. A refused record keeps its bits. */
+static uint8_t snow(double *r)
+{
+    double was[PASOLETU_FLOATS];
+    uint64_t answer[2];
+    memcpy(was, r, sizeof was);
+    uint8_t refusal = pasoletu_update(PASOLETU_SNOW, SNOW, 3, r, PASOLETU_FLOATS, answer, 2);
+    CHECK(refusal == 0 || same(r, was, PASOLETU_FLOATS));
+    return refusal;
+}
+
+/* Records of 36 doubles as records of 37, in a room for as many particles. */
+static uint8_t widen(const double *old, size_t particles, double *records)
+{
+    for (size_t k = 0; k < particles; k++)
+        memcpy(records + k * PASOLETU_FLOATS, old + k * PASOLETU_SHEET_FLOATS, PASOLETU_SHEET_FLOATS * sizeof(double));
+    return pasoletu_fill_determinants(records, particles * PASOLETU_FLOATS);
+}
+
+static void determinants(void)
+{
+    double r[2 * PASOLETU_FLOATS], was[2 * PASOLETU_FLOATS];
+
+    /* A record's last float is its F's determinant in every bit, else 11; 1 before it, the law's own numbers after it. */
+    at_rest(r);
+    r[PASOLETU_F] = 0.9;
+    CHECK(snow(r) == 11);
+    CHECK(pasoletu_fill_determinants(r, PASOLETU_FLOATS) == 0 && r[PASOLETU_DETERMINANT] == 0.9);
+    r[PASOLETU_PHASE] = nan_with_payload();
+    CHECK(snow(r) == 1);
+    r[PASOLETU_DETERMINANT] = 2;
+    CHECK(snow(r) == 1);
+    r[PASOLETU_PHASE] = 1;
+    r[PASOLETU_PLASTIC_DETERMINANT] = -1000;
+    CHECK(snow(r) == 11);
+    r[PASOLETU_DETERMINANT] = 0.9;
+    CHECK(snow(r) == 10);
+    r[PASOLETU_DETERMINANT] = infinity();
+    CHECK(snow(r) == 1);
+
+    /* The sign of a zero counts. */
+    at_rest(r);
+    memset(r, 0, 9 * sizeof(double));
+    r[PASOLETU_DETERMINANT] = -0.0;
+    CHECK(snow(r) == 11);
+    r[PASOLETU_DETERMINANT] = 0.0;
+    CHECK(snow(r) == 0 && r[PASOLETU_F] == 1.0 && r[PASOLETU_DETERMINANT] == 1.0);
+
+    /* What is stored has the determinant of the new F; one that is not finite is 3. */
+    r[PASOLETU_SIGMA] = 2;
+    CHECK(snow(r) == 0 && r[PASOLETU_F] == 1.0045 && r[PASOLETU_DETERMINANT] == 1.0045 && snow(r) == 0);
+    at_rest(r);
+    for (int k = 0; k < 3; k++)
+        r[PASOLETU_U + 4 * k] = 1e150;
+    CHECK(snow(r) == 3);
+
+    /* A host that kept 36. */
+    at_rest(was);
+    at_rest(was + PASOLETU_SHEET_FLOATS);
+    was[PASOLETU_SHEET_FLOATS + PASOLETU_F] = was[PASOLETU_SHEET_FLOATS + PASOLETU_SIGMA] = 0.9;
+    CHECK(widen(was, 2, r) == 0 && same(r, was, 36) && same(r + 37, was + 36, 36) && r[36] == 1 && r[73] == 0.9);
+    CHECK(snow(r) == 0 && snow(r + 37) == 0);
+
+    /* Filled in: the last floats alone, whatever stood there; nothing is refused but a length. */
+    for (int k = 0; k < 2 * PASOLETU_FLOATS; k++)
+        r[k] = k % PASOLETU_FLOATS < 9 ? 1e200 : nan_with_payload();
+    r[PASOLETU_FLOATS + 1] = r[PASOLETU_FLOATS + 2] = r[PASOLETU_FLOATS + 3] = r[PASOLETU_FLOATS + 6] = 0;
+    r[PASOLETU_FLOATS] = -1e200;
+    r[PASOLETU_FLOATS + 5] = r[PASOLETU_FLOATS + 7] = 0;
+    memcpy(was, r, sizeof was);
+    CHECK(pasoletu_fill_determinants(r, 2 * PASOLETU_SHEET_FLOATS) == 8 && pasoletu_fill_determinants(r, 75) == 8);
+    CHECK(same(r, was, 2 * PASOLETU_FLOATS));
+    CHECK(pasoletu_fill_determinants(r, 0) == 0 && same(r, was, 2 * PASOLETU_FLOATS));
+    CHECK(pasoletu_fill_determinants(r, 2 * PASOLETU_FLOATS) == 0);
+    CHECK(same(r, was, 36) && same(r + 37, was + 37, 36));
+    CHECK(bits(r[36]) == UINT64_C(0x7ff8000000000000) && r[73] == -infinity());
+}
+
+/* Stress and energy of a record: what the calls above answer of its F, phase, hardening and factors; 1, then 11. */
+static void of_a_record(void)
+{
+    const double neo[3] = {0.5, 1, 3}, law[4] = {1, 0.9, 3, 1}, odd[4] = {0.5, 0.9, 3, 1}, bad[3] = {0.5, nan_with_payload(), 3};
+    double r[PASOLETU_FLOATS], want[9];
+    const double *f = r + PASOLETU_F, *u = r + PASOLETU_U, *sigma = r + PASOLETU_SIGMA, *vt = r + PASOLETU_VT;
+    at_rest(r);
+    r[PASOLETU_F] = r[PASOLETU_SIGMA] = 0.5;
+    r[PASOLETU_PHASE] = 0.25;
+    r[PASOLETU_ELASTIC_HARDENING] = 2;
+    pasoletu_fill_determinants(r, PASOLETU_FLOATS);
+#define SAME(n, name, ...)                                                           \
+    do {                                                                             \
+        CHECK(pasoletu_##name(__VA_ARGS__, want, (n)) == 0 && same(out, want, (n))); \
+    } while (0)
+    DONE(9, pasoletu_record_neo_hookean_fpk_stress, neo, 3, r, 37);
+    SAME(9, neo_hookean_fpk_stress, neo, 3, 2.0, f, 9);
+    DONE(9, pasoletu_record_neo_hookean_kirchhoff_stress, neo, 3, r, 37);
+    SAME(9, neo_hookean_kirchhoff_stress, neo, 3, 0.25, 2.0, f, 9);
+    DONE(1, pasoletu_record_neo_hookean_elastic_energy_density, neo, 3, r, 37);
+    SAME(1, neo_hookean_elastic_energy_density, neo, 3, 0.25, 2.0, f, 9);
+    DONE(1, pasoletu_record_neo_hookean_elastic_energy_density_in, neo, 3, 1.0, r, 37);
+    SAME(1, neo_hookean_elastic_energy_density_in, neo, 3, 1.0, 0.25, 2.0, f, 9);
+    DONE(1, pasoletu_record_neo_hookean_pos_energy, neo, 3, r, 37);
+    SAME(1, neo_hookean_pos_energy, neo, 3, 0.25, 2.0, f, 9);
+    DONE(9, pasoletu_record_corotated_kirchhoff_stress, law, 4, r, 37);
+    SAME(9, corotated_kirchhoff_stress, law, 4, 0.25, 2.0, f, 9, u, 9, sigma, 3, vt, 9);
+    DONE(1, pasoletu_record_corotated_elastic_energy_density, law, 4, r, 37);
+    SAME(1, corotated_elastic_energy_density, law, 4, 2.0, sigma, 3);
+    DONE(1, pasoletu_record_corotated_pos_energy, law, 4, r, 37);
+    SAME(1, corotated_pos_energy, law, 4, 2.0, f, 9, sigma, 3);
+#undef SAME
+    REFUSED(8, 9, pasoletu_record_neo_hookean_fpk_stress, neo, 3, r, 36);
+    REFUSED(8, 1, pasoletu_record_neo_hookean_pos_energy, neo, 2, r, 37);
+    REFUSED(6, 1, pasoletu_record_neo_hookean_elastic_energy_density_in, neo, 3, 0.5, r, 37);
+    REFUSED(6, 9, pasoletu_record_corotated_kirchhoff_stress, odd, 4, r, 37);
+    REFUSED(1, 9, pasoletu_record_neo_hookean_kirchhoff_stress, bad, 3, r, 37);
+    r[PASOLETU_DETERMINANT] = 0.25;
+    REFUSED(1, 9, pasoletu_record_neo_hookean_kirchhoff_stress, bad, 3, r, 37);
+    REFUSED(11, 9, pasoletu_record_neo_hookean_kirchhoff_stress, neo, 3, r, 37);
+    REFUSED(11, 1, pasoletu_record_neo_hookean_elastic_energy_density, neo, 3, r, 37);
+    REFUSED(11, 1, pasoletu_record_corotated_elastic_energy_density, law, 4, r, 37);
+    REFUSED(11, 1, pasoletu_record_corotated_pos_energy, law, 4, r, 37);
+    r[PASOLETU_ALPHA] = infinity();
+    REFUSED(1, 1, pasoletu_record_corotated_pos_energy, law, 4, r, 37);
 }
 
 /* WANTED_VERSION is what the file VERSION says. */
@@ -534,8 +684,10 @@ static void version(void)
 
 static void refusal_texts(void)
 {
-    for (uint64_t k = 0; k <= PASOLETU_ABOVE_RANGE; k++)
+    for (uint64_t k = 0; k <= PASOLETU_WRONG_DETERMINANT; k++)
         CHECK(strchr(pasoletu_refusal_text(k), ':') != NULL);
+    CHECK(strstr(pasoletu_refusal_text(8), "give 37 floats (the determinant last)") != NULL);
+    CHECK(strncmp(pasoletu_refusal_text(11), "the record's stored determinant is not that of its F: ", 54) == 0);
     CHECK(strstr(pasoletu_refusal_text(2), "below its range (crushed") != NULL);
     CHECK(strstr(pasoletu_refusal_text(10), "above its range (torn") != NULL);
     CHECK(strcmp(pasoletu_refusal_text(4), "the sheet ends early: send the sheet again, whole") == 0);
@@ -557,6 +709,8 @@ int main(void)
     judged_after_the_law();
     sheets();
     sheets_out();
+    determinants();
+    of_a_record();
     printf("%d passed, %d failed\n", passed, failed);
     return failed != 0;
 }

@@ -23,11 +23,14 @@ def declared(a):
 
 def made(table):
     """The whole file."""
-    most = next(c.value for group in table.constants for c in group.rows if c.name == "SHEET_MOST")
-    lines = [f"#define FLOATS {table.floats}", f"#define MOST {most}", f"#define MODELS {len(table.models)}"]
+    told = {c.name: c.value for group in table.constants for c in group.rows}
+    laws = [m for _ in range(2) for m in table.models]
+    lines = [f"#define FLOATS {table.floats}", f"#define MOST {told['SHEET_MOST']}"]
+    lines += ["// Models from LAWS up name the same laws, for sheets whose records have all floats; those below have BARE a record."]
+    lines += [f"#define LAWS {told['WITH_DETERMINANT']}", f"#define MODELS {len(laws)}", f"#define BARE {told['SHEET_FLOATS']}"]
     lines += ["// How many parameters each model has, and the place of its flag or -1."]
-    lines += ["static const size_t FIELDS[MODELS] = {%s};" % ", ".join(str(len(m.parameters)) for m in table.models)]
-    lines += ["static const int FLAG[MODELS] = {%s};" % ", ".join(str(-1 if m.flag_at is None else m.flag_at) for m in table.models), ""]
+    lines += ["static const size_t FIELDS[MODELS] = {%s};" % ", ".join(str(len(m.parameters)) for m in laws)]
+    lines += ["static const int FLAG[MODELS] = {%s};" % ", ".join(str(-1 if m.flag_at is None else m.flag_at) for m in laws), ""]
     for c in table.calls:
         if any(a.name in RECORDS for a in c.arguments):
             lines += filled([part for a in c.arguments for part in declared(a)], f"uint8_t pasoletu_{c.name}(", ");")

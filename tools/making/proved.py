@@ -24,7 +24,9 @@ def refusals(top, table):
         found = there.get(r.name)
         yield f"crates/answers: {r.name}", None if found == r.number else f"is {found}, in the table {r.number}"
     for name in sorted(there.keys() - {r.name for r in table.refusals}):
-        yield f"crates/answers: {name}", "is not in calls.toml: add its row"
+        yield f"crates/answers: {name}", None if there[name] in table.reserved else "is not in calls.toml: add its row"
+    for number in sorted({r.number for r in table.refusals} & set(table.reserved)):
+        yield f"crates/answers: {number}", "has its row in calls.toml now: take it off `reserved`"
 
 
 def models(top, table):

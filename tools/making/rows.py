@@ -154,7 +154,7 @@ def call(row):
     for key in ("name", "takes", "writes", "text"):
         if key not in row:
             raise BadTable(f"{where}: it lacks {key!r}")
-    taken = [argument(a, False, where) for a in row["takes"].split(",")]
+    taken = [argument(a, False, where) for a in row["takes"].split(",") if a.strip()]
     written = [argument(a, True, where) for a in row["writes"].split(",")]
     if not all(a.is_list for a in written):
         raise BadTable(f"{where}: only lists can be written")
@@ -205,6 +205,7 @@ class Table:
         rows = tomllib.loads((top / "calls.toml").read_text())
         self.version = (top / "VERSION").read_text().strip()
         self.refusals = [Refusal(**row) for row in rows["refusal"]]
+        self.reserved = rows.get("reserved", [])
         self.models = [model(row) for row in rows["model"]]
         self.record = list(record(rows["record"]))
         self.constants = [

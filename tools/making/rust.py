@@ -133,6 +133,10 @@ def beside(table):
     rows = table.numbered
     lines = ["// The numbers of the calls, as crates/replay has them too; of an update, one for each model."]
     lines += [f"pub const {beside_name(c, m).upper().replace(' ', '_')}: usize = {n};" for n, c, m in rows]
+    told = {c.name: c.value for group in table.constants for c in group.rows}
+    lines += ["", "// Floats of a record, and those before the determinant. Models from LAWS up name the same laws, for sheets whose records have all."]
+    lines += [f"pub const FLOATS: usize = {table.floats};", f"pub const BARE: usize = {told['SHEET_FLOATS']};"]
+    lines += [f"pub const LAWS: usize = {told['WITH_DETERMINANT']};"]
     lines += ["", "// How many parameters each model has."]
     lines += [f"pub const PARAMETERS: [usize; {len(table.models)}] = {[len(m.parameters) for m in table.models]};"]
     lines += ["", "// By number: name, arguments, words that come out, the place of a flag."]

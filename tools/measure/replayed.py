@@ -1,11 +1,11 @@
 #!/usr/bin/env python3
-"""Checks by a second reading which refusals of the replayed list (crates/replay/data/list) are 2 and which are 10.
+"""Checks by a second reading which refusals of the replayed list (crates/replay/data/list) are 2, which are 10 and which are 11.
 
   tools/measure/replayed.py [LIST]
 
-Of every call that asks an elementary function, each entry that the list refuses by 2 or 10 is worked with Python's own floats up to the
-first argument outside its range, the four updates by tools/cases.py and the others here; and no entry that it answers or refuses by 3
-may come upon such an argument. The last line is 'N passed, M failed'.
+Of every call that asks an elementary function, each entry that the list refuses by 2, 10 or 11 is worked with Python's own floats up to the
+first argument outside its range, or to a record's determinant that isn't that of its F, the four updates by tools/cases.py and the others
+here; and no entry that it answers or refuses by 3 may come upon such a thing. The last line is 'N passed, M failed'.
 """
 import argparse
 import pathlib
@@ -20,7 +20,7 @@ from making.rows import Table  # noqa: E402
 from making.rust import beside_row  # noqa: E402
 
 LIST = TOP / "crates/replay/data/list"
-SIDES = (2, 10)
+TOLD = (2, 10, 11)
 ENDS = {"exp": (-700.0, 700.0), "sinh": (-700.0, 700.0), "sin": (-8.0, 8.0), "sqrt": (0.0, sys.float_info.max)}
 THIRDS = (2.0 ** -60, 2.0 ** 60)
 
@@ -113,7 +113,7 @@ def entries(table, b):
 
 
 def told(reading, words):
-    """2 or 10 where the reading comes upon an argument on that side, else another number or 0."""
+    """2 or 10 where the reading comes upon an argument on that side, 11 upon a wrong determinant, else another number or 0."""
     try:
         reading(*words)
     except cases.Refused as e:
@@ -128,14 +128,14 @@ def check(path):
     known = dict(readings(table))
     passed = failed = 0
     for at, number, refusal, words in entries(table, path.read_bytes()):
-        if refusal in (0, 3, *SIDES) and number in known:
+        if refusal in (0, 3, *TOLD) and number in known:
             side = told(known[number], words)
-            if (refusal in SIDES or side in SIDES) and side != refusal:
+            if (refusal in TOLD or side in TOLD) and side != refusal:
                 failed += 1
                 print("byte %d: call %d is refused by %d, by the second reading %d" % (at, number, refusal, side))
             else:
                 passed += 1
-        elif refusal in SIDES:
+        elif refusal in TOLD:
             failed += 1
             print("byte %d: call %d is refused by %d, and the second reading does not know it" % (at, number, refusal))
     print("%d passed, %d failed" % (passed, failed))

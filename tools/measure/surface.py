@@ -10,11 +10,11 @@ that it stores, as an archive has them, in units of (2mu + 3lambda)/2^40. The st
 """
 import math
 import pathlib
-import struct
 import sys
 import time
 
 sys.path[:0] = [str(pathlib.Path(__file__).resolve().parent.parent), str(pathlib.Path(__file__).resolve().parent)]
+import cases  # noqa: E402
 import draws  # noqa: E402
 import shell  # noqa: E402
 
@@ -87,7 +87,7 @@ class Drawn:
         young, poisson = mu * (3 * la + 2 * mu) / (la + mu), la / (2 * (la + mu))
         self.la, self.mu = pasoletu.utils.lame_lambda_mu(young, poisson)
         sigma, self.before = zip(*[stretch(pasoletu.elementary, e) for e in strains(d)])
-        self.was = [d.between(-1.0, 1.0) for _ in range(30)] + [1.0] * 6
+        self.was = cases.completed([d.between(-1.0, 1.0) for _ in range(30)] + [1.0] * 6)
         self.was[SIGMA] = sigma
         self.was[HARDENING] = hardening = 1.0 if d.one_of(2) else 2.0 ** d.between(-3.0, 20.0)
         tensile = strength(d, self.mu, self.la, self.before) + (hardening - 1.0)
@@ -110,7 +110,7 @@ class Drawn:
         record = particle.floats()
         if not stored:
             gap, unit = self.gap(self.before, DEMANDED)
-            return 0, [gap / unit, 0.0], gap <= unit and struct.pack("<36d", *record) == struct.pack("<36d", *self.was)
+            return 0, [gap / unit, 0.0], gap <= unit and cases.floats(record) == cases.floats(self.was)
         after = self.law.project(self.before, self.s)
         gaps = [self.gap(after, DEMANDED), self.gap([self.ours.elementary.ln(x) for x in record[SIGMA]], ARCHIVED)]
         follows = [self.ours.elementary.exp(x) for x in after] == record[SIGMA] and record[HARDENING] <= self.law.tensile_strength

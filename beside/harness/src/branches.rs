@@ -173,7 +173,7 @@ fn drucker_prager(a: &Answer, out: &mut Vec<&'static str>) {
     } else {
         out.push("inside");
     }
-    if a.out[36] == 1 {
+    if a.out[FLOATS] == 1 {
         let diff = result(89, Op::Product) - result(87, Op::Product);
         out.push(if diff > 0.0 { "new determinant stands" } else { "previous plus correction" });
     }
@@ -188,7 +188,7 @@ fn nacc(i: &[u64], a: &Answer, out: &mut Vec<&'static str>) {
         out.push(if f(i, 3) == 1.0 { "lower tip, alpha stepped" } else { "lower tip, alpha kept" });
         return;
     }
-    if a.out[36] == 0 {
+    if a.out[FLOATS] == 0 {
         out.push("inside");
         return;
     }

@@ -1,6 +1,6 @@
 //! Inputs for every call: several spreads, edge values in every place, ties, and the few inputs that only a rare branch takes.
 use crate::calls::{self, *};
-use crate::inside::float_at;
+use crate::inside::{self, float_at};
 
 pub struct Draw(pub u64);
 
@@ -238,8 +238,21 @@ impl Draw {
             }
             _ => self.nacc(&mut r),
         };
+        let f: Vec<u64> = r[..9].iter().map(|x| x.to_bits()).collect();
         p.extend(r);
+        p.push(f64::from_bits(inside::determinant(&f)));
         p
+    }
+
+    /// An update's determinant put right, but now and then; and rarely one bit of it wrong.
+    fn determinant(&mut self, n: usize, w: &mut [u64]) {
+        let r = &mut w[calls::parameters(n - UPDATE)..];
+        if !self.one_in(8) {
+            inside::complete(r);
+        }
+        if self.one_in(48) {
+            r[BARE] ^= if self.one_in(2) { 1 } else { 1 << 63 };
+        }
     }
 
     fn nacc(&mut self, r: &mut [f64]) -> Vec<f64> {
@@ -464,6 +477,9 @@ impl Draw {
                 for x in [f64::NAN, f64::INFINITY, f64::NEG_INFINITY, 0.0, -0.0, f64::from_bits(1), f64::MAX, -f64::MAX] {
                     let mut i = w.clone();
                     i[k] = x.to_bits();
+                    if calls::is_update(n) && k + 1 < i.len() {
+                        inside::complete(&mut i[calls::parameters(n - UPDATE)..]);
+                    }
                     all.push(i);
                 }
             }
@@ -495,6 +511,9 @@ impl Draw {
                 if float_at(n, k) || self.one_in(4) {
                     w[k] = wild.to_bits();
                 }
+            }
+            if calls::is_update(n) {
+                self.determinant(n, &mut w);
             }
         }
         w

@@ -20,16 +20,23 @@ struct Example {
     from: Rust,
 }
 
+/// A record's floats with the determinant of the F that stands there.
+fn completed(r: &[f64]) -> Vec<f64> {
+    let mut w: Vec<u64> = r.iter().map(|x| x.to_bits()).collect();
+    inside::complete(&mut w);
+    w.iter().map(|x| f64::from_bits(*x)).collect()
+}
+
 /// Section 7's record, with some places changed.
 fn record(changes: &[(usize, f64)]) -> Vec<f64> {
-    let mut r = vec![0.0; 36];
+    let mut r = vec![0.0; calls::FLOATS];
     for k in [0, 4, 8, 9, 13, 17, 18, 19, 20, 21, 25, 29, 30, 31, 32, 33] {
         r[k] = 1.0;
     }
     for (k, x) in changes {
         r[*k] = *x;
     }
-    r
+    completed(&r)
 }
 
 fn snow(changes: &[(usize, f64)]) -> Vec<f64> {
@@ -43,7 +50,7 @@ fn drucker_prager(h: [f64; 4], mu: f64, sigma: [f64; 3]) -> Vec<f64> {
         r[4 * k] = sigma[k];
         r[18 + k] = sigma[k];
     }
-    [h.to_vec(), vec![mu, mu, 0.0, 1.0], r].concat()
+    [h.to_vec(), vec![mu, mu, 0.0, 1.0], completed(&r)].concat()
 }
 
 fn degrees() -> [f64; 4] {
@@ -141,6 +148,13 @@ fn all() -> Vec<Example> {
         &[0, 4, 8],
         One,
     );
+    let mut wrong = snow(&[]);
+    *wrong.last_mut().unwrap() = 2.0;
+    add(23, "update snow", "stored determinant 2: the three of row 1", &wrong, snow_places, One);
+    let far = snow(&[(0, 1e200), (4, 1e200)]);
+    add(23, "update snow", "F (1e200, 1e200, 1) beside sigma all 1: the same three", &far, snow_places, Two);
+    let long = snow(&[(9, 1e150), (13, 1e150), (17, 1e150)]);
+    add(23, "update snow", "U 1e150 times the identity: the same three", &long, snow_places, Two);
     all
 }
 

@@ -79,9 +79,12 @@ fn factors_at(n: usize) -> Option<(usize, usize, Range<usize>)> {
     }
 }
 
-/// The inputs with the factors that nalgebra gives for F.
+/// The inputs with the factors that nalgebra gives for F, and a record's determinant right.
 fn factored(u: &Untouched, n: usize, i: &[u64]) -> Vec<u64> {
     let mut w = i.to_vec();
+    if calls::is_update(n) {
+        inside::complete(&mut w[calls::parameters(n - UPDATE)..]);
+    }
     let f = |k: usize| f64::from_bits(i[k]);
     if let Some((at, to, which)) = factors_at(n) {
         let m = std::array::from_fn(|k| f(at + k));
@@ -162,7 +165,7 @@ fn drucker_prager_condition(i: &[u64]) -> f64 {
         return 1.0;
     }
     let factor = ((3.0 * f(4) + 2.0 * f(5)) / (2.0 * f(5))).abs();
-    (1.0 + f64::from_bits(a.out[37]) / norm + 2.0 * factor * (1.0 + trace.abs())) * (1.0 + f(7).abs())
+    (1.0 + f64::from_bits(a.out[FLOATS + 1]) / norm + 2.0 * factor * (1.0 + trace.abs())) * (1.0 + f(7).abs())
 }
 
 /// Ours beside build 1, on factors that nalgebra gives for F.
@@ -202,6 +205,7 @@ fn simpler_far(u: &Untouched, n: usize, i: &[u64], same_kind: impl Fn(&[f64; 2],
     let w = simpler(if keeps(&straight) { &straight } else { i }, keeps);
     // The factors are nalgebra's, so they are not shown.
     let factors = factors_at(n).map_or(0..0, |(_, at, which)| at..at + which.len());
+    let w = factored(u, n, &w);
     (0..w.len()).map(|k| if factors.contains(&k) { 0 } else { w[k] }).collect()
 }
 

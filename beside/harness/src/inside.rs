@@ -222,6 +222,22 @@ pub fn finite(x: u64) -> bool {
     f64::from_bits(x).is_finite()
 }
 
+/// Section 4's determinant of the nine floats of F by rows, as bits: along the first row. Any NaN is 7ff8000000000000.
+pub fn determinant(f: &[u64]) -> u64 {
+    let [a, b, c, d, e, f, g, h, i]: [f64; 9] = std::array::from_fn(|k| f64::from_bits(f[k]));
+    let x = a * (e * i - f * h) - b * (d * i - f * g) + c * (d * h - e * g);
+    if x.is_nan() {
+        0x7ff8_0000_0000_0000
+    } else {
+        x.to_bits()
+    }
+}
+
+/// A record with the determinant of the F that stands in it.
+pub fn complete(record: &mut [u64]) {
+    record[BARE] = determinant(record);
+}
+
 fn is_flag(x: u64) -> bool {
     x == 0 || x == 1f64.to_bits()
 }
@@ -231,7 +247,7 @@ pub fn float_at(n: usize, k: usize) -> bool {
     !(calls::is_monaghan(n) && k == 1) && CALLS[n].flag != Some(k)
 }
 
-/// 6 for a flag, then 1 for an input, then 3 for a modulus: before any step.
+/// 6 for a flag, then 1 for an input, then 11 for a record's determinant, then 3 for a modulus: before any step.
 fn before(n: usize, i: &[u64]) -> u8 {
     if let Some(k) = CALLS[n].flag {
         if !is_flag(i[k]) {
@@ -243,6 +259,12 @@ fn before(n: usize, i: &[u64]) -> u8 {
     }
     if (0..i.len()).any(|k| float_at(n, k) && !finite(i[k])) {
         return 1;
+    }
+    if calls::is_update(n) {
+        let r = &i[calls::parameters(n - UPDATE)..];
+        if r[BARE] != determinant(r) {
+            return 11;
+        }
     }
     let mut moduli = [0u64; 2];
     if n == UPDATE_RANKINE || n == RANKINE_PROJECT {
@@ -272,10 +294,10 @@ fn project(i: &[u64]) -> Answer {
     let w = watch();
     w.strains = floats(&i[5..8]);
     let mut p = vec![i[0], i[1], i[4], 0];
-    let mut record = vec![0u64; 36];
+    let mut record = vec![0u64; FLOATS];
     record[32] = 1f64.to_bits();
     p.extend(record);
-    let mut o = [0u64; 38];
+    let mut o = [0u64; FLOATS + 2];
     run(21, &p, &mut o, Mode::Strains);
     let w = watch();
     let new: Vec<u64> = w.asked.iter().filter(|a| a.which == Function::Exp).map(|a| a.x.to_bits()).collect();
@@ -287,13 +309,13 @@ fn project(i: &[u64]) -> Answer {
 fn alpha(i: &[u64]) -> Answer {
     let mut p = i[..8].to_vec();
     p[6] = 0;
-    let mut record = vec![0u64; 36];
+    let mut record = vec![0u64; FLOATS];
     for k in [18, 19, 20, 30] {
         record[k] = 1f64.to_bits();
     }
     record[32] = i[8];
     p.extend(record);
-    let mut o = [0u64; 38];
+    let mut o = [0u64; FLOATS + 2];
     run(22, &p, &mut o, Mode::Ours);
     let w = watch();
     let after_sine = w.asked.iter().position(|a| a.which == Function::Sin);
@@ -370,9 +392,9 @@ fn updated(n: usize, i: &[u64], mut o: Vec<u64>) -> Answer {
     let k = calls::parameters(model);
     match w.met.iter().rfind(|m| m.op == Op::Recompose) {
         None => {
-            o[..36].copy_from_slice(&i[k..]);
-            o[36] = 0;
-            o[37] = 0;
+            o[..FLOATS].copy_from_slice(&i[k..]);
+            o[FLOATS] = 0;
+            o[FLOATS + 1] = 0;
         }
         Some(m) => {
             for j in 0..3 {
@@ -385,11 +407,12 @@ fn updated(n: usize, i: &[u64], mut o: Vec<u64>) -> Answer {
                 2 => drucker_prager_dq(i).to_bits(),
                 _ => o[35],
             };
-            if !o[..36].iter().all(|x| finite(*x)) || !finite(amount) {
-                return Answer { status: 3, out: vec![0; 38] };
+            complete(&mut o);
+            if !o[..FLOATS].iter().all(|x| finite(*x)) || !finite(amount) {
+                return Answer { status: 3, out: vec![0; FLOATS + 2] };
             }
-            o[36] = 1;
-            o[37] = amount;
+            o[FLOATS] = 1;
+            o[FLOATS + 1] = amount;
         }
     }
     Answer { status: 0, out: o }

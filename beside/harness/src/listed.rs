@@ -62,9 +62,9 @@ pub fn by_document(n: usize, i: &[u64], rust: &Answer) -> Option<Answer> {
                 a.out[k] = second_min(second_max(f(i, 3 + k), 1.0 - f(i, 0)), 1.0 + f(i, 1)).to_bits();
             }
         }
-        21 if a.status == 0 && a.out[36] == 1 && zeros(f(&a.out, 32), f(i, 2)) => {
+        21 if a.status == 0 && a.out[FLOATS] == 1 && zeros(f(&a.out, 32), f(i, 2)) => {
             a.out[32] = i[2];
-            a.out[37] = i[2];
+            a.out[FLOATS + 1] = i[2];
         }
         MONAGHAN_PRESSURE | MONAGHAN_KIRCHHOFF_STRESS => a = inside::expected(n, &one_zero(i, 4)?),
         MONAGHAN_TIMESTEP_BOUND => {

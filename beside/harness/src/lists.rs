@@ -1,6 +1,6 @@
 //! The list pass, the pass with failure and the sheet. None is in the Rust: RULES sections 6 and 7 decide, and each record's
 //! law is build 2's.
-use crate::calls;
+use crate::calls::{self, BARE, FLOATS, LAWS};
 use crate::draw::Draw;
 use crate::inside::{self, finite};
 use crate::listed;
@@ -10,13 +10,13 @@ const MARK: u64 = 0x7ff4_dead_beef_0002;
 
 /// A law's step on one record: the outcome's two numbers; the record is new where it is stored. Of two zeros as RULES has it.
 fn step(model: usize, p: &[u64], record: &mut [u64]) -> (u64, u64) {
-    let (n, i) = (calls::UPDATE + model, [p, record].concat());
+    let (n, i) = (calls::UPDATE + model % LAWS, [p, record].concat());
     let a = inside::expected(n, &i);
     let a = listed::by_document(n, &i, &a).unwrap_or(a);
-    match (a.status, a.out[36]) {
+    match (a.status, a.out[FLOATS]) {
         (0, 1) => {
-            record.copy_from_slice(&a.out[..36]);
-            (1, a.out[37])
+            record.copy_from_slice(&a.out[..FLOATS]);
+            (1, a.out[FLOATS + 1])
         }
         (0, _) => (0, 0),
         (n, _) => (2, n as u64),
@@ -63,8 +63,26 @@ fn is_flag(x: u64) -> bool {
     x == 0 || x == 1f64.to_bits()
 }
 
+/// Whether a model has a law: 4 to 7 name those of 0 to 3.
+fn known(model: u64) -> bool {
+    model < 2 * LAWS as u64
+}
+
+fn parameters(model: u64) -> usize {
+    calls::parameters(model as usize % LAWS)
+}
+
+/// How many floats a record has in a sheet of the model.
+fn sheet_floats(model: u64) -> usize {
+    if model < LAWS as u64 {
+        BARE
+    } else {
+        FLOATS
+    }
+}
+
 fn flag_of(model: u64, p: &[u64]) -> bool {
-    calls::CALLS[calls::UPDATE + model as usize].flag.map_or(true, |k| is_flag(p[k]))
+    calls::CALLS[calls::UPDATE + model as usize % LAWS].flag.map_or(true, |k| is_flag(p[k]))
 }
 
 /// Limits and the corotated law of a pass with failure.
@@ -75,9 +93,9 @@ struct Judge {
 
 /// Whole records with two answers each, and every other list as long as it should be; those of an unknown model are of any length.
 fn fit(model: u64, p: &[u64], judge: Option<&Judge>, words: usize, places: usize, counts: usize) -> bool {
-    words % 36 == 0
-        && places == words / 36 * 2
-        && (model > 3 || p.len() == calls::parameters(model as usize))
+    words % FLOATS == 0
+        && places == words / FLOATS * 2
+        && (!known(model) || p.len() == parameters(model))
         && judge.is_none_or(|j| j.limits.len() == 2 && j.law.len() == 4)
         && counts == if judge.is_some() { 4 } else { 3 }
 }
@@ -102,11 +120,11 @@ fn passed(model: u64, p: &[u64], judge: Option<&Judge>, records: &mut [u64], ans
     if !fit(model, p, judge, records.len(), answers.len(), counts.len()) {
         return 8;
     }
-    if model > 3 || !flag_of(model, p) || judge.is_some_and(|j| !is_flag(j.law[0])) {
+    if !known(model) || !flag_of(model, p) || judge.is_some_and(|j| !is_flag(j.law[0])) {
         return 6;
     }
     counts.fill(0);
-    for (k, r) in records.chunks_mut(36).enumerate() {
+    for (k, r) in records.chunks_mut(FLOATS).enumerate() {
         let was = r.to_vec();
         let (o, yes) = match judge {
             Some(j) => judged(model as usize, p, j, r),
@@ -150,14 +168,14 @@ struct Sheet {
 fn read(s: &[u8]) -> Result<Sheet, u8> {
     let word = |k: usize| s.get(k..k + 8).map(|b| u64::from_le_bytes(b.try_into().unwrap())).ok_or(4u8);
     let (model, mut at) = number(s, 0)?;
-    if model > 3 {
+    if !known(model) {
         return Err(6);
     }
     let mut p = Vec::new();
-    for k in 0..calls::parameters(model as usize) {
+    for k in 0..parameters(model) {
         p.push(word(at)?);
         at += 8;
-        if matches!((model, k), (2, 6) | (3, 3)) && !is_flag(p[k]) {
+        if matches!((model % LAWS as u64, k), (2, 6) | (3, 3)) && !is_flag(p[k]) {
             return Err(6);
         }
     }
@@ -165,12 +183,20 @@ fn read(s: &[u8]) -> Result<Sheet, u8> {
     if count > 200 {
         return Err(7);
     }
-    let mut records = Vec::new();
-    for k in 0..36 * count as usize {
-        records.push(word(at + 8 * k)?);
+    let floats = sheet_floats(model);
+    let mut words = Vec::new();
+    for k in 0..floats * count as usize {
+        words.push(word(at + 8 * k)?);
     }
-    if s.len() > at + 8 * records.len() {
+    if s.len() > at + 8 * words.len() {
         return Err(7);
+    }
+    let mut records = Vec::new();
+    for r in words.chunks(floats) {
+        records.extend(r);
+        if floats == BARE {
+            records.push(inside::determinant(r));
+        }
     }
     Ok(Sheet { model, p, count: count as usize, at, records })
 }
@@ -184,12 +210,12 @@ fn groups(n: u64) -> Vec<u8> {
 }
 
 fn sheet(d: &mut Draw) -> Vec<u8> {
-    let model = d.below(4);
-    let (p, records) = drawn(d, model as usize, 3);
-    let mut count = records.len() as u64 / 36;
+    let model = d.below(2 * LAWS as u64);
+    let (p, records) = drawn(d, model as usize % LAWS, 3);
+    let mut count = (records.len() / FLOATS) as u64;
     let mut s = groups(model);
     if d.one_in(16) {
-        let odd = [vec![4], vec![127], vec![0x80, 0], vec![0x80, 0x80, 1], vec![0x80], vec![0x83, 1], vec![0xff, 0x7f]];
+        let odd = [vec![8], vec![127], vec![0x80, 0], vec![0x80, 0x80, 1], vec![0x80], vec![0x83, 1], vec![0xff, 0x7f]];
         s = odd[d.below(odd.len() as u64) as usize].clone();
     }
     for x in &p {
@@ -202,7 +228,7 @@ fn sheet(d: &mut Draw) -> Vec<u8> {
     if d.one_in(24) {
         *s.last_mut().unwrap() |= 0x80;
     }
-    for x in &records {
+    for x in records.chunks(FLOATS).flat_map(|r| &r[..sheet_floats(model)]) {
         s.extend(x.to_le_bytes());
     }
     match d.below(12) {
@@ -230,8 +256,8 @@ fn drawn(d: &mut Draw, model: usize, most: u64) -> (Vec<u64>, Vec<u64>) {
 /// Limits about as large as the stresses of the first record, as it came or as the law leaves it.
 fn judge(d: &mut Draw, model: usize, p: &[u64], records: &[u64]) -> Judge {
     let law = d.inputs(29)[..4].to_vec();
-    let r = d.record();
-    let mut r: Vec<u64> = if records.is_empty() { r.iter().map(|x| x.to_bits()).collect() } else { records[..36].to_vec() };
+    let r = d.inputs(calls::UPDATE + model % LAWS)[p.len()..].to_vec();
+    let mut r = if records.is_empty() { r } else { records[..FLOATS].to_vec() };
     if d.one_in(2) {
         step(model, p, &mut r);
     }
@@ -255,6 +281,8 @@ struct Tally {
     unlisted: u64,
     refused: std::collections::BTreeMap<u8, u64>,
     outcomes: [u64; 4],
+    /// Records refused by 11.
+    wrong: u64,
     first: String,
 }
 
@@ -288,13 +316,13 @@ fn bend(d: &mut Draw, l: &mut Vec<u64>) {
 }
 
 fn one_pass(d: &mut Draw, with_failure: bool, t: &mut Tally) {
-    let mut model = d.below(4);
+    let mut model = d.below(2 * LAWS as u64);
     let most = if d.one_in(200) { 300 } else { 4 };
-    let (mut p, mut records) = drawn(d, model as usize, most);
+    let (mut p, mut records) = drawn(d, model as usize % LAWS, most);
     let mut j = with_failure.then(|| judge(d, model as usize, &p, &records));
-    let (mut answers, mut counts) = (vec![MARK; records.len() / 36 * 2], vec![MARK; if with_failure { 4 } else { 3 }]);
+    let (mut answers, mut counts) = (vec![MARK; records.len() / FLOATS * 2], vec![MARK; if with_failure { 4 } else { 3 }]);
     if d.one_in(24) {
-        model = 4 + d.below(3);
+        model = 2 * LAWS as u64 + d.below(3);
     }
     for l in [&mut p, &mut records, &mut answers, &mut counts] {
         bend(d, l);
@@ -311,16 +339,42 @@ fn one_pass(d: &mut Draw, with_failure: bool, t: &mut Tally) {
         None => ours::pass(model, &p, &mut r2, &mut a2, &mut c2),
     };
     let same = want == got && r1 == r2 && a1 == a2 && c1 == c2;
+    t.wrong += a1.chunks(2).filter(|a| want == 0 && **a == [2, 11]).count() as u64;
     t.note(same, want, &c1, || {
         let at = r1.iter().zip(&r2).position(|(x, y)| x != y);
-        format!("model {model}, {} records: status {got} for {want}, answers {a2:x?} for {a1:x?}, counts {c2:?} for {c1:?}, first record word that differs {at:?}", records.len() / 36)
+        format!("model {model}, {} records: status {got} for {want}, answers {a2:x?} for {a1:x?}, counts {c2:?} for {c1:?}, first record word that differs {at:?}", records.len() / FLOATS)
+    });
+}
+
+/// Each record's last float becomes the determinant of its F, whatever stood there; 8 for a list that is no whole number of records.
+fn one_fill(d: &mut Draw, t: &mut Tally) {
+    let model = d.below(LAWS as u64) as usize;
+    let (_, mut records) = drawn(d, model, 4);
+    for r in records.chunks_mut(FLOATS) {
+        if d.one_in(2) {
+            r[BARE] = d.word();
+        }
+    }
+    if d.one_in(16) {
+        records = records.chunks(FLOATS).flat_map(|r| &r[..BARE]).copied().collect();
+    }
+    bend(d, &mut records);
+    let (mut r1, mut r2) = (records.clone(), records);
+    let want = if r1.len() % FLOATS == 0 { 0 } else { 8 };
+    if want == 0 {
+        r1.chunks_mut(FLOATS).for_each(inside::complete);
+    }
+    let got = ours::fill_determinants(&mut r2);
+    let at = r1.iter().zip(&r2).position(|(x, y)| x != y);
+    t.note(want == got && r1 == r2, want, &[], || {
+        format!("{} words: status {got} for {want}, first word that differs {at:?}", r1.len())
     });
 }
 
 fn one_sheet(d: &mut Draw, run: bool, t: &mut Tally) {
     let s = sheet(d);
     let room = if d.one_in(4) { d.below(4) as usize } else { 200 };
-    let mut words = room * 36;
+    let mut words = room * FLOATS;
     if d.one_in(24) {
         words += 1;
     }
@@ -329,16 +383,16 @@ fn one_sheet(d: &mut Draw, run: bool, t: &mut Tally) {
     let heads = if d.one_in(48) { right - 1 + off } else { right };
     let (mut r1, mut a1, mut h1) = (vec![MARK; words], vec![MARK; places], vec![MARK; heads]);
     let (mut r2, mut a2, mut h2) = (r1.clone(), a1.clone(), h1.clone());
-    let early = heads != right || words % 36 != 0 || (run && places != words / 36 * 2);
+    let early = heads != right || words % FLOATS != 0 || (run && places != words / FLOATS * 2);
     let read = if early { Err(8) } else { read(&s) };
-    let read = read.and_then(|x| if x.count > words / 36 { Err(8) } else { Ok(x) });
+    let read = read.and_then(|x| if x.count > words / FLOATS { Err(8) } else { Ok(x) });
     let want = match &read {
         Err(n) => *n,
         Ok(x) => {
             r1[..x.records.len()].copy_from_slice(&x.records);
             if run {
                 let mut c = [0; 3];
-                passed(x.model, &x.p, None, &mut r1[..36 * x.count], &mut a1[..2 * x.count], &mut c);
+                passed(x.model, &x.p, None, &mut r1[..FLOATS * x.count], &mut a1[..2 * x.count], &mut c);
                 h1.copy_from_slice(&[x.count as u64, c[0], c[1], c[2]]);
             } else {
                 h1.fill(0);
@@ -370,6 +424,7 @@ pub fn compare(seed: u64, count: u64, failed: &mut bool) {
         for _ in 0..count.div_ceil(2) {
             match name {
                 "pass" | "pass_with_failure" => one_pass(&mut d, name == "pass_with_failure", &mut t),
+                "fill_determinants" => one_fill(&mut d, &mut t),
                 "read_sheet" | "run_sheet" => one_sheet(&mut d, name == "run_sheet", &mut t),
                 _ => panic!("{name} has no run here"),
             }
@@ -378,19 +433,27 @@ pub fn compare(seed: u64, count: u64, failed: &mut bool) {
             OUTCOMES.iter().zip(t.outcomes).filter(|(_, c)| *c > 0).map(|(what, c)| format!("{what} {c}")).collect();
         let by: Vec<String> = t.refused.iter().map(|(s, c)| format!("{s}:{c}")).collect();
         println!("{:<20} {:>8} {:>8}  {}; {}", name, t.run, t.unlisted, by.join(" "), records.join(", "));
-        let due: &[u8] = if name.ends_with("_sheet") { &[0, 4, 5, 6, 7, 8] } else { &[0, 6, 8] };
+        let due: &[u8] = match name {
+            "fill_determinants" => &[0, 8],
+            name if name.ends_with("_sheet") => &[0, 4, 5, 6, 7, 8],
+            _ => &[0, 6, 8],
+        };
         for n in due.iter().filter(|n| !t.refused.contains_key(n)) {
             *failed = true;
             println!("    refusal {n} NEVER CAME");
         }
         let outcomes = match name {
-            "read_sheet" => 0,
+            "read_sheet" | "fill_determinants" => 0,
             "pass_with_failure" => 4,
             _ => 3,
         };
         for (what, _) in OUTCOMES.iter().zip(t.outcomes).take(outcomes).filter(|(_, c)| *c == 0) {
             *failed = true;
             println!("    {what} NEVER CAME");
+        }
+        if name.starts_with("pass") {
+            *failed |= t.wrong == 0;
+            println!("    {} records refused by 11{}", t.wrong, if t.wrong == 0 { ": IT NEVER CAME" } else { "" });
         }
         if t.unlisted > 0 {
             *failed = true;

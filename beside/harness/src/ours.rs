@@ -163,6 +163,10 @@ pub fn pass_with_failure(model: u64, given: [&[u64]; 3], records: &mut [u64], an
     a.lent(records).lent(answers).lent(counts).run("pass_with_failure")
 }
 
+pub fn fill_determinants(records: &mut [u64]) -> u8 {
+    Arguments::default().lent(records).run("fill_determinants")
+}
+
 pub fn read_sheet(bytes: &[u8], header: &mut [u64], records: &mut [u64]) -> u8 {
     Arguments::default().list(bytes).lent(header).lent(records).run("read_sheet")
 }

@@ -13,6 +13,7 @@ mod library;
 mod records;
 mod sides;
 
+use calls::{BARE, FLOATS};
 use externs::*;
 use records::{bits, drawn, Draw, LAWS};
 use sides::*;
@@ -69,26 +70,28 @@ fn functions() -> Vec<Row> {
     FUNCTIONS.iter().map(row).collect()
 }
 
-/// A full sheet of 200 records: model, parameters, the count in two groups, records. It must give what the list does.
-fn sheet(model: usize, run: bool) -> Row {
+/// A full sheet of 200 records: model, parameters, the count in two groups, records, with their determinants or without. It must give
+/// what the list does.
+fn sheet(number: usize, run: bool) -> Row {
+    let (model, floats) = (number % LAWS.len(), if number < LAWS.len() { BARE } else { FLOATS });
     let law = &LAWS[model];
-    let mut bytes = vec![model as u8];
+    let mut bytes = vec![number as u8];
     bytes.extend(law.parameters.iter().flat_map(|x| x.to_le_bytes()));
     bytes.extend([200 % 128 + 128, 200u8 / 128]);
     let records = drawn(model, 200);
-    bytes.extend(records.iter().flat_map(|x| x.to_le_bytes()));
+    bytes.extend(records.chunks(FLOATS).flat_map(|r| &r[..floats]).flat_map(|x| x.to_le_bytes()));
     let (mut sheet, mut list) = (Sheet::new(bytes, run), OurPass::new(model, &bits(law.parameters), &records));
     sheet.run();
     if run {
         list.run();
     }
     assert!(sheet.records() == list.records());
-    let name = format!("{}, {}", if run { "run_sheet" } else { "read_sheet" }, law.name);
+    let name = format!("{}, {} of {floats}", if run { "run_sheet" } else { "read_sheet" }, law.name);
     Row { name, units: 200, sides: vec![some(sheet)] }
 }
 
 fn sheets() -> Vec<Row> {
-    let mut rows = vec![sheet(2, false)];
+    let mut rows = vec![sheet(2, false), sheet(6, false)];
     rows.extend((0..4).map(|model| sheet(model, true)));
     rows
 }
@@ -140,11 +143,12 @@ fn agree(row: &mut Row) {
         side.run();
         made.push(side.records());
     }
-    // F and the six scalars: the Rust does not hold sigma.
+    // F, the six scalars and F's determinant: the Rust does not hold sigma.
     for other in &made[1..] {
-        for (k, (x, y)) in made[0].iter().zip(other).enumerate().filter(|(k, _)| !(9..30).contains(&(k % 36))) {
+        for (k, (x, y)) in made[0].iter().zip(other).enumerate().filter(|(k, _)| !(9..30).contains(&(k % FLOATS))) {
             let (x, y) = (f64::from_bits(*x), f64::from_bits(*y));
-            assert!((x - y).abs() <= 1e-6 * (1.0 + x.abs()), "{}: record {}, word {}: {x} for {y}", row.name, k / 36, k % 36);
+            let (record, word) = (k / FLOATS, k % FLOATS);
+            assert!((x - y).abs() <= 1e-6 * (1.0 + x.abs()), "{}: record {record}, word {word}: {x} for {y}", row.name);
         }
     }
 }
@@ -218,6 +222,8 @@ fn main() {
     table(title, &["ours", "Rust", "less SVD"], &mut laws, &counts);
     table("A call of an elementary function, beside std's", &["ours", "std"], &mut functions, &counts);
     let ns = table("A record of a full sheet", &["ours"], &mut sheets, &counts);
-    println!("read_sheet: {:.0} MB/s", 36.0 * 8.0 / ns[0] * 1e3);
+    for (floats, ns) in [BARE, FLOATS].iter().zip(&ns) {
+        println!("read_sheet of {floats} floats a record: {:.0} MB/s", *floats as f64 * 8.0 / ns * 1e3);
+    }
     println!("\nThe machine's load at the end {}", load());
 }

@@ -1,4 +1,5 @@
 //! Records for a pass: random turns, sigma near one, each branch of the law in an equal share, in mixed order.
+use crate::calls::BARE;
 use crate::sides::our_pass;
 
 pub struct Law {
@@ -33,6 +34,13 @@ pub const LAWS: [Law; 4] = [
 
 pub fn bits(x: &[f64]) -> Vec<u64> {
     x.iter().map(|x| x.to_bits()).collect()
+}
+
+/// A record's first 36 floats with the determinant of the F that stands there.
+pub fn completed(r: &[u64]) -> Vec<u64> {
+    let [a, b, c, d, e, f, g, h, i]: [f64; 9] = std::array::from_fn(|k| f64::from_bits(r[k]));
+    let x = a * (e * i - f * h) - b * (d * i - f * g) + c * (d * h - e * g);
+    [&r[..BARE], &[x.to_bits()]].concat()
 }
 
 pub struct Draw(pub u64);
@@ -121,12 +129,13 @@ pub fn drawn(model: usize, count: usize) -> Vec<u64> {
     while list.len() < count {
         tries.next().expect("a branch that is not drawn");
         let r = d.record(law.spread);
-        let (mut after, mut answer, mut counts) = (bits(&r), [0; 2], [0; 3]);
+        let came = completed(&bits(&r));
+        let (mut after, mut answer, mut counts) = (came.clone(), [0; 2], [0; 3]);
         our_pass(model, &p, &mut after, &mut answer, &mut counts);
         let k = branch(model, &r, &after, answer[0]);
         if room[k] > 0 {
             room[k] -= 1;
-            list.push(bits(&r));
+            list.push(came);
         }
     }
     for k in (1..count).rev() {

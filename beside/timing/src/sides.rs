@@ -1,7 +1,8 @@
 //! What is timed: ours, the untouched Rust, and the Rust less its SVD.
-use crate::calls::{self, Particle};
+use crate::calls::{self, Particle, BARE, FLOATS};
 use crate::externs::{pasoletu_pass, pasoletu_read_sheet, pasoletu_run_sheet};
 use crate::library::Library;
+use crate::records::completed;
 use std::hint::black_box;
 
 /// One side of a row: `ready` puts the lists as they came, `run` is the timed part.
@@ -31,7 +32,7 @@ pub struct OurPass {
 
 impl OurPass {
     pub fn new(model: usize, p: &[u64], records: &[u64]) -> Self {
-        let answers = vec![0; records.len() / 36 * 2];
+        let answers = vec![0; records.len() / FLOATS * 2];
         OurPass { model, p: p.to_vec(), came: records.to_vec(), records: records.to_vec(), answers }
     }
 }
@@ -62,15 +63,15 @@ pub struct RustPass {
     updates: Updates,
 }
 
-/// A particle is 36 words, as a record is; F turned where its matrix stands by columns.
-fn turned(record: &[u64], columns: bool) -> [u64; 36] {
+/// A particle is the words of a record before the determinant, which the Rust does not keep; F turned where its matrix stands by columns.
+fn turned(record: &[u64], columns: bool) -> [u64; BARE] {
     std::array::from_fn(|k| record[if columns && k < 9 { k % 3 * 3 + k / 3 } else { k }])
 }
 
 impl RustPass {
     pub fn new(model: usize, p: &[u64], records: &[u64], columns: bool, updates: Updates) -> Self {
-        let particle = |r: &[u64]| unsafe { std::mem::transmute::<[u64; 36], Particle>(turned(r, columns)) };
-        let came: Vec<Particle> = records.chunks(36).map(particle).collect();
+        let particle = |r: &[u64]| unsafe { std::mem::transmute::<[u64; BARE], Particle>(turned(r, columns)) };
+        let came: Vec<Particle> = records.chunks(FLOATS).map(particle).collect();
         RustPass { model, p: p.to_vec(), list: came.clone(), came, columns, updates }
     }
 }
@@ -83,8 +84,8 @@ impl Side for RustPass {
         (self.updates)(self.model, &self.p, &mut self.list);
     }
     fn records(&self) -> Vec<u64> {
-        let words = self.list.iter().map(|x| unsafe { std::mem::transmute::<Particle, [u64; 36]>(*x) });
-        words.flat_map(|w| turned(&w, self.columns)).collect()
+        let words = self.list.iter().map(|x| unsafe { std::mem::transmute::<Particle, [u64; BARE]>(*x) });
+        words.flat_map(|w| completed(&turned(&w, self.columns))).collect()
     }
 }
 
@@ -154,7 +155,7 @@ pub struct Sheet {
 
 impl Sheet {
     pub fn new(bytes: Vec<u8>, run: bool) -> Self {
-        Sheet { bytes, run, records: vec![0; 200 * 36], answers: vec![0; 200 * 2] }
+        Sheet { bytes, run, records: vec![0; 200 * FLOATS], answers: vec![0; 200 * 2] }
     }
 }
 

@@ -10,7 +10,7 @@ outcome and works the others. Records that stand in one numpy array are worked t
 pasoletu.chunks works a Dask array of them.
 
 The shared library is opened at the first call: the file that PASOLETU_LIB names; else that of the PREFIX which the package is
-installed in; else the system's libpasoletu.so.0. NoLibrary says how to get it where there is none.
+installed in; else the system's libpasoletu.so.1. NoLibrary says how to get it where there is none.
 """
 from . import elementary, raw, refusal, utils
 from ._find import NoLibrary
@@ -27,7 +27,19 @@ from .laws import (
     RankinePlasticity,
     SnowPlasticity,
 )
-from .lists import Ran, Sheet, law, pass_particles, pass_records, pass_with_failure, read_sheet, run, write_sheet
+from .lists import (
+    Ran,
+    Sheet,
+    completed,
+    fill_determinants,
+    law,
+    pass_particles,
+    pass_records,
+    pass_with_failure,
+    read_sheet,
+    run,
+    write_sheet,
+)
 from .outcome import Outcomes, Passed, Stored, Untouched
 from .particle import Particle
 from .refusal import REFUSALS, Refused
@@ -56,7 +68,9 @@ __all__ = [
     "Stored",
     "Untouched",
     "__version__",
+    "completed",
     "elementary",
+    "fill_determinants",
     "law",
     "pass_particles",
     "pass_records",

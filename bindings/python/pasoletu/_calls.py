@@ -8,6 +8,7 @@ from typing import Any, Optional
 from ._arguments import Law, Rows, doubles, entries, first_not_finite, number, rows
 from ._library import array_type, ask
 from ._table import CALLS, Argument
+from .particle import PLACES, Particle
 from .refusal import LENGTH, NOT_FINITE, Refused
 
 MATRIX = 9
@@ -39,6 +40,8 @@ def _lent(told: str, name: str, argument: Argument, value: Any) -> Any:
         return int(value) if argument.kind == "u32" else number(told, name, value)
     if isinstance(value, Law):
         return doubles(told, name, value.parameters())
+    if isinstance(value, Particle):
+        return doubles(told, name, value.floats())
     return doubles(told, name, entries(told, name, value) if argument.length == MATRIX else value)
 
 
@@ -61,6 +64,8 @@ def _names(argument: Argument, name: str, value: Any) -> list[str]:
         return [name]
     if isinstance(value, Law):
         return ["the law's " + field for field in value.names()]
+    if isinstance(value, Particle):
+        return list(PLACES)
     if argument.length == MATRIX:
         return ["%s[%d][%d]" % (name, k // 3, k % 3) for k in range(MATRIX)]
     return ["%s[%d]" % (name, k) for k in range(argument.length)]

@@ -10,7 +10,9 @@ import subprocess
 import sys
 from typing import Iterator
 
-SONAME = "libpasoletu.so.0"
+from ._table import VERSION
+
+SONAME = "libpasoletu.so." + VERSION.split(".")[0]
 PACKAGE = pathlib.Path(__file__).resolve().parent
 # Where a package in PREFIX/lib/python3/dist-packages or PREFIX/share/pasoletu/python has its PREFIX.
 HIGHEST = 4

@@ -5,7 +5,7 @@ import ctypes
 import sys
 from typing import TYPE_CHECKING, Any, Union
 
-from ._table import FLOATS
+from ._table import FLOATS, SHEET_FLOATS
 from .refusal import LENGTH, Refused
 
 if TYPE_CHECKING:
@@ -44,6 +44,16 @@ def copied(told: str, records: Any) -> ctypes.Array[ctypes.c_double]:
     return (ctypes.c_double * (view.nbytes // BYTES)).from_buffer_copy(view.tobytes())
 
 
+def widened(told: str, records: Any) -> ctypes.Array[ctypes.c_double]:
+    """A copy of records of 36 floats, each with room for its determinant; they may be read-only."""
+    view = _doubles(told, records)
+    _rows(told, view, SHEET_FLOATS)
+    given = view.tobytes()
+    row = SHEET_FLOATS * BYTES
+    parts = (given[at:at + row] + bytes(BYTES) for at in range(0, len(given), row))
+    return (ctypes.c_double * (len(given) // row * FLOATS)).from_buffer_copy(b"".join(parts))
+
+
 def _doubles(told: str, records: Any) -> memoryview:
     try:
         view = memoryview(records)
@@ -60,12 +70,14 @@ def _doubles(told: str, records: Any) -> memoryview:
     return view
 
 
-def _rows(told: str, view: memoryview) -> None:
+def _rows(told: str, view: memoryview, floats: int = FLOATS) -> None:
     """A record a row, or all records in one dimension."""
     shape = view.shape or ()
     if len(shape) == 1:
-        if shape[0] % FLOATS:
+        if shape[0] % floats:
             raise Refused(LENGTH, told, place="records, which has %d floats" % shape[0])
-    elif len(shape) != 2 or shape[1] != FLOATS:
-        turned = ADVICE % "records.T" if len(shape) == 2 and shape[0] == FLOATS else ""
-        raise ValueError("%s: records has the shape %r and needs a record a row, (n, %d)%s" % (told, shape, FLOATS, turned))
+    elif len(shape) != 2 or shape[1] != floats:
+        turned = ADVICE % "records.T" if len(shape) == 2 and shape[0] == floats else ""
+        if len(shape) == 2 and shape[1] == SHEET_FLOATS:
+            turned = ": pass pasoletu.completed(records), which adds the determinants"
+        raise ValueError("%s: records has the shape %r and needs a record a row, (n, %d)%s" % (told, shape, floats, turned))

@@ -49,7 +49,7 @@ class Argument(NamedTuple):
 KINDS = {"f64": ctypes.c_double, "u8": ctypes.c_uint8, "u32": ctypes.c_uint32, "u64": ctypes.c_uint64}
 
 
-VERSION = "0.1.0"
+VERSION = "1.0.0"
 
 # The refusals' numbers.
 NOT_FINITE = 1
@@ -62,6 +62,7 @@ TOO_MANY = 7
 LENGTH = 8
 NO_ROOM = 9
 ABOVE_RANGE = 10
+WRONG_DETERMINANT = 11
 REFUSALS: dict[int, Refusal] = {
     1: Refusal(
         "NOT_FINITE",
@@ -101,17 +102,22 @@ REFUSALS: dict[int, Refusal] = {
     8: Refusal(
         "LENGTH",
         "a list has the wrong length",
-        "give 36 floats and 2 answers a particle, 9 floats a matrix, 3 a vector",
+        "give 37 floats (the determinant last) and 2 answers a particle, 9 floats a matrix, 3 a vector",
     ),
     9: Refusal(
         "NO_ROOM",
         "the lent room is shorter than the sheet",
-        "lend 57667 bytes, which hold every sheet",
+        "lend 59267 bytes, which hold every sheet",
     ),
     10: Refusal(
         "ABOVE_RANGE",
         "a function would get an argument above its range (torn; of Snow: crushed)",
         "look at the singular values and the hardenings",
+    ),
+    11: Refusal(
+        "WRONG_DETERMINANT",
+        "the record's stored determinant is not that of its F",
+        "fill it in where you write F (fill_determinants)",
     ),
 }
 
@@ -155,7 +161,7 @@ MODELS: dict[int, Model] = {
     ),
 }
 
-FLOATS = 36
+FLOATS = 37
 RECORD: tuple[Part, ...] = (
     Part("deformation_gradient", 0, (3, 3)),
     Part("u", 9, (3, 3)),
@@ -167,6 +173,7 @@ RECORD: tuple[Part, ...] = (
     Part("elastic_hardening", 33, ()),
     Part("log_vol_gain", 34, ()),
     Part("nacc_alpha", 35, ()),
+    Part("determinant", 36, ()),
 )
 
 # The Rust's defaults of the laws that are no models.
@@ -180,7 +187,9 @@ STORED = 1  # updated; beside it the amount's bits (pasoletu_amount)
 REFUSED = 2  # the record keeps its bits; beside it the refusal's number
 # Sheets (section 7).
 SHEET_MOST = 200  # particles of a sheet
-SHEET_BYTES = 57667  # of the longest sheet that is not refused
+SHEET_BYTES = 59267  # of the longest sheet that is not refused
+WITH_DETERMINANT = 4  # added to a model's number: the same law, in a sheet whose records have 37 floats
+SHEET_FLOATS = 36  # a record in a sheet without determinants
 HEADER = 11  # entries of read_sheet's header
 HEADER_MODEL = 0
 HEADER_PARAMETERS = 1  # 8: bits of the parameters, 0 past the model's last
@@ -344,6 +353,47 @@ CALLS: dict[str, tuple[Argument, ...]] = {
         Argument("sigma", "f64", 3, False),
         Argument("out", "f64", 1, True),
     ),
+    "record_neo_hookean_fpk_stress": (
+        Argument("law", "f64", 3, False),
+        Argument("record", "f64", 37, False),
+        Argument("out", "f64", 9, True),
+    ),
+    "record_neo_hookean_kirchhoff_stress": (
+        Argument("law", "f64", 3, False),
+        Argument("record", "f64", 37, False),
+        Argument("out", "f64", 9, True),
+    ),
+    "record_neo_hookean_elastic_energy_density": (
+        Argument("law", "f64", 3, False),
+        Argument("record", "f64", 37, False),
+        Argument("out", "f64", 1, True),
+    ),
+    "record_neo_hookean_elastic_energy_density_in": (
+        Argument("law", "f64", 3, False),
+        Argument("one_split", "f64", None, False),
+        Argument("record", "f64", 37, False),
+        Argument("out", "f64", 1, True),
+    ),
+    "record_neo_hookean_pos_energy": (
+        Argument("law", "f64", 3, False),
+        Argument("record", "f64", 37, False),
+        Argument("out", "f64", 1, True),
+    ),
+    "record_corotated_kirchhoff_stress": (
+        Argument("law", "f64", 4, False),
+        Argument("record", "f64", 37, False),
+        Argument("out", "f64", 9, True),
+    ),
+    "record_corotated_elastic_energy_density": (
+        Argument("law", "f64", 4, False),
+        Argument("record", "f64", 37, False),
+        Argument("out", "f64", 1, True),
+    ),
+    "record_corotated_pos_energy": (
+        Argument("law", "f64", 4, False),
+        Argument("record", "f64", 37, False),
+        Argument("out", "f64", 1, True),
+    ),
     "monaghan_pressure": (
         Argument("pressure0", "f64", None, False),
         Argument("gamma", "u32", None, False),
@@ -406,7 +456,7 @@ CALLS: dict[str, tuple[Argument, ...]] = {
     "update": (
         Argument("model", "u64", None, False),
         Argument("parameters", "f64", 0, False),
-        Argument("record", "f64", 36, True),
+        Argument("record", "f64", 37, True),
         Argument("answer", "u64", 2, True),
     ),
     "pass": (
@@ -424,6 +474,9 @@ CALLS: dict[str, tuple[Argument, ...]] = {
         Argument("records", "f64", 0, True),
         Argument("answers", "u64", 0, True),
         Argument("counts", "u64", 4, True),
+    ),
+    "fill_determinants": (
+        Argument("records", "f64", 0, True),
     ),
     "read_sheet": (
         Argument("bytes", "u8", 0, False),

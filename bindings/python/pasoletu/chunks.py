@@ -45,7 +45,7 @@ def pass_array(
     limits: Optional[MaximumStressFailure] = None,
     elasticity: Optional[CorotatedLinearElasticity] = None,
 ) -> PassedArray:
-    """Either pass over a Dask array of float64, a record a row, (n, 36), chunked between rows only."""
+    """Either pass over a Dask array of float64, a record a row, (n, 37), chunked between rows only."""
     judge("pass_array", limits, elasticity)
     _check(records)
     work = delayed(_worked, nout=3, pure=True)

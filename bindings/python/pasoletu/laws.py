@@ -46,6 +46,24 @@ def _moduli(told: str, call: Callable[..., _Answer], *arguments: Any) -> _Answer
         raise Refused(refused.number, told, place=refused.place) from None
 
 
+def _particle(told: str, given: Any) -> Particle:
+    if not isinstance(given, Particle):
+        raise TypeError("%s: particle is a %s and must be a Particle" % (told, type(given).__name__))
+    return given
+
+
+def _matrix_of(call: str, name: str, law: Law, particle: Particle) -> Rows:
+    """A solid law's stress of a particle."""
+    told = "%s.%s" % (type(law).__name__, name)
+    return matrix(call, told, law=law, particle=_particle(told, particle))
+
+
+def _one_of(call: str, name: str, law: Law, particle: Particle) -> float:
+    """A solid law's energy of a particle."""
+    told = "%s.%s" % (type(law).__name__, name)
+    return one(call, told, law=law, particle=_particle(told, particle))
+
+
 class Plasticity(Law):
     """One of the four plastic laws. `model` is its number."""
 
@@ -70,7 +88,7 @@ class Plasticity(Law):
 
 @dataclass(frozen=True)
 class SnowPlasticity(Plasticity):
-    """Each singular value is clamped. Stores F, sigma, the plastic determinant and the elastic hardening."""
+    """Each singular value is clamped. Stores F with its determinant, sigma, the plastic determinant and the elastic hardening."""
 
     min_epsilon: float = _SNOW["min_epsilon"]
     max_epsilon: float = _SNOW["max_epsilon"]
@@ -204,7 +222,9 @@ PLASTICITIES: tuple[type[Plasticity], ...] = (
 @dataclass(frozen=True)
 class NeoHookeanElasticity(Law):
     """Neo-Hookean stress and energy. Each call is refused by 1 for an input that is not finite, by 2 where F's determinant
-    lies below the range of the powers and the logarithm, by 10 where above it, by 3 for a NaN or a result that is not finite."""
+    lies below the range of the powers and the logarithm, by 10 where above it, by 3 for a NaN or a result that is not finite. The
+    calls that end in _of take a particle with its determinant: they answer what the others answer of its F, phase and hardening, and
+    are refused by 1 for any of its floats, then by 11 for a determinant that isn't F's."""
 
     cfl_coeff: float
     lam: float
@@ -244,6 +264,22 @@ class NeoHookeanElasticity(Law):
         given = self._arguments(phase, hardening, deformation_gradient)
         return one("neo_hookean_pos_energy", "NeoHookeanElasticity.pos_energy", **given)
 
+    def fpk_stress_of(self, particle: Particle) -> Rows:
+        return _matrix_of("record_neo_hookean_fpk_stress", "fpk_stress_of", self, particle)
+
+    def kirchhoff_stress_of(self, particle: Particle) -> Rows:
+        return _matrix_of("record_neo_hookean_kirchhoff_stress", "kirchhoff_stress_of", self, particle)
+
+    def elastic_energy_density_of(self, particle: Particle, *, one_split: bool = False) -> float:
+        if not one_split:
+            return _one_of("record_neo_hookean_elastic_energy_density", "elastic_energy_density_of", self, particle)
+        told = "NeoHookeanElasticity.elastic_energy_density_of"
+        call = "record_neo_hookean_elastic_energy_density_in"
+        return one(call, told, law=self, one_split=float(one_split), particle=_particle(told, particle))
+
+    def pos_energy_of(self, particle: Particle) -> float:
+        return _one_of("record_neo_hookean_pos_energy", "pos_energy_of", self, particle)
+
     def _arguments(self, phase: float, hardening: float, deformation_gradient: Matrix) -> dict[str, Any]:
         return {"law": self, "phase": phase, "hardening": hardening, "deformation_gradient": deformation_gradient}
 
@@ -255,7 +291,8 @@ class NeoHookeanElasticity(Law):
 @dataclass(frozen=True)
 class CorotatedLinearElasticity(Law):
     """Corotated linear stress and energy; the factors of F are given. Each call is refused by 1 for an input that is not
-    finite and by 3 for a NaN or a result that is not finite."""
+    finite and by 3 for a NaN or a result that is not finite. The calls that end in _of take a particle with its factors and its
+    determinant, and are refused by 11, after 1, for a determinant that isn't F's."""
 
     split_stress_on_failure: bool
     cfl_coeff: float
@@ -294,6 +331,15 @@ class CorotatedLinearElasticity(Law):
         return one(
             "corotated_elastic_energy_density", told, law=self, hardening=hardening, singular_values=singular_values
         )
+
+    def kirchhoff_stress_of(self, particle: Particle) -> Rows:
+        return _matrix_of("record_corotated_kirchhoff_stress", "kirchhoff_stress_of", self, particle)
+
+    def elastic_energy_density_of(self, particle: Particle) -> float:
+        return _one_of("record_corotated_elastic_energy_density", "elastic_energy_density_of", self, particle)
+
+    def pos_energy_of(self, particle: Particle) -> float:
+        return _one_of("record_corotated_pos_energy", "pos_energy_of", self, particle)
 
     def pos_energy(self, deformation_gradient: Matrix, singular_values: Vector, hardening: float) -> float:
         """The positive part of the energy. Takes the determinant of F."""

@@ -9,7 +9,7 @@ from typing import Any, Iterable, NamedTuple, Optional, Union
 from ._arguments import Law, doubles, first_not_finite
 from ._arrays import Array, flat, table
 from ._library import ask, words
-from ._records import Records, copied, lent
+from ._records import Records, copied, lent, widened
 from ._table import (
     ANSWERS,
     FLOATS,
@@ -20,6 +20,7 @@ from ._table import (
     MODELS,
     SHEET_BYTES,
     SHEET_MOST,
+    WITH_DETERMINANT,
 )
 from .laws import PLASTICITIES, CorotatedLinearElasticity, MaximumStressFailure, Plasticity
 from .outcome import Passed, as_float
@@ -133,7 +134,7 @@ def pass_records(
     """Either pass over records that stand in one buffer, in place and without a copy. With failure where limits and elasticity are
     given: both or none.
 
-    records: a numpy array of float64, a record a row, (n, 36), row after row in memory; or all records in one dimension, as in an
+    records: a numpy array of float64, a record a row, (n, 37), row after row in memory; or all records in one dimension, as in an
     array('d'). TypeError for what holds no writable doubles, ValueError for another shape or order, refused by 8 for one dimension
     without whole records.
 
@@ -143,18 +144,36 @@ def pass_records(
     return Pass("pass_records", model, records, by).run(lent("pass_records", records))
 
 
+def fill_determinants(records: Records) -> None:
+    """Makes the last float of each record the determinant of the F that stands in it, in place; the others keep their bits. For
+    records whose F was written. It refuses no float: a determinant that is not finite goes in as worked, and the law refuses that
+    record by 1. records: as pass_records takes them."""
+    status = ask("fill_determinants", lent("fill_determinants", records))
+    if status:
+        raise Refused(status, "fill_determinants")
+
+
+def completed(records: Records) -> Array:
+    """Records of 36 floats as records of 37, each with its determinant, in an array of their own: numpy's where numpy is installed,
+    else a memoryview. For what was kept before the determinant was. records: a record a row, (n, 36), or all in one dimension."""
+    room = widened("completed", records)
+    fill_determinants(room)
+    return table(room, FLOATS, "d")
+
+
 class Sheet:
     """A sheet that was read.
 
-    model      the law
-    records    its records, a record a row: numpy's array where numpy is installed, else a memoryview
-    particles  copies of them as objects, made when they are first asked for
+    model         the law
+    determinants  whether its bytes keep each particle's determinant (models 4 to 7); where they don't, it was filled in
+    records       its records, a record a row: numpy's array where numpy is installed, else a memoryview
+    particles     copies of them as objects, made when they are first asked for
 
     bytes(sheet) is the sheet of the law and the records as they stand now: of one that was only read, the same bytes.
     """
 
-    def __init__(self, model: Plasticity, room: ctypes.Array[ctypes.c_double]) -> None:
-        self.model, self._room = model, room
+    def __init__(self, model: Plasticity, room: ctypes.Array[ctypes.c_double], determinants: bool = False) -> None:
+        self.model, self._room, self.determinants = model, room, determinants
 
     def __len__(self) -> int:
         return len(self._room) // FLOATS
@@ -168,11 +187,11 @@ class Sheet:
         return [Particle.from_floats(self._room[FLOATS * k:FLOATS * (k + 1)]) for k in range(len(self))]
 
     def __bytes__(self) -> bytes:
-        return _written("bytes", self.model, self._room)
+        return _written("bytes", self.model, self._room, self.determinants)
 
     def write(self, file: Union[str, "os.PathLike[str]"]) -> None:
         """Writes bytes(sheet) to the file of this name; what is refused writes no file."""
-        data = _written("Sheet.write", self.model, self._room)
+        data = _written("Sheet.write", self.model, self._room, self.determinants)
         with open(file, "wb") as out:
             out.write(data)
 
@@ -180,8 +199,10 @@ class Sheet:
 class Ran(Sheet):
     """A sheet that was read and passed: its records and particles are as the pass left them. `passed` says what it did."""
 
-    def __init__(self, model: Plasticity, room: ctypes.Array[ctypes.c_double], passed: Passed) -> None:
-        super().__init__(model, room)
+    def __init__(
+        self, model: Plasticity, room: ctypes.Array[ctypes.c_double], passed: Passed, determinants: bool = False
+    ) -> None:
+        super().__init__(model, room, determinants)
         self.passed = passed
 
 
@@ -205,9 +226,10 @@ def _read(told: str, data: bytes) -> Sheet:
     status = ask("read_sheet", _bytes(told, data), header, room)
     if status:
         raise Refused(status, told)
-    model, count = header[HEADER_MODEL], header[HEADER_COUNT]
+    number, count = header[HEADER_MODEL], header[HEADER_COUNT]
+    model, kept = number % WITH_DETERMINANT, number >= WITH_DETERMINANT
     parameters = header[HEADER_PARAMETERS:HEADER_PARAMETERS + len(MODELS[model].parameters)]
-    return Sheet(law(model, map(as_float, parameters)), (ctypes.c_double * (count * FLOATS)).from_buffer(room))
+    return Sheet(law(model, map(as_float, parameters)), (ctypes.c_double * (count * FLOATS)).from_buffer(room), kept)
 
 
 def _bytes(told: str, data: bytes) -> ctypes.Array[ctypes.c_uint8]:
@@ -227,25 +249,27 @@ def run(data: bytes) -> Ran:
     if status:
         raise Refused(status, "run")
     passed = Passed(answers, counts[1:], Pass("run", sheet.model, room, None).refusal)
-    return Ran(sheet.model, room, passed)
+    return Ran(sheet.model, room, passed, sheet.determinants)
 
 
-def write_sheet(model: Plasticity, particles: Union[Iterable[Particle], Records]) -> bytes:
+def write_sheet(model: Plasticity, particles: Union[Iterable[Particle], Records], determinants: bool = False) -> bytes:
     """The bytes of a sheet: a law and its particles, or their records as pass_records takes them. Floats pass as bits: a NaN is
-    written here and refused by the law. read_sheet gives back every bit. Refused by 7 for over 200 particles, by 8 for records of
-    one dimension that are not whole."""
+    written here and refused by the law. The determinants are left out, and a reader fills them in; with determinants=True they are
+    written as they stand, 37 floats a particle. read_sheet gives back every bit that was written. Refused by 7 for over 200 particles,
+    by 8 for records of one dimension that are not whole."""
     _of_type("write_sheet", "model", model, Plasticity)
     given: Any = particles
     try:
         memoryview(given)
     except TypeError:
-        return _written("write_sheet", model, _room("write_sheet", list(given)))
-    return _written("write_sheet", model, copied("write_sheet", given))
+        return _written("write_sheet", model, _room("write_sheet", list(given)), determinants)
+    return _written("write_sheet", model, copied("write_sheet", given), determinants)
 
 
-def _written(told: str, model: Plasticity, records: ctypes.Array[ctypes.c_double]) -> bytes:
+def _written(told: str, model: Plasticity, records: ctypes.Array[ctypes.c_double], determinants: bool) -> bytes:
     room, written = (ctypes.c_uint8 * SHEET_BYTES)(), words(1)
-    status = ask("write_sheet", model.model, _list(model), records, room, written)
+    number = model.model + (WITH_DETERMINANT if determinants else 0)
+    status = ask("write_sheet", number, _list(model), records, room, written)
     if status:
         raise Refused(status, told)
     return bytes(memoryview(room)[:written[0]])

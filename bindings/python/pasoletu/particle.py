@@ -1,10 +1,11 @@
-"""A particle: the 36 floats of a record (docs/RULES.md, section 7)."""
+"""A particle: the 37 floats of a record (docs/RULES.md, section 7)."""
 from __future__ import annotations
 
-from typing import Any, Iterable
+from typing import Any, Iterable, Optional
 
-from ._arguments import Rows, Vector, entries, number, rows
-from ._table import FLOATS, RECORD
+from ._arguments import Rows, Vector, doubles, entries, number, rows
+from ._library import ask
+from ._table import FLOATS, RECORD, SHEET_FLOATS
 from .refusal import LENGTH, Refused
 
 MATRIX, VECTOR = (3, 3), (3,)
@@ -31,9 +32,11 @@ class Particle:
     singular_values                sigma, three floats
     phase                          1.0 whole, 0.0 failed
     plastic_deformation_gradient_det, plastic_hardening, elastic_hardening, log_vol_gain, nacc_alpha
+    determinant                    of F, in every bit; another is refused by 11. Of an F that is set it is worked by the library when it
+                                   is asked for. After a change of F's entries one by one, fill_determinant() makes it right
     """
 
-    __slots__ = tuple(part.field for part in RECORD)
+    __slots__ = tuple(part.field for part in RECORD if part.field != "determinant") + ("_determinant",)
 
     deformation_gradient: Rows
     u: Rows
@@ -45,14 +48,42 @@ class Particle:
     elastic_hardening: float
     log_vol_gain: float
     nacc_alpha: float
+    _determinant: Optional[float]
 
     def __init__(self, **parts: Any) -> None:
         self.deformation_gradient, self.u, self.v_t = identity(), identity(), identity()
         self.singular_values = [1.0, 1.0, 1.0]
         self.phase = self.plastic_deformation_gradient_det = self.plastic_hardening = self.elastic_hardening = 1.0
         self.log_vol_gain = self.nacc_alpha = 0.0
-        for name, value in parts.items():
-            setattr(self, name, value)
+        self._determinant = 1.0
+        # the determinant last: F, where it is set, takes back the one that stood there
+        for name in sorted(parts, key=lambda name: name == "determinant"):
+            setattr(self, name, parts[name])
+
+    def __setattr__(self, name: str, value: Any) -> None:
+        object.__setattr__(self, name, value)
+        if name == "deformation_gradient":
+            object.__setattr__(self, "_determinant", None)
+
+    @property
+    def determinant(self) -> float:
+        if self._determinant is None:
+            self.fill_determinant()
+        return self._determinant  # type: ignore[return-value]
+
+    @determinant.setter
+    def determinant(self, value: float) -> None:
+        self._determinant = value
+
+    def fill_determinant(self) -> None:
+        """Makes the determinant that of the F that stands here."""
+        told = "Particle.fill_determinant"
+        f = entries(told, "deformation_gradient", self.deformation_gradient)
+        room = doubles(told, "deformation_gradient", f + [0.0] * (FLOATS - len(f)))
+        status = ask("fill_determinants", room)
+        if status:
+            raise Refused(status, told)
+        self._determinant = room[FLOATS - 1]
 
     @classmethod
     def stretched(cls, sigma: Vector) -> Particle:
@@ -62,23 +93,26 @@ class Particle:
 
     @classmethod
     def from_floats(cls, floats: Iterable[float]) -> Particle:
-        """The particle of 36 floats in the record's order: F, U, sigma, V^T, the six scalars."""
+        """The particle of 37 floats in the record's order: F, U, sigma, V^T, the six scalars, the determinant. Of 36 the determinant is
+        filled in."""
         particle = cls()
         particle._take(floats)
         return particle
 
     def _take(self, floats: Iterable[float]) -> None:
         held = [number("Particle.from_floats", "floats", x) for x in floats]
-        if len(held) != FLOATS:
+        if len(held) not in (SHEET_FLOATS, FLOATS):
             raise Refused(LENGTH, "Particle.from_floats", place="floats, which has %d entries and not %d" % (len(held), FLOATS))
         for field, at, shape in RECORD:
+            if at == len(held):
+                return
             if shape == MATRIX:
                 setattr(self, field, rows(held[at:at + 9]))
             else:
                 setattr(self, field, held[at:at + 3] if shape == VECTOR else held[at])
 
     def floats(self) -> list[float]:
-        """The 36 floats in the record's order."""
+        """The 37 floats in the record's order."""
         return [x for field, _, shape in RECORD for x in self._part(field, shape)]
 
     def _part(self, field: str, shape: tuple[int, ...]) -> list[float]:
@@ -97,4 +131,7 @@ class Particle:
     __hash__ = None  # type: ignore[assignment]
 
     def __repr__(self) -> str:
-        return "Particle(%s)" % ", ".join("%s=%r" % (name, getattr(self, name)) for name in self.__slots__)
+        shown = {name: getattr(self, name) for name in self.__slots__[:-1]}
+        if self._determinant is not None:
+            shown["determinant"] = self._determinant
+        return "Particle(%s)" % ", ".join("%s=%r" % item for item in shown.items())

@@ -14,6 +14,7 @@ from ._table import (
     REFUSALS,
     TOO_MANY,
     UNKNOWN,
+    WRONG_DETERMINANT,
 )
 
 __all__ = [
@@ -28,13 +29,14 @@ __all__ = [
     "Refused",
     "TOO_MANY",
     "UNKNOWN",
+    "WRONG_DETERMINANT",
 ]
 
 
 class Refused(Exception):
     """A call or a particle was refused: whatever was refused holds every bit it held.
 
-    number    1 to 8 or 10; REFUSALS has its name and its words
+    number    1 to 8, 10 or 11; REFUSALS has its name and its words
     call      the call that refused
     particle  which particle of a list, or None
     place     of refusal 1, the first float that is not finite; of refusal 8, the list; or None

@@ -44,22 +44,26 @@ class Tests(unittest.TestCase):
 
 class Records(Tests):
     def test_a_columnwise_array_is_an_error(self):
-        self.told(ValueError, "(36, 2) and needs a record a row, (n, 36): pass numpy.ascontiguousarray(records.T)", shaped([36, 2]))
+        self.told(ValueError, "(37, 2) and needs a record a row, (n, 37): pass numpy.ascontiguousarray(records.T)", shaped([37, 2]))
 
     def test_any_other_shape_is_an_error(self):
-        for shape in ([2, 37], [72, 1], [1, 72], [2, 18, 2], [2, 2, 36], [1, 1, 36]):
-            self.told(ValueError, "needs a record a row, (n, 36)", shaped(shape))
+        for shape in ([2, 38], [74, 1], [1, 74], [2, 37, 1], [2, 2, 37], [1, 1, 37]):
+            self.told(ValueError, "needs a record a row, (n, 37)", shaped(shape))
+
+    def test_records_of_36_are_an_error_that_says_what_to_do(self):
+        self.told(ValueError, "(2, 36) and needs a record a row, (n, 37): pass pasoletu.completed(records)", shaped([2, 36]))
+        self.told(Refused, "first records, which has 72 floats; give 37 floats (the determinant last)", array.array("d", [1.0] * 72))
 
     def test_a_record_a_row_or_all_in_one_dimension(self):
-        for shape in ([2, 36], [72], [36, 36]):
+        for shape in ([2, 37], [74], [37, 37]):
             records = shaped(shape)
-            self.assertEqual(len(pasoletu.pass_records(SnowPlasticity(), records)), records.nbytes // 288)
+            self.assertEqual(len(pasoletu.pass_records(SnowPlasticity(), records)), records.nbytes // 296)
 
     def test_one_dimension_without_whole_records_is_refused_by_8(self):
-        self.told(Refused, "first records, which has 37 floats", array.array("d", [1.0] * 37))
+        self.told(Refused, "first records, which has 38 floats", array.array("d", [1.0] * 38))
 
     def test_gaps_are_an_error(self):
-        self.told(ValueError, "pass numpy.ascontiguousarray(records)", memoryview(array.array("d", [1.0] * 144))[::2])
+        self.told(ValueError, "pass numpy.ascontiguousarray(records)", memoryview(array.array("d", [1.0] * 148))[::2])
 
     def test_what_holds_no_writable_doubles_is_an_error(self):
         self.told(TypeError, "records holds format 'f', not doubles", array.array("f", [1.0] * 36))
@@ -83,7 +87,7 @@ class Records(Tests):
         passed = pasoletu.pass_records(SnowPlasticity(), records)
         self.assertEqual(passed.outcomes[0].place, "deformation_gradient[0][0]")
         records.append(0.0)
-        self.assertEqual(len(records), 37)
+        self.assertEqual(len(records), 38)
 
 
 class Answers:
@@ -121,9 +125,9 @@ class Answers:
         self.assertEqual(passed.outcomes, [])
 
     def test_a_sheet_s_records(self):
-        data = b"\0" + array.array("d", [0.025, 0.0045, 10.0]).tobytes() + b"\2" + floats(0.9, 1.0).tobytes()
+        data = b"\0" + array.array("d", [0.025, 0.0045, 10.0]).tobytes() + b"\2" + b"".join(floats(x)[:36].tobytes() for x in (0.9, 1.0))
         read, ran = pasoletu.read_sheet(data), pasoletu.run(data)
-        self.assertEqual((read.records.shape, ran.records.shape), ((2, 36), (2, 36)))
+        self.assertEqual((read.records.shape, ran.records.shape), ((2, 37), (2, 37)))
         self.assertEqual((read.records[0, 18], ran.records[0, 18]), (0.9, 0.975))
         self.assertEqual(ran.particles[0].singular_values, [0.975, 1.0, 1.0])
         self.assertIs(ran.particles, ran.particles)
@@ -140,7 +144,7 @@ class WithNumpy(Answers, Tests):
         self.assertTrue(numpy.shares_memory(passed.answers, passed.answers))
 
     def test_an_array_is_worked_in_place(self):
-        records = numpy.asarray(floats(0.9, 1.0)).reshape(2, 36)
+        records = numpy.asarray(floats(0.9, 1.0)).reshape(2, 37)
         pasoletu.pass_records(SnowPlasticity(), records)
         self.assertEqual(records[:, 18].tolist(), [0.975, 1.0])
         # So is a part of it.
@@ -149,8 +153,8 @@ class WithNumpy(Answers, Tests):
         self.assertEqual(records[:, 18].tolist(), [0.9, 0.975])
 
     def test_columns_and_fortran_s_order_are_errors(self):
-        rows = numpy.asarray(floats(0.9, 1.0, 0.8)).reshape(3, 36)
-        self.told(ValueError, "pass numpy.ascontiguousarray(records.T)", numpy.ones((36, 2)))
+        rows = numpy.asarray(floats(0.9, 1.0, 0.8)).reshape(3, 37)
+        self.told(ValueError, "pass numpy.ascontiguousarray(records.T)", numpy.ones((37, 2)))
         self.told(ValueError, "pass numpy.ascontiguousarray(records.T)", numpy.asfortranarray(rows.T))
         self.told(ValueError, "pass numpy.ascontiguousarray(records)", numpy.asfortranarray(rows))
         self.told(ValueError, "pass numpy.ascontiguousarray(records)", numpy.ascontiguousarray(rows.T).T)
@@ -160,18 +164,18 @@ class WithNumpy(Answers, Tests):
         self.told(ValueError, "needs a record a row", numpy.array(1.0))
 
     def test_what_is_advised_works(self):
-        columns = numpy.ascontiguousarray(numpy.asarray(floats(0.9, 1.0)).reshape(2, 36).T)
+        columns = numpy.ascontiguousarray(numpy.asarray(floats(0.9, 1.0)).reshape(2, 37).T)
         rows = numpy.ascontiguousarray(columns.T)
         pasoletu.pass_records(SnowPlasticity(), rows)
         self.assertEqual(rows[:, 18].tolist(), [0.975, 1.0])
 
     def test_other_numbers_are_errors(self):
         for dtype in ("f4", ">f8", "i8", "c16", "O"):
-            self.told(TypeError, "records.astype(numpy.float64)", numpy.ones((2, 36)).astype(dtype))
-        self.told(TypeError, "can only be read", numpy.broadcast_to(numpy.ones(36), (2, 36)))
+            self.told(TypeError, "records.astype(numpy.float64)", numpy.ones((2, 37)).astype(dtype))
+        self.told(TypeError, "can only be read", numpy.broadcast_to(numpy.ones(37), (2, 37)))
 
     def test_no_aligned_doubles(self):
-        odd = numpy.frombuffer(bytearray(8 * 36 + 1), dtype="u1")[1:].view("f8")
+        odd = numpy.frombuffer(bytearray(8 * 37 + 1), dtype="u1")[1:].view("f8")
         self.told(ValueError, "multiple of 8 bytes", odd)
 
     def test_single_calls_take_numpy_s(self):

@@ -64,7 +64,7 @@ class Chunks(unittest.TestCase):
         given = drawn(1000)
         whole = given.copy()
         passed = pasoletu.pass_records(law, whole, limits, elasticity)
-        lazy = chunks.pass_array(law, dask.array.from_array(given, chunks=((1, 333, 260, 0, 406), 36)), limits, elasticity)
+        lazy = chunks.pass_array(law, dask.array.from_array(given, chunks=((1, 333, 260, 0, 406), 37)), limits, elasticity)
         futures = self.client.compute([lazy.records, lazy.answers, lazy.counts])
         after, answers, counts = (future.result(timeout=WAIT) for future in futures)
         self.assertEqual(bits(after), bits(whole))
@@ -88,7 +88,7 @@ class Chunks(unittest.TestCase):
         self.assertEqual(len(workers), 2)
         for count, worker in enumerate(workers, 100):
             self.assertTrue(worker.startswith("tcp://127.0.0.1:"), worker)
-            answers = chunks.pass_array(LAWS[2], dask.array.from_array(drawn(count), chunks=(50, 36))).answers
+            answers = chunks.pass_array(LAWS[2], dask.array.from_array(drawn(count), chunks=(50, 37))).answers
             future = self.client.compute(answers, workers=[worker], allow_other_workers=False)
             whole = pasoletu.pass_records(LAWS[2], drawn(count)).answers
             self.assertEqual(bits(future.result(timeout=WAIT)), bits(whole))
@@ -101,12 +101,12 @@ class Errors(unittest.TestCase):
         self.assertIn(words, str(caught.exception))
 
     def test_what_is_no_array_of_records_is_told_before_any_work(self):
-        records = dask.array.zeros((72, 36))
-        self.told(TypeError, "records is a ndarray and must be a Dask array", numpy.ones((2, 36)))
+        records = dask.array.zeros((72, 37))
+        self.told(TypeError, "records is a ndarray and must be a Dask array", numpy.ones((2, 37)))
         self.told(TypeError, "records holds float32", records.astype("f4"))
-        self.told(ValueError, "pass records.T", dask.array.zeros((36, 2)))
+        self.told(ValueError, "pass records.T", dask.array.zeros((37, 2)))
         self.told(ValueError, "a record a row", dask.array.zeros(72))
-        self.told(ValueError, "records.rechunk({1: 36})", records.rechunk((36, 18)))
+        self.told(ValueError, "records.rechunk({1: 37})", records.rechunk((36, 18)))
         self.told(TypeError, "elasticity is given and limits is not", records, elasticity=ELASTICITY)
 
 

@@ -14,7 +14,7 @@ import pasoletu
 HERE = pathlib.Path(__file__).resolve().parent.parent
 VERSION = HERE.parent.parent / "VERSION"
 CALL = "import pasoletu; pasoletu.elementary.exp(0.0); print(pasoletu.raw.file())"
-SONAME = "libpasoletu.so.0"
+SONAME = "libpasoletu.so.1"
 
 
 def has(module):
@@ -58,7 +58,7 @@ class Finding(InFolder):
     def test_a_named_file_that_is_none_is_told_and_no_other_is_taken(self):
         packages = self.prefix("lib", "python3", "dist-packages")
         self.installed()
-        for bad, why in (("/no/such/libpasoletu.so.0", "No such file"), (__file__, "invalid ELF header")):
+        for bad, why in (("/no/such/libpasoletu.so.1", "No such file"), (__file__, "invalid ELF header")):
             done = self.python("-c", CALL, path=packages, PASOLETU_LIB=bad)
             self.assertEqual(done.returncode, 1)
             self.assertIn("PASOLETU_LIB names %s, which cannot be opened" % bad, done.stderr)

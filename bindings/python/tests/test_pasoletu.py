@@ -44,7 +44,7 @@ def diagonal(a, b, c):
 
 
 def bits(particle):
-    return struct.pack("<36d", *particle.floats())
+    return struct.pack("<37d", *particle.floats())
 
 
 def same(a, b):
@@ -65,7 +65,7 @@ def groups(n):
 
 def sheet(model, parameters, particles):
     head = bytes([model]) + struct.pack("<%dd" % len(parameters), *parameters)
-    return head + groups(len(particles)) + b"".join(map(bits, particles))
+    return head + groups(len(particles)) + b"".join(bits(p)[:8 * (36 if model < 4 else 37)] for p in particles)
 
 
 class Tests(unittest.TestCase):
@@ -245,7 +245,7 @@ class Laws(Tests):
 
 class Passes(Tests):
     def test_a_refused_particle_keeps_its_bits_and_the_next_are_worked(self):
-        for place in range(36):
+        for place in range(37):
             particles = [Particle.stretched([2.0, 1.0, 1.0]) for _ in range(3)]
             floats = particles[1].floats()
             floats[place] = PAYLOAD
@@ -306,10 +306,10 @@ class Passes(Tests):
 
     def test_a_buffer_is_worked_in_place(self):
         records = array.array("d", Particle.stretched([2.0, 1.0, 1.0]).floats() + Particle(phase=PAYLOAD).floats())
-        was = records[36:].tobytes()
+        was = records[37:].tobytes()
         passed = pasoletu.pass_records(SnowPlasticity(), records)
         self.assertEqual((records[0], records[18], passed.refused), (1.0045, 1.0045, 1))
-        self.assertEqual(records[36:].tobytes(), was)
+        self.assertEqual(records[37:].tobytes(), was)
         law, limits = CorotatedLinearElasticity(True, 0.9, 1.0, 1.0), MaximumStressFailure(-1.0, 100.0)
         self.assertEqual(pasoletu.pass_records(SnowPlasticity(), records, limits, law).failed, 1)
         self.assertEqual(records[30], 0.0)
@@ -384,7 +384,7 @@ class Refusals(Tests):
         self.refused(7, pasoletu.run, good + b"\0")
         self.refused(7, pasoletu.run, sheet(0, snow, [Particle()] * 201))
         self.refused(5, pasoletu.run, b"\x80\0" + good[1:])
-        self.refused(6, pasoletu.read_sheet, sheet(4, snow, []))
+        self.refused(6, pasoletu.read_sheet, sheet(8, snow, []))
         self.refused(6, pasoletu.read_sheet, sheet(2, [0.0, 0.0, 0.0, 0.0, 1.0, 1.0, -0.0, 1.0], []))
 
     def test_sheets_are_read_as_bits(self):
@@ -398,9 +398,13 @@ class Refusals(Tests):
             DruckerPragerPlasticity(0.6, 0.15, 0.2, 0.17, 3.0, 2.0, True, 0.5),
             NaccPlasticity(1e4, 0.3, 0.05, True, 3.0, 2.36),
         ):
-            data = sheet(law.model, [float(getattr(law, f.name)) for f in dataclasses.fields(law)], given)
+            parameters = [float(getattr(law, f.name)) for f in dataclasses.fields(law)]
+            whole = pasoletu.read_sheet(sheet(law.model + 4, parameters, given))
+            self.assertEqual((whole.model, whole.determinants), (law, True))
+            self.assertTrue(same(whole.particles, given))
+            data = sheet(law.model, parameters, given)
             read = pasoletu.read_sheet(data)
-            self.assertEqual(read.model, law)
+            self.assertEqual((read.model, read.determinants), (law, False))
             self.assertTrue(same(read.particles, given))
             # Run, the sheet does what a pass does.
             ran = pasoletu.run(data)

@@ -36,18 +36,19 @@ class Raw(unittest.TestCase):
     def test_written_lists_are_written_where_they_stand(self):
         records, answers, counts = record() + record(), array.array("Q", [7] * 4), array.array("Q", [7] * 3)
         self.assertEqual(raw.call("pass", 0, SNOW, records, answers, counts), 0)
-        self.assertEqual((records[18], records[54], answers[0], counts.tolist()), (0.975, 0.975, 1, [0, 2, 0]))
+        self.assertEqual((records[18], records[55], answers[0], counts.tolist()), (0.975, 0.975, 1, [0, 2, 0]))
 
     def test_what_the_classes_cannot_say(self):
         clay = array.array("d", [1e4, 0.3, 0.05, 0.5, 3.0, 2.36])
         answer, counts = array.array("Q", [7, 7]), array.array("Q", [7] * 3)
         self.assertEqual(raw.call("pass", 3, clay, record(), answer, counts), 6)
-        self.assertEqual(raw.call("pass", 4, SNOW, record(), answer, counts), 6)
+        self.assertEqual(raw.call("pass", 8, SNOW, record(), answer, counts), 6)
+        self.assertEqual(raw.call("pass", 0, SNOW, record()[:36], answer, counts), 8)
         self.assertEqual(raw.call("pass", 0, SNOW[:2], record(), answer, counts), 8)
         self.assertEqual(answer.tolist() + counts.tolist(), [7] * 5)
 
     def test_a_sheet_is_lent_as_bytes(self):
-        header, room = array.array("Q", bytes(88)), array.array("d", bytes(200 * 288))
+        header, room = array.array("Q", bytes(88)), array.array("d", bytes(200 * 296))
         self.assertEqual(raw.call("read_sheet", b"", header, room), 4)
         self.assertEqual(raw.call("read_sheet", b"\0" + SNOW.tobytes() + b"\0", header, room), 0)
 
@@ -66,7 +67,7 @@ class Raw(unittest.TestCase):
 
     def test_the_file_is_told(self):
         named = os.environ.get("PASOLETU_LIB")
-        self.assertTrue(raw.file() == named if named else raw.file().endswith("libpasoletu.so.0"), raw.file())
+        self.assertTrue(raw.file() == named if named else raw.file().endswith("libpasoletu.so.1"), raw.file())
 
 
 class Table(unittest.TestCase):

@@ -29,7 +29,7 @@ ONE = 0x3FF0000000000000
 def drawn(draw, n):
     """Words of n records: any bits, and now and then a NaN with a payload, an infinity, a zero of either sign."""
     odd = (0x7FF0000000000001, 0xFFF8000000C0FFEE, 0x7FF0000000000000, 1 << 63, 0)
-    return [draw.choice(odd) if draw.random() < 0.1 else draw.getrandbits(64) for _ in range(36 * n)]
+    return [draw.choice(odd) if draw.random() < 0.1 else draw.getrandbits(64) for _ in range(37 * n)]
 
 
 def doubles(words):
@@ -37,14 +37,15 @@ def doubles(words):
 
 
 def spelled(model, parameters, words):
-    """Section 7, from the page."""
-    n = len(words) // 36
+    """Section 7, from the page: models 0 to 3 leave the determinant out."""
+    n = len(words) // 37
     number = bytes([n]) if n < 128 else bytes([n % 128 + 128, n // 128])
-    return bytes([model]) + struct.pack("<%dQ" % len(parameters), *parameters) + number + struct.pack("<%dQ" % len(words), *words)
+    kept = [w for k, w in enumerate(words) if model > 3 or k % 37 < 36]
+    return bytes([model]) + struct.pack("<%dQ" % len(parameters), *parameters) + number + struct.pack("<%dQ" % len(kept), *kept)
 
 
 def any_parameters(draw, model):
-    m = MODELS[model]
+    m = MODELS[model % 4]
     return [draw.choice((0, ONE)) if name in m.flags else draw.getrandbits(64) for name in m.parameters]
 
 
@@ -54,9 +55,14 @@ class Written(unittest.TestCase):
         for law in LAWS:
             for n in (0, 1, 127, 128, 200):
                 records = doubles(drawn(draw, n))
+                whole = pasoletu.write_sheet(law, records, determinants=True)
+                back = pasoletu.read_sheet(whole)
+                self.assertEqual((memoryview(back.records).tobytes(), back.determinants), (records.tobytes(), True))
+                self.assertEqual(bytes(back), whole)
                 data = pasoletu.write_sheet(law, records)
                 read = pasoletu.read_sheet(data)
-                self.assertEqual(memoryview(read.records).tobytes(), records.tobytes())
+                pasoletu.fill_determinants(records)
+                self.assertEqual((memoryview(read.records).tobytes(), read.determinants), (records.tobytes(), False))
                 self.assertEqual(struct.pack("<8d", *(law.parameters() + [0.0] * 8)[:8]), struct.pack("<8d", *(read.model.parameters() + [0.0] * 8)[:8]))
                 self.assertEqual(bytes(read), data)
 
@@ -80,17 +86,19 @@ class Written(unittest.TestCase):
         ran = pasoletu.run(pasoletu.write_sheet(SnowPlasticity(), given))
         updated = pasoletu.read_sheet(bytes(ran))
         self.assertEqual(updated.particles[0].singular_values, [0.975, 1.0, 1.0])
-        self.assertEqual(struct.pack("<36d", *updated.particles[1].floats()), struct.pack("<36d", *given[1].floats()))
+        self.assertEqual(struct.pack("<37d", *updated.particles[1].floats()), struct.pack("<37d", *given[1].floats()))
+        kept = pasoletu.run(pasoletu.write_sheet(SnowPlasticity(), given, determinants=True))
+        self.assertEqual((kept.determinants, len(bytes(kept)) - len(bytes(ran)), bytes(kept)[0]), (True, 16, 4))
 
     def test_over_200_particles(self):
-        for given in ([Particle()] * 201, doubles([0] * 36 * 201)):
+        for given in ([Particle()] * 201, doubles([0] * 37 * 201)):
             with self.assertRaises(Refused) as told:
                 pasoletu.write_sheet(SnowPlasticity(), given)
             self.assertEqual((told.exception.number, told.exception.call), (7, "write_sheet"))
 
     def test_what_is_no_list_of_particles(self):
         with self.assertRaises(Refused) as told:
-            pasoletu.write_sheet(SnowPlasticity(), doubles([0] * 37))
+            pasoletu.write_sheet(SnowPlasticity(), doubles([0] * 36))
         self.assertEqual(told.exception.number, 8)
         self.assertRaises(TypeError, pasoletu.write_sheet, SnowPlasticity(), [1.0])
         self.assertRaises(TypeError, pasoletu.write_sheet, SnowPlasticity(), bytes(288))
@@ -107,18 +115,21 @@ class AsTheyAre(unittest.TestCase):
         return status, bytes(held), list(written)
 
     def test_the_order_of_the_refusals(self):
-        nacc, two, many = [0, 0, 0, ONE, 0, 0], [7] * 72, [7] * 36 * 201
+        nacc, two, many = [0, 0, 0, ONE, 0, 0], [7] * 74, [7] * 37 * 201
         for number, model, parameters, words, room in (
             (8, 9, nacc, two[1:], 0),
             (8, 3, nacc[1:], two, 0),
             (8, 3, nacc + [0], many, 0),
-            (6, 4, nacc, two, 0),
+            (8, 3, nacc, [7] * 72, 700),
+            (6, 8, nacc, two, 0),
+            (6, 7, [0, 0, 0, 1 << 63, 0, 0], two, 700),
             (6, 1 << 63, [], many, 0),
             (6, 3, [0, 0, 0, 1 << 63, 0, 0], two, 700),
             (6, 3, [0, 0, 0, ONE + 1, 0, 0], many, 0),
             (7, 3, nacc, many, 0),
             (9, 3, nacc, two, 0),
             (9, 3, nacc, two, 1 + 48 + 1 + 576 - 1),
+            (9, 7, nacc, two, 1 + 48 + 1 + 592 - 1),
         ):
             self.assertEqual(self.write(model, parameters, words, room), (number, b"\x55" * room, [99]), (number, model))
         for places in (0, 2):
@@ -127,7 +138,7 @@ class AsTheyAre(unittest.TestCase):
     def test_random_sheets_in_rooms_of_any_size(self):
         draw = random.Random(2)
         for _ in range(300):
-            model, n = draw.randrange(4), draw.choice((0, 1, 2, 3, 127, 128, 200) if draw.random() < 0.1 else (0, 1, 2, 3))
+            model, n = draw.randrange(8), draw.choice((0, 1, 2, 3, 127, 128, 200) if draw.random() < 0.1 else (0, 1, 2, 3))
             parameters, words = any_parameters(draw, model), drawn(draw, n)
             data = spelled(model, parameters, words)
             for room in (len(data), len(data) + draw.randrange(1, 99), len(data) - 1, draw.randrange(len(data))):
@@ -136,8 +147,8 @@ class AsTheyAre(unittest.TestCase):
 
     def test_the_longest_sheet(self):
         cone = [0] * 8
-        self.assertEqual(self.write(2, cone, [1] * 7200, SHEET_BYTES - 1)[0], 9)
-        status, room, written = self.write(2, cone, [1] * 7200, SHEET_BYTES + 1)
+        self.assertEqual(self.write(6, cone, [1] * 7400, SHEET_BYTES - 1)[0], 9)
+        status, room, written = self.write(6, cone, [1] * 7400, SHEET_BYTES + 1)
         self.assertEqual((status, written, room[-1]), (0, [SHEET_BYTES], 0x55))
 
 
@@ -146,10 +157,10 @@ class TheTool(unittest.TestCase):
         """tools/sheet.py's own writer beside the proved one, byte by byte."""
         draw = random.Random(3)
         for _ in range(500):
-            model, n = draw.randrange(4), draw.choice((0, 1, 2, 5) if draw.random() < 0.95 else (127, 128, 200))
+            model, n = draw.randrange(8), draw.choice((0, 1, 2, 5) if draw.random() < 0.95 else (127, 128, 200))
             parameters, words = any_parameters(draw, model), drawn(draw, n)
-            records = [doubles(words[36 * k:36 * (k + 1)]).tolist() for k in range(n)]
-            made = tool.written(MODELS[model].name, doubles(parameters).tolist(), records, "a test")
+            records = [doubles(words[37 * k:37 * (k + 1)]).tolist() for k in range(n)]
+            made = tool.written(MODELS[model % 4].name, model > 3, doubles(parameters).tolist(), records, "a test")
             room, written = bytearray(SHEET_BYTES), array.array("Q", [0])
             self.assertEqual(raw.call("write_sheet", model, doubles(parameters), doubles(words), room, written), 0)
             self.assertEqual(made, bytes(room[:written[0]]))

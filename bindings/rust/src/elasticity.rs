@@ -2,7 +2,7 @@
 use crate::calls::*;
 use crate::math::{Matrix, Real, Vector};
 use crate::table::*;
-use crate::{utils, Refusal};
+use crate::{utils, Particle, Refusal};
 
 /// Which part of the neo-Hookean energy `phase_coeff` weakens below determinant 1. From there up it weakens both.
 #[derive(Copy, Clone, Debug, Default, PartialEq, Eq)]
@@ -17,6 +17,9 @@ pub enum EnergySplit {
 /// Neo-Hookean stress and energy (elasticity_neo_hookean.rs). Each call is refused by 1 for an input that is not finite, by 2
 /// where F's determinant lies below the range of the powers and the logarithm, by 10 where above it, by 3 for a NaN or a
 /// result not finite.
+///
+/// The calls that end in `_of` take a particle with the determinant that it holds: what they answer is what the others answer of its
+/// F, phase and hardening, in every bit. They are refused by 1 for any of its floats, then by 11 for a determinant that isn't F's.
 #[derive(Copy, Clone, Debug, PartialEq)]
 pub struct NeoHookeanElasticity {
     /// The Rust's coefficient for its time step. No call of this crate looks at its size.
@@ -98,6 +101,52 @@ impl NeoHookeanElasticity {
         })
     }
 
+    /// [`fpk_stress`](Self::fpk_stress) of a particle.
+    pub fn fpk_stress_of(&self, particle: &Particle) -> Result<Matrix<Real>, Refusal> {
+        let (law, record) = (self.law(), particle.floats().as_ptr());
+        let told = matrix("NeoHookeanElasticity::fpk_stress_of", |out, n| unsafe {
+            pasoletu_record_neo_hookean_fpk_stress(law.as_ptr(), 3, record, Particle::FLOATS, out, n)
+        });
+        told.map_err(|r| placed(r, &law, particle))
+    }
+
+    /// [`kirchhoff_stress`](Self::kirchhoff_stress) of a particle.
+    pub fn kirchhoff_stress_of(&self, particle: &Particle) -> Result<Matrix<Real>, Refusal> {
+        let (law, record) = (self.law(), particle.floats().as_ptr());
+        let told = matrix("NeoHookeanElasticity::kirchhoff_stress_of", |out, n| unsafe {
+            pasoletu_record_neo_hookean_kirchhoff_stress(law.as_ptr(), 3, record, Particle::FLOATS, out, n)
+        });
+        told.map_err(|r| placed(r, &law, particle))
+    }
+
+    /// [`elastic_energy_density`](Self::elastic_energy_density) of a particle.
+    pub fn elastic_energy_density_of(&self, particle: &Particle) -> Result<Real, Refusal> {
+        let (law, record) = (self.law(), particle.floats().as_ptr());
+        let told = number("NeoHookeanElasticity::elastic_energy_density_of", |out, n| unsafe {
+            pasoletu_record_neo_hookean_elastic_energy_density(law.as_ptr(), 3, record, Particle::FLOATS, out, n)
+        });
+        told.map_err(|r| placed(r, &law, particle))
+    }
+
+    /// [`elastic_energy_density_in`](Self::elastic_energy_density_in) of a particle.
+    pub fn elastic_energy_density_in_of(&self, split: EnergySplit, particle: &Particle) -> Result<Real, Refusal> {
+        let (law, record) = (self.law(), particle.floats().as_ptr());
+        let told = number("NeoHookeanElasticity::elastic_energy_density_in_of", |out, n| unsafe {
+            let one_split = flag(split == EnergySplit::AsStress);
+            pasoletu_record_neo_hookean_elastic_energy_density_in(law.as_ptr(), 3, one_split, record, Particle::FLOATS, out, n)
+        });
+        told.map_err(|r| placed(r, &law, particle))
+    }
+
+    /// [`pos_energy`](Self::pos_energy) of a particle.
+    pub fn pos_energy_of(&self, particle: &Particle) -> Result<Real, Refusal> {
+        let (law, record) = (self.law(), particle.floats().as_ptr());
+        let told = number("NeoHookeanElasticity::pos_energy_of", |out, n| unsafe {
+            pasoletu_record_neo_hookean_pos_energy(law.as_ptr(), 3, record, Particle::FLOATS, out, n)
+        });
+        told.map_err(|r| placed(r, &law, particle))
+    }
+
     /// The positive part of the energy.
     pub fn pos_energy(
         &self,
@@ -113,8 +162,17 @@ impl NeoHookeanElasticity {
     }
 }
 
+/// A refusal of a particle, with the first float of it that is not finite; one of the law comes before it and has no name here.
+fn placed(refusal: Refusal, law: &[Real], particle: &Particle) -> Refusal {
+    let named = refusal.number == Refusal::NOT_FINITE && all_finite(law);
+    Refusal { place: if named { particle.first_not_finite() } else { None }, ..refusal }
+}
+
 /// Corotated linear stress and energy (elasticity_corotated_linear.rs). The factors of F are given. Each call is refused by 1
 /// for an input that is not finite and by 3 for a NaN or a result that is not finite.
+///
+/// The calls that end in `_of` take a particle with its factors and the determinant that it holds, and answer what the others do; they
+/// are refused by 1 for any of its floats, then by 11 for a determinant that isn't F's.
 #[derive(Copy, Clone, Debug, PartialEq)]
 pub struct CorotatedLinearElasticity {
     /// Whether a failed particle (phase 0.0) loses its tensile stress.
@@ -162,6 +220,33 @@ impl CorotatedLinearElasticity {
         number("CorotatedLinearElasticity::elastic_energy_density", |out, n| unsafe {
             pasoletu_corotated_elastic_energy_density(law.as_ptr(), 4, elastic_hardening, s, 3, out, n)
         })
+    }
+
+    /// [`kirchhoff_stress`](Self::kirchhoff_stress) of a particle.
+    pub fn kirchhoff_stress_of(&self, particle: &Particle) -> Result<Matrix<Real>, Refusal> {
+        let (law, record) = (self.law(), particle.floats().as_ptr());
+        let told = matrix("CorotatedLinearElasticity::kirchhoff_stress_of", |out, n| unsafe {
+            pasoletu_record_corotated_kirchhoff_stress(law.as_ptr(), 4, record, Particle::FLOATS, out, n)
+        });
+        told.map_err(|r| placed(r, &law, particle))
+    }
+
+    /// [`elastic_energy_density`](Self::elastic_energy_density) of a particle, by the product of its singular values.
+    pub fn elastic_energy_density_of(&self, particle: &Particle) -> Result<Real, Refusal> {
+        let (law, record) = (self.law(), particle.floats().as_ptr());
+        let told = number("CorotatedLinearElasticity::elastic_energy_density_of", |out, n| unsafe {
+            pasoletu_record_corotated_elastic_energy_density(law.as_ptr(), 4, record, Particle::FLOATS, out, n)
+        });
+        told.map_err(|r| placed(r, &law, particle))
+    }
+
+    /// [`pos_energy`](Self::pos_energy) of a particle.
+    pub fn pos_energy_of(&self, particle: &Particle) -> Result<Real, Refusal> {
+        let (law, record) = (self.law(), particle.floats().as_ptr());
+        let told = number("CorotatedLinearElasticity::pos_energy_of", |out, n| unsafe {
+            pasoletu_record_corotated_pos_energy(law.as_ptr(), 4, record, Particle::FLOATS, out, n)
+        });
+        told.map_err(|r| placed(r, &law, particle))
     }
 
     /// The positive part of the energy. Takes the determinant of F.

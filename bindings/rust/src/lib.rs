@@ -4,7 +4,8 @@
 //! meets these differences:
 //! - a call answers a `Result`: what would have been a NaN that looks like packed snow is a [`Refusal`];
 //! - matrices are `[[f64; 3]; 3]`, three rows of three;
-//! - the factors U, sigma, V^T of F are given (in a [`Particle`], or to the corotated law), not worked out inside.
+//! - the factors U, sigma, V^T of F are given (in a [`Particle`], or to the corotated law), not worked out inside;
+//! - a [`Particle`] holds F's determinant: whoever writes F fills it in ([`fill_determinants`]).
 //!
 //! ```
 //! use pasoletu::dynamics::models::SnowPlasticity;
@@ -56,12 +57,15 @@ mod vectors;
 pub use elasticity::{CorotatedLinearElasticity, EnergySplit, NeoHookeanElasticity};
 pub use failure::MaximumStressFailure;
 pub use fluid::MonaghanSphEos;
-pub use lists::{pass_into, pass_with_failure_into, read_sheet_into, write_sheet_into, Answer, Counts};
+pub use lists::{
+    fill_determinants, pass_into, pass_with_failure_into, read_sheet_into, write_sheet_into, write_sheet_with_determinants_into,
+    Answer, Counts, Header,
+};
 pub use particle::Particle;
 pub use plasticity::{DruckerPragerPlasticity, Model, NaccPlasticity, Outcome, RankinePlasticity, SnowPlasticity};
 pub use refusal::Refusal;
 #[cfg(feature = "alloc")]
-pub use sheets::{read_sheet, run_sheet, write_sheet, Ran, Sheet};
+pub use sheets::{read_sheet, run_sheet, write_sheet, write_sheet_with_determinants, Ran, Sheet};
 pub use table::{SHEET_BYTES, SHEET_MOST};
 #[cfg(feature = "alloc")]
 pub use vectors::{pass, pass_with_failure, Passed};

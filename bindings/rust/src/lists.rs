@@ -1,8 +1,8 @@
 //! The passes, and the reading and writing of a sheet, in the caller's room (docs/RULES.md, section 7): nothing is allocated.
 use crate::plasticity::Parameters;
 use crate::table::{
-    pasoletu_pass, pasoletu_pass_with_failure, pasoletu_read_sheet, pasoletu_write_sheet, ANSWERS, HEADER, HEADER_COUNT,
-    HEADER_MODEL, HEADER_PARAMETERS, MOST_PARAMETERS, STORED, UNTOUCHED,
+    pasoletu_fill_determinants, pasoletu_pass, pasoletu_pass_with_failure, pasoletu_read_sheet, pasoletu_write_sheet, ANSWERS,
+    HEADER, HEADER_COUNT, HEADER_MODEL, HEADER_PARAMETERS, MOST_PARAMETERS, STORED, UNTOUCHED, WITH_DETERMINANT,
 };
 use crate::{CorotatedLinearElasticity, MaximumStressFailure, Model, Outcome, Particle, Refusal};
 
@@ -142,33 +142,86 @@ pub fn pass_with_failure_into(
     Pass::with_failure("pass_with_failure_into", model, Judge::new(limits, elasticity)).run(particles, answers)
 }
 
-/// Reads a sheet into the first of the particles: its law, and how many it has. [`SHEET_MOST`](crate::SHEET_MOST) are always enough
-/// room; the rest keeps its bits. Floats pass as bits: a NaN is read here and refused by the law. Refused by 4, 5, 6 and 7, and by 8
-/// for too little room.
-pub fn read_sheet_into(bytes: &[u8], particles: &mut [Particle]) -> Result<(Model, usize), Refusal> {
+/// Makes each particle's `determinant` that of the `deformation_gradient` which stands there: for a host that has written F. It refuses
+/// nothing: a determinant that is not finite goes in as worked, and the law refuses that particle by 1.
+///
+/// ```
+/// use pasoletu::{fill_determinants, pass, Particle, SnowPlasticity};
+///
+/// let mut particles = [Particle::REST; 2];
+/// particles[1].deformation_gradient[0][0] = 0.9;
+/// assert_eq!(pass(SnowPlasticity::new(), &mut particles).outcomes[1].unwrap_err().number, 11);
+/// fill_determinants(&mut particles);
+/// assert_eq!(pass(SnowPlasticity::new(), &mut particles).stored, 2);
+/// ```
+pub fn fill_determinants(particles: &mut [Particle]) {
+    let (records, floats) = floats_of(particles);
+    let status = unsafe { pasoletu_fill_determinants(records, floats) };
+    assert!(status == 0, "fill_determinants answered {status}: crate and library are of different versions, build both anew");
+}
+
+/// What a sheet says of its particles.
+#[derive(Copy, Clone, Debug, PartialEq)]
+pub struct Header {
+    /// The law that the sheet names.
+    pub model: Model,
+    /// Whether the sheet keeps each particle's determinant (models 4 to 7). Where it doesn't, the determinant was filled in.
+    pub determinants: bool,
+    /// How many particles it has.
+    pub count: usize,
+}
+
+/// Reads a sheet into the first of the particles. [`SHEET_MOST`](crate::SHEET_MOST) are always enough room; the rest keeps its bits.
+/// Floats pass as bits: a NaN is read here and refused by the law. Refused by 4, 5, 6 and 7, and by 8 for too little room.
+pub fn read_sheet_into(bytes: &[u8], particles: &mut [Particle]) -> Result<Header, Refusal> {
     let mut header = [0u64; HEADER];
     let (records, floats) = floats_of(particles);
     let status = unsafe { pasoletu_read_sheet(bytes.as_ptr(), bytes.len(), header.as_mut_ptr(), HEADER, records, floats) };
     if status != 0 {
         return Err(Refusal::new(status, "read_sheet_into"));
     }
-    let parameters = &header[HEADER_PARAMETERS..HEADER_PARAMETERS + MOST_PARAMETERS];
-    Ok((Model::of_sheet(header[HEADER_MODEL], parameters), header[HEADER_COUNT] as usize))
+    let (model, parameters) = (header[HEADER_MODEL], &header[HEADER_PARAMETERS..HEADER_PARAMETERS + MOST_PARAMETERS]);
+    Ok(Header {
+        model: Model::of_sheet(model, parameters),
+        determinants: model >= WITH_DETERMINANT as u64,
+        count: header[HEADER_COUNT] as usize,
+    })
 }
 
 /// Writes a sheet into the first of the bytes: how many it has. [`SHEET_BYTES`](crate::SHEET_BYTES) are always enough room; the rest
-/// keeps what it held. Floats pass as bits: a NaN is written here and refused by the law. Refused, with nothing written, by 7 for over
-/// [`SHEET_MOST`](crate::SHEET_MOST) particles, and by 9 for too little room.
+/// keeps what it held. Floats pass as bits: a NaN is written here and refused by the law. The determinants are left out, and a reader
+/// fills them in. Refused, with nothing written, by 7 for over [`SHEET_MOST`](crate::SHEET_MOST) particles, and by 9 for too little
+/// room.
 pub fn write_sheet_into(model: impl Into<Model>, particles: &[Particle], bytes: &mut [u8]) -> Result<usize, Refusal> {
-    let law = model.into().parameters();
+    written("write_sheet_into", model.into(), false, particles, bytes)
+}
+
+/// [`write_sheet_into`] with the determinants as they stand: a sheet of the model's number + 4.
+pub fn write_sheet_with_determinants_into(
+    model: impl Into<Model>,
+    particles: &[Particle],
+    bytes: &mut [u8],
+) -> Result<usize, Refusal> {
+    written("write_sheet_with_determinants_into", model.into(), true, particles, bytes)
+}
+
+pub(crate) fn written(
+    call: &'static str,
+    model: Model,
+    determinants: bool,
+    particles: &[Particle],
+    bytes: &mut [u8],
+) -> Result<usize, Refusal> {
+    let law = model.parameters();
+    let number = law.model + if determinants { WITH_DETERMINANT as u64 } else { 0 };
     let (records, floats) = (particles.as_ptr().cast(), particles.len() * Particle::FLOATS);
     let mut written = 0u64;
     let status = unsafe {
         let (p, b) = (law.values.as_ptr(), bytes.as_mut_ptr());
-        pasoletu_write_sheet(law.model, p, law.count, records, floats, b, bytes.len(), &mut written, 1)
+        pasoletu_write_sheet(number, p, law.count, records, floats, b, bytes.len(), &mut written, 1)
     };
     if status != 0 {
-        return Err(Refusal::new(status, "write_sheet_into"));
+        return Err(Refusal::new(status, call));
     }
     Ok(written as usize)
 }

@@ -1,11 +1,13 @@
+use crate::lists::fill_determinants;
 use crate::math::{Matrix, Vector};
 use crate::table;
 
-/// A particle: the 36 floats of a record (docs/RULES.md, section 7), with the names that the Rust gives them.
+/// A particle: the 37 floats of a record (docs/RULES.md, section 7), with the names that the Rust gives them.
 ///
 /// The laws take the factors F = U diag(sigma) V^T as they stand here: the host decomposes F and does not lend factors of
-/// another F. An update that stores writes `deformation_gradient`, `singular_values` and the scalars that its law names;
-/// `u` and `v_t` stay.
+/// another F. An update that stores writes `deformation_gradient`, `singular_values`, the scalars that its law names and
+/// `determinant`; `u` and `v_t` stay. Whoever writes `deformation_gradient` writes `determinant` with it, by
+/// [`Particle::with_determinant`] or [`fill_determinants`](crate::fill_determinants): one that does not belong to F is refused by 11.
 #[derive(Copy, Clone, Debug, PartialEq)]
 #[repr(C)]
 pub struct Particle {
@@ -29,6 +31,8 @@ pub struct Particle {
     pub log_vol_gain: f64,
     /// NACC's alpha.
     pub nacc_alpha: f64,
+    /// The determinant of `deformation_gradient`, in every bit.
+    pub determinant: f64,
 }
 
 const IDENTITY: Matrix<f64> = [[1.0, 0.0, 0.0], [0.0, 1.0, 0.0], [0.0, 0.0, 1.0]];
@@ -37,7 +41,10 @@ impl Particle {
     /// How many floats a particle has.
     pub const FLOATS: usize = table::FLOATS;
 
-    /// A whole particle at rest: F, U and V^T the identity, sigma, determinant and hardenings 1, gain and alpha 0.
+    /// How many floats stand before the determinant: as many a particle has in a sheet without determinants.
+    pub const BARE: usize = table::SHEET_FLOATS;
+
+    /// A whole particle at rest: F, U and V^T the identity, sigma, determinants and hardenings 1, gain and alpha 0.
     pub const REST: Particle = Particle {
         deformation_gradient: IDENTITY,
         u: IDENTITY,
@@ -49,18 +56,33 @@ impl Particle {
         elastic_hardening: 1.0,
         log_vol_gain: 0.0,
         nacc_alpha: 0.0,
+        determinant: 1.0,
     };
 
     /// A whole particle stretched along the axes: F is diag(sigma), U and V^T the identity.
     pub fn stretched(sigma: Vector<f64>) -> Particle {
         let [a, b, c] = sigma;
         let f = [[a, 0.0, 0.0], [0.0, b, 0.0], [0.0, 0.0, c]];
-        Particle { deformation_gradient: f, singular_values: sigma, ..Particle::REST }
+        Particle { deformation_gradient: f, singular_values: sigma, ..Particle::REST }.with_determinant()
     }
 
-    /// The floats in the record's order: F, U, sigma, V^T and the six scalars.
+    /// The same particle with the determinant of the F that stands there.
+    ///
+    /// ```
+    /// use pasoletu::Particle;
+    ///
+    /// let f = [[2.0, 0.0, 0.0], [0.0, 3.0, 0.0], [0.0, 0.0, 5.0]];
+    /// let particle = Particle { deformation_gradient: f, ..Particle::REST }.with_determinant();
+    /// assert_eq!(particle.determinant, 30.0);
+    /// ```
+    pub fn with_determinant(mut self) -> Particle {
+        fill_determinants(core::slice::from_mut(&mut self));
+        self
+    }
+
+    /// The floats in the record's order: F, U, sigma, V^T, the six scalars and the determinant.
     pub fn floats(&self) -> &[f64; Particle::FLOATS] {
-        // The fields are the 36 floats in order, with no room between them.
+        // The fields are the 37 floats in order, with no room between them.
         unsafe { &*(self as *const Particle).cast() }
     }
 
@@ -87,6 +109,15 @@ impl From<[f64; Particle::FLOATS]> for Particle {
         let mut particle = Particle::REST;
         *particle.floats_mut() = floats;
         particle
+    }
+}
+
+/// The floats before the determinant, which is filled in.
+impl From<[f64; Particle::BARE]> for Particle {
+    fn from(floats: [f64; Particle::BARE]) -> Particle {
+        let mut particle = Particle::REST;
+        particle.floats_mut()[..Particle::BARE].copy_from_slice(&floats);
+        particle.with_determinant()
     }
 }
 

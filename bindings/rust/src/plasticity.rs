@@ -45,7 +45,7 @@ impl SnowPlasticity {
         .expect("the bare clamp refuses nothing")
     }
 
-    /// Stores F, sigma, the plastic determinant and the elastic hardening, which is the amount.
+    /// Stores F with its determinant, sigma, the plastic determinant and the elastic hardening, which is the amount.
     pub fn update_particle(&self, particle: &mut Particle) -> Result<Outcome, Refusal> {
         Model::Snow(*self).update_particle(particle)
     }
@@ -75,7 +75,7 @@ impl RankinePlasticity {
         })
     }
 
-    /// Stores F, sigma and the plastic hardening, which is the amount.
+    /// Stores F with its determinant, sigma and the plastic hardening, which is the amount.
     pub fn update_particle(&self, particle: &mut Particle) -> Result<Outcome, Refusal> {
         Model::Rankine(*self).update_particle(particle)
     }
@@ -131,7 +131,7 @@ impl DruckerPragerPlasticity {
         })
     }
 
-    /// Stores F, sigma, the plastic determinant, the plastic hardening and the log gain. The amount is dq.
+    /// Stores F with its determinant, sigma, the plastic determinant, the plastic hardening and the log gain. The amount is dq.
     pub fn update_particle(&self, particle: &mut Particle) -> Result<Outcome, Refusal> {
         Model::DruckerPrager(*self).update_particle(particle)
     }
@@ -180,7 +180,7 @@ impl NaccPlasticity {
         with_m(r * 2.0 * s / (3.0 - s) * 3.0 / r)
     }
 
-    /// Stores F, sigma and alpha, which is the amount.
+    /// Stores F with its determinant, sigma and alpha, which is the amount.
     pub fn update_particle(&self, particle: &mut Particle) -> Result<Outcome, Refusal> {
         Model::Nacc(*self).update_particle(particle)
     }
@@ -240,10 +240,10 @@ impl Model {
         }
     }
 
-    /// The law that a sheet names: its number and the parameters' bits.
+    /// The law that a sheet names: its number, of a sheet with determinants or without, and the parameters' bits.
     pub(crate) fn of_sheet(model: u64, bits: &[u64]) -> Model {
         let p = |k: usize| f64::from_bits(bits[k]);
-        match model {
+        match model % table::WITH_DETERMINANT as u64 {
             0 => Model::Snow(SnowPlasticity { min_epsilon: p(0), max_epsilon: p(1), hardening_coeff: p(2) }),
             1 => Model::Rankine(RankinePlasticity { arguments: [p(0), p(1), p(2), p(3)] }),
             2 => Model::DruckerPrager(DruckerPragerPlasticity {
@@ -257,7 +257,7 @@ impl Model {
                 volume_correction: p(7),
             }),
             3 => Model::Nacc(NaccPlasticity { arguments: [p(0), p(1), p(2), p(3), p(4), p(5)] }),
-            _ => unreachable!("read_sheet gives models 0 to 3"),
+            _ => unreachable!("there are four laws"),
         }
     }
 

@@ -28,6 +28,8 @@ impl Refusal {
     pub const NO_ROOM: u8 = 9;
     /// A function would get an argument above its range (torn; of Snow: crushed).
     pub const ABOVE_RANGE: u8 = 10;
+    /// The record's stored determinant is not that of its F.
+    pub const WRONG_DETERMINANT: u8 = 11;
 }
 
 /// What a refusal's number means, and what to do about it.
@@ -40,9 +42,10 @@ pub fn words(number: u8) -> Option<(&'static str, &'static str)> {
         5 => ("a number of the sheet is not spelled shortest or has over two groups", "correct the sheet's writer"),
         6 => ("unknown model, or a flag that is neither 0.0 nor 1.0", "check the model's number and its flags"),
         7 => ("the sheet has over 200 particles, or bytes after the last", "split the sheet, or send it alone"),
-        8 => ("a list has the wrong length", "give 36 floats and 2 answers a particle, 9 floats a matrix, 3 a vector"),
-        9 => ("the lent room is shorter than the sheet", "lend 57667 bytes, which hold every sheet"),
+        8 => ("a list has the wrong length", "give 37 floats (the determinant last) and 2 answers a particle, 9 floats a matrix, 3 a vector"),
+        9 => ("the lent room is shorter than the sheet", "lend 59267 bytes, which hold every sheet"),
         10 => ("a function would get an argument above its range (torn; of Snow: crushed)", "look at the singular values and the hardenings"),
+        11 => ("the record's stored determinant is not that of its F", "fill it in where you write F (fill_determinants)"),
         _ => return None,
     })
 }
@@ -62,7 +65,7 @@ pub const NACC: Law = Law { number: 3, names: &["the law's young_modulus", "the 
 /// The parameters of the model that has most.
 pub const MOST_PARAMETERS: usize = 8;
 
-pub const FLOATS: usize = 36;
+pub const FLOATS: usize = 37;
 /// The name of each float of a record.
 pub const PLACES: [&str; FLOATS] = [
     "deformation_gradient[0][0]", "deformation_gradient[0][1]", "deformation_gradient[0][2]",
@@ -77,6 +80,7 @@ pub const PLACES: [&str; FLOATS] = [
     "elastic_hardening",
     "log_vol_gain",
     "nacc_alpha",
+    "determinant",
 ];
 
 // The Rust's defaults of the laws that are no models.
@@ -90,7 +94,9 @@ pub const STORED: usize = 1;
 pub const REFUSED: usize = 2;
 // Sheets (section 7).
 pub const SHEET_MOST: usize = 200;
-pub const SHEET_BYTES: usize = 57667;
+pub const SHEET_BYTES: usize = 59267;
+pub const WITH_DETERMINANT: usize = 4;
+pub const SHEET_FLOATS: usize = 36;
 pub const HEADER: usize = 11;
 pub const HEADER_MODEL: usize = 0;
 pub const HEADER_PARAMETERS: usize = 1;
@@ -128,6 +134,14 @@ extern "C" {
     pub fn pasoletu_corotated_kirchhoff_stress(law: *const f64, law_length: usize, phase: f64, hardening: f64, f: *const f64, f_length: usize, u: *const f64, u_length: usize, sigma: *const f64, sigma_length: usize, vt: *const f64, vt_length: usize, out: *mut f64, out_length: usize) -> u8;
     pub fn pasoletu_corotated_elastic_energy_density(law: *const f64, law_length: usize, hardening: f64, sigma: *const f64, sigma_length: usize, out: *mut f64, out_length: usize) -> u8;
     pub fn pasoletu_corotated_pos_energy(law: *const f64, law_length: usize, hardening: f64, f: *const f64, f_length: usize, sigma: *const f64, sigma_length: usize, out: *mut f64, out_length: usize) -> u8;
+    pub fn pasoletu_record_neo_hookean_fpk_stress(law: *const f64, law_length: usize, record: *const f64, record_length: usize, out: *mut f64, out_length: usize) -> u8;
+    pub fn pasoletu_record_neo_hookean_kirchhoff_stress(law: *const f64, law_length: usize, record: *const f64, record_length: usize, out: *mut f64, out_length: usize) -> u8;
+    pub fn pasoletu_record_neo_hookean_elastic_energy_density(law: *const f64, law_length: usize, record: *const f64, record_length: usize, out: *mut f64, out_length: usize) -> u8;
+    pub fn pasoletu_record_neo_hookean_elastic_energy_density_in(law: *const f64, law_length: usize, one_split: f64, record: *const f64, record_length: usize, out: *mut f64, out_length: usize) -> u8;
+    pub fn pasoletu_record_neo_hookean_pos_energy(law: *const f64, law_length: usize, record: *const f64, record_length: usize, out: *mut f64, out_length: usize) -> u8;
+    pub fn pasoletu_record_corotated_kirchhoff_stress(law: *const f64, law_length: usize, record: *const f64, record_length: usize, out: *mut f64, out_length: usize) -> u8;
+    pub fn pasoletu_record_corotated_elastic_energy_density(law: *const f64, law_length: usize, record: *const f64, record_length: usize, out: *mut f64, out_length: usize) -> u8;
+    pub fn pasoletu_record_corotated_pos_energy(law: *const f64, law_length: usize, record: *const f64, record_length: usize, out: *mut f64, out_length: usize) -> u8;
     pub fn pasoletu_monaghan_pressure(pressure0: f64, gamma: u32, viscosity: f64, max_neg_pressure: f64, mass: f64, volume0: f64, density: f64, out: *mut f64, out_length: usize) -> u8;
     pub fn pasoletu_monaghan_kirchhoff_stress(pressure0: f64, gamma: u32, viscosity: f64, max_neg_pressure: f64, mass: f64, volume0: f64, density: f64, determinant: f64, velocity_gradient: *const f64, velocity_gradient_length: usize, out: *mut f64, out_length: usize) -> u8;
     pub fn pasoletu_monaghan_timestep_bound(pressure0: f64, gamma: u32, viscosity: f64, max_neg_pressure: f64, determinant: f64, mass: f64, volume0: f64, density: f64, velocity: *const f64, velocity_length: usize, cell_width: f64, out: *mut f64, out_length: usize) -> u8;
@@ -138,6 +152,7 @@ extern "C" {
     pub fn pasoletu_update(model: u64, parameters: *const f64, parameters_length: usize, record: *mut f64, record_length: usize, answer: *mut u64, answer_length: usize) -> u8;
     pub fn pasoletu_pass(model: u64, parameters: *const f64, parameters_length: usize, records: *mut f64, records_length: usize, answers: *mut u64, answers_length: usize, counts: *mut u64, counts_length: usize) -> u8;
     pub fn pasoletu_pass_with_failure(model: u64, parameters: *const f64, parameters_length: usize, limits: *const f64, limits_length: usize, corotated: *const f64, corotated_length: usize, records: *mut f64, records_length: usize, answers: *mut u64, answers_length: usize, counts: *mut u64, counts_length: usize) -> u8;
+    pub fn pasoletu_fill_determinants(records: *mut f64, records_length: usize) -> u8;
     pub fn pasoletu_read_sheet(bytes: *const u8, bytes_length: usize, header: *mut u64, header_length: usize, records: *mut f64, records_length: usize) -> u8;
     pub fn pasoletu_run_sheet(bytes: *const u8, bytes_length: usize, records: *mut f64, records_length: usize, answers: *mut u64, answers_length: usize, counts: *mut u64, counts_length: usize) -> u8;
     pub fn pasoletu_write_sheet(model: u64, parameters: *const f64, parameters_length: usize, records: *const f64, records_length: usize, bytes: *mut u8, bytes_length: usize, written: *mut u64, written_length: usize) -> u8;

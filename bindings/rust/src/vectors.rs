@@ -81,8 +81,8 @@ pub fn pass(model: impl Into<Model>, particles: &mut [Particle]) -> Passed {
     Pass::plain("pass", model).over(particles, Pass::run)
 }
 
-/// The pass with failure: judges each particle's stress as it came, sets its phase to 0.0 on a yes, then applies the law. An
-/// untouched particle may have a new phase; a refused one keeps every bit.
+/// The pass with failure: applies the law to each particle, judges the stress of what it leaves by the phase as it came, and sets the
+/// phase to 0.0 on a yes. An untouched particle may have a new phase; a refused one keeps every bit.
 pub fn pass_with_failure(
     model: impl Into<Model>,
     limits: &MaximumStressFailure,

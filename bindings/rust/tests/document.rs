@@ -53,7 +53,7 @@ fn example() -> Vec<u8> {
     let mut sheet = vec![0];
     sheet.extend([0.025f64, 0.0045, 10.0].iter().flat_map(|x| x.to_le_bytes()));
     sheet.push(1);
-    sheet.extend(Particle::REST.floats().iter().flat_map(|x| x.to_le_bytes()));
+    sheet.extend(Particle::REST.floats()[..Particle::BARE].iter().flat_map(|x| x.to_le_bytes()));
     sheet
 }
 

@@ -90,6 +90,39 @@ fn corotated() {
     assert_eq!((made.split_stress_on_failure, made.cfl_coeff, made.lambda, made.mu), (true, 0.9, 0.0, 0.5));
 }
 
+/// Of a particle, with the determinant that it holds: what the calls answer of its parts, in every bit.
+#[test]
+fn solids_of_a_particle() {
+    let neo = NeoHookeanElasticity { cfl_coeff: 0.5, lambda: 1.0, mu: 3.0 };
+    let corotated = CorotatedLinearElasticity { split_stress_on_failure: true, cfl_coeff: 0.9, lambda: 3.0, mu: 1.0 };
+    let u = [[0.0, -1.0, 0.0], [1.0, 0.0, 0.0], [0.0, 0.0, 1.0]];
+    for (phase, long) in [(1.0, 2.0), (0.5, 0.7), (0.0, 1.3)] {
+        let f = [[0.0, -1.0, 0.0], [long, 0.0, 0.0], [0.0, 0.0, 1.0]];
+        let sigma = [long, 1.0, 1.0];
+        let p = Particle { deformation_gradient: f, u, singular_values: sigma, phase, elastic_hardening: 2.0, ..Particle::REST };
+        let p = p.with_determinant();
+        assert_eq!(neo.fpk_stress_of(&p), neo.fpk_stress(&f, 2.0));
+        assert_eq!(neo.kirchhoff_stress_of(&p), neo.kirchhoff_stress(phase, 2.0, &f));
+        assert_eq!(neo.elastic_energy_density_of(&p), neo.elastic_energy_density(phase, 2.0, &f));
+        for split in [EnergySplit::Rust, EnergySplit::AsStress] {
+            assert_eq!(neo.elastic_energy_density_in_of(split, &p), neo.elastic_energy_density_in(split, phase, 2.0, &f));
+        }
+        assert_eq!(neo.pos_energy_of(&p), neo.pos_energy(phase, 2.0, &f));
+        assert_eq!(corotated.kirchhoff_stress_of(&p), corotated.kirchhoff_stress(phase, 2.0, &f, &u, &sigma, &I));
+        assert_eq!(corotated.elastic_energy_density_of(&p), corotated.elastic_energy_density(&sigma, 2.0));
+        assert_eq!(corotated.pos_energy_of(&p), corotated.pos_energy(&f, &sigma, 2.0));
+        let wrong = Particle { determinant: 7.0, ..p };
+        assert_eq!(neo.fpk_stress_of(&wrong).unwrap_err().number, 11);
+        assert_eq!(neo.elastic_energy_density_in_of(EnergySplit::AsStress, &wrong).unwrap_err().number, 11);
+        assert_eq!(corotated.elastic_energy_density_of(&wrong).unwrap_err().number, 11);
+        let lost = Particle { nacc_alpha: f64::NAN, ..wrong };
+        let refusal = corotated.pos_energy_of(&lost).unwrap_err();
+        assert_eq!((refusal.number, refusal.place), (1, Some("nacc_alpha")));
+        let soft = NeoHookeanElasticity { mu: f64::NAN, ..neo };
+        assert_eq!(soft.kirchhoff_stress_of(&wrong).unwrap_err().number, 1);
+    }
+}
+
 /// Mass 2 in volume 4: the density at rest is 0.5.
 #[test]
 fn monaghan() {

@@ -14,8 +14,15 @@ fn bits(p: &Particle) -> Vec<u64> {
 }
 
 fn name(place: usize) -> String {
-    let scalars =
-        ["phase", "plastic_deformation_gradient_det", "plastic_hardening", "elastic_hardening", "log_vol_gain", "nacc_alpha"];
+    let scalars = [
+        "phase",
+        "plastic_deformation_gradient_det",
+        "plastic_hardening",
+        "elastic_hardening",
+        "log_vol_gain",
+        "nacc_alpha",
+        "determinant",
+    ];
     let matrix = |name: &str, k: usize| format!("{name}[{}][{}]", k / 3, k % 3);
     match place {
         0..=8 => matrix("deformation_gradient", place),
@@ -28,7 +35,7 @@ fn name(place: usize) -> String {
 
 #[test]
 fn a_refused_record_keeps_its_bits_and_the_next_are_worked() {
-    // At each of the 36 places in turn a NaN with a payload.
+    // At each of the 37 places in turn a NaN with a payload.
     for place in 0..Particle::FLOATS {
         let mut particles = [Particle::stretched([2.0, 1.0, 1.0]); 3];
         particles[1].floats_mut()[place] = f64::from_bits(0xfff8_0000_00c0_ffee);
@@ -166,7 +173,8 @@ fn sheet(model: u8, parameters: &[f64], particles: &[Particle]) -> Vec<u8> {
     s.extend(parameters.iter().flat_map(|x| x.to_le_bytes()));
     let n = particles.len();
     s.extend(if n < 128 { vec![n as u8] } else { vec![(n % 128) as u8 | 128, (n / 128) as u8] });
-    s.extend(particles.iter().flat_map(|p| p.floats().iter().flat_map(|x| x.to_le_bytes()).collect::<Vec<u8>>()));
+    let floats = if model < 4 { Particle::BARE } else { Particle::FLOATS };
+    s.extend(particles.iter().flat_map(|p| p.floats()[..floats].iter().flat_map(|x| x.to_le_bytes()).collect::<Vec<u8>>()));
     s
 }
 
@@ -180,7 +188,7 @@ fn sheets_refuse() {
     assert_eq!(number(run_sheet(&[good.clone(), vec![0]].concat())), Refusal::TOO_MANY);
     assert_eq!(number(run_sheet(&sheet(0, &snow, &[Particle::REST; 201]))), Refusal::TOO_MANY);
     assert_eq!(number(run_sheet(&[&[0x80, 0], &good[1..]].concat())), Refusal::NOT_SHORTEST);
-    assert_eq!(number(read_sheet(&sheet(4, &snow, &[]))), Refusal::UNKNOWN);
+    assert_eq!(number(read_sheet(&sheet(8, &snow, &[]))), Refusal::UNKNOWN);
     assert_eq!(number(read_sheet(&sheet(2, &[0.0, 0.0, 0.0, 0.0, 1.0, 1.0, -0.0, 1.0], &[]))), Refusal::UNKNOWN);
 }
 
@@ -202,10 +210,10 @@ fn sheets_are_read_as_bits() {
         (vec![cone.h0, cone.h1, cone.h2, cone.h3, cone.lambda, cone.mu, 1.0, 1.0], cone.into()),
         (vec![1e4, 0.3, 0.05, 1.0, 3.0, 2.36], NaccPlasticity::with_m(1e4, 0.3, 0.05, true, 3.0, 2.36).unwrap().into()),
     ];
-    for (number, (parameters, law)) in laws.iter().enumerate() {
+    for (number, (parameters, law)) in laws.iter().chain(&laws).enumerate() {
         let bytes = sheet(number as u8, parameters, &all);
         let read = read_sheet(&bytes).unwrap();
-        assert_eq!(read.model, *law);
+        assert_eq!((read.model, read.determinants), (*law, number >= 4));
         assert!(same(&read.particles, &all));
         // Run, the sheet does what a pass does.
         let ran = run_sheet(&bytes).unwrap();

@@ -1,7 +1,7 @@
 //! The passes and the reading of a sheet in the caller's room.
 use pasoletu::{
     pass, pass_into, pass_with_failure, pass_with_failure_into, read_sheet, read_sheet_into, Answer, CorotatedLinearElasticity,
-    MaximumStressFailure, Particle, Refusal, SnowPlasticity, VERSION,
+    Header, MaximumStressFailure, Particle, Refusal, SnowPlasticity, VERSION,
 };
 
 fn particles() -> [Particle; 3] {
@@ -43,7 +43,7 @@ fn too_few_answers_are_refused_with_nothing_written() {
     assert_eq!(refusal.number, Refusal::LENGTH);
     assert_eq!(
         refusal.to_string(),
-        "pass_into refused by 8: a list has the wrong length; give 36 floats and 2 answers a particle, 9 floats a matrix, 3 a vector"
+        "pass_into refused by 8: a list has the wrong length; give 37 floats (the determinant last) and 2 answers a particle, 9 floats a matrix, 3 a vector"
     );
     assert_eq!(bits(&ours), bits(&particles()));
     assert_eq!(answers, [Answer::default(); 2]);
@@ -62,10 +62,10 @@ fn a_sheet_is_read_into_the_first_particles() {
     bytes.extend([floats.min_epsilon, floats.max_epsilon, floats.hardening_coeff].iter().flat_map(|x| x.to_le_bytes()));
     bytes.push(2);
     let sheet = &particles()[1..];
-    bytes.extend(sheet.iter().flat_map(|p| p.floats().map(f64::to_le_bytes).concat()));
+    bytes.extend(sheet.iter().flat_map(|p| p.floats().map(f64::to_le_bytes)[..Particle::BARE].concat()));
     let mut room = [Particle { phase: 0.25, ..Particle::REST }; 3];
-    let (model, count) = read_sheet_into(&bytes, &mut room).unwrap();
-    assert_eq!((model, count), (floats.into(), 2));
+    let header = read_sheet_into(&bytes, &mut room).unwrap();
+    assert_eq!(header, Header { model: floats.into(), determinants: false, count: 2 });
     assert_eq!(bits(&room[..2]), bits(sheet));
     assert_eq!(room[2].phase, 0.25);
     assert_eq!(bits(&read_sheet(&bytes).unwrap().particles), bits(sheet));

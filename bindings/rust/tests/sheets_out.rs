@@ -1,7 +1,8 @@
 //! Sheets that are written: read back, the same bytes, and what is refused.
 use pasoletu::{
-    read_sheet, run_sheet, write_sheet, write_sheet_into, DruckerPragerPlasticity, Model, NaccPlasticity, Particle,
-    RankinePlasticity, Refusal, SnowPlasticity, SHEET_BYTES, SHEET_MOST,
+    fill_determinants, read_sheet, run_sheet, write_sheet, write_sheet_into, write_sheet_with_determinants,
+    write_sheet_with_determinants_into, DruckerPragerPlasticity, Model, NaccPlasticity, Particle, RankinePlasticity, Refusal,
+    SnowPlasticity, SHEET_BYTES, SHEET_MOST,
 };
 
 fn bits(particles: &[Particle]) -> Vec<u64> {
@@ -23,7 +24,7 @@ fn particles(n: usize) -> Vec<Particle> {
     let mut all = vec![Particle::REST; n];
     for (k, particle) in all.iter_mut().enumerate() {
         for (j, x) in particle.floats_mut().iter_mut().enumerate() {
-            let seed = (k * 36 + j) as u64;
+            let seed = (k * 37 + j) as u64;
             *x = f64::from_bits(match seed % 5 {
                 0 => 0x7ff0_0000_0000_0001 + seed,
                 1 => 0xfff0_0000_0000_0000,
@@ -40,13 +41,19 @@ fn what_was_written_is_read_back() {
     for law in laws() {
         for n in [0, 1, 2, 127, 128, 199, 200] {
             let given = particles(n);
-            let bytes = write_sheet(law, &given).unwrap();
-            let read = read_sheet(&bytes).unwrap();
-            assert_eq!(bits(&read.particles), bits(&given));
-            assert_eq!(read.bytes().unwrap(), bytes);
-            let mut sent = Vec::new();
-            read.write(&mut sent).unwrap();
-            assert_eq!(sent, bytes);
+            let mut filled = given.clone();
+            fill_determinants(&mut filled);
+            let both = [(write_sheet(law, &given), filled), (write_sheet_with_determinants(law, &given), given)];
+            for (determinants, (bytes, wanted)) in both.into_iter().enumerate() {
+                let bytes = bytes.unwrap();
+                let read = read_sheet(&bytes).unwrap();
+                assert_eq!(read.determinants, determinants == 1);
+                assert_eq!(bits(&read.particles), bits(&wanted));
+                assert_eq!(read.bytes().unwrap(), bytes);
+                let mut sent = Vec::new();
+                read.write(&mut sent).unwrap();
+                assert_eq!(sent, bytes);
+            }
         }
     }
 }
@@ -57,14 +64,18 @@ fn the_bytes_are_section_7s() {
     assert_eq!(bytes[0], 0);
     assert_eq!(bytes[1..25], [0.025, 0.0045, 10.0].map(f64::to_le_bytes).concat());
     assert_eq!(bytes[25..27], [0x82, 1]);
-    assert_eq!(bytes[27..], Particle::REST.floats().map(f64::to_le_bytes).concat().repeat(130));
+    let rest = Particle::REST.floats().map(f64::to_le_bytes);
+    assert_eq!(bytes[27..], rest[..Particle::BARE].concat().repeat(130));
+    let whole = write_sheet_with_determinants(SnowPlasticity::new(), &[Particle::REST; 130]).unwrap();
+    assert_eq!((whole[0], &whole[1..27], &whole[27..]), (4, &bytes[1..27], &*rest.concat().repeat(130)));
 }
 
 #[test]
 fn the_longest_sheet_fills_the_room() {
     let cone = laws()[2];
     let mut room = vec![0x55; SHEET_BYTES];
-    assert_eq!(write_sheet_into(cone, &particles(SHEET_MOST), &mut room).unwrap(), SHEET_BYTES);
+    assert_eq!(write_sheet_with_determinants_into(cone, &particles(SHEET_MOST), &mut room).unwrap(), SHEET_BYTES);
+    assert_eq!(write_sheet_into(cone, &particles(SHEET_MOST), &mut room).unwrap(), SHEET_BYTES - 8 * SHEET_MOST);
 }
 
 #[test]
@@ -77,11 +88,13 @@ fn a_room_one_byte_short_is_refused_and_kept() {
         assert_eq!(refusal.number, Refusal::NO_ROOM);
         assert_eq!(
             refusal.to_string(),
-            "write_sheet_into refused by 9: the lent room is shorter than the sheet; lend 57667 bytes, which hold every sheet"
+            "write_sheet_into refused by 9: the lent room is shorter than the sheet; lend 59267 bytes, which hold every sheet"
         );
         assert!(room.iter().all(|b| *b == 0x55));
         assert_eq!(write_sheet_into(law, &given, &mut room).unwrap(), length);
         assert!(room[length..].iter().all(|b| *b == 0x55));
+        let refusal = write_sheet_with_determinants_into(law, &given, &mut room).unwrap_err();
+        assert_eq!((refusal.number, refusal.call), (Refusal::NO_ROOM, "write_sheet_with_determinants_into"));
     }
 }
 
@@ -92,7 +105,7 @@ fn over_200_particles_are_refused() {
     // 7 comes before 9.
     let refusal = write_sheet_into(SnowPlasticity::new(), &[Particle::REST; SHEET_MOST + 1], &mut []).unwrap_err();
     assert_eq!(refusal.number, Refusal::TOO_MANY);
-    let sheet = pasoletu::Sheet { model: laws()[0], particles: vec![Particle::REST; SHEET_MOST + 1] };
+    let sheet = pasoletu::Sheet { model: laws()[0], determinants: true, particles: vec![Particle::REST; SHEET_MOST + 1] };
     assert!(sheet.write(&mut Vec::new()).unwrap_err().to_string().starts_with("Sheet::write refused by 7"));
 }
 

@@ -23,15 +23,16 @@ use Rattle.walk.specs.Steps.{mosts-answer, leasts-answer}
 use Rattle.walk.specs.Every.{flat, every, all-every, all-append, all-flat, and-left, and-right}
 use Rattle.walk.specs.Matrix.{value-total, value-product}
 use Rattle.walk.specs.Power.{power, value-power}
+use Rattle.walk.specs.Inner.{Inner, inner-mosts, inner-leasts}
 use Rattle.walk.specs.Tensor.{one, one-number, worth, rows, plus, times, scaled, identity-times, row-plus, determinant, worth-rows, worth-plus, worth-scaled}
 use Rattle.walk.specs.Answers.{returned, returnedMatrix, returnedVector, returned-law, returned-matrix, returned-vector, matrixAs, vectorAs, split-number, split-matrix, split-vector, number-split, matrix-split, vector-split}
 use Rattle.elasticity_corotated_linear.specs.declared.CorotatedLinearElasticity.{CorotatedLinearElasticity}
 use Rattle.elasticity_corotated_linear.specs.Law.{parametersOf, floats, lawFinite}
 use Rattle.elasticity_corotated_linear.specs.Stress as stress
-use Rattle.elasticity_corotated_linear.specs.Stress.{zero, lessOne, unsplit, phaseCoeff, sphericalPart, devStress, sphericalStress, stressSteps}
+use Rattle.elasticity_corotated_linear.specs.Stress.{zero, lessOne, unsplit, phaseCoeff, sphericalPart, devStress, sphericalStress, stressFrom, stressSteps}
 use Rattle.elasticity_corotated_linear.specs.Principal as principal
 use Rattle.elasticity_corotated_linear.specs.Principal.{devStresses, sphericalStresses, principalWalk}
-use Rattle.elasticity_corotated_linear.specs.Energy.{squares, posDevPart, sphericalEnergy, posSteps}
+use Rattle.elasticity_corotated_linear.specs.Energy.{squares, posDevPart, sphericalEnergy, posFrom, posSteps}
 
 -- ---- inputs
 pub stress-inputs : (p : CorotatedLinearElasticity) (phase h : Float) (f u : List (List Float)) (s : List Float) (vt : List (List Float))
@@ -197,9 +198,19 @@ module _ (p : CorotatedLinearElasticity) (phase h : Float) (f u : List (List Flo
   told q (inf t) = of-number q (inf t) refl
   told q (fin t m e) = of-number q (fin t m e) refl
 
-  pub stress-law : rowFinite s ≡ true → matrixAs (result (stressSteps p phase h f u s vt)) ≡ answered (stressOf (detOf f))
-  unfolding stressSteps determinant
-  stress-law q = told (row-numbers s q) (detOf f)
+  pub stress-law : rowFinite s ≡ true → (j : Float) → matrixAs (result (stressFrom p phase h f u s vt (num j))) ≡ answered (stressOf j)
+  unfolding stressFrom
+  stress-law q j = told (row-numbers s q) j
+
+  -- the determinant worked is taken by its number alone
+  pub stress-worked : result (stressSteps p phase h f u s vt) ≡ result (stressFrom p phase h f u s vt (num (detOf f)))
+  unfolding stressSteps stressFrom determinant
+  stress-worked = refl
+
+  -- no step tests inputs
+  pub stress-inner : Inner (stressSteps p phase h f u s vt)
+  unfolding stressSteps stressFrom
+  stress-inner = λ j e. (tt, inner-mosts 4 e _ _ (λ pos. inner-leasts 5 e _ _ (λ neg. (tt, tt))))
 
 -- ---- the principal stresses
 -- a product that is a number has numbers alone
@@ -288,7 +299,7 @@ module _ (p : CorotatedLinearElasticity) (phase h : Float) where
   principal-law s = rw (value-product s) (told-stresses s (productOf s) refl)
 
 -- ---- pos_energy
-module _ (p : CorotatedLinearElasticity) (f : List (List Float)) (s : List Float) (h : Float) where
+module _ (p : CorotatedLinearElasticity) (s : List Float) (h : Float) where
   abbrev devPart : Expr
   devPart = posDevPart p h (positiveOf (values (lessOne s)))
 
@@ -320,9 +331,17 @@ module _ (p : CorotatedLinearElasticity) (f : List (List Float)) (s : List Float
   told-energy q (inf t) = of-finite q (inf t) refl
   told-energy q (fin t m e) = of-finite q (fin t m e) refl
 
-  pub pos-law : rowFinite s ≡ true → answerAs (result (posSteps p f s h)) ≡ energyOf (detOf f)
-  unfolding posSteps determinant
-  pos-law q = told-energy (row-numbers s q) (detOf f)
+  pub pos-law : rowFinite s ≡ true → (j : Float) → answerAs (result (posFrom p s h (num j))) ≡ energyOf j
+  unfolding posFrom
+  pos-law q j = told-energy (row-numbers s q) j
+
+  pub pos-worked : (f : List (List Float)) → result (posSteps p f s h) ≡ result (posFrom p s h (num (detOf f)))
+  unfolding posSteps posFrom determinant
+  pos-worked f = refl
+
+  pub pos-inner : (f : List (List Float)) → Inner (posSteps p f s h)
+  unfolding posSteps posFrom
+  pos-inner f = λ j e. inner-mosts 3 e _ _ (λ pos spherical. (tt, tt))
 
 -- ---- elastic_energy_density
 powers : (es : List Expr) → values (map (λ x. power x 2) es) ≡ map (λ x. powiOf x 2) (values es)

@@ -13,7 +13,7 @@ use Rattle.elasticity_corotated_linear.specs.Law.{floats}
 use Rattle.elasticity_corotated_linear.specs.Stress.{zero, two, lessOne}
 use Rattle.elasticity_corotated_linear.specs.declared.CorotatedLinearElasticity.{CorotatedLinearElasticity}
 
--- p is the law, h the elastic hardening, s is sigma, j the determinant of F.
+-- p is the law, h the elastic hardening, s is sigma, d the determinant of F, worked or stored (ticket 3), j its number.
 
 -- ---- elastic_energy_density: the squares by the integer power, summed by rising index
 abbrev pub squares : List Expr → Expr
@@ -39,15 +39,18 @@ abbrev pub sphericalEnergy : CorotatedLinearElasticity → Float → Expr → Ex
 sphericalEnergy p h j = num (p .lambda) * num h / two * (j - one) * (j - one)
 
 -- below j = 1 the spherical part is worked and not used: its NaN is met all the same
-unfoldable pub posSteps : CorotatedLinearElasticity → List (List Float) → List Float → Float → Walk Float
-posSteps p f s h =
-    work 1 (determinant f) (λ j.
+unfoldable pub posFrom : CorotatedLinearElasticity → List Float → Float → Expr → Walk Float
+posFrom p s h d =
+    work 1 d (λ j.
     works 2 (lessOne s) (λ e.
     mosts 3 e zero (λ pos.
     work 4 (sphericalEnergy p h j) (λ spherical.
     split 5 (less j one)
     (returned 6 (posDevPart p h pos))
     (returned 6 (posDevPart p h pos + spherical))))))
+
+unfoldable pub posSteps : CorotatedLinearElasticity → List (List Float) → List Float → Float → Walk Float
+posSteps p f s h = posFrom p s h (determinant f)
 
 unfoldable pub posWalk : CorotatedLinearElasticity → List (List Float) → List Float → Float → Walk Float
 posWalk p f s h = inputs (floats p (flat f ++ s ++ (h ∷ []))) (posSteps p f s h)

@@ -15,7 +15,7 @@ use Rattle.walk.specs.Answers.{returnedMatrix, matrixAs}
 use Rattle.elasticity_corotated_linear.specs.Law.{floats}
 use Rattle.elasticity_corotated_linear.specs.declared.CorotatedLinearElasticity.{CorotatedLinearElasticity}
 
--- p is the law, h the elastic hardening, s is sigma, j the determinant of F, e stands for sigma - 1 or a part of it, pos and neg for what is made of its parts.
+-- p is the law, h the elastic hardening, s is sigma, d the determinant of F, worked or stored (ticket 3), j its number, e stands for sigma - 1 or a part of it, pos and neg for what is made of its parts.
 
 -- ---- of the stress, the principal stresses and the energies
 abbrev pub lessOne : List Float → List Expr
@@ -46,9 +46,9 @@ below c pos neg spherical = plus (scaled c pos) (plus neg spherical)
 abbrev pub above : Expr → List (List Expr) → List (List Expr) → List (List Expr) → List (List Expr)
 above c pos neg spherical = plus (scaled c (plus pos spherical)) neg
 
-unfoldable pub stressSteps : CorotatedLinearElasticity → Float → Float → List (List Float) → List (List Float) → List Float → List (List Float) → Walk (List (List Float))
-stressSteps p phase h f u s vt =
-    work 1 (determinant f) (λ j.
+unfoldable pub stressFrom : CorotatedLinearElasticity → Float → Float → List (List Float) → List (List Float) → List Float → List (List Float) → Expr → Walk (List (List Float))
+stressFrom p phase h f u s vt d =
+    work 1 d (λ j.
     works 2 (lessOne s) (λ e.
     split 3 (unsplit phase)
     (returnedMatrix 7 (plus (devStress p h f u e vt) (sphericalStress p h j)))
@@ -57,6 +57,9 @@ stressSteps p phase h f u s vt =
     split 6 (less j one)
     (returnedMatrix 7 (below (phaseCoeff p phase) (devStress p h f u pos vt) (devStress p h f u neg vt) (sphericalStress p h j)))
     (returnedMatrix 7 (above (phaseCoeff p phase) (devStress p h f u pos vt) (devStress p h f u neg vt) (sphericalStress p h j))))))))
+
+unfoldable pub stressSteps : CorotatedLinearElasticity → Float → Float → List (List Float) → List (List Float) → List Float → List (List Float) → Walk (List (List Float))
+stressSteps p phase h f u s vt = stressFrom p phase h f u s vt (determinant f)
 
 unfoldable pub stressWalk : CorotatedLinearElasticity → Float → Float → List (List Float) → List (List Float) → List Float → List (List Float) → Walk (List (List Float))
 stressWalk p phase h f u s vt =

@@ -14,7 +14,7 @@ ghost use Rattle.tensor.specs.Matrix.{add, one, sumOf};
 ghost use Rattle.tensor.specs.Finite.{rowFinite};
 ghost use Rattle.walk.specs.Expr.{num, value};
 ghost use Rattle.walk.specs.Walk.{result, answerAs};
-ghost use Rattle.elasticity_corotated_linear.specs.Energy.{density, posDevPart, sphericalEnergy, posSteps};
+ghost use Rattle.elasticity_corotated_linear.specs.Energy.{density, posDevPart, sphericalEnergy, posFrom};
 
 fn squares(e: [f64; 3]) -> f64
     ensures { λ r. ⌜ r ≡ sumOf (map (λ x. powiOf x 2) e) ⌝ }
@@ -58,17 +58,12 @@ fn pos_sum(j: f64, dev: f64, sph: f64) -> Answer
     }
 }
 
-// Of a finite sigma, whose sigma - 1 is no NaN that a maximum could hide. A NaN in j is in the spherical part.
-pub fn pos(
-    p: CorotatedLinearElasticity,
-    f: [[f64; 3]; 3],
-    sigma: [f64; 3],
-    hardening: f64,
-) -> Answer
+// Of a finite sigma, whose sigma - 1 is no NaN that a maximum could hide; j is F's determinant. A NaN in j is in the
+// spherical part.
+pub fn pos(p: CorotatedLinearElasticity, sigma: [f64; 3], hardening: f64, j: f64) -> Answer
     requires { ⌜ rowFinite sigma ≡ true ⌝ }
-    ensures { λ r. ⌜ r ≡ answerAs (result (posSteps p f sigma hardening)) ⌝ }
+    ensures { λ r. ⌜ r ≡ answerAs (result (posFrom p sigma hardening (num j))) ⌝ }
 {
-    let j = tensor::determinant(f);
     let e = stress::positive(stress::less_one(sigma));
     let dev = pos_dev_part(p, e, hardening);
     let sph = spherical_energy(p, j, hardening);

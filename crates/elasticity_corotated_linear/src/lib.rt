@@ -1,10 +1,13 @@
-// Corotated linear elasticity: the stress, the principal stresses and the energies of a record's F and its factors.
+// Corotated linear elasticity: the stress, the principal stresses and the energies of a record's F and its factors. The
+// steps take F's determinant, which a record stores.
 mod energy;
 mod principal;
 mod stress;
 
 use answers::Answer;
+pub use energy::pos;
 use physics::Lame;
+pub use stress::kirchhoff;
 use tensor::MatrixAnswer;
 use tensor::VectorAnswer;
 ghost use mathlib.Core.Path.{_≡_};
@@ -106,7 +109,8 @@ impl CorotatedLinearElasticity {
         ensures { λ r. ⌜ r ≡ kirchhoffStress self phase hardening f u sigma vt ⌝ }
     {
         if self.stress_inputs(phase, hardening, f, u, sigma, vt) {
-            stress::stress(self, phase, hardening, f, u, sigma, vt)
+            let j = tensor::determinant(f);
+            stress::kirchhoff(self, phase, hardening, f, u, sigma, vt, j)
         } else {
             tensor::refused_matrix(answers::NOT_FINITE)
         }
@@ -138,7 +142,7 @@ impl CorotatedLinearElasticity {
             & tensor::row_finite(sigma)
             & numbers::is_finite(hardening)
         {
-            energy::pos(self, f, sigma, hardening)
+            energy::pos(self, sigma, hardening, tensor::determinant(f))
         } else {
             Answer::Refused(answers::NOT_FINITE)
         }

@@ -11,7 +11,7 @@ ghost use Rattle.walk.specs.Expr.{num, value, values};
 ghost use Rattle.walk.specs.Walk.{result};
 ghost use Rattle.walk.specs.Tensor.{worth, rows};
 ghost use Rattle.walk.specs.Answers.{matrixAs};
-ghost use Rattle.elasticity_corotated_linear.specs.Stress.{lessOne, phaseCoeff, devStress, sphericalPart, sphericalStress, below, above, stressSteps};
+ghost use Rattle.elasticity_corotated_linear.specs.Stress.{lessOne, phaseCoeff, devStress, sphericalPart, sphericalStress, below, above, stressFrom};
 
 pub fn less_one(s: [f64; 3]) -> [f64; 3]
     ensures { λ r. ⌜ r ≡ values (lessOne s) ⌝ }
@@ -93,9 +93,9 @@ fn split_sum(
     }
 }
 
-// Of a finite sigma, whose sigma - 1 is no NaN that a maximum or a minimum could hide. A NaN in j is in each entry of the
-// spherical stress, which either path adds.
-pub fn stress(
+// Of a finite sigma, whose sigma - 1 is no NaN that a maximum or a minimum could hide; j is F's determinant. A NaN in j is in
+// each entry of the spherical stress, which either path adds.
+pub fn kirchhoff(
     p: CorotatedLinearElasticity,
     phase: f64,
     hardening: f64,
@@ -103,11 +103,11 @@ pub fn stress(
     u: [[f64; 3]; 3],
     sigma: [f64; 3],
     vt: [[f64; 3]; 3],
+    j: f64,
 ) -> MatrixAnswer
     requires { ⌜ rowFinite sigma ≡ true ⌝ }
-    ensures { λ r. ⌜ r ≡ matrixAs (result (stressSteps p phase hardening f u sigma vt)) ⌝ }
+    ensures { λ r. ⌜ r ≡ matrixAs (result (stressFrom p phase hardening f u sigma vt (num j))) ⌝ }
 {
-    let j = tensor::determinant(f);
     let e = less_one(sigma);
     let sph = spherical_stress(p, hardening, j);
     if phase == 1.0 {

@@ -15,7 +15,7 @@ use Rattle.walk.specs.Matrix.{total}
 use Rattle.walk.specs.Tensor.{rows, turned, times, scaled, determinant, trace}
 use Rattle.walk.specs.Power.{halved, power}
 use Rattle.elasticity_neo_hookean.specs.Law.{floats, phaseCoeff}
-use Rattle.elasticity_neo_hookean.specs.Energy.{partsWalk, energySteps, energyWalkIn, elasticEnergyDensityIn}
+use Rattle.elasticity_neo_hookean.specs.Energy.{partsFrom, partsWalk, energySteps, energyWalkIn, elasticEnergyDensityIn}
 
 -- P5: `phase_coeff(0.0)` is 0.001
 pub phase-zero : phaseCoeff (ofBits binary64 0) ≡ Value (ofBits binary64 0x3f50_624d_d2f1_a9fc)
@@ -30,10 +30,10 @@ halfwayIn one-split =
 
 -- as the Rust: 0.286 and a little
 pub halfway-default : halfwayIn false ≡ Value (ofBits binary64 0x3fd2_4f51_e8db_aee8)
-unfolding energyWalkIn energySteps partsWalk floats rows turned times scaled determinant total trace halved power finite isNumber invCbrtOf cbrtOf rootBits digitsFrom cubeOf lnOf exponentOf fractionOf partOf Ieee.le Ieee.lt Ieee.add Ieee.sub Ieee.mul Ieee.div ofBits toBits
+unfolding energyWalkIn energySteps partsWalk partsFrom floats rows turned times scaled determinant total trace halved power finite isNumber invCbrtOf cbrtOf rootBits digitsFrom cubeOf lnOf exponentOf fractionOf partOf Ieee.le Ieee.lt Ieee.add Ieee.sub Ieee.mul Ieee.div ofBits toBits
 halfway-default = refl
 
 -- with one split: 0.265 and a little
 pub halfway-one-split : halfwayIn true ≡ Value (ofBits binary64 0x3fd0_fc73_d5d2_c55c)
-unfolding energyWalkIn energySteps partsWalk floats rows turned times scaled determinant total trace halved power finite isNumber invCbrtOf cbrtOf rootBits digitsFrom cubeOf lnOf exponentOf fractionOf partOf Ieee.le Ieee.lt Ieee.add Ieee.sub Ieee.mul Ieee.div ofBits toBits
+unfolding energyWalkIn energySteps partsWalk partsFrom floats rows turned times scaled determinant total trace halved power finite isNumber invCbrtOf cbrtOf rootBits digitsFrom cubeOf lnOf exponentOf fractionOf partOf Ieee.le Ieee.lt Ieee.add Ieee.sub Ieee.mul Ieee.div ofBits toBits
 halfway-one-split = refl

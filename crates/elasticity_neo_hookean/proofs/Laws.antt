@@ -19,13 +19,14 @@ use Rattle.tensor.specs.Inverse.{inverseTransposeOf, matOverOf, cofactorsOf}
 use Rattle.walk.specs.Expr.{Expr, num, _+_, _*_, value}
 use Rattle.walk.specs.Walk.{Walk, Function, minus-third, minus-two-thirds, ln, less, at-most, answerOf, asked, ask, Ended, refused, result, answerAs}
 use Rattle.walk.specs.Power.{power}
+use Rattle.walk.specs.Inner.{Inner}
 use Rattle.walk.specs.Every.{flat, all-append, all-flat}
 use Rattle.walk.specs.Tensor.{one, one-number, worth, rows, plus, times, determinant, cofactors-over, worth-cofactors, numbers-flat}
 use Rattle.walk.specs.Answers.{matrix, returnedMatrix, returned-matrix, matrixAs, split-number, split-matrix, asked-number, both, same, tested-later, asked-nan, asked-later}
 use Rattle.elasticity_neo_hookean.specs.declared.NeoHookeanElasticity.{NeoHookeanElasticity}
 use Rattle.elasticity_neo_hookean.specs.Law.{parametersOf, lawFinite, floats, coefficient, bulk, cauchyGreen}
-use Rattle.elasticity_neo_hookean.specs.Stress.{shear, inverted, fpkVolumetric, fpkSteps, volumetric, tensile, compressed, splitWalk, kirchhoffSteps}
-use Rattle.elasticity_neo_hookean.specs.Energy.{volumetricEnergy, kappa, stretch, deviatoricEnergy, Parts, partsWalk, below, sumWalk, energySteps, posDeviatoric, posSum, posSteps}
+use Rattle.elasticity_neo_hookean.specs.Stress.{shear, inverted, fpkVolumetric, fpkFrom, fpkSteps, volumetric, tensile, compressed, splitWalk, kirchhoffFrom, kirchhoffSteps}
+use Rattle.elasticity_neo_hookean.specs.Energy.{volumetricEnergy, kappa, stretch, deviatoricEnergy, Parts, partsFrom, partsWalk, below, sumWalk, energyFrom, energySteps, posDeviatoric, posSum, posFrom, posSteps}
 
 -- ---- inputs
 pub inputs-law : (p : NeoHookeanElasticity) (phase h : Float) (f : List (List Float))
@@ -45,22 +46,19 @@ value-below : (m : Bool) (c dev vol : Expr) → value (below m c dev vol) ≡ va
 value-below true c dev vol = refl
 value-below false c dev vol = refl
 
--- ---- kirchhoff_stress
-module _ (p : NeoHookeanElasticity) (phase h : Float) (f : List (List Float)) where
-  abbrev j : Float
-  j = detOf f
-
+-- ---- kirchhoff_stress and the energies, of a determinant j
+module _ (p : NeoHookeanElasticity) (phase h : Float) (f : List (List Float)) (j : Float) where
   abbrev k : Float
   k = value (bulk p h)
 
   abbrev b : List (List Float)
   b = worth (cauchyGreen f)
 
-  pub kirchhoff-law : result (kirchhoffSteps p phase h f)
+  pub kirchhoff-law : result (kirchhoffFrom p phase h f (num j))
       ≡ cond (isNumber k && matNumber b)
       (asked (answerOf minus-two-thirds j) (λ w. result (splitWalk (coefficient phase) (num j) (shear p h (num w) b) (volumetric (num j) (num k)))))
       (refused noNumber)
-  unfolding kirchhoffSteps determinant
+  unfolding kirchhoffFrom
   kirchhoff-law =
       let R : Float → Float → Ended (List (List Float)) = λ x w. result (splitWalk (coefficient phase) (num x) (shear p h (num w) b) (volumetric (num x) (num k))) in
       let K = isNumber k in
@@ -68,13 +66,13 @@ module _ (p : NeoHookeanElasticity) (phase h : Float) (f : List (List Float)) wh
       ap (λ e. cond (isNumber j) e (refused noNumber)) (ap (λ c. cond K (cond c A (refused noNumber)) (refused noNumber)) (numbers-flat (cauchyGreen f)) ∙ both K (matNumber b) A (refused noNumber))
       ∙ asked-later j (K && matNumber b) minus-two-thirds R
 
-  pub pos-law : result (posSteps p phase h f)
+  pub pos-law : result (posFrom p phase h f (num j))
       ≡ cond (isNumber k && matNumber b)
       (asked (answerOf minus-two-thirds j) (λ w. asked (answerOf ln j) (λ l.
       let vol = value (volumetricEnergy (num k) (num j * num j) (num l)) in
       cond (isNumber vol) (result (posSum phase (num j) (posDeviatoric p h (num w) b) (num vol))) (refused noNumber))))
       (refused noNumber)
-  unfolding posSteps determinant
+  unfolding posFrom
   pos-law =
       let R : Float → Float → Ended Float = λ x w. asked (answerOf ln x) (λ l.
       let vol = value (volumetricEnergy (num k) (num x * num x) (num l)) in
@@ -85,7 +83,7 @@ module _ (p : NeoHookeanElasticity) (phase h : Float) (f : List (List Float)) wh
       ∙ asked-later j (K && matNumber b) minus-two-thirds R
 
   -- the logarithm has the power's range: a NaN in j is the power's
-  pub energy-law : (m : Bool) → result (energySteps m p phase h f)
+  pub energy-law : (m : Bool) → result (energyFrom m p phase h f (num j))
       ≡ (let n = value (kappa p h) in
       cond (isNumber n)
       (asked (answerOf minus-third j) (λ w.
@@ -94,7 +92,7 @@ module _ (p : NeoHookeanElasticity) (phase h : Float) (f : List (List Float)) wh
       (asked (answerOf ln j) (λ l. result (sumWalk m (coefficient phase) (record { j = num j; deviatoric = deviatoricEnergy p h s; volumetric = volumetricEnergy (num n) (power (num j) 2) (num l) }))))
       (refused noNumber)))
       (refused noNumber))
-  unfolding energySteps partsWalk determinant
+  unfolding energyFrom partsFrom
   energy-law m =
       let R : Float → Float → Ended Float = λ x w. result (matrix 4 (stretch (num w) f) (λ s.
       ask 5 ln (num x) (λ l. sumWalk m (coefficient phase) (record { j = num x; deviatoric = deviatoricEnergy p h s; volumetric = volumetricEnergy (num (value (kappa p h))) (power (num x) 2) l })))) in
@@ -109,7 +107,7 @@ module _ (p : NeoHookeanElasticity) (phase h : Float) (f : List (List Float)) wh
   number-first g w t = rw (one-number, asked-number g j w t)
 
   pub kirchhoff-given : {w : Float} → isNumber k && matNumber b ≡ true → answerOf minus-two-thirds j ≡ Value w
-      → matrixAs (result (kirchhoffSteps p phase h f))
+      → matrixAs (result (kirchhoffFrom p phase h f (num j)))
       ≡ (let c = coefficient phase in
       let dev = shear p h (num w) b in
       let vol = volumetric (num j) (num k) in
@@ -122,7 +120,7 @@ module _ (p : NeoHookeanElasticity) (phase h : Float) (f : List (List Float)) wh
 
   pub pos-given : {w l : Float} → isNumber k && matNumber b ≡ true → answerOf minus-two-thirds j ≡ Value w → answerOf ln j ≡ Value l
       → isNumber (value (volumetricEnergy (num k) (num j * num j) (num l))) ≡ true
-      → answerAs (result (posSteps p phase h f))
+      → answerAs (result (posFrom p phase h f (num j)))
       ≡ (let dev = value (posDeviatoric p h (num w) b) in
       let vol = value (volumetricEnergy (num k) (num j * num j) (num l)) in
       cond (Ieee.lt j tensor.one) (answeredOf (tensor.mul dev (value (coefficient phase)))) (answeredOf (tensor.mul (tensor.add dev vol) phase)))
@@ -133,7 +131,7 @@ module _ (p : NeoHookeanElasticity) (phase h : Float) (f : List (List Float)) wh
 
   pub energy-given : (m : Bool) {w l : Float} → isNumber (value (kappa p h)) ≡ true → answerOf minus-third j ≡ Value w
       → matNumber (worth (stretch (num w) f)) ≡ true → answerOf ln j ≡ Value l
-      → answerAs (result (energySteps m p phase h f))
+      → answerAs (result (energyFrom m p phase h f (num j)))
       ≡ (let c = value (coefficient phase) in
       let dev = value (deviatoricEnergy p h (worth (stretch (num w) f))) in
       let vol = value (volumetricEnergy (num (value (kappa p h))) (power (num j) 2) (num l)) in
@@ -163,7 +161,7 @@ module _ {A : Type 0} (n : ℕ) (f : List (List Float)) (K : List (List Float) �
   unfolding inverseTransposeOf
   inverted-law x h = picked x (Ieee.eq x tensor.zero) h
 
-module _ (p : NeoHookeanElasticity) (f : List (List Float)) (h : Float) where
+module _ (p : NeoHookeanElasticity) (f : List (List Float)) (h j : Float) where
   abbrev after : Float → List (List Float) → Walk (List (List Float))
   after x g =
       matrix 4 (cauchyGreen f) (λ b.
@@ -186,20 +184,51 @@ module _ (p : NeoHookeanElasticity) (f : List (List Float)) (h : Float) where
       ∙ both K (G && B) (powered x g) (refused noNumber)
   told x false e = simp e (sym (same (isNumber (value (bulk p h)) && (matNumber (inverseTransposeOf f x) && matNumber (worth (cauchyGreen f)))) (refused noNumber)))
 
-  pub fpk-law : result (fpkSteps p f h)
-      ≡ (let j = detOf f in
-      let g = inverseTransposeOf f j in
+  pub fpk-law : result (fpkFrom p f h (num j))
+      ≡ (let g = inverseTransposeOf f j in
       cond (isNumber (value (bulk p h)) && (matNumber g && matNumber (worth (cauchyGreen f)))) (powered j g) (refused noNumber))
-  unfolding fpkSteps determinant
-  fpk-law = told (detOf f) (isNumber (detOf f)) refl
+  unfolding fpkFrom
+  fpk-law = told j (isNumber j) refl
 
-  pub fpk-given : {w : Float} → isNumber (value (bulk p h)) && (matNumber (inverseTransposeOf f (detOf f)) && matNumber (worth (cauchyGreen f))) ≡ true
-      → answerOf minus-two-thirds (detOf f) ≡ Value w
-      → matrixAs (result (fpkSteps p f h))
-      ≡ (let j = detOf f in
-      let g = inverseTransposeOf f j in
+  pub fpk-given : {w : Float} → isNumber (value (bulk p h)) && (matNumber (inverseTransposeOf f j) && matNumber (worth (cauchyGreen f))) ≡ true
+      → answerOf minus-two-thirds j ≡ Value w
+      → matrixAs (result (fpkFrom p f h (num j)))
+      ≡ (let g = inverseTransposeOf f j in
       answered (worth (plus (times (shear p h (num w) (worth (cauchyGreen f))) (rows g)) (fpkVolumetric (num j) (num (value (bulk p h))) g))))
   fpk-given {w} t u =
-      let j = detOf f in
       let g = inverseTransposeOf f j in
       rw (fpk-law, t, u) (returned-matrix 6 (plus (times (shear p h (num w) (worth (cauchyGreen f))) (rows g)) (fpkVolumetric (num j) (num (value (bulk p h))) g)))
+
+-- ---- the determinant worked is taken by its number alone
+pub kirchhoff-worked : (p : NeoHookeanElasticity) (phase h : Float) (f : List (List Float)) → result (kirchhoffSteps p phase h f) ≡ result (kirchhoffFrom p phase h f (num (detOf f)))
+unfolding kirchhoffSteps kirchhoffFrom determinant
+kirchhoff-worked p phase h f = refl
+
+pub fpk-worked : (p : NeoHookeanElasticity) (f : List (List Float)) (h : Float) → result (fpkSteps p f h) ≡ result (fpkFrom p f h (num (detOf f)))
+unfolding fpkSteps fpkFrom determinant
+fpk-worked p f h = refl
+
+pub energy-worked : (m : Bool) (p : NeoHookeanElasticity) (phase h : Float) (f : List (List Float)) → result (energySteps m p phase h f) ≡ result (energyFrom m p phase h f (num (detOf f)))
+unfolding energySteps energyFrom partsWalk partsFrom determinant
+energy-worked m p phase h f = refl
+
+pub pos-worked : (p : NeoHookeanElasticity) (phase h : Float) (f : List (List Float)) → result (posSteps p phase h f) ≡ result (posFrom p phase h f (num (detOf f)))
+unfolding posSteps posFrom determinant
+pos-worked p phase h f = refl
+
+-- ---- no step tests inputs
+pub kirchhoff-inner : (p : NeoHookeanElasticity) (phase h : Float) (f : List (List Float)) → Inner (kirchhoffSteps p phase h f)
+unfolding kirchhoffSteps kirchhoffFrom
+kirchhoff-inner p phase h f = λ j k b w. (tt, tt)
+
+pub fpk-inner : (p : NeoHookeanElasticity) (f : List (List Float)) (h : Float) → Inner (fpkSteps p f h)
+unfolding fpkSteps fpkFrom
+fpk-inner p f h = λ j k. (λ b w. tt, λ g b w. tt)
+
+pub energy-inner : (m : Bool) (p : NeoHookeanElasticity) (phase h : Float) (f : List (List Float)) → Inner (energySteps m p phase h f)
+unfolding energySteps partsWalk partsFrom
+energy-inner m p phase h f = λ k j w s l. (tt, tt)
+
+pub pos-inner : (p : NeoHookeanElasticity) (phase h : Float) (f : List (List Float)) → Inner (posSteps p phase h f)
+unfolding posSteps posFrom
+pos-inner p phase h f = λ j k b w l vol. (tt, tt)

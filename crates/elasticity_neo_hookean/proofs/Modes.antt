@@ -20,7 +20,7 @@ use Rattle.walk.specs.Tensor.{one, one-number, determinant}
 use Rattle.walk.specs.Answers.{refusalIn, accepted-when, split-number}
 use Rattle.elasticity_neo_hookean.specs.declared.NeoHookeanElasticity.{NeoHookeanElasticity}
 use Rattle.elasticity_neo_hookean.specs.Law.{floats, coefficient}
-use Rattle.elasticity_neo_hookean.specs.Energy.{Parts, partsWalk, below, sumWalk, energySteps, energyWalkIn, elasticEnergyDensityIn, elasticEnergyDensity}
+use Rattle.elasticity_neo_hookean.specs.Energy.{Parts, partsFrom, partsWalk, below, sumWalk, energySteps, energyWalkIn, elasticEnergyDensityIn, elasticEnergyDensity}
 
 -- what a walk gives is its end
 ended : {A : Type 0} (o : Option Refusal) (x a : A) → answer o x ≡ given a → x ≡ a
@@ -56,11 +56,11 @@ module _ (p : NeoHookeanElasticity) (phase h : Float) (f : List (List Float)) wh
 
   -- the split is made at F's determinant, a number
   parts-j : (q : Parts) → result partsRun ≡ given q → q .j ≡ num j
-  unfolding partsWalk determinant
+  unfolding partsWalk partsFrom determinant
   parts-j q e = sym (ap (λ (x : Parts). x .j) (ended (first (path partsRun)) (final partsRun) q (sym (exactly partsRun) ∙ e)))
 
   j-number : (q : Parts) → result partsRun ≡ given q → isNumber j ≡ true
-  unfolding partsWalk determinant
+  unfolding partsWalk partsFrom determinant
   j-number q e = whole-tells (determinant f) ∙ accepted-when partsRun .0 (ap refusalIn e) .1 .1 .0 .0
 
   -- not refused before the split

@@ -13,7 +13,7 @@ use Rattle.walk.specs.Answers.{matrix, returned}
 use Rattle.elasticity_neo_hookean.specs.Law.{two, dim, floats, coefficient, bulk, cauchyGreen}
 use Rattle.elasticity_neo_hookean.specs.declared.NeoHookeanElasticity.{NeoHookeanElasticity}
 
--- p is the law, h the elastic hardening, j the determinant of F, k the bulk modulus times h, l the logarithm of j.
+-- p is the law, h the elastic hardening, d the determinant of F, worked or stored (ticket 3), j its number, k the bulk modulus times h, l the logarithm of j.
 
 -- both energies: q is the square of j
 abbrev pub volumetricEnergy : Expr → Expr → Expr → Expr
@@ -36,14 +36,17 @@ pub record Parts : Type 0 where
   pub deviatoric : Expr
   pub volumetric : Expr
 
-unfoldable pub partsWalk : NeoHookeanElasticity → Float → List (List Float) → Walk Parts
-partsWalk p h f =
+unfoldable pub partsFrom : NeoHookeanElasticity → Float → List (List Float) → Expr → Walk Parts
+partsFrom p h f d =
     work 1 (kappa p h) (λ k.
-    work 2 (determinant f) (λ j.
+    work 2 d (λ j.
     ask 3 minus-third j (λ w.
     matrix 4 (stretch w f) (λ s.
     ask 5 ln j (λ l.
     end (record { j = j; deviatoric = deviatoricEnergy p h s; volumetric = volumetricEnergy k (power j 2) l }))))))
+
+unfoldable pub partsWalk : NeoHookeanElasticity → Float → List (List Float) → Walk Parts
+partsWalk p h f = partsFrom p h f (determinant f)
 
 -- below j = 1 the tensile part is the volumetric one, with one split for stress and energy the deviatoric one; c is the phase's coefficient
 abbrev pub below : Bool → Expr → Expr → Expr → Expr
@@ -55,6 +58,9 @@ sumWalk one-split c q =
     let dev = q .deviatoric in
     let vol = q .volumetric in
     split 6 (at-most one (q .j)) (returned 7 (c * (vol + dev) + num tensor.zero)) (returned 7 (below one-split c dev vol))
+
+unfoldable pub energyFrom : Bool → NeoHookeanElasticity → Float → Float → List (List Float) → Expr → Walk Float
+energyFrom one-split p phase h f d = partsFrom p h f d then sumWalk one-split (coefficient phase)
 
 unfoldable pub energySteps : Bool → NeoHookeanElasticity → Float → Float → List (List Float) → Walk Float
 energySteps one-split p phase h f = partsWalk p h f then sumWalk one-split (coefficient phase)
@@ -80,15 +86,18 @@ abbrev pub posSum : Float → Expr → Expr → Expr → Walk Float
 posSum phase j dev vol = split 7 (less j one) (returned 8 (dev * coefficient phase)) (returned 8 ((dev + vol) * num phase))
 
 -- below j = 1 the volumetric part is worked and not used: its NaN is met all the same
-unfoldable pub posSteps : NeoHookeanElasticity → Float → Float → List (List Float) → Walk Float
-posSteps p phase h f =
-    work 1 (determinant f) (λ j.
+unfoldable pub posFrom : NeoHookeanElasticity → Float → Float → List (List Float) → Expr → Walk Float
+posFrom p phase h f d =
+    work 1 d (λ j.
     work 2 (bulk p h) (λ k.
     matrix 3 (cauchyGreen f) (λ b.
     ask 4 minus-two-thirds j (λ w.
     ask 5 ln j (λ l.
     work 6 (volumetricEnergy k (j * j) l) (λ vol.
     posSum phase j (posDeviatoric p h w b) vol))))))
+
+unfoldable pub posSteps : NeoHookeanElasticity → Float → Float → List (List Float) → Walk Float
+posSteps p phase h f = posFrom p phase h f (determinant f)
 
 unfoldable pub posWalk : NeoHookeanElasticity → Float → Float → List (List Float) → Walk Float
 posWalk p phase h f = inputs (floats p (phase ∷ h ∷ []) f) (posSteps p phase h f)

@@ -13,7 +13,7 @@ use Rattle.walk.specs.Answers.{matrix, returnedMatrix, matrixAs}
 use Rattle.elasticity_neo_hookean.specs.Law.{two, floats, coefficient, bulk, cauchyGreen}
 use Rattle.elasticity_neo_hookean.specs.declared.NeoHookeanElasticity.{NeoHookeanElasticity}
 
--- p is the law, h the elastic hardening, j the determinant of F, k the bulk modulus times h, b is F F^T, w is j^(-2/3), c the phase's coefficient.
+-- p is the law, h the elastic hardening, d the determinant of F, worked or stored (ticket 3), j its number, k the bulk modulus times h, b is F F^T, w is j^(-2/3), c the phase's coefficient.
 
 -- both stresses: mu h j^(-2/3) times the deviatoric part of F F^T
 abbrev pub shear : NeoHookeanElasticity → Float → Expr → List (List Float) → List (List Expr)
@@ -26,14 +26,17 @@ inverted n f j k = split n (zeros (value j ∷ [])) (k (identityTimesOf tensor.o
 abbrev pub fpkVolumetric : Expr → Expr → List (List Float) → List (List Expr)
 fpkVolumetric j k g = scaled (j * k / two * (j - one / j)) (rows g)
 
-unfoldable pub fpkSteps : NeoHookeanElasticity → List (List Float) → Float → Walk (List (List Float))
-fpkSteps p f h =
-    work 1 (determinant f) (λ j.
+unfoldable pub fpkFrom : NeoHookeanElasticity → List (List Float) → Float → Expr → Walk (List (List Float))
+fpkFrom p f h d =
+    work 1 d (λ j.
     work 2 (bulk p h) (λ k.
     inverted 3 f j (λ g.
     matrix 4 (cauchyGreen f) (λ b.
     ask 5 minus-two-thirds j (λ w.
     returnedMatrix 6 (plus (times (shear p h w b) (rows g)) (fpkVolumetric j k g)))))))
+
+unfoldable pub fpkSteps : NeoHookeanElasticity → List (List Float) → Float → Walk (List (List Float))
+fpkSteps p f h = fpkFrom p f h (determinant f)
 
 unfoldable pub fpkWalk : NeoHookeanElasticity → List (List Float) → Float → Walk (List (List Float))
 fpkWalk p f h = inputs (floats p (h ∷ []) f) (fpkSteps p f h)
@@ -56,13 +59,16 @@ compressed c dev vol = plus (scaled c dev) vol
 abbrev pub splitWalk : Expr → Expr → List (List Expr) → List (List Expr) → Walk (List (List Float))
 splitWalk c j dev vol = split 5 (at-most one j) (returnedMatrix 6 (tensile c dev vol)) (returnedMatrix 6 (compressed c dev vol))
 
-unfoldable pub kirchhoffSteps : NeoHookeanElasticity → Float → Float → List (List Float) → Walk (List (List Float))
-kirchhoffSteps p phase h f =
-    work 1 (determinant f) (λ j.
+unfoldable pub kirchhoffFrom : NeoHookeanElasticity → Float → Float → List (List Float) → Expr → Walk (List (List Float))
+kirchhoffFrom p phase h f d =
+    work 1 d (λ j.
     work 2 (bulk p h) (λ k.
     matrix 3 (cauchyGreen f) (λ b.
     ask 4 minus-two-thirds j (λ w.
     splitWalk (coefficient phase) j (shear p h w b) (volumetric j k)))))
+
+unfoldable pub kirchhoffSteps : NeoHookeanElasticity → Float → Float → List (List Float) → Walk (List (List Float))
+kirchhoffSteps p phase h f = kirchhoffFrom p phase h f (determinant f)
 
 unfoldable pub kirchhoffWalk : NeoHookeanElasticity → Float → Float → List (List Float) → Walk (List (List Float))
 kirchhoffWalk p phase h f = inputs (floats p (phase ∷ h ∷ []) f) (kirchhoffSteps p phase h f)

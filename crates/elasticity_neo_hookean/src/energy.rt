@@ -11,7 +11,7 @@ ghost use Rattle.walk.specs.Expr.{num, value};
 ghost use Rattle.walk.specs.Walk.{result, answerAs};
 ghost use Rattle.walk.specs.Tensor.{worth};
 ghost use Rattle.elasticity_neo_hookean.specs.Law.{coefficient};
-ghost use Rattle.elasticity_neo_hookean.specs.Energy.{volumetricEnergy, kappa, stretch, deviatoricEnergy, below, energySteps, posDeviatoric, posSteps};
+ghost use Rattle.elasticity_neo_hookean.specs.Energy.{volumetricEnergy, kappa, stretch, deviatoricEnergy, below, energyFrom, posDeviatoric, posFrom};
 
 // q is the square of j, l its logarithm.
 fn volumetric_energy(k: f64, q: f64, l: f64) -> f64
@@ -55,18 +55,18 @@ fn energy_sum(one_split: bool, c: f64, j: f64, dev: f64, vol: f64) -> Answer
     }
 }
 
-// A NaN in k comes before the power's refusal; one in j is the power's.
-pub fn energy(
+// j is F's determinant. A NaN in k comes before the power's refusal; one in j is the power's.
+pub fn density(
     one_split: bool,
     p: NeoHookeanElasticity,
     phase: f64,
     hardening: f64,
     f: [[f64; 3]; 3],
+    j: f64,
 ) -> Answer
-    ensures { λ r. ⌜ r ≡ answerAs (result (energySteps «one_split» p phase hardening f)) ⌝ }
+    ensures { λ r. ⌜ r ≡ answerAs (result (energyFrom «one_split» p phase hardening f (num j))) ⌝ }
 {
     let k = kappa(p, hardening);
-    let j = tensor::determinant(f);
     if numbers::is_number(k) {
         match thirds::inv_cbrt_on_path(j) {
             Answer::Value(w) => {
@@ -109,11 +109,10 @@ fn pos_sum(phase: f64, j: f64, dev: f64, vol: f64) -> Answer
     }
 }
 
-// A NaN in F F^T or in k comes before the power's refusal; one in j is the power's.
-pub fn pos(p: NeoHookeanElasticity, phase: f64, hardening: f64, f: [[f64; 3]; 3]) -> Answer
-    ensures { λ r. ⌜ r ≡ answerAs (result (posSteps p phase hardening f)) ⌝ }
+// j is F's determinant. A NaN in F F^T or in k comes before the power's refusal; one in j is the power's.
+pub fn pos(p: NeoHookeanElasticity, phase: f64, hardening: f64, f: [[f64; 3]; 3], j: f64) -> Answer
+    ensures { λ r. ⌜ r ≡ answerAs (result (posFrom p phase hardening f (num j))) ⌝ }
 {
-    let j = tensor::determinant(f);
     let k = p.bulk(hardening);
     let b = stress::cauchy_green_strain(f);
     if numbers::is_number(k) & tensor::mat_number(b) {

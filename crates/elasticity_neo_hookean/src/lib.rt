@@ -1,11 +1,15 @@
 // Neo-Hookean elasticity: the stresses and the energies of a record's F. Module `plain` has `phase_coeff` as the text has
-// it, on every input.
+// it, on every input. The steps take F's determinant, which a record stores.
 mod energy;
 pub mod plain;
 mod stress;
 
 use answers::Answer;
+pub use energy::density;
+pub use energy::pos;
 use physics::Lame;
+pub use stress::fpk;
+pub use stress::kirchhoff;
 use tensor::MatrixAnswer;
 ghost use mathlib.Core.Path.{_≡_};
 ghost use mathlib.Core.Bool.{false, _&&_};
@@ -61,7 +65,7 @@ impl NeoHookeanElasticity {
         }
     }
 
-    fn law_finite(self) -> bool
+    pub fn law_finite(self) -> bool
         ensures { λ r. ⌜ r ≡ lawFinite self ⌝ }
     {
         numbers::is_finite(self.cfl_coeff)
@@ -89,7 +93,7 @@ impl NeoHookeanElasticity {
         ensures { λ r. ⌜ r ≡ fpkStress self f hardening ⌝ }
     {
         if self.law_finite() & numbers::is_finite(hardening) & tensor::mat_finite(f) {
-            stress::fpk(self, f, hardening)
+            stress::fpk(self, f, hardening, tensor::determinant(f))
         } else {
             tensor::refused_matrix(answers::NOT_FINITE)
         }
@@ -99,7 +103,7 @@ impl NeoHookeanElasticity {
         ensures { λ r. ⌜ r ≡ kirchhoffStress self phase hardening f ⌝ }
     {
         if self.inputs_finite(phase, hardening, f) {
-            stress::kirchhoff(self, phase, hardening, f)
+            stress::kirchhoff(self, phase, hardening, f, tensor::determinant(f))
         } else {
             tensor::refused_matrix(answers::NOT_FINITE)
         }
@@ -138,7 +142,7 @@ impl NeoHookeanElasticity {
         ensures { λ r. ⌜ r ≡ elasticEnergyDensityIn «one_split» self phase hardening f ⌝ }
     {
         if self.inputs_finite(phase, hardening, f) {
-            energy::energy(one_split, self, phase, hardening, f)
+            energy::density(one_split, self, phase, hardening, f, tensor::determinant(f))
         } else {
             Answer::Refused(answers::NOT_FINITE)
         }
@@ -149,7 +153,7 @@ impl NeoHookeanElasticity {
         ensures { λ r. ⌜ r ≡ posEnergy self phase hardening f ⌝ }
     {
         if self.inputs_finite(phase, hardening, f) {
-            energy::pos(self, phase, hardening, f)
+            energy::pos(self, phase, hardening, f, tensor::determinant(f))
         } else {
             Answer::Refused(answers::NOT_FINITE)
         }

@@ -12,7 +12,7 @@ ghost use Rattle.walk.specs.Walk.{result};
 ghost use Rattle.walk.specs.Tensor.{worth, rows, times, plus};
 ghost use Rattle.walk.specs.Answers.{matrixAs};
 ghost use Rattle.elasticity_neo_hookean.specs.Law.{cauchyGreen};
-ghost use Rattle.elasticity_neo_hookean.specs.Stress.{shear, fpkVolumetric, fpkSteps, volumetric, tensile, compressed, kirchhoffSteps};
+ghost use Rattle.elasticity_neo_hookean.specs.Stress.{shear, fpkVolumetric, fpkFrom, volumetric, tensile, compressed, kirchhoffFrom};
 
 // F F^T.
 pub fn cauchy_green_strain(f: [[f64; 3]; 3]) -> [[f64; 3]; 3]
@@ -36,11 +36,10 @@ fn fpk_volumetric(j: f64, k: f64, g: [[f64; 3]; 3]) -> [[f64; 3]; 3]
     tensor::mat_scale(j * k / 2.0 * (j - 1.0 / j), g)
 }
 
-// A NaN in the inverse or in F F^T comes before the power's refusal; one in j is the power's.
-pub fn fpk(p: NeoHookeanElasticity, f: [[f64; 3]; 3], hardening: f64) -> MatrixAnswer
-    ensures { λ r. ⌜ r ≡ matrixAs (result (fpkSteps p f hardening)) ⌝ }
+// j is F's determinant. A NaN in the inverse or in F F^T comes before the power's refusal; one in j is the power's.
+pub fn fpk(p: NeoHookeanElasticity, f: [[f64; 3]; 3], hardening: f64, j: f64) -> MatrixAnswer
+    ensures { λ r. ⌜ r ≡ matrixAs (result (fpkFrom p f hardening (num j))) ⌝ }
 {
-    let j = tensor::determinant(f);
     let k = p.bulk(hardening);
     let g = tensor::inverse_transpose(f, j);
     let b = cauchy_green_strain(f);
@@ -76,16 +75,16 @@ fn split(c: f64, j: f64, dev: [[f64; 3]; 3], vol: [[f64; 3]; 3]) -> MatrixAnswer
     }
 }
 
-// A NaN in F F^T or in k comes before the power's refusal; one in j is the power's.
+// j is F's determinant. A NaN in F F^T or in k comes before the power's refusal; one in j is the power's.
 pub fn kirchhoff(
     p: NeoHookeanElasticity,
     phase: f64,
     hardening: f64,
     f: [[f64; 3]; 3],
+    j: f64,
 ) -> MatrixAnswer
-    ensures { λ r. ⌜ r ≡ matrixAs (result (kirchhoffSteps p phase hardening f)) ⌝ }
+    ensures { λ r. ⌜ r ≡ matrixAs (result (kirchhoffFrom p phase hardening f (num j))) ⌝ }
 {
-    let j = tensor::determinant(f);
     let k = p.bulk(hardening);
     let b = cauchy_green_strain(f);
     if numbers::is_number(k) & tensor::mat_number(b) {

@@ -1,7 +1,9 @@
 // The calls for C, Rust and Python hosts: each answers 0 or RULES' refusal number, and writes nothing where it refuses.
+pub mod determinants;
 pub mod elasticity;
 mod lists_out;
 pub mod monaghan;
+pub mod of_record;
 pub mod passes;
 pub mod physics_calls;
 pub mod returns;

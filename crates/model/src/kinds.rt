@@ -1,5 +1,6 @@
 // The law that a number names, and what its parameters are: floats, but for a flag.
 use crate::LAST;
+use crate::LAWS;
 use crate::Law;
 use crate::SET;
 ghost use mathlib.Core.Path.{_≡_};
@@ -11,11 +12,12 @@ ghost use Rattle.model.specs.Kinds.{lawOf, kindsOf, allowed, flagsAllowe
 pub fn law_of(number: u64) -> Law
     ensures { λ r. ⌜ r ≡ lawOf number ⌝ }
 {
-    if number == 0 {
+    let k = number % LAWS;
+    if k == 0 {
         Law::Snow
-    } else if number == 1 {
+    } else if k == 1 {
         Law::Rankine
-    } else if number == 2 {
+    } else if k == 2 {
         Law::DruckerPrager
     } else {
         Law::Nacc

@@ -39,8 +39,10 @@ pub enum Model {
     Nacc(NaccArguments),
 }
 
-// The last model number.
-pub const LAST: u64 = 3;
+// The last model number, and how many laws there are: 4 to 7 name those of 0 to 3 again, for sheets whose records end with the determinant.
+pub const LAST: u64 = 7;
+
+pub const LAWS: u64 = 4;
 
 // How many parameters a model has at most.
 pub const PARAMETERS: usize = 8;

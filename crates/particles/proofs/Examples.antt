@@ -31,9 +31,9 @@ use Rattle.failure_maximum_stress.specs.declared.Verdict.the-variants.{No, Yes}
 use Rattle.failure_maximum_stress.specs.Failure.{overLimit, verdictOf}
 use Rattle.elasticity_corotated_linear.specs.declared.CorotatedLinearElasticity.{CorotatedLinearElasticity}
 use Rattle.elasticity_corotated_linear.specs.Principal.{principalWalk}
-use Rattle.record.specs.Layout.{stateAt}
+use Rattle.record.specs.Layout.{stateAt, determinantAt, determinantRight}
 use Rattle.model.specs.declared.Model.the-variants.{Snow, Rankine, DruckerPrager}
-use Rattle.particles.specs.Plain.{updatedAt, recordLaw}
+use Rattle.particles.specs.Plain.{updatedAt, lawAt, recordLaw}
 use Rattle.particles.specs.Judged.{verdictAfter, judgedAt, refusedRecord, failureLaw}
 
 abbrev f64 : ℕ → Float
@@ -42,17 +42,17 @@ f64 x = ofBits binary64 x
 abbrev limitsAt : ℕ → ℕ → MaximumStressFailure
 limitsAt principal shear = record { «max_principal_stress» = f64 principal; «max_shear_stress» = f64 shear }
 
-abbrev lawAt : ℕ → ℕ → CorotatedLinearElasticity
-lawAt lambda mu = record { «split_stress_on_failure» = true; «cfl_coeff» = one; lambda = f64 lambda; mu = f64 mu }
+abbrev elasticAt : ℕ → ℕ → CorotatedLinearElasticity
+elasticAt lambda mu = record { «split_stress_on_failure» = true; «cfl_coeff» = one; lambda = f64 lambda; mu = f64 mu }
 
 -- lambda 3, mu 1; limits 9.5 and 100
 abbrev law : CorotatedLinearElasticity
-law = lawAt 0x4008_0000_0000_0000 0x3ff0_0000_0000_0000
+law = elasticAt 0x4008_0000_0000_0000 0x3ff0_0000_0000_0000
 
 abbrev limits : MaximumStressFailure
 limits = limitsAt 0x4023_0000_0000_0000 0x4059_0000_0000_0000
 
--- F, U and V^T the identity, sigma x, 1 and 1, plastic determinant d, phase and hardenings 1, gain and alpha 0
+-- F, U and V^T the identity, sigma x, 1 and 1, plastic determinant d, phase and hardenings 1, gain and alpha 0; so F's determinant is 1
 abbrev unit : ℕ
 unit = 0x3ff0_0000_0000_0000
 
@@ -60,7 +60,7 @@ abbrev rows : List ℕ → List ℕ
 rows l = unit ∷ 0 ∷ 0 ∷ 0 ∷ unit ∷ 0 ∷ 0 ∷ 0 ∷ unit ∷ l
 
 abbrev of : ℕ → ℕ → List ℕ
-of x d = rows (rows (x ∷ unit ∷ unit ∷ rows (unit ∷ d ∷ unit ∷ unit ∷ 0 ∷ 0 ∷ [])))
+of x d = rows (rows (x ∷ unit ∷ unit ∷ rows (unit ∷ d ∷ unit ∷ unit ∷ 0 ∷ 0 ∷ unit ∷ [])))
 
 -- sigma 2; and sigma 0.9 with plastic determinant 0.5
 abbrev stretched : List ℕ
@@ -75,29 +75,29 @@ came l e r = verdictAfter l e (stateAt r .scalars .phase) (stateAt r)
 
 -- soft snow: over the limit as it came, and merely about to yield
 soft-snow : (came limits law stretched ≡ Yes) × (failureLaw (Snow defaults) limits law stretched .failed ≡ false)
-unfolding failureLaw judgedAt verdictAfter updatedAt recordLaw snowWalk floats floatsOf runWalk hardenWalk storeWalk principalWalk overLimit verdictOf total product entry sumOf dotOf scaledRowOf expOf expBits packOf partOf tailOf mag L finite isNumber ofBits Ieee.add Ieee.sub Ieee.mul Ieee.div Ieee.neg Ieee.le Ieee.lt Ieee.eq
+unfolding failureLaw judgedAt verdictAfter updatedAt lawAt recordLaw determinantRight determinantAt toBits snowWalk floats floatsOf runWalk hardenWalk storeWalk principalWalk overLimit verdictOf total product entry sumOf dotOf scaledRowOf expOf expBits packOf partOf tailOf mag L finite isNumber ofBits Ieee.add Ieee.sub Ieee.mul Ieee.div Ieee.neg Ieee.le Ieee.lt Ieee.eq
 soft-snow = (refl, refl)
 
 -- so a Rankine record: mu and lambda are 4, strength and rate 1
 weak-rankine : let m = Rankine (argumentsOf (f64 0x4024_0000_0000_0000) (f64 0x3fd0_0000_0000_0000) one one) in
     (came limits law stretched ≡ Yes) × (failureLaw m limits law stretched .failed ≡ false)
-unfolding failureLaw judgedAt verdictAfter updatedAt recordLaw rankine.argumentsWalk rankine.floats floatsOf rankine.runWalk rankine.strainedWalk firstWalk secondWalk thirdWalk rankine.wayWalk rankine.movedWalk rankine.hardenWalk rankine.expsWalk rankine.storeWalk principalWalk overLimit verdictOf total sum product entry orderOf lambdaOf shearModulusOf ln.lnOf ln.exponentOf ln.fractionOf ln.partOf expOf expBits packOf partOf tailOf sqrtOf floorRoot rootIn mag val L fits finite isNumber ofBits toBits round size Ieee.add Ieee.sub Ieee.mul Ieee.div Ieee.neg Ieee.le Ieee.lt Ieee.eq sumOf dotOf scaledRowOf
+unfolding failureLaw judgedAt verdictAfter updatedAt lawAt recordLaw determinantRight determinantAt toBits rankine.argumentsWalk rankine.floats floatsOf rankine.runWalk rankine.strainedWalk firstWalk secondWalk thirdWalk rankine.wayWalk rankine.movedWalk rankine.hardenWalk rankine.expsWalk rankine.storeWalk principalWalk overLimit verdictOf total sum product entry orderOf lambdaOf shearModulusOf ln.lnOf ln.exponentOf ln.fractionOf ln.partOf expOf expBits packOf partOf tailOf sqrtOf floorRoot rootIn mag val L fits finite isNumber ofBits round size Ieee.add Ieee.sub Ieee.mul Ieee.div Ieee.neg Ieee.le Ieee.lt Ieee.eq sumOf dotOf scaledRowOf
 weak-rankine = (refl, refl)
 
 -- the other way round, with limits 100 and 1: the law hardens it from 1 to 218
 hardened-snow : let l = limitsAt 0x4059_0000_0000_0000 unit in (came l law crushed ≡ No) × (failureLaw (Snow defaults) l law crushed .failed ≡ true)
-unfolding failureLaw judgedAt verdictAfter updatedAt recordLaw snowWalk floats floatsOf runWalk hardenWalk storeWalk principalWalk overLimit verdictOf total product entry sumOf dotOf scaledRowOf expOf expBits packOf partOf tailOf mag L finite isNumber ofBits Ieee.add Ieee.sub Ieee.mul Ieee.div Ieee.neg Ieee.le Ieee.lt Ieee.eq
+unfolding failureLaw judgedAt verdictAfter updatedAt lawAt recordLaw determinantRight determinantAt toBits snowWalk floats floatsOf runWalk hardenWalk storeWalk principalWalk overLimit verdictOf total product entry sumOf dotOf scaledRowOf expOf expBits packOf partOf tailOf mag L finite isNumber ofBits Ieee.add Ieee.sub Ieee.mul Ieee.div Ieee.neg Ieee.le Ieee.lt Ieee.eq
 hardened-snow = (refl, refl)
 
 -- with mu 1e307 that hardening's stress is refused: the record is as it came
-stress-refused : failureLaw (Snow defaults) limits (lawAt 0 0x7fac_7b1f_3cac_7433) crushed ≡ refusedRecord 3 crushed
-unfolding failureLaw judgedAt verdictAfter updatedAt recordLaw snowWalk floats floatsOf runWalk hardenWalk storeWalk principalWalk overLimit verdictOf total product entry sumOf dotOf scaledRowOf expOf expBits packOf partOf tailOf mag L finite isNumber ofBits Ieee.add Ieee.sub Ieee.mul Ieee.div Ieee.neg Ieee.le Ieee.lt Ieee.eq
+stress-refused : failureLaw (Snow defaults) limits (elasticAt 0 0x7fac_7b1f_3cac_7433) crushed ≡ refusedRecord 3 crushed
+unfolding failureLaw judgedAt verdictAfter updatedAt lawAt recordLaw determinantRight determinantAt toBits snowWalk floats floatsOf runWalk hardenWalk storeWalk principalWalk overLimit verdictOf total product entry sumOf dotOf scaledRowOf expOf expBits packOf partOf tailOf mag L finite isNumber ofBits Ieee.add Ieee.sub Ieee.mul Ieee.div Ieee.neg Ieee.le Ieee.lt Ieee.eq
 stress-refused = refl
 
 -- Snow's exponential is asked above its range: 10, and no verdict on the record, which limit -1 would have failed
 law-refused : let r = of unit 0xc08f_4000_0000_0000 in
     let l = limitsAt 0xbff0_0000_0000_0000 unit in (came l law r ≡ Yes) × (failureLaw (Snow defaults) l law r ≡ refusedRecord 10 r)
-unfolding failureLaw judgedAt verdictAfter updatedAt recordLaw snowWalk floats floatsOf runWalk hardenWalk sideOf principalWalk overLimit verdictOf product finite isNumber ofBits Ieee.add Ieee.sub Ieee.mul Ieee.div Ieee.neg Ieee.le Ieee.lt Ieee.eq
+unfolding failureLaw judgedAt verdictAfter updatedAt lawAt recordLaw determinantRight determinantAt toBits snowWalk floats floatsOf runWalk hardenWalk sideOf principalWalk overLimit verdictOf product finite isNumber ofBits Ieee.add Ieee.sub Ieee.mul Ieee.div Ieee.neg Ieee.le Ieee.lt Ieee.eq
 law-refused = (refl, refl)
 
 -- Drucker-Prager only for failed records meets the phase as it came: it leaves the record, which then fails
@@ -107,5 +107,37 @@ only-failed =
     record { h0 = p .h0; h1 = p .h1; h2 = p .h2; h3 = p .h3; lambda = one; mu = one; «only_active_when_failed» = true; «volume_correction» = one }
 
 whole-sand : let w = failureLaw (DruckerPrager only-failed) limits law stretched in (w .outcome ≡ Untouched) × (w .failed ≡ true)
-unfolding failureLaw judgedAt verdictAfter updatedAt recordLaw drucker.druckerWalk drucker.floats drucker.runWalk floatsOf principalWalk overLimit verdictOf product finite isNumber ofBits Ieee.add Ieee.sub Ieee.mul Ieee.div Ieee.neg Ieee.le Ieee.lt Ieee.eq Ieee.ne
+unfolding failureLaw judgedAt verdictAfter updatedAt lawAt recordLaw determinantRight determinantAt toBits drucker.druckerWalk drucker.floats drucker.runWalk floatsOf principalWalk overLimit verdictOf product finite isNumber ofBits Ieee.add Ieee.sub Ieee.mul Ieee.div Ieee.neg Ieee.le Ieee.lt Ieee.eq Ieee.ne
 whole-sand = (refl, refl)
+
+-- ---- the determinant: of an F of zeros it is 0.0, and -0.0 is another in one bit
+abbrev zeros : List ℕ → List ℕ
+zeros l = 0 ∷ 0 ∷ 0 ∷ 0 ∷ 0 ∷ 0 ∷ 0 ∷ 0 ∷ 0 ∷ l
+
+abbrev minus-zero : ℕ
+minus-zero = 0x8000_0000_0000_0000
+
+abbrev flat : List ℕ
+flat = zeros (rows (unit ∷ unit ∷ unit ∷ rows (unit ∷ unit ∷ unit ∷ unit ∷ 0 ∷ 0 ∷ minus-zero ∷ [])))
+
+other-zero : recordLaw (Snow defaults) flat ≡ refusedRecord 11 flat
+unfolding recordLaw lawAt determinantRight determinantAt toBits finite isNumber ofBits Ieee.add Ieee.sub Ieee.mul
+other-zero = refl
+
+-- 1 comes before it
+no-parameter : let p = defaults in
+    let m = Snow (record { «min_epsilon» = Ieee.nan; «max_epsilon» = p .«max_epsilon»; «hardening_coeff» = p .«hardening_coeff» }) in
+    recordLaw m flat ≡ refusedRecord 1 flat
+unfolding recordLaw lawAt determinantRight determinantAt toBits finite isNumber ofBits Ieee.add Ieee.sub Ieee.mul
+no-parameter = refl
+
+-- U's diagonal is 1e200: each entry of the new F is finite, and its determinant is not
+abbrev large : ℕ
+large = 0x6974_e718_d7d7_625a
+
+abbrev torn : List ℕ
+torn = rows (large ∷ 0 ∷ 0 ∷ 0 ∷ large ∷ 0 ∷ 0 ∷ 0 ∷ large ∷ unit ∷ unit ∷ unit ∷ rows (unit ∷ unit ∷ unit ∷ unit ∷ 0 ∷ 0 ∷ unit ∷ []))
+
+no-determinant : recordLaw (Snow defaults) torn ≡ refusedRecord 3 torn
+unfolding recordLaw lawAt updatedAt determinantRight determinantAt snowWalk floats floatsOf runWalk hardenWalk storeWalk total product entry sumOf dotOf scaledRowOf expOf expBits packOf partOf tailOf mag L finite isNumber ofBits toBits Ieee.add Ieee.sub Ieee.mul Ieee.div Ieee.neg Ieee.le Ieee.lt Ieee.eq
+no-determinant = refl

@@ -21,7 +21,7 @@ use Rattle.failure_maximum_stress.specs.declared.Verdict.the-variants.{No, Yes,
 use Rattle.elasticity_corotated_linear.specs.declared.CorotatedLinearElasticity.{CorotatedLinearElasticity}
 use Rattle.model.specs.declared.Model.{Model}
 use Rattle.particles.specs.Pass.{Worked, codeOf}
-use Rattle.particles.specs.Plain.{updatedAt, recordLaw}
+use Rattle.particles.specs.Plain.{lawAt, recordLaw}
 use Rattle.particles.specs.Judged.{verdictOn, judgeFinite, verdictAfter, unlessRefused, judgedAt, refusedRecord, marked, failureLaw}
 use Rattle.particles.specs.declared.step.Step.{Step}
 use Rattle.particles.specs.declared.step.Step.the-variants.{Plain, Judged}
@@ -60,7 +60,7 @@ verdict-handed l w = handed l w (result w) refl
 pub record Failed (m : Model) (l : MaximumStressFailure) (e : CorotatedLinearElasticity) (r : List ℕ) : Type 0 where
   pub inputs : judgeFinite l e ≡ true
   pub stands : (n : ℕ) → recordLaw m r .outcome ≡ outcome.Refused n → ⊥
-  pub yes : verdictAfter l e (stateAt r .scalars .phase) (updatedAt m r .state) ≡ Yes
+  pub yes : verdictAfter l e (stateAt r .scalars .phase) (lawAt m r .state) ≡ Yes
 
 other : (n : ℕ) (o : Outcome) → (codeOf o ≡ 2 → ⊥) → o ≡ outcome.Refused n → ⊥
 other n o h e = h (ap codeOf e)
@@ -87,10 +87,10 @@ module _ (m : Model) (l : MaximumStressFailure) (e : CorotatedLinearElasticity) 
     where
       go : (b : Bool) → judgeFinite l e ≡ b → cond b (marked (judgedAt m l e r) r (recordLaw m r)) (refusedRecord 1 r) .failed ≡ true → Failed m l e r
       go true f k =
-          let y = skipped (updatedAt m r .outcome) _ (only-yes (judgedAt m l e r) r (recordLaw m r) refl k) in
-          record { inputs = f; stands = λ n. other n (updatedAt m r .outcome) (y .1); yes = y .0 }
+          let y = skipped (lawAt m r .outcome) _ (only-yes (judgedAt m l e r) r (recordLaw m r) refl k) in
+          record { inputs = f; stands = λ n. other n (lawAt m r .outcome) (y .1); yes = y .0 }
       go false f k = absurd (false≢true k)
 
   pub failed-then : Failed m l e r → failureLaw m l e r .failed ≡ true
   unfolding failureLaw judgedAt recordLaw
-  failed-then f = rw (f .inputs, judged-yes (updatedAt m r .outcome) _ (f .stands) (f .yes)) refl
+  failed-then f = rw (f .inputs, judged-yes (lawAt m r .outcome) _ (f .stands) (f .yes)) refl

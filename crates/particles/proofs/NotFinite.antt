@@ -1,26 +1,24 @@
--- A record with a float that isn't finite is refused by 1, by every law and by the pass with failure, and keeps its bits. Assumes nothing.
+-- 1 comes first, then 11, then the law: what a record's inputs and its determinant leave of the law, and of the pass with failure. Assumes nothing.
 use mathlib.Core.Path.{_≡_, refl, sym, ap, _∙_}
-use mathlib.Core.Bool.{Bool, true, false, cond, _&&_}
+use mathlib.Core.Bool.{Bool, true, false, cond, _&&_, false≢true}
 use mathlib.Core.List.{List}
 use Prim.Native.Nat.{ℕ}
 use lib.Ieee.{Float}
 use Rattle.numbers.specs.Floats.{finite}
 use Rattle.numbers.proofs.Laws.{and-both}
-use Rattle.tensor.specs.Axes.{allOf}
-use Rattle.walk.specs.Update.{updatedOf}
+use Rattle.walk.specs.Update.{Change, updatedOf}
 use Rattle.walk.specs.Walk as walk
+use Rattle.answers.specs.Refusals.{notFinite, wrongDeterminant}
 use Rattle.plasticity.specs.State.{inputsFinite, refused}
-use Rattle.plasticity.specs.declared.Outcome.the-variants as outcome
 use Rattle.plasticity.specs.declared.State.{State}
 use Rattle.plasticity.specs.declared.Updated.{Updated}
-use Rattle.record.specs.Layout.{uAt, vtAt, stateAt, recordFinite}
+use Rattle.record.specs.Layout.{placeDeterminant, floatAt, uAt, vtAt, stateAt, recordFinite, determinantRight}
 use Rattle.plasticity_snow.specs.Snow as snow
 use Rattle.plasticity_snow.proofs.Laws as snow-laws
 use Rattle.plasticity_rankine.proofs.Laws as rankine-laws
 use Rattle.plasticity_rankine.specs.Law as rankine-law
 use Rattle.plasticity_rankine.specs.Rankine as rankine
 use Rattle.plasticity_drucker_prager.proofs.Laws as drucker-prager-laws
-use Rattle.plasticity_drucker_prager.specs.Law as drucker-prager-law
 use Rattle.plasticity_drucker_prager.specs.DruckerPrager as drucker-prager
 use Rattle.plasticity_nacc.proofs.Laws as nacc-laws
 use Rattle.plasticity_nacc.specs.Law as nacc-law
@@ -29,61 +27,85 @@ use Rattle.failure_maximum_stress.specs.declared.MaximumStressFailure.{MaximumS
 use Rattle.elasticity_corotated_linear.specs.declared.CorotatedLinearElasticity.{CorotatedLinearElasticity}
 use Rattle.model.specs.declared.Model.{Model}
 use Rattle.model.specs.declared.Model.the-variants.{Snow, Rankine, DruckerPrager, Nacc}
-use Rattle.model.specs.Model.{modelUpdate}
-use Rattle.particles.specs.Plain.{updatedAt, kept, keptBy, recordLaw}
+use Rattle.model.specs.Model.{modelFinite, modelUpdate}
+use Rattle.particles.specs.Plain.{updatedAt, measured, lawAt, keptBy, recordLaw}
 use Rattle.particles.specs.Judged.{judgeFinite, verdictAfter, unlessRefused, judgedAt, refusedRecord, marked, failureLaw}
 
--- of a test whose last part fails
-last-fails : {A : Type 0} (a b : Bool) (x y : A) → b ≡ false → cond (a && b) x y ≡ y
-last-fails true b x y q = ap (λ (t : Bool). cond t x y) q
-last-fails false b x y q = refl
+-- ---- a law whose inputs aren't all finite
+module _ (u vt : List (List Float)) (s : State) where
+  first : (w : walk.Ended Change) {b c : Bool} → b ≡ c → c ≡ false → updatedOf s (cond b w (walk.refused notFinite)) ≡ refused notFinite s
+  first w p q = ap (λ (t : Bool). updatedOf s (cond t w (walk.refused notFinite))) (p ∙ q)
 
-module _ (u vt : List (List Float)) (s : State) (q : inputsFinite u vt s ≡ false) where
-  not-finite : (m : Model) → modelUpdate m u vt s ≡ refused 1 s
+  pub not-finite : (m : Model) → modelFinite m && inputsFinite u vt s ≡ false → modelUpdate m u vt s ≡ refused notFinite s
   unfolding snow.snowWalk rankine.argumentsWalk drucker-prager.druckerWalk nacc.argumentsWalk
-  not-finite (Snow p) =
-      rw (snow-laws.inputs-law p u vt s) (ap (updatedOf s) (last-fails (snow.parametersFinite p) (inputsFinite u vt s) (walk.result (snow.runWalk p u vt s)) (walk.refused 1) q))
-  not-finite (Rankine a) =
+  not-finite (Snow p) q = first (walk.result (snow.runWalk p u vt s)) (snow-laws.inputs-law p u vt s) q
+  not-finite (Rankine a) q =
       let p = rankine-law.lawOf a in
-      rw (rankine-laws.inputs-law (rankine-law.argumentsFloats a) u vt s)
-      (ap (updatedOf s) (last-fails (allOf finite (rankine-law.argumentsFloats a)) (inputsFinite u vt s) (walk.result (rankine-law.moduli p (rankine.runWalk p (s .sigma) u vt s))) (walk.refused 1) q))
-  not-finite (DruckerPrager p) =
-      rw (drucker-prager-laws.inputs-law p u vt s)
-      (ap (updatedOf s) (last-fails (drucker-prager-law.parametersFinite p) (inputsFinite u vt s) (walk.result (drucker-prager.runWalk p u vt s)) (walk.refused 1) q))
-  not-finite (Nacc a) =
+      first (walk.result (rankine-law.moduli p (rankine.runWalk p (s .sigma) u vt s))) (rankine-laws.inputs-law (rankine-law.argumentsFloats a) u vt s) q
+  not-finite (DruckerPrager p) q = first (walk.result (drucker-prager.runWalk p u vt s)) (drucker-prager-laws.inputs-law p u vt s) q
+  not-finite (Nacc a) q =
       let p = nacc-law.lawOf a in
-      rw (nacc-laws.inputs-law (nacc-law.argumentsFloats a) u vt s)
-      (ap (updatedOf s) (last-fails (allOf finite (nacc-law.argumentsFloats a)) (inputsFinite u vt s) (walk.result (nacc.moduli p (nacc.runWalk p u vt s))) (walk.refused 1) q))
+      first (walk.result (nacc.moduli p (nacc.runWalk p u vt s))) (nacc-laws.inputs-law (nacc-law.argumentsFloats a) u vt s) q
 
-pub refused-law : (m : Model) (r : List ℕ) → recordFinite r ≡ false → (outcome.Refused 1 ≡ recordLaw m r .outcome) × (r ≡ recordLaw m r .after)
-unfolding recordLaw updatedAt
-refused-law m r q =
-    let e = not-finite (uAt r) (vtAt r) (stateAt r) q m in
-    (sym (ap (λ (d : Updated). d .outcome) e), sym (ap (λ (d : Updated). kept m (d .outcome) r (d .state)) e))
+-- a finite record's determinant is finite
+pub last-finite : (r : List ℕ) → recordFinite r ≡ true → finite (floatAt r placeDeterminant) ≡ true
+last-finite r f = and-both (inputsFinite (uAt r) (vtAt r) (stateAt r)) (finite (floatAt r placeDeterminant)) f .1
 
-pub refused-failure : (m : Model) (l : MaximumStressFailure) (e : CorotatedLinearElasticity) (r : List ℕ) → recordFinite r ≡ false
-    → failureLaw m l e r ≡ refusedRecord 1 r
-unfolding failureLaw judgedAt recordLaw updatedAt
-refused-failure m l e r q =
-    ap (λ (d : Updated). cond (judgeFinite l e) (marked (unlessRefused (d .outcome) (verdictAfter l e (stateAt r .scalars .phase) (d .state))) r (keptBy m d r)) (refusedRecord 1 r))
-    (not-finite (uAt r) (vtAt r) (stateAt r) q m) ∙ same (judgeFinite l e) (refusedRecord 1 r)
-  where
+-- ---- one record
+module _ (m : Model) (r : List ℕ) where
+  pub law-not-finite : recordFinite r ≡ false → lawAt m r ≡ refused notFinite (stateAt r)
+  unfolding lawAt
+  law-not-finite f = go (modelFinite m) (recordFinite r) f
+    where
+      go : (a b : Bool) → b ≡ false → cond (a && b) (cond (determinantRight r) (measured m r (updatedAt m r)) (refused wrongDeterminant (stateAt r))) (refused notFinite (stateAt r)) ≡ refused notFinite (stateAt r)
+      go true true h = absurd (false≢true (sym h))
+      go true false h = refl
+      go false b h = refl
+
+  -- of finite parameters too
+  pub law-finite : modelFinite m ≡ true → recordFinite r ≡ true
+      → lawAt m r ≡ cond (determinantRight r) (measured m r (updatedAt m r)) (refused wrongDeterminant (stateAt r))
+  unfolding lawAt
+  law-finite p f = rw (p, f) refl
+
+  pub law-right : recordFinite r ≡ true → determinantRight r ≡ true → lawAt m r ≡ measured m r (updatedAt m r)
+  unfolding lawAt updatedAt
+  law-right f d = go (modelFinite m) refl
+    where
+      go : (b : Bool) → modelFinite m ≡ b → lawAt m r ≡ measured m r (updatedAt m r)
+      go true p = law-finite p f ∙ rw d refl
+      go false p = rw (p, not-finite (uAt r) (vtAt r) (stateAt r) m (ap (λ (b : Bool). b && inputsFinite (uAt r) (vtAt r) (stateAt r)) p), last-finite r f) refl
+
+  pub law-wrong : recordFinite r ≡ true → determinantRight r ≡ false → lawAt m r ≡ refused (cond (modelFinite m) wrongDeterminant notFinite) (stateAt r)
+  unfolding lawAt
+  law-wrong f d = go (modelFinite m) refl
+    where
+      go : (b : Bool) → modelFinite m ≡ b → lawAt m r ≡ refused (cond b wrongDeterminant notFinite) (stateAt r)
+      go true p = law-finite p f ∙ rw d refl
+      go false p = rw p refl
+
+  pub refused-law : recordFinite r ≡ false → recordLaw m r ≡ refusedRecord notFinite r
+  unfolding recordLaw
+  refused-law f = ap (λ (d : Updated). keptBy m d r) (law-not-finite f)
+
+  -- ---- with failure: 1 comes first, of the record, the limits and the corotated law
+  module _ (l : MaximumStressFailure) (e : CorotatedLinearElasticity) where
     same : {A : Type 0} (b : Bool) (x : A) → cond b x x ≡ x
     same true x = refl
     same false x = refl
 
--- 1 comes first, of the record, the limits and the corotated law
-pub refused-first : (m : Model) (l : MaximumStressFailure) (e : CorotatedLinearElasticity) (r : List ℕ) → recordFinite r && judgeFinite l e ≡ false
-    → failureLaw m l e r ≡ refusedRecord 1 r
-unfolding failureLaw
-refused-first m l e r q = go (recordFinite r) refl q
-  where
-    go : (b : Bool) → recordFinite r ≡ b → b && judgeFinite l e ≡ false → failureLaw m l e r ≡ refusedRecord 1 r
-    go true p h = rw h refl
-    go false p h = refused-failure m l e r p
+    pub refused-first : recordFinite r && judgeFinite l e ≡ false → failureLaw m l e r ≡ refusedRecord notFinite r
+    unfolding failureLaw judgedAt recordLaw
+    refused-first q = go (recordFinite r) refl q
+      where
+        go : (b : Bool) → recordFinite r ≡ b → b && judgeFinite l e ≡ false → failureLaw m l e r ≡ refusedRecord notFinite r
+        go true p h = rw h refl
+        go false p h =
+            ap (λ (d : Updated). cond (judgeFinite l e) (marked (unlessRefused (d .outcome) (verdictAfter l e (stateAt r .scalars .phase) (d .state))) r (keptBy m d r)) (refusedRecord notFinite r))
+            (law-not-finite p) ∙ same (judgeFinite l e) (refusedRecord notFinite r)
 
--- all of them are finite
-pub finite-first : (m : Model) (l : MaximumStressFailure) (e : CorotatedLinearElasticity) (r : List ℕ) → recordFinite r && judgeFinite l e ≡ true
-    → (recordFinite r ≡ true) × (failureLaw m l e r ≡ marked (judgedAt m l e r) r (recordLaw m r))
-unfolding failureLaw
-finite-first m l e r q = let h = and-both (recordFinite r) (judgeFinite l e) q in (h .0, rw (h .1) refl)
+    -- all of them are finite
+    pub finite-first : recordFinite r && judgeFinite l e ≡ true
+        → (recordFinite r ≡ true) × (failureLaw m l e r ≡ marked (judgedAt m l e r) r (recordLaw m r))
+    unfolding failureLaw
+    finite-first q = let h = and-both (recordFinite r) (judgeFinite l e) q in (h .0, rw (h .1) refl)

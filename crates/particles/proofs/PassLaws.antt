@@ -11,13 +11,14 @@ use lib.Seq.{take-at, drop-at, drop-drop, drop-cons, set-at, drop-length}
 use Rattle.plasticity.specs.declared.Outcome.{Outcome}
 use Rattle.plasticity.specs.declared.Outcome.the-variants.{Untouched, Stored, Refused}
 use Rattle.plasticity.specs.declared.State.{State}
-use Rattle.record.specs.Layout.{floats}
+use Rattle.record.specs.Layout.{floats, placeDeterminant, determinantAt}
 use Rattle.model.specs.declared.Model.{Model}
 use Rattle.model.specs.declared.Model.the-variants.{Snow, Rankine, DruckerPrager, Nacc}
 use Rattle.particles.specs.declared.list.Passed.the-variants as passed-variants
 use Rattle.particles.specs.declared.failure.FailureCounts.{FailureCounts}
 use Rattle.particles.specs.declared.failure.PassedWithFailure.the-variants as failure-variants
-use Rattle.particles.specs.Plain.{recordLaw, kept, updatedAt, putState}
+use Rattle.particles.specs.Plain.{recordLaw, kept, lawAt, putState}
+use Rattle.particles.specs.Fill.{fillLaw}
 use Rattle.particles.specs.Pass.{Worked, answered, recordAt, replaced, worked, answers, countedIf, counted, counts, threeOf, withoutVerdicts}
 
 -- a law keeps a record's length
@@ -37,7 +38,10 @@ kept-length m (Refused n) r s = refl
 
 pub record-keeps : (m : Model) → Keeps (recordLaw m)
 unfolding recordLaw
-record-keeps m r = kept-length m (updatedAt m r .outcome) r (updatedAt m r .state)
+record-keeps m r = kept-length m (lawAt m r .outcome) r (lawAt m r .state)
+
+pub fill-keeps : Keeps fillLaw
+fill-keeps r = length-set r placeDeterminant (determinantAt r)
 
 module _ (law : List ℕ → Worked) (k : Keeps law) (l : List ℕ) where
   pub worked-length : (i : ℕ) → i * floats ≤ length l → length (worked law l i) ≡ i * floats

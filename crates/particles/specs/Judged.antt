@@ -19,7 +19,7 @@ use Rattle.elasticity_corotated_linear.specs.Law.{lawFinite}
 use Rattle.elasticity_corotated_linear.specs.Principal.{principalWalk}
 use Rattle.model.specs.declared.Model.{Model}
 use Rattle.particles.specs.Pass.{Worked}
-use Rattle.particles.specs.Plain.{updatedAt, recordLaw}
+use Rattle.particles.specs.Plain.{lawAt, recordLaw}
 
 -- on the principal stresses, whose refusal is handed on
 abbrev pub verdictOn : MaximumStressFailure → Ended (List Float) → Verdict
@@ -41,7 +41,7 @@ unlessRefused (outcome.Stored a) v = v
 unlessRefused (outcome.Refused n) v = No
 
 unfoldable pub judgedAt : Model → MaximumStressFailure → CorotatedLinearElasticity → List ℕ → Verdict
-judgedAt m l e r = unlessRefused (updatedAt m r .outcome) (verdictAfter l e (stateAt r .scalars .phase) (updatedAt m r .state))
+judgedAt m l e r = unlessRefused (lawAt m r .outcome) (verdictAfter l e (stateAt r .scalars .phase) (lawAt m r .state))
 
 -- a refusal leaves the record as it came
 abbrev pub refusedRecord : ℕ → List ℕ → Worked

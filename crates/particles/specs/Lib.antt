@@ -1,3 +1,5 @@
+pub mod Bare
+pub mod Fill
 pub mod Judged
 pub mod Pass
 pub mod Plain

@@ -70,8 +70,11 @@ counts step l zero = record { untouched = 0; stored = 0; refused = 0; failed = 0
 counts step l (suc i) = counted (counts step l i) (step (recordAt l i) .outcome) (step (recordAt l i) .failed)
 
 -- refusal 8: a list length that is no whole number of records, or an answer list that hasn't two places a particle
+abbrev pub wholeRecords : ℕ → Bool
+wholeRecords words = eqb (words / floats * floats) words
+
 abbrev pub sized : ℕ → ℕ → Bool
-sized words places = eqb (words / floats * floats) words && eqb (words / floats * 2) places
+sized words places = wholeRecords words && eqb (words / floats * 2) places
 
 abbrev pub wellSized : List ℕ → List ℕ → Bool
 wellSized xs out = sized (length xs) (length out)

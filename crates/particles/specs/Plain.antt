@@ -1,18 +1,20 @@
 -- What the model's law makes of one record (RULES, sections 6 and 7).
-use mathlib.Core.Bool.{false, cond}
+use mathlib.Core.Bool.{false, cond, _&&_}
 use mathlib.Core.List.{List}
 use Prim.Native.Nat.{ℕ}
 use lib.Dec.{eqb}
 use lib.ListN.{length}
-use Rattle.answers.specs.Refusals.{wrongLength}
+use Rattle.numbers.specs.Floats.{finite}
+use Rattle.answers.specs.Refusals.{notFinite, noNumber, wrongLength, wrongDeterminant}
+use Rattle.plasticity.specs.State.{refused}
 use Rattle.plasticity.specs.declared.Outcome.{Outcome}
 use Rattle.plasticity.specs.declared.Outcome.the-variants.{Untouched, Stored, Refused}
 use Rattle.plasticity.specs.declared.State.{State}
 use Rattle.plasticity.specs.declared.Updated.{Updated}
-use Rattle.record.specs.Layout.{floats, uAt, vtAt, stateAt, putShape, putPlasticDeterminant, putPlasticHardening, putElasticHardening, putLogGain, putAlpha}
+use Rattle.record.specs.Layout.{floats, placeDeterminant, floatAt, uAt, vtAt, stateAt, recordFinite, determinantRight, putShape, putPlasticDeterminant, putPlasticHardening, putElasticHardening, putLogGain, putAlpha}
 use Rattle.model.specs.declared.Model.{Model}
 use Rattle.model.specs.declared.Model.the-variants.{Snow, Rankine, DruckerPrager, Nacc}
-use Rattle.model.specs.Model.{modelUpdate}
+use Rattle.model.specs.Model.{modelFinite, modelUpdate}
 use Rattle.particles.specs.Pass.{Worked}
 
 -- of the six scalars an update writes only those that its law names
@@ -47,11 +49,22 @@ kept m Untouched r s = r
 kept m (Stored a) r s = putState m r s
 kept m (Refused n) r s = r
 
+-- an update that would store a determinant that isn't finite is refused by 3
+abbrev pub measured : Model → List ℕ → Updated → Updated
+measured m r d = cond (finite (floatAt (kept m (d .outcome) r (d .state)) placeDeterminant)) d (refused noNumber (d .state))
+
+-- 1 over the parameters and all the record's floats, then 11, then the law
+unfoldable pub lawAt : Model → List ℕ → Updated
+lawAt m r =
+    cond (modelFinite m && recordFinite r)
+    (cond (determinantRight r) (measured m r (updatedAt m r)) (refused wrongDeterminant (stateAt r)))
+    (refused notFinite (stateAt r))
+
 abbrev pub keptBy : Model → Updated → List ℕ → Worked
 keptBy m d r = record { outcome = d .outcome; failed = false; after = kept m (d .outcome) r (d .state) }
 
 unfoldable pub recordLaw : Model → List ℕ → Worked
-recordLaw m r = keptBy m (updatedAt m r) r
+recordLaw m r = keptBy m (lawAt m r) r
 
 -- one record by itself: refusal 8 where the list is no record
 abbrev pub recordOutcome : Model → List ℕ → Outcome

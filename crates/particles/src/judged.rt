@@ -1,4 +1,5 @@
 // One record of the pass with failure: the law, and then the verdict on what it leaves.
+use crate::law;
 use crate::plain;
 use crate::step::Stepped;
 use elasticity_corotated_linear::CorotatedLinearElasticity;
@@ -104,7 +105,7 @@ fn finite_step(
     ensures record { λ x. ⌜ now (r .exit) ≡ marked (judgedAt m l e (now (r .entry))) (now (r .entry)) (recordLaw m (now (r .entry))) .after ⌝ }
 {
     let phase = record::float(&r[..], record::PHASE);
-    let d = plain::updated(m, &r[..]);
+    let d = law::updated(m, &r[..]);
     let v = verdict(l, e, phase, d);
     mark(m, d, v, r)
 }

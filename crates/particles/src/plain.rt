@@ -1,4 +1,5 @@
 // One record by its plastic law.
+use crate::law;
 use crate::stored;
 use model::Model;
 use plasticity::Outcome;
@@ -7,20 +8,7 @@ ghost use mathlib.Core.Path.{_≡_};
 ghost use mathlib.Core.Bool.{true};
 ghost use lib.ListN.{length};
 ghost use Rattle.record.specs.Layout.{floats, recordFinite};
-ghost use Rattle.particles.specs.Plain.{updatedAt, kept, recordLaw};
-
-// The law on a finite record.
-pub fn updated(m: Model, r: &[u64]) -> Updated
-    requires { ⌜ (length (now r) ≡ floats) × (recordFinite (now r) ≡ true) ⌝ }
-    ensures { λ x. ⌜ x ≡ updatedAt m (now (r .entry)) ⌝ }
-{
-    model::update_tested(
-        m,
-        record::read_u(r),
-        record::read_vt(r),
-        record::read_state(r),
-    )
-}
+ghost use Rattle.particles.specs.Plain.{kept, recordLaw};
 
 // What the law leaves of the record: one that is refused or untouched keeps its bits.
 pub fn keep(m: Model, d: Updated, r: &mut [u64])
@@ -43,7 +31,7 @@ pub fn finite_step(m: Model, r: &mut [u64]) -> Outcome
     requires { ⌜ (length (now r) ≡ floats) × (recordFinite (now r) ≡ true) ⌝ }
     ensures { λ x. ⌜ (x ≡ recordLaw m (now (r .entry)) .outcome) × (now (r .exit) ≡ recordLaw m (now (r .entry)) .after) ⌝ }
 {
-    let d = updated(m, &r[..]);
+    let d = law::updated(m, &r[..]);
     keep(m, d, r);
     d.outcome
 }

@@ -3,7 +3,7 @@ use model::Model;
 use plasticity::State;
 ghost use mathlib.Core.Path.{_≡_};
 ghost use lib.ListN.{length};
-ghost use Rattle.record.specs.Layout.{floats};
+ghost use Rattle.record.specs.Layout.{floats, putShape};
 ghost use Rattle.particles.specs.Plain.{snowScalars, rankineScalars, druckerPragerScalars, naccScalars, putScalars, putState};
 
 fn write_snow(r: &mut [u64], s: State)
@@ -58,14 +58,23 @@ fn write_scalars(m: Model, r: &mut [u64], s: State)
     }
 }
 
-// F and sigma are written, and the law's scalars.
-pub fn write_state(m: Model, r: &mut [u64], s: State)
+// F and sigma are written, and the determinant of that F.
+fn write_shape(r: &mut [u64], s: State)
     requires { ⌜ length (now r) ≡ floats ⌝ }
-    ensures { λ _. ⌜ now (r .exit) ≡ putState m (now (r .entry)) s ⌝ }
+    ensures { λ _. ⌜ now (r .exit) ≡ putShape (now (r .entry)) s ⌝ }
 {
     let f = s.f;
     let sigma = s.sigma;
     record::write_rows(r, record::F, f);
     record::write_row(r, record::SIGMA, sigma);
+    r[record::DETERMINANT] = record::determinant_with(f);
+}
+
+// And the law's scalars.
+pub fn write_state(m: Model, r: &mut [u64], s: State)
+    requires { ⌜ length (now r) ≡ floats ⌝ }
+    ensures { λ _. ⌜ now (r .exit) ≡ putState m (now (r .entry)) s ⌝ }
+{
+    write_shape(r, s);
     write_scalars(m, r, s);
 }

@@ -4,6 +4,7 @@ use mathlib.Core.Bool.{not}
 use mathlib.Core.List.{List, [], _∷_}
 use Prim.Native.Nat.{ℕ}
 use lib.Dec.{T, lit≤, lit<}
+use lib.ListN.{take}
 use lib.Ieee as Ieee
 use lib.Ieee.{binary64, ofBits, toBits, fits, round, size}
 use Rattle.exact.specs.Units.{L, mag}
@@ -21,9 +22,11 @@ use Rattle.plasticity_rankine.specs.Sorting.{orderOf}
 use Rattle.plasticity_rankine.specs.Law.{argumentsOf, lawOf}
 use Rattle.plasticity_rankine.specs.Projection.{thirdWalk, secondWalk, firstWalk}
 use Rattle.plasticity_rankine.specs.Rankine.{storeWalk, expsWalk, hardenWalk, movedWalk, wayWalk, strainedWalk, runWalk, floats, argumentsWalk}
+use Rattle.record.specs.Layout.{bare, determinantAt, determinantRight}
 use Rattle.model.specs.declared.Model.the-variants.{Rankine}
-use Rattle.particles.specs.Plain.{updatedAt, recordLaw}
+use Rattle.particles.specs.Plain.{updatedAt, lawAt, recordLaw}
 use Rattle.sheet.specs.Sheet.{numberAt, wordOf, wordAt, wordsOf, parameterAt, parametersAt, recordsEnd, headerOf, readOf, roomOf}
+use Rattle.sheet.specs.Records.{sheetFloats, completed, each}
 use Rattle.sheet.specs.Spelling.{spellNumber, spellBytes, spellWords, spell}
 use Rattle.sheet_run.specs.Run.{frontOf}
 use Rattle.model.specs.Kinds as model
@@ -39,7 +42,7 @@ use Rattle.rankine_surface.proofs.Stored.{pass-archived}
 abbrev arguments : RankineArguments
 arguments = argumentsOf (ofBits binary64 0x4024000000000000) (ofBits binary64 0x3fd0000000000000) one one
 
--- F, U and V^T the identity, sigma x, 1 and 1, phase, plastic determinant and hardenings 1, gain and alpha 0
+-- F, U and V^T the identity, sigma x, 1 and 1, phase, plastic determinant and hardenings 1, gain and alpha 0; F's determinant is 1
 abbrev unit : ℕ
 unit = 0x3ff0000000000000
 
@@ -47,7 +50,7 @@ abbrev rows : List ℕ → List ℕ
 rows l = unit ∷ 0 ∷ 0 ∷ 0 ∷ unit ∷ 0 ∷ 0 ∷ 0 ∷ unit ∷ l
 
 abbrev of : ℕ → List ℕ
-of x = rows (rows (x ∷ unit ∷ unit ∷ rows (unit ∷ unit ∷ unit ∷ unit ∷ 0 ∷ 0 ∷ [])))
+of x = rows (rows (x ∷ unit ∷ unit ∷ rows (unit ∷ unit ∷ unit ∷ unit ∷ 0 ∷ 0 ∷ unit ∷ [])))
 
 abbrev two : ℕ
 two = 0x4000000000000000
@@ -62,7 +65,7 @@ abbrev Taken : ℕ → Type 0
 Taken x = Premises arguments (of x) (recordLaw (Rankine arguments) (of x) .outcome)
 
 taken : Taken two × Taken unit × T (not (firstTestAt arguments (of two))) × T (firstTestAt arguments (of unit))
-unfolding recordLaw updatedAt argumentsWalk floats walk.floatsOf runWalk strainedWalk firstWalk secondWalk thirdWalk wayWalk movedWalk hardenWalk expsWalk storeWalk logsOf formula.total formula.sum formula.entry orderOf lambdaOf shearModulusOf ln.lnOf ln.exponentOf ln.fractionOf ln.partOf exp.expOf exp.expBits exp.packOf exp.partOf exp.tailOf sqrtOf floorRoot rootIn mag val L fits finite isNumber ofBits toBits round size Ieee.add Ieee.sub Ieee.mul Ieee.div Ieee.neg Ieee.le Ieee.lt Ieee.eq sumOf dotOf scaledRowOf
+unfolding recordLaw lawAt updatedAt determinantRight determinantAt argumentsWalk floats walk.floatsOf runWalk strainedWalk firstWalk secondWalk thirdWalk wayWalk movedWalk hardenWalk expsWalk storeWalk logsOf formula.total formula.sum formula.entry orderOf lambdaOf shearModulusOf ln.lnOf ln.exponentOf ln.fractionOf ln.partOf exp.expOf exp.expBits exp.packOf exp.partOf exp.tailOf sqrtOf floorRoot rootIn mag val L fits finite isNumber ofBits toBits round size Ieee.add Ieee.sub Ieee.mul Ieee.div Ieee.neg Ieee.le Ieee.lt Ieee.eq sumOf dotOf scaledRowOf
 taken =
     let g : Ranges (lawOf arguments) (softenedAt arguments (of two)) = record { mu-low = lit≤ tt; mu-high = lit≤ tt; la-low = lit≤ tt; la-high = lit≤ tt; s-size = lit≤ tt } in (
       record { accepted = tt; ranges = g; s-finite = tt; strains = (lit≤ tt, (lit≤ tt, (lit≤ tt, tt))); strength = tt },
@@ -80,12 +83,12 @@ in-the-archive = pass-archived (in-pass two) (taken .0) (stretched .answer .0)
 at-rest : InsideAt arguments (of unit) (passFound (recordLaw (Rankine arguments)) (of unit) answers 0)
 at-rest = pass-3 (in-pass unit) (taken .1) .holds (taken .3)
 
--- ---- a sheet of one record, run with a room that holds another
+-- ---- a sheet of one record without its determinant, run with a room that holds another
 abbrev sheet : List ℕ
-sheet = spell 1 (0x4024000000000000 ∷ 0x3fd0000000000000 ∷ unit ∷ unit ∷ []) 1 (of two)
+sheet = spell 1 (0x4024000000000000 ∷ 0x3fd0000000000000 ∷ unit ∷ unit ∷ []) 1 (take bare (of two))
 
 brought : ReturnedAt arguments (of two) (sheetFound sheet (of unit) answers 0)
-unfolding spell spellNumber spellBytes spellWords headerOf numberAt parametersAt parameterAt wordAt wordOf wordsOf model.kindsOf model.lawOf modelOf recordsEnd readOf roomOf frontOf
+unfolding spell spellNumber spellBytes spellWords sheetFloats completed each determinantAt ofBits toBits Ieee.add Ieee.sub Ieee.mul headerOf numberAt parametersAt parameterAt wordAt wordOf wordsOf model.kindsOf model.lawOf modelOf recordsEnd readOf roomOf frontOf
 brought =
     let w : InSheet sheet (of unit) answers 0 = record { run = refl; rankine = refl; index = lit< tt } in
     let t = taken .0 in

@@ -3,6 +3,7 @@ use mathlib.Core.Bool.{Bool, true, false, cond}
 use mathlib.Core.Path.{_≡_, refl, sym, ap, _∙_, subst}
 use mathlib.Core.List.{List}
 use Prim.Native.Nat.{ℕ}
+use native.Mathlib.Omega.{arith}
 use lib.Dec.{T}
 use lib.ListN.{length, length-set}
 use lib.Ieee as Ieee
@@ -23,10 +24,11 @@ use Rattle.plasticity_rankine.specs.Law.{lawOf}
 use Rattle.plasticity_rankine.specs.Rankine.{rankineUpdate}
 use Rattle.model.specs.declared.Model.the-variants.{Rankine}
 use Rattle.particles.specs.Plain.{updatedAt, kept, recordLaw}
-use Rattle.particles.specs.Pass.{recordAt}
+use Rattle.particles.specs.Pass.{codeOf, recordAt}
 use Rattle.particles.specs.Judged.{judgeFinite, judgedAt, refusedRecord, marked, failureLaw}
 use Rattle.particles.proofs.PassLaws.{record-keeps}
 use Rattle.particles.proofs.JudgedLaws.{failure-keeps}
+use Rattle.particles.proofs.Determinants.{Stands, unrefused, unrefused-law}
 use Rattle.rankine_surface.specs.Axes.{Each}
 use Rattle.rankine_surface.specs.Surface.{Accepted, F64, Small, Ranges, numbersOf, logsOf, Archived, Inside, Returned, Demand3By}
 use Rattle.rankine_surface.specs.Record.{Premises, Found, foundOf, InsideAt, ReturnedAt, Demand3At, softenedAt, projectedAt, InPass, passFound, markedBy, LawStep}
@@ -66,14 +68,27 @@ module _ (a : RankineArguments) (r : List ℕ) where
 sigma-f64 : (r : List ℕ) → Each F64 (stateAt r .sigma)
 sigma-f64 r = (ofBits-fits binary64 _, (ofBits-fits binary64 _, (ofBits-fits binary64 _, tt)))
 
-pub record-3 : {a : RankineArguments} {r : List ℕ} → length r ≡ floats → Premises a r (recordLaw (Rankine a) r .outcome)
-    → Demand3At a r (foundOf (recordLaw (Rankine a) r))
-unfolding recordLaw updatedAt
-record-3 {a} {r} k g =
+-- what isn't refused stands
+stands : (o : Outcome) → Accepted o → Stands o
+stands outcome.Untouched h n e = let q = ap codeOf e in omega arith
+stands (outcome.Stored a) h n e = let q = ap codeOf e in omega arith
+stands (outcome.Refused k) h n e = h
+
+update-3 : {a : RankineArguments} {r : List ℕ} → length r ≡ floats → Premises a r (updatedAt (Rankine a) r .outcome) → Demand3At a r (left a r (updatedAt (Rankine a) r))
+unfolding updatedAt
+update-3 {a} {r} k g =
     let d : Demand3By a (uAt r) (vtAt r) (stateAt r) =
     demand-3-by (record { accepted = g .accepted; s-finite = g .s-finite; ranges = g .ranges; axes = refl; sigma = sigma-f64 r; strains = g .strains }) in
     subst (λ (v : Updated). Demand3At a r (left a r v)) (sym (d .update))
     (record { holds = λ h. inside-at a r (d .law .holds h); fails = λ h. returned-at a r k (g .strength) (d .law .fails h) })
+
+-- a record that isn't refused is worked by the law
+pub record-3 : {a : RankineArguments} {r : List ℕ} → length r ≡ floats → Premises a r (recordLaw (Rankine a) r .outcome)
+    → Demand3At a r (foundOf (recordLaw (Rankine a) r))
+unfolding recordLaw
+record-3 {a} {r} k g =
+    let q = unrefused-law (Rankine a) r (unrefused (Rankine a) r (stands (recordLaw (Rankine a) r .outcome) (g .accepted))) in
+    subst (λ (v : Updated). Demand3At a r (left a r v)) (sym q) (update-3 k (subst (λ (v : Updated). Premises a r (v .outcome)) q g))
 
 pub pass-3 : {a : RankineArguments} {xs out : List ℕ} {i : ℕ} → InPass xs out i
     → Premises a (recordAt xs i) (recordLaw (Rankine a) (recordAt xs i) .outcome)

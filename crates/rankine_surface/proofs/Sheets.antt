@@ -10,7 +10,9 @@ use lib.Ieee.Bits.{ofBits-fits}
 use Rattle.plasticity_rankine.specs.declared.RankineArguments.{RankineArguments}
 use Rattle.model.specs.declared.Model.the-variants.{Rankine}
 use Rattle.model.specs.Kinds.{lawOf}
-use Rattle.model.specs.Fields.{rankineOf, modelOf}
+use Rattle.model.specs.declared.Law.{Law}
+use Rattle.model.specs.declared.Law.the-variants as law
+use Rattle.model.specs.Fields.{rankineOf, byLaw, modelOf}
 use Rattle.particles.specs.Plain.{recordLaw}
 use Rattle.particles.specs.Pass.{Worked, recordAt}
 use Rattle.sheet.specs.declared.Header.{Header}
@@ -28,10 +30,9 @@ premises : {s : List ℕ} {i : ℕ} → SheetPremises s i → Premises (argument
 premises g =
     record { accepted = g .accepted; ranges = g .ranges; s-finite = g .s-finite; strains = g .strains; strength = ofBits-fits binary64 _ }
 
--- model 1 is Rankine
-law-named : (h : Header) → h .model ≡ 1 → run.lawOf h ≡ recordLaw (Rankine (rankineOf (h .parameters)))
-unfolding modelOf lawOf
-law-named h e = ap (λ (n : ℕ). recordLaw (modelOf n (h .parameters))) e
+law-named : (h : Header) → lawOf (h .model) ≡ law.Rankine → run.lawOf h ≡ recordLaw (Rankine (rankineOf (h .parameters)))
+unfolding modelOf
+law-named h e = ap (λ (k : Law). recordLaw (byLaw k (h .parameters))) e
 
 -- the pass over the records that were read
 read-3 : {a : RankineArguments} {law : List ℕ → Worked} {xs rs out : List ℕ} {i : ℕ} → law ≡ recordLaw (Rankine a) → xs ≡ rs → InPass xs out i

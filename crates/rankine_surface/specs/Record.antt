@@ -38,7 +38,7 @@ projectedAt a r = projectedStrains (lawOf a) (stateAt r)
 
 -- ---- what is taken
 -- Demand 3's words, for a record r at which the law answered o:
--- accepted: "a record that 01's table doesn't refuse";
+-- accepted: "a record that 01's table doesn't refuse", nor the numbers of its determinant;
 -- ranges: "mu in 1 to 2^40, lambda in 0 to 2^40", and s of a size up to 4 (2mu + 3lambda);
 -- s-finite: "within 4(2mu + 3lambda) of zero" is no NaN and no infinity, of which `mag` would say 0;
 -- strains: "log strains in -4 to 4"; that they are finite f64 follows;

@@ -51,11 +51,11 @@ pub fn header<'a>(r: Reader<'a>) -> Header
     sheet::read_header(r.sheet)
 }
 
-// The record that stands at the place, into a room of its size, and the place of the next.
-pub fn read_record<'a, 'b>(r: Reader<'a>, room: &'b mut [u64]) -> Place
-    ensures { λ p. ⌜ (p ≡ recordAt (now (r .entry .sheet)) (r .entry .at) (length (now (room .entry)))) × (now (room .exit) ≡ roomAt (now (r .entry .sheet)) (r .entry .at) (now (room .entry))) ⌝ }
+// The record of a model's sheet that stands at the place, into a room of a list's record, and the place of the next.
+pub fn read_record<'a, 'b>(r: Reader<'a>, model: u64, room: &'b mut [u64]) -> Place
+    ensures { λ p. ⌜ (p ≡ recordAt model (now (r .entry .sheet)) (r .entry .at) (length (now (room .entry)))) × (now (room .exit) ≡ roomAt model (now (r .entry .sheet)) (r .entry .at) (now (room .entry))) ⌝ }
 {
-    sheet::record_at(r.sheet, r.at, room)
+    sheet::record_at(r.sheet, model, r.at, room)
 }
 
 // The whole sheet, wherever the place is: its header, and its records' bits into the room's first places.

@@ -11,8 +11,8 @@ use lib.Ieee.Bits.{nanBits-is}
 use Rattle.numbers.specs.Floats.{finite}
 use Rattle.numbers.proofs.Laws.{and-both, finite-bits}
 use Rattle.tensor.specs.Finite.{rowFinite, matFinite, rowsFinite}
-use Rattle.plasticity.specs.State.{scalarsFinite, stateFinite}
-use Rattle.record.specs.Layout.{layout, place, placeF, placeSigma, floatAt, rowAt, matAt, rowsAt, uAt, vtAt, stateAt, recordFinite}
+use Rattle.plasticity.specs.State.{scalarsFinite, stateFinite, inputsFinite}
+use Rattle.record.specs.Layout.{layout, place, placeF, placeSigma, placeDeterminant, floatAt, rowAt, matAt, rowsAt, uAt, vtAt, stateAt, recordFinite}
 
 below-ones : (e : ℕ) → e < 2048 → ltb e 2047 ≡ not (eqb e 2047)
 below-ones e h = go (ltb e 2047) refl
@@ -52,8 +52,12 @@ module _ (r : List ℕ) where
       → (rowFinite (rowAt r at) ≡ true) × (rowFinite (rowAt r (at + 3)) ≡ true) × (rowFinite (rowAt r (at + 6)) ≡ true)
   mat-parts at q = three-parts (rowFinite (rowAt r at)) (rowFinite (rowAt r (at + 3))) (rowFinite (rowAt r (at + 6))) q
 
+  -- all but the determinant are the inputs of a law
+  pub record-inputs : recordFinite r ≡ true → inputsFinite (uAt r) (vtAt r) (stateAt r) ≡ true
+  record-inputs q = and-both (inputsFinite (uAt r) (vtAt r) (stateAt r)) (finite (floatAt r placeDeterminant)) q .0
+
   pub record-parts : recordFinite r ≡ true → (matFinite (uAt r) ≡ true) × (matFinite (vtAt r) ≡ true) × (stateFinite (stateAt r) ≡ true)
-  record-parts q = three-parts (matFinite (uAt r)) (matFinite (vtAt r)) (stateFinite (stateAt r)) q
+  record-parts q = three-parts (matFinite (uAt r)) (matFinite (vtAt r)) (stateFinite (stateAt r)) (record-inputs q)
 
   pub state-parts : recordFinite r ≡ true → (rowsFinite (rowsAt r placeF) ≡ true) × (rowFinite (rowAt r placeSigma) ≡ true) × (scalarsFinite (stateAt r .scalars) ≡ true)
   state-parts q = three-parts (rowsFinite (rowsAt r placeF)) (rowFinite (rowAt r placeSigma)) (scalarsFinite (stateAt r .scalars)) (record-parts q .2)

@@ -1,17 +1,19 @@
 -- The record (RULES, section 7): F, U, sigma, V^T by rows, then phase, plastic determinant, plastic hardening,
--- elastic hardening, log gain and alpha, each float as its bits. All offsets stand here.
-use mathlib.Core.Bool.{Bool}
-use mathlib.Core.List.{List, [], _∷_}
+-- elastic hardening, log gain and alpha, and last F's determinant, each float as its bits. All offsets stand here.
+use mathlib.Core.Bool.{Bool, _&&_}
+use mathlib.Core.List.{List, [], _∷_, _++_}
 use Prim.Native.Nat.{ℕ, zero, suc, _+_, _*_}
+use lib.Dec.{eqb}
 use lib.ListN.{getD, set}
 use lib.Ieee as Ieee
 use lib.Ieee.{Float, nan, binary64}
-use Rattle.tensor.specs.Matrix.{three}
+use Rattle.numbers.specs.Floats.{finite}
+use Rattle.tensor.specs.Matrix.{three, detOf}
 use Rattle.tensor.specs.declared.Rows.{Rows}
 use Rattle.plasticity.specs.State.{inputsFinite}
 use Rattle.plasticity.specs.declared.State.{State}
 
--- how many floats each part has over d axes, in the record's order
+-- how many floats each part has over d axes, in the record's order, up to the six scalars
 abbrev pub widths : ℕ → List ℕ
 widths d = d * d ∷ d * d ∷ d ∷ d * d ∷ 1 ∷ 1 ∷ 1 ∷ 1 ∷ 1 ∷ 1 ∷ []
 
@@ -26,11 +28,16 @@ abbrev pub whole : List ℕ → ℕ
 whole [] = 0
 whole (w ∷ ws) = w + whole ws
 
+-- in three axes the determinant follows
 abbrev pub layout : List ℕ
-layout = widths 3
+layout = widths 3 ++ (1 ∷ [])
 
 abbrev pub floats : ℕ
 floats = whole layout
+
+-- the floats before the determinant
+abbrev pub bare : ℕ
+bare = whole (widths 3)
 
 abbrev pub placeF : ℕ
 placeF = place layout 0
@@ -61,6 +68,9 @@ placeLogGain = place layout 8
 
 abbrev pub placeAlpha : ℕ
 placeAlpha = place layout 9
+
+abbrev pub placeDeterminant : ℕ
+placeDeterminant = place layout 10
 
 -- the number at a place of a record
 abbrev pub floatAt : List ℕ → ℕ → Float
@@ -98,10 +108,19 @@ stateAt r =
 
 -- no float of the record is a NaN or an infinity
 abbrev pub recordFinite : List ℕ → Bool
-recordFinite r = inputsFinite (uAt r) (vtAt r) (stateAt r)
+recordFinite r = inputsFinite (uAt r) (vtAt r) (stateAt r) && finite (floatAt r placeDeterminant)
 
+-- a NaN's bits are 7ff8000000000000
 abbrev pub bits : Float → ℕ
 bits x = Ieee.toBits binary64 x
+
+-- the section 4 determinant of the F that stands in a record, as bits
+unfoldable pub determinantAt : List ℕ → ℕ
+determinantAt r = bits (detOf (matAt r placeF))
+
+-- else 11: the stored determinant is that one in every bit
+unfoldable pub determinantRight : List ℕ → Bool
+determinantRight r = eqb (getD r placeDeterminant 0) (determinantAt r)
 
 abbrev pub putRow : List ℕ → ℕ → List Float → List ℕ
 putRow r at v =
@@ -110,9 +129,16 @@ putRow r at v =
 abbrev pub putRows : List ℕ → ℕ → Rows → List ℕ
 putRows r at m = putRow (putRow (putRow r at (m .r0)) (at + 3) (m .r1)) (at + 6) (m .r2)
 
--- an update that stores writes F and sigma
+-- the record with the determinant of the F that stands there
+abbrev pub filled : List ℕ → List ℕ
+filled r = set r placeDeterminant (determinantAt r)
+
+-- an update that stores writes F and sigma, and the determinant of that F
+abbrev pub putBare : List ℕ → State → List ℕ
+putBare r s = putRow (putRows r placeF (s .f)) placeSigma (s .sigma)
+
 abbrev pub putShape : List ℕ → State → List ℕ
-putShape r s = putRow (putRows r placeF (s .f)) placeSigma (s .sigma)
+putShape r s = filled (putBare r s)
 
 -- and of the six scalars those that its law names; phase is a verdict's
 abbrev pub putPhase : List ℕ → Float → List ℕ

@@ -11,10 +11,10 @@ ghost use lib.Ieee.{binary64};
 ghost use Rattle.numbers.specs.Floats.{finite};
 ghost use Rattle.tensor.specs.Finite.{rowFinite, matFinite, rowsFinite};
 ghost use Rattle.plasticity.specs.State.{scalarsFinite};
-ghost use Rattle.record.specs.Layout.{floats, rowAt, matAt, rowsAt, uAt, vtAt, stateAt, recordFinite};
+ghost use Rattle.record.specs.Layout.{floats, rowAt, matAt, rowsAt, uAt, vtAt, stateAt, recordFinite, determinantRight};
 
 // Whether a pattern is a finite float's: its exponent is not all ones.
-fn word_finite(n: u64) -> bool
+pub fn word_finite(n: u64) -> bool
     ensures { λ b. ⌜ b ≡ finite (Ieee.ofBits binary64 n) ⌝ }
 {
     n % 0x8000_0000_0000_0000 / 0x10_0000_0000_0000 < 2047
@@ -52,7 +52,7 @@ pub fn all_finite(r: &[u64]) -> bool
     ensures { λ b. ⌜ b ≡ recordFinite (now (r .entry)) ⌝ }
 {
     let state = mat_finite(r, crate::F) & row_finite(r, crate::SIGMA) & scalars_finite(r);
-    mat_finite(r, crate::U) & mat_finite(r, crate::VT) & state
+    mat_finite(r, crate::U) & mat_finite(r, crate::VT) & state & word_finite(r[crate::DETERMINANT])
 }
 
 fn read_word(n: u64) -> f64
@@ -100,6 +100,15 @@ pub fn read_vt(r: &[u64]) -> [[f64; 3]; 3]
     ensures { λ x. ⌜ x ≡ vtAt (now (r .entry)) ⌝ }
 {
     read_mat(r, crate::VT)
+}
+
+// Whether its stored determinant is that of its F, in every bit.
+pub fn determinant_right(r: &[u64]) -> bool
+    requires { ⌜ (length (now r) ≡ floats) × (recordFinite (now r) ≡ true) ⌝ }
+    ensures { λ b. ⌜ b ≡ determinantRight (now (r .entry)) ⌝ }
+{
+    let f = read_mat(r, crate::F);
+    r[crate::DETERMINANT] == numbers::bits_of(tensor::determinant(f))
 }
 
 // And its state.

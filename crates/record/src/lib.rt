@@ -3,10 +3,14 @@ mod finite;
 mod total;
 
 pub use finite::all_finite;
+pub use finite::determinant_right;
 pub use finite::read_state;
 pub use finite::read_u;
 pub use finite::read_vt;
+pub use finite::word_finite;
 use tensor::Rows;
+pub use total::determinant;
+pub use total::determinant_with;
 pub use total::float;
 pub use total::word;
 ghost use mathlib.Core.Path.{_≡_};
@@ -14,7 +18,7 @@ ghost use Prim.Native.Nat.{_+_, _≤_};
 ghost use lib.ListN.{length, set};
 ghost use Rattle.record.specs.Layout.{bits, putRow, putRows};
 
-// Where each part begins: F, U, sigma and V^T by rows, then six scalars. Each begins where the one before it ends.
+// Where each part begins: F, U, sigma and V^T by rows, then six scalars, then F's determinant. Each begins where the one before it ends.
 const ROW: usize = 3;
 
 const MATRIX: usize = 3 * ROW;
@@ -39,8 +43,12 @@ pub const LOG_GAIN: usize = ELASTIC_HARDENING + 1;
 
 pub const ALPHA: usize = LOG_GAIN + 1;
 
-// How many floats a record has.
-pub const FLOATS: usize = ALPHA + 1;
+pub const DETERMINANT: usize = ALPHA + 1;
+
+// How many floats a record has, and how many stand before the determinant.
+pub const FLOATS: usize = DETERMINANT + 1;
+
+pub const BARE: usize = DETERMINANT;
 
 pub fn write_row(r: &mut [u64], at: usize, v: [f64; 3])
     requires { ⌜ at + 3 ≤ length (now r) ⌝ }

@@ -5,8 +5,8 @@ use Rattle.plasticity.specs.declared.State.{State}
 use Rattle.walk.specs.Walk.{Walk, lowOf, highOf, at, Ended, given, refused, result}
 use Rattle.walk.specs.Update.{Change, untouched, stored, updatedOf}
 use Rattle.walk.specs.Before.{endedBefore, resultBefore, same-before}
-use Rattle.record.specs.Layout.{uAt, vtAt, stateAt}
-use Rattle.refusals.specs.Refusals.{walkOf, failureWalk}
+use Rattle.record.specs.Layout.{stateAt}
+use Rattle.refusals.specs.Refusals.{walkOf, recordWalk, failureWalk}
 use Rattle.refusals.specs.Before.{outcomeBefore, updatedBefore, NothingElse}
 use Rattle.refusals.proofs.Updates.{walked, record-walked}
 use Rattle.refusals.proofs.Failure.{failure-walked}
@@ -23,7 +23,7 @@ pub nothing-else : NothingElse
 nothing-else =
     record {
       update = λ m u vt s. ap updatedBefore (walked m u vt s) ∙ as-before s (walkOf m u vt s);
-      law = λ m r. ap outcomeBefore (record-walked m r) ∙ ap (λ v. v .outcome) (as-before (stateAt r) (walkOf m (uAt r) (vtAt r) (stateAt r)));
-      failure-law = λ m l e r. ap outcomeBefore (failure-walked m l e r) ∙ ap (λ v. v .outcome) (as-before (stateAt r) (failureWalk m l e r));
+      law = λ m r d. ap outcomeBefore (record-walked m r d) ∙ ap (λ v. v .outcome) (as-before (stateAt r) (recordWalk m r));
+      failure-law = λ m l e r d. ap outcomeBefore (failure-walked m l e r d) ∙ ap (λ v. v .outcome) (as-before (stateAt r) (failureWalk m l e r));
       call = λ f x. bare-before (lowOf f) (highOf f) x (at f x);
     }

@@ -41,17 +41,19 @@ use Rattle.elasticity_neo_hookean.specs.declared.NeoHookeanElasticity.{NeoHooke
 use Rattle.elasticity_neo_hookean.specs.Law as neo-hookean
 use Rattle.elasticity_neo_hookean.specs.Stress as neo-stress
 use Rattle.elasticity_neo_hookean.specs.Energy as neo-energy
+use Rattle.elasticity_neo_hookean.proofs.Laws as neo-laws
 use Rattle.elasticity_corotated_linear.specs.declared.CorotatedLinearElasticity.{CorotatedLinearElasticity}
 use Rattle.elasticity_corotated_linear.specs.Law as corotated
 use Rattle.elasticity_corotated_linear.specs.Stress as corotated-stress
 use Rattle.elasticity_corotated_linear.specs.Energy as corotated-energy
+use Rattle.elasticity_corotated_linear.proofs.Laws as corotated-laws
 use Rattle.eos_monaghan_sph.specs.declared.MonaghanSphEos.{MonaghanSphEos}
 use Rattle.eos_monaghan_sph.specs.Pressure as monaghan
 use Rattle.eos_monaghan_sph.specs.Stress as monaghan-stress
 use Rattle.eos_monaghan_sph.specs.Timestep as monaghan-timestep
 use Rattle.refusals.specs.Refusals.{Numbers, Gives}
 use Rattle.refusals.specs.Calls.{GivesPair, Beside, pairWalk, vectorWalk, tensorWalk, quadraticWalk, verdictWalk, Calls}
-use Rattle.refusals.proofs.Inner.{Inner, inner-then, inner-mosts, inner-leasts, alpha-inner}
+use Rattle.refusals.proofs.Inner.{Inner, inner-then, alpha-inner}
 use Rattle.refusals.proofs.Numbers.{differ, nothing, told}
 use Rattle.refusals.proofs.EnergyModes.{mode-gives}
 use Rattle.refusals.proofs.Answers.{refusalE, gives, walk-gives, beside, gives-beside, ended-beside, after, tested, entered, asked, number-result, matrix-result}
@@ -153,37 +155,37 @@ verdict-gives l s =
 -- ---- neo-Hookean
 module _ (p : NeoHookeanElasticity) (h : Float) (f : List (List Float)) where
   kirchhoff-gives : (phase : Float) → Beside (neo-stress.kirchhoffStress p phase h f .refusal) (path (neo-stress.kirchhoffWalk p phase h f))
-  unfolding neo-stress.kirchhoffWalk neo-stress.kirchhoffSteps
-  kirchhoff-gives phase = walk-beside (neo-hookean.floats p (phase ∷ h ∷ []) f) (neo-stress.kirchhoffSteps p phase h f) (λ j k b w. (tt, tt))
+  unfolding neo-stress.kirchhoffWalk
+  kirchhoff-gives phase = walk-beside (neo-hookean.floats p (phase ∷ h ∷ []) f) (neo-stress.kirchhoffSteps p phase h f) (neo-laws.kirchhoff-inner p phase h f)
 
   fpk-gives : Beside (neo-stress.fpkStress p f h .refusal) (path (neo-stress.fpkWalk p f h))
-  unfolding neo-stress.fpkWalk neo-stress.fpkSteps
-  fpk-gives = walk-beside (neo-hookean.floats p (h ∷ []) f) (neo-stress.fpkSteps p f h) (λ j k. (λ b w. tt, λ g b w. tt))
+  unfolding neo-stress.fpkWalk
+  fpk-gives = walk-beside (neo-hookean.floats p (h ∷ []) f) (neo-stress.fpkSteps p f h) (neo-laws.fpk-inner p f h)
 
   energy-gives : (phase : Float) → Gives (neo-energy.elasticEnergyDensity p phase h f) (path (neo-energy.energyWalk p phase h f))
   energy-gives phase = mode-gives false p phase h f
 
   pos-gives : (phase : Float) → Gives (neo-energy.posEnergy p phase h f) (path (neo-energy.posWalk p phase h f))
-  unfolding neo-energy.posWalk neo-energy.posSteps
-  pos-gives phase = walk-gives (neo-hookean.floats p (phase ∷ h ∷ []) f) (neo-energy.posSteps p phase h f) (λ j k b w x v. (tt, tt))
+  unfolding neo-energy.posWalk
+  pos-gives phase = walk-gives (neo-hookean.floats p (phase ∷ h ∷ []) f) (neo-energy.posSteps p phase h f) (neo-laws.pos-inner p phase h f)
 
 -- ---- corotated
 module _ (p : CorotatedLinearElasticity) where
   corotated-stress-gives : (phase h : Float) (f u : List (List Float)) (s : List Float) (vt : List (List Float))
       → Beside (corotated-stress.kirchhoffStress p phase h f u s vt .refusal) (path (corotated-stress.stressWalk p phase h f u s vt))
-  unfolding corotated-stress.stressWalk corotated-stress.stressSteps
+  unfolding corotated-stress.stressWalk
   corotated-stress-gives phase h f u s vt =
       walk-beside (corotated.floats p ((phase ∷ h ∷ []) ++ flat f ++ flat u ++ s ++ flat vt)) (corotated-stress.stressSteps p phase h f u s vt)
-      (λ j e. (tt, inner-mosts 4 e _ _ (λ pos. inner-leasts 5 e _ _ (λ neg. (tt, tt)))))
+      (corotated-laws.stress-inner p phase h f u s vt)
 
   corotated-energy-gives : (s : List Float) (h : Float) → Gives (corotated-energy.elasticEnergyDensity p s h) (path (corotated-energy.energyWalk p s h))
   unfolding corotated-energy.energyWalk
   corotated-energy-gives s h = walk-gives (corotated.floats p (s ++ (h ∷ []))) (returned 1 (corotated-energy.density p s h)) tt
 
   corotated-pos-gives : (f : List (List Float)) (s : List Float) (h : Float) → Gives (corotated-energy.posEnergy p f s h) (path (corotated-energy.posWalk p f s h))
-  unfolding corotated-energy.posWalk corotated-energy.posSteps
+  unfolding corotated-energy.posWalk
   corotated-pos-gives f s h =
-      walk-gives (corotated.floats p (flat f ++ s ++ (h ∷ []))) (corotated-energy.posSteps p f s h) (λ j e. inner-mosts 3 e _ _ (λ pos sph. (tt, tt)))
+      walk-gives (corotated.floats p (flat f ++ s ++ (h ∷ []))) (corotated-energy.posSteps p f s h) (corotated-laws.pos-inner p s h f)
 
 -- ---- Monaghan
 module _ (law : MonaghanSphEos) (mass volume density : Float) where

@@ -1,13 +1,11 @@
 -- The inputs are tested once, before the steps: no step of a law tests inputs. Assumes nothing.
-use mathlib.Core.Bool.{Bool, true, false, cond}
 use mathlib.Core.List.{List, [], _∷_}
-use Prim.Native.Nat.{ℕ}
 use lib.Ieee.{Float}
 use Rattle.tensor.specs.declared.Rows.{Rows}
 use Rattle.plasticity.specs.declared.State.{State}
 use Rattle.walk.specs.Expr.{Expr, num, value, values}
-use Rattle.walk.specs.Walk.{Function, at, Test, holds, Walk, inputs, ask, asks, works, either, branch, split, when, mosts, leasts, results, end, _then_, picked}
-use Rattle.walk.specs.Exact.{Met, input, argument, worked, tested, result-of, path}
+use Rattle.walk.specs.Walk.{Walk, end, _then_}
+pub use Rattle.walk.specs.Inner.{Inner, inner-then, inner-asks, inner-mosts, inner-leasts, inner-when}
 use Rattle.plasticity_snow.specs.declared.SnowPlasticity.{SnowPlasticity}
 use Rattle.plasticity_snow.specs.Snow as snow
 use Rattle.plasticity_rankine.specs.declared.RankinePlasticity.{RankinePlasticity}
@@ -26,67 +24,7 @@ use Rattle.model.specs.declared.Model.{Model}
 use Rattle.model.specs.declared.Model.the-variants.{Snow, Rankine, DruckerPrager, Nacc}
 use Rattle.refusals.specs.Refusals.{stepsOf}
 
-abbrev pub Inner : {A : Type 0} → Walk A → Type 0
-Inner (inputs l w) = ⊥
-Inner (ask n f e k) = (v : Expr) → Inner (k v)
-Inner (works n es k) = (vs : List Float) → Inner (k vs)
-Inner (either n t a b k) = (v : Expr) → Inner (k v)
-Inner (branch n t w v) = Inner w × Inner v
-Inner (split n t w v) = Inner w × Inner v
-Inner (results n rows w) = Inner w
-Inner (end a) = Unit {0}
-
--- no input is met on its path
-abbrev pub Later : List Met → Type 0
-Later [] = Unit {0}
-Later (input l ∷ ms) = ⊥
-Later (argument n f e ∷ ms) = Later ms
-Later (worked n es ∷ ms) = Later ms
-Later (tested n t ∷ ms) = Later ms
-Later (result-of n rows ∷ ms) = Later ms
-
-fork : (b : Bool) (p q : List Met) → Later p → Later q → Later (cond b p q)
-fork true p q h i = h
-fork false p q h i = i
-
-pub later : {A : Type 0} (w : Walk A) → Inner w → Later (path w)
-later (inputs l w) h = absurd h
-later (ask n f e k) h = later (k (num (at f (value e)))) (h (num (at f (value e))))
-later (works n es k) h = later (k (values es)) (h (values es))
-later (either n t a b k) h = later (k (num (picked t a b))) (h (num (picked t a b)))
-later (branch n t w v) h = fork (holds t) (path w) (path v) (later w (h .0)) (later v (h .1))
-later (split n t w v) h = fork (holds t) (path w) (path v) (later w (h .0)) (later v (h .1))
-later (results n rows w) h = later w h
-later (end a) h = tt
-
--- ---- walks made of others
-pub inner-then : {A B : Type 0} (w : Walk A) (g : A → Walk B) → Inner w → ((a : A) → Inner (g a)) → Inner (w then g)
-inner-then (inputs l w) g h i = absurd h
-inner-then (ask n f e k) g h i = λ v. inner-then (k v) g (h v) i
-inner-then (works n es k) g h i = λ vs. inner-then (k vs) g (h vs) i
-inner-then (either n t x y k) g h i = λ v. inner-then (k v) g (h v) i
-inner-then (branch n t w v) g h i = (inner-then w g (h .0) i, inner-then v g (h .1) i)
-inner-then (split n t w v) g h i = (inner-then w g (h .0) i, inner-then v g (h .1) i)
-inner-then (results n rows w) g h i = inner-then w g h i
-inner-then (end a) g h i = i a
-
 module _ {A : Type 0} where
-  inner-asks : (n : ℕ) (f : Function) (l : List Float) (k : List Float → Walk A) → ((vs : List Float) → Inner (k vs)) → Inner (asks n f l k)
-  inner-asks n f [] k h = h []
-  inner-asks n f (x ∷ l) k h = λ v. inner-asks n f l (λ vs. k (value v ∷ vs)) (λ vs. h (value v ∷ vs))
-
-  pub inner-mosts : (n : ℕ) (l : List Float) (b : Expr) (k : List Float → Walk A) → ((vs : List Float) → Inner (k vs)) → Inner (mosts n l b k)
-  inner-mosts n [] b k h = h []
-  inner-mosts n (x ∷ l) b k h = λ v. inner-mosts n l b (λ vs. k (value v ∷ vs)) (λ vs. h (value v ∷ vs))
-
-  pub inner-leasts : (n : ℕ) (l : List Float) (b : Expr) (k : List Float → Walk A) → ((vs : List Float) → Inner (k vs)) → Inner (leasts n l b k)
-  inner-leasts n [] b k h = h []
-  inner-leasts n (x ∷ l) b k h = λ v. inner-leasts n l b (λ vs. k (value v ∷ vs)) (λ vs. h (value v ∷ vs))
-
-  inner-when : (n : ℕ) (ts : List Test) (w v : Walk A) → Inner w → Inner v → Inner (when n ts w v)
-  inner-when n [] w v h i = h
-  inner-when n (t ∷ ts) w v h i = (inner-when n ts w v h i, i)
-
   inner-clamps : (p : SnowPlasticity) (l : List Float) (k : List Float → Walk A) → ((vs : List Float) → Inner (k vs)) → Inner (snow.clamps p l k)
   inner-clamps p [] k h = h []
   inner-clamps p (x ∷ l) k h = λ y z. inner-clamps p l (λ vs. k (value z ∷ vs)) (λ vs. h (value z ∷ vs))

@@ -1,4 +1,4 @@
--- The inputs of a record by place: the list that a law tests holds the record's 36 floats. Assumes nothing.
+-- The inputs of a record by place: the list that is tested holds the record's 37 floats. Assumes nothing.
 use mathlib.Core.Path.{_≡_, refl, sym, ap, subst, _∙_}
 use mathlib.Core.Logic.{_⊎_, inl, inr, ⊎-elim, _↔_}
 use mathlib.Core.Bool.{Bool, true, false, true≢false}
@@ -54,19 +54,19 @@ module _ (f : ℕ → Float) where
       ⊎-elim (λ e. inl (subst (λ (i : ℕ). NotFinite (f i)) (sym e) z)) (λ l. inr (placed (a + 1) n (k, omega arith, omega arith, z))) (eq-or-lt-of-le h)
 
 module _ (r : List ℕ) where
-  all-listed : recordFloats r ≡ listed (floatAt r) 0 36
+  all-listed : recordFloats r ≡ listed (floatAt r) 0 floats
   unfolding floatsOf listed
   all-listed = refl
 
   pub places : SomeNotFinite (recordFloats r) ↔ RecordNotFinite r
   unfolding At
-  places = (λ q. forth (found (floatAt r) 0 36 (subst SomeNotFinite all-listed q)), back)
+  places = (λ q. forth (found (floatAt r) 0 floats (subst SomeNotFinite all-listed q)), back)
     where
-      forth : At (floatAt r) 0 36 → RecordNotFinite r
+      forth : At (floatAt r) 0 floats → RecordNotFinite r
       forth (k, h, g, z) = (k, omega arith, z)
 
       back : RecordNotFinite r → SomeNotFinite (recordFloats r)
-      back (k, g, z) = subst SomeNotFinite (sym all-listed) (placed (floatAt r) 0 36 (k, omega arith, omega arith, z))
+      back (k, g, z) = subst SomeNotFinite (sym all-listed) (placed (floatAt r) 0 floats (k, omega arith, omega arith, z))
 
   holds : allOf finite (recordFloats r) ≡ true → (k : ℕ) → k < floats → finite (floatAt r k) ≡ true
   holds q k h = ⊎-elim (λ t. t) (λ z. absurd (no-both (allOf finite (recordFloats r)) q (not-finite (recordFloats r) .1 (places .1 (k, h, z))))) (decide (finite (floatAt r k)))

@@ -1,24 +1,23 @@
 -- What is said of a walk that begins with its inputs and tests none later. Assumes nothing.
 use mathlib.Core.Path.{_≡_, refl, sym, ap, _∙_}
 use mathlib.Core.Logic.{_⊎_, inl, inr, ⊎-elim, _↔_}
-use mathlib.Core.Bool.{Bool, true, false, cond, _&&_, true≢false, false≢true}
+use mathlib.Core.Bool.{Bool, true, false, _&&_, true≢false, false≢true}
 use mathlib.Core.List.{List, [], _∷_}
 use mathlib.Core.Option.{Option, some, none}
-use Prim.Native.Nat.{ℕ, _≤_, _<_}
+use Prim.Native.Nat.{ℕ}
 use native.Mathlib.Omega.{arith}
 use lib.Ieee.{Float}
 use Rattle.numbers.specs.Floats.{finite}
-use Rattle.answers.specs.Refusals.{belowRange, aboveRange}
+use Rattle.answers.specs.Refusals.{belowRange, aboveRange, wrongDeterminant}
 use Rattle.tensor.specs.Axes.{allOf}
-use Rattle.walk.specs.Expr.{num, value, values}
-use Rattle.walk.specs.Walk.{at, holds, Walk, inputs, ask, works, either, branch, split, results, end, picked, result}
-use Rattle.walk.specs.Exact.{Met, input, argument, worked, tested, result-of, path}
+use Rattle.walk.specs.Walk.{Walk, inputs, result}
+use Rattle.walk.specs.Exact.{Met, input, path}
 use Rattle.walk.specs.Every.{every, all-every}
 use Rattle.walk.specs.Numbers as walk
 use Rattle.walk.specs.Numbers.{Stops, Clear}
 use Rattle.walk.specs.Answers.{refusalIn, refused-when, accepted-when}
-use Rattle.refusals.specs.Refusals.{SomeNotFinite, Numbers}
-use Rattle.refusals.proofs.Inner.{Inner, Later, later}
+use Rattle.walk.specs.Inner.{Inner, Later, later, between, never-one}
+use Rattle.refusals.specs.Refusals.{SomeNotFinite, Numbers, RecordNumbers}
 
 -- ---- a list of floats
 pub one-fails : (a b : Bool) → a && b ≡ false → (a ≡ false) ⊎ (b ≡ false)
@@ -42,34 +41,6 @@ every-fails (x ∷ l) = (
 
 pub not-finite : (l : List Float) → (allOf finite l ≡ false) ↔ SomeNotFinite l
 not-finite l = (λ q. every-fails l .0 (sym (all-every finite l) ∙ q), λ q. all-every finite l ∙ every-fails l .1 q)
-
--- ---- what stops a path
-met-between : (m : Met) (n : ℕ) → walk.Refuses n m → ((1 ≤ n) × (n ≤ 3)) ⊎ (n ≡ aboveRange)
-met-between m n (inl q) = let z = q .1 in inl (omega arith)
-met-between m n (inr (inl q)) = inr (sym (q .1))
-met-between (input l) n (inr (inr q)) = let z = q .1 in inl (omega arith)
-met-between (argument k f e) n (inr (inr q)) = let z = q .1 in inl (omega arith)
-met-between (worked k es) n (inr (inr q)) = let z = q .1 in inl (omega arith)
-met-between (tested k t) n (inr (inr q)) = let z = q .1 in inl (omega arith)
-met-between (result-of k l) n (inr (inr q)) = let z = q .1 in inl (omega arith)
-
-between : (ms : List Met) (n : ℕ) → Stops n ms → ((1 ≤ n) × (n ≤ 3)) ⊎ (n ≡ aboveRange)
-between [] n q = absurd q
-between (m ∷ ms) n (inl q) = met-between m n q
-between (m ∷ ms) n (inr q) = between ms n (q .1)
-
-no-one : {a b c : Type 0} → (a × _≡_ {A = ℕ} belowRange 1) ⊎ ((b × _≡_ {A = ℕ} aboveRange 1) ⊎ (c × _≡_ {A = ℕ} 3 1)) → ⊥
-no-one (inl q) = let z = q .1 in omega arith
-no-one (inr (inl q)) = let z = q .1 in omega arith
-no-one (inr (inr q)) = let z = q .1 in omega arith
-
-never-one : (ms : List Met) → Later ms → Stops 1 ms → ⊥
-never-one [] h q = q
-never-one (input l ∷ ms) h q = h
-never-one (argument k f e ∷ ms) h q = ⊎-elim no-one (λ p. never-one ms h (p .1)) q
-never-one (worked k es ∷ ms) h q = ⊎-elim no-one (λ p. never-one ms h (p .1)) q
-never-one (tested k t ∷ ms) h q = ⊎-elim no-one (λ p. never-one ms h (p .1)) q
-never-one (result-of k l ∷ ms) h q = ⊎-elim no-one (λ p. never-one ms h (p .1)) q
 
 stops-one : (l : List Float) (ms : List Met) → Later ms → Stops 1 (input l ∷ ms) ↔ SomeNotFinite l
 stops-one l ms h = (forth, λ q. inl (inr (inr (not-finite l .1 q, refl))))
@@ -133,4 +104,13 @@ transfer w q =
       below = (λ r. q .below .0 (w belowRange .0 r), λ b. w belowRange .1 (q .below .1 b));
       above = (λ r. q .above .0 (w aboveRange .0 r), λ b. w aboveRange .1 (q .above .1 b));
       only = λ n r. q .only n (w n .0 r);
+    }
+
+pub record-transfer : {R Q : ℕ → Type 0} {right : Bool} {ms : List Met} → ((n : ℕ) → R n ↔ Q n) → RecordNumbers Q right ms → RecordNumbers R right ms
+record-transfer w q =
+    record {
+      one = (λ r. q .one .0 (w 1 .0 r), λ b. w 1 .1 (q .one .1 b));
+      eleven = (λ r. q .eleven .0 (w wrongDeterminant .0 r), λ b. w wrongDeterminant .1 (q .eleven .1 b));
+      wrong = λ f n r. q .wrong f n (w n .0 r);
+      goes-on = λ t. transfer w (q .goes-on t);
     }

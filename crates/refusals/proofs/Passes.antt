@@ -10,7 +10,7 @@ use lib.ListN.{length, getD, List·getD-append}
 use lib.Seq.{getD-append-add}
 use Rattle.plasticity.specs.declared.Outcome.{Outcome}
 use Rattle.plasticity.specs.declared.Outcome.the-variants.{Untouched, Stored, Refused}
-use Rattle.record.specs.Layout.{floats}
+use Rattle.record.specs.Layout.{floats, determinantRight}
 use Rattle.particles.specs.declared.list.Counts.{Counts}
 use Rattle.particles.specs.declared.list.Passed.the-variants as pass
 use Rattle.particles.specs.declared.failure.FailureCounts.{FailureCounts}
@@ -19,8 +19,8 @@ use Rattle.particles.specs.Pass.{Worked, codeOf, valueOf, recordAt, answers, we
 use Rattle.particles.proofs.PassLaws.{answers-length}
 use Rattle.walk.specs.Exact.{Met}
 use Rattle.sheet_run.proofs.Parts.{taken, sized, quotient, well}
-use Rattle.refusals.specs.Refusals.{Refuses, Answers, Sized, Eight, Pass}
-use Rattle.refusals.proofs.Numbers.{transfer}
+use Rattle.refusals.specs.Refusals.{RecordRefuses, Answers, Sized, Eight, Pass}
+use Rattle.refusals.proofs.Numbers.{record-transfer}
 use Rattle.refusals.proofs.Inputs.{no-both, decide}
 
 -- ---- 8
@@ -93,9 +93,9 @@ refused-by (Refused n) e = refl
 answered : (o : Outcome) (n : ℕ) → ((codeOf o ≡ 2) × (valueOf o ≡ n)) ↔ (o ≡ Refused n)
 answered o n = (λ p. refused-by o (p .0) ∙ ap Refused (p .1), λ e. (ap codeOf e, ap valueOf e))
 
-answers-of : {ms : List Met} (o : Outcome) → Refuses o ms → (a : List ℕ) (i : ℕ)
-    → getD a (i * 2) 0 ≡ codeOf o → getD a (i * 2 + 1) 0 ≡ valueOf o → Answers a i ms
-answers-of o r a i c v = transfer (λ n. (to n, from n)) r
+answers-of : {right : Bool} {ms : List Met} (o : Outcome) → RecordRefuses o right ms → (a : List ℕ) (i : ℕ)
+    → getD a (i * 2) 0 ≡ codeOf o → getD a (i * 2 + 1) 0 ≡ valueOf o → Answers a i right ms
+answers-of o r a i c v = record-transfer (λ n. (to n, from n)) r
   where
     to : (n : ℕ) → (getD a (i * 2) 0 ≡ 2) × (getD a (i * 2 + 1) 0 ≡ n) → o ≡ Refused n
     to n p = answered o n .0 (sym c ∙ p .0, sym v ∙ p .1)
@@ -104,10 +104,10 @@ answers-of o r a i c v = transfer (λ n. (to n, from n)) r
     from n e = let q = answered o n .1 e in (c ∙ q .0, v ∙ q .1)
 
 pub pass-refuses : (law : List ℕ → Worked) (ms : List ℕ → List Met) (R : ℕ → Type 0) (xs out : List ℕ)
-    → ((r : List ℕ) → Refuses (law r .outcome) (ms r)) → Eight R xs out → Pass law ms R xs out
+    → ((r : List ℕ) → RecordRefuses (law r .outcome) (determinantRight r) (ms r)) → Eight R xs out → Pass law ms R xs out
 pass-refuses law ms R xs out f e = record { eight = e; records = records }
   where
-    records : (k : ℕ) → Sized xs out k → (i : ℕ) → i < k → Answers (passAnswers law xs out) i (ms (recordAt xs i))
+    records : (k : ℕ) → Sized xs out k → (i : ℕ) → i < k → Answers (passAnswers law xs out) i (determinantRight (recordAt xs i)) (ms (recordAt xs i))
     records k s i h =
         let q : passAnswers law xs out ≡ answers law xs k =
         taken (wellSized xs out) (answers law xs (length xs / floats)) out (well xs out k s) ∙ ap (answers law xs) (quotient xs out k (s .0)) in

@@ -7,7 +7,7 @@ use native.Mathlib.Omega.{arith}
 use borrow.Author.Tests.{eqb-true}
 use lib.Dec.{eqb}
 use lib.ListN.{length}
-use Rattle.record.specs.Layout.{floats}
+use Rattle.record.specs.Layout.{floats, determinantRight}
 use Rattle.particles.specs.declared.list.Passed.{Passed}
 use Rattle.particles.specs.declared.list.Passed.the-variants as pass
 use Rattle.particles.specs.Pass.{counts, threeOf, wellSized, passed}
@@ -18,7 +18,7 @@ use Rattle.sheet_run.proofs.Parts.{taken, sized, well, parts, answer-found}
 use Rattle.refusals.specs.Refusals.{pathOf, Answers, Sized}
 use Rattle.refusals.specs.Ran.{header, model, recordOf, Ran}
 use Rattle.refusals.proofs.Inputs.{decide}
-use Rattle.refusals.proofs.Numbers.{transfer}
+use Rattle.refusals.proofs.Numbers.{record-transfer}
 use Rattle.refusals.proofs.Passes.{left-out}
 use Rattle.refusals.proofs.Table.{section-6}
 
@@ -55,14 +55,14 @@ module _ (s xs out : List ℕ) where
         (λ q. ap (λ r. r .refusal) (left-out t x (stopped (h .refusal)) q)) (decide t)
 
     ran-records : header s xs out .refusal ≡ 0 → (i : ℕ) → i < header s xs out .count
-        → Answers (ranAnswers s xs out) i (pathOf (model s xs out) (recordOf s xs out i))
+        → Answers (ranAnswers s xs out) i (determinantRight (recordOf s xs out i)) (pathOf (model s xs out) (recordOf s xs out i))
     ran-records e i l =
         let h = header s xs out in
         let w = well xs out k z in
         let c = answer-found s xs out w e (i * 2) (omega arith) in
         let v = answer-found s xs out w e (i * 2 + 1) (omega arith) in
         let q = section-6 .the-pass (model s xs out) (recordsIn h (roomOf s xs)) (answersIn h out) .records (h .count) (parts s xs out w e) i l in
-        transfer (λ n. (λ p. (sym c ∙ p .0, sym v ∙ p .1), λ p. (c ∙ p .0, v ∙ p .1))) q
+        record-transfer (λ n. (λ p. (sym c ∙ p .0, sym v ∙ p .1), λ p. (c ∙ p .0, v ∙ p .1))) q
 
 numbered : {A : ℕ → Type 0} (x y : ℕ) → x ≡ y → ((n : ℕ) → (n ≡ 0 → ⊥) → (y ≡ n) ↔ A n) → (n : ℕ) → (n ≡ 0 → ⊥) → (x ≡ n) ↔ A n
 numbered x y e f n h = (λ q. f n h .0 (sym e ∙ q), λ a. e ∙ f n h .1 a)

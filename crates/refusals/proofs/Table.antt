@@ -20,8 +20,8 @@ use Rattle.particles.specs.Plain.{recordLaw}
 use Rattle.particles.specs.Judged.{failureLaw}
 use Rattle.particles.specs.Pass.{counts, threeOf}
 use Rattle.refusals.specs.Refusals.{pathOf, failurePath, Gives, callPath, Section6}
-use Rattle.refusals.proofs.Updates.{law-refuses, law-one}
-use Rattle.refusals.proofs.Failure.{failure-refuses, failure-one}
+use Rattle.refusals.proofs.Updates.{law-refuses, law-one, law-eleven}
+use Rattle.refusals.proofs.Failure.{failure-refuses, failure-one, failure-eleven}
 use Rattle.refusals.proofs.Passes.{pass-eight, failure-eight, pass-refuses}
 use Rattle.refusals.proofs.Answers.{refusalE, gives}
 
@@ -45,8 +45,10 @@ section-6 =
     record {
       law = law-refuses;
       law-one = law-one;
+      law-eleven = law-eleven;
       failure-law = failure-refuses;
       failure-one = failure-one;
+      failure-eleven = failure-eleven;
       the-pass = λ m xs out. pass-refuses (recordLaw m) (pathOf m) _ xs out (law-refuses m) (pass-eight (threeOf (counts (recordLaw m) xs (length xs / floats))) xs out);
       the-pass-with-failure = λ m l e xs out.
           let law = failureLaw m l e in

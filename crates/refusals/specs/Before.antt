@@ -2,6 +2,7 @@
 -- now is what came when 2 stood for both sides of a range (`walk` specs/Before: resultBefore), with 10 at places where that is 2.
 -- Of every other call the same is said of its walk (`walk` specs/Before: same-before). Proved in proofs/Before.
 use mathlib.Core.Path.{_≡_}
+use mathlib.Core.Bool.{true}
 use mathlib.Core.List.{List}
 use Prim.Native.Nat.{ℕ}
 use lib.Ieee.{Float}
@@ -14,14 +15,14 @@ use Rattle.plasticity.specs.declared.Updated.{Updated}
 use Rattle.walk.specs.Walk.{Function, lowOf, highOf, at}
 use Rattle.walk.specs.Update.{updatedOf}
 use Rattle.walk.specs.Before.{resultBefore}
-use Rattle.record.specs.Layout.{uAt, vtAt, stateAt}
+use Rattle.record.specs.Layout.{stateAt, determinantRight}
 use Rattle.failure_maximum_stress.specs.declared.MaximumStressFailure.{MaximumStressFailure}
 use Rattle.elasticity_corotated_linear.specs.declared.CorotatedLinearElasticity.{CorotatedLinearElasticity}
 use Rattle.model.specs.declared.Model.{Model}
 use Rattle.model.specs.Model.{modelUpdate}
 use Rattle.particles.specs.Plain.{recordLaw}
 use Rattle.particles.specs.Judged.{failureLaw}
-use Rattle.refusals.specs.Refusals.{walkOf, failureWalk}
+use Rattle.refusals.specs.Refusals.{walkOf, recordWalk, failureWalk}
 
 -- 2 for 10, all else as it is
 abbrev pub outcomeBefore : Outcome → Outcome
@@ -34,7 +35,8 @@ updatedBefore v = record { state = v .state; outcome = outcomeBefore (v .outcome
 
 pub record NothingElse : Type 0 where
   pub update : (m : Model) (u vt : List (List Float)) (s : State) → updatedBefore (modelUpdate m u vt s) ≡ updatedOf s (resultBefore (walkOf m u vt s))
-  pub law : (m : Model) (r : List ℕ) → outcomeBefore (recordLaw m r .outcome) ≡ updatedOf (stateAt r) (resultBefore (walkOf m (uAt r) (vtAt r) (stateAt r))) .outcome
-  pub failure-law : (m : Model) (l : MaximumStressFailure) (e : CorotatedLinearElasticity) (r : List ℕ)
+  -- of a record whose determinant is right; otherwise 1 or 11 comes, and no function is asked
+  pub law : (m : Model) (r : List ℕ) → determinantRight r ≡ true → outcomeBefore (recordLaw m r .outcome) ≡ updatedOf (stateAt r) (resultBefore (recordWalk m r)) .outcome
+  pub failure-law : (m : Model) (l : MaximumStressFailure) (e : CorotatedLinearElasticity) (r : List ℕ) → determinantRight r ≡ true
       → outcomeBefore (failureLaw m l e r .outcome) ≡ updatedOf (stateAt r) (resultBefore (failureWalk m l e r)) .outcome
   pub call : (f : Function) (x : Float) → answerBefore (bare x (ranged (lowOf f) (highOf f) x (at f x))) ≡ bare x (rangedBefore (lowOf f) (highOf f) x (at f x))

@@ -5,6 +5,7 @@ use mathlib.Core.Logic.{_↔_}
 use mathlib.Core.List.{List}
 use Prim.Native.Nat.{ℕ, _<_}
 use lib.ListN.{length}
+use Rattle.record.specs.Layout.{determinantRight}
 use Rattle.model.specs.declared.Model.{Model}
 use Rattle.particles.specs.Pass.{recordAt}
 use Rattle.sheet.specs.declared.Header.{Header}
@@ -33,4 +34,4 @@ pub record Ran (s xs out : List ℕ) : Type 0 where
   -- s: bytes
   pub numbers : Below 256 s → (k : ℕ) → Sized xs out k → (n : ℕ) → (n ≡ 0 → ⊥) → (ranOf s xs out .refusal ≡ n) ↔ ReasonWithRoom s (length xs) n
   pub records : (k : ℕ) → Sized xs out k → header s xs out .refusal ≡ 0 → (i : ℕ) → i < header s xs out .count
-      → Answers (ranAnswers s xs out) i (pathOf (model s xs out) (recordOf s xs out i))
+      → Answers (ranAnswers s xs out) i (determinantRight (recordOf s xs out i)) (pathOf (model s xs out) (recordOf s xs out i))

@@ -7,10 +7,10 @@ ghost use mathlib.Core.Path.{_≡_};
 ghost use lib.ListN.{length};
 
 pub fn call(k: u8, i: &[u64], out: &mut [u64]) -> u8
-    requires { ⌜ (length (now i) ≡ 44) × (length (now out) ≡ 38) ⌝ }
+    requires { ⌜ (length (now i) ≡ 45) × (length (now out) ≡ 39) ⌝ }
 {
     let n = reading::outputs_of(k);
-    if 38 < n {
+    if 39 < n {
         return 255;
     }
     if (20 <= k) & (k < 24) {

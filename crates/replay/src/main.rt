@@ -36,12 +36,12 @@ fn say_word(word: &[u8], n: u64) {
 
 // Whether an entry's call answers as the Rust did; where it is the first that does not, it is named.
 fn same(e: Entry, n: u64, named: bool) -> bool {
-    let mut out = [0u64; 38];
+    let mut out = [0u64; 39];
     let inputs = e.inputs;
     let outputs = e.outputs;
     let refusal = calls::call(e.call, &inputs, &mut out);
     let at = first_difference(&out, &outputs);
-    let agrees = (refusal == e.refusal) & (at == 38);
+    let agrees = (refusal == e.refusal) & (at == 39);
     if agrees | named {
         return agrees;
     }
@@ -49,7 +49,7 @@ fn same(e: Entry, n: u64, named: bool) -> bool {
     say(b", call ", e.call as u64);
     say(b": refusal ", refusal as u64);
     say(b" for ", e.refusal as u64);
-    if at < 38 {
+    if at < 39 {
         say(b"; word ", at as u64);
         say_word(b" is ", out[at]);
         say_word(b" for ", outputs[at]);

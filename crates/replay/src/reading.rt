@@ -24,10 +24,10 @@ const INPUTS: [usize; 39] = [
     9,
     9,
     9,
-    39,
     40,
-    44,
-    42,
+    41,
+    45,
+    43,
     13,
     14,
     14,
@@ -66,10 +66,10 @@ const OUTPUTS: [usize; 39] = [
     9,
     9,
     1,
-    38,
-    38,
-    38,
-    38,
+    39,
+    39,
+    39,
+    39,
     9,
     9,
     1,
@@ -91,8 +91,8 @@ pub struct Entry {
     pub there: bool,
     pub call: u8,
     pub refusal: u8,
-    pub inputs: [u64; 44],
-    pub outputs: [u64; 38],
+    pub inputs: [u64; 45],
+    pub outputs: [u64; 39],
 }
 
 fn none() -> Entry {
@@ -100,21 +100,21 @@ fn none() -> Entry {
         there: false,
         call: 0,
         refusal: 0,
-        inputs: [0; 44],
-        outputs: [0; 38],
+        inputs: [0; 45],
+        outputs: [0; 39],
     }
 }
 
 // The next n words of the file, in the first places of the room; whether they were there.
 fn words(file: i32, n: usize, room: &mut [u64]) -> bool {
-    if 44 < n {
+    if 45 < n {
         return false;
     }
     if room.len() < n {
         return false;
     }
     let size = n * 8;
-    let mut bytes = [0u8; 352];
+    let mut bytes = [0u8; 360];
     if !filled(file, size, &mut bytes) {
         return false;
     }
@@ -132,7 +132,7 @@ fn filled(file: i32, size: usize, room: &mut [u8]) -> bool {
 
 // The first n words of the bytes, in the first places of the room; whether they were there.
 fn decoded(bytes: &[u8], n: usize, room: &mut [u64]) -> bool {
-    if 44 < n {
+    if 45 < n {
         return false;
     }
     let mut i = 0;
@@ -172,11 +172,11 @@ pub fn next(file: i32) -> Entry {
     if KINDS <= k {
         return none();
     }
-    let mut inputs = [0u64; 44];
+    let mut inputs = [0u64; 45];
     if !words(file, INPUTS[k], &mut inputs) {
         return none();
     }
-    let mut outputs = [0u64; 38];
+    let mut outputs = [0u64; 39];
     if refusal == 0 {
         if !words(file, OUTPUTS[k], &mut outputs) {
             return none();

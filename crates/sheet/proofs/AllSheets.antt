@@ -8,7 +8,8 @@ use lib.ListN.{length, take, drop, length-take, take-append-drop}
 use lib.Dec.{ltb, leb, eqb}
 use borrow.Author.Tests.{ltb-true, ltb-false, leb-true, leb-false, eqb-false}
 use Rattle.model.specs.Kinds.{last, one, allowed, kindsOf}
-use Rattle.sheet.specs.Sheet.{most, sheetFloats, wordOf, wordsOf}
+use Rattle.sheet.specs.Records.{sheetFloats}
+use Rattle.sheet.specs.Sheet.{most, wordOf, wordsOf}
 use Rattle.sheet.specs.Spelling.{spellNumber, spellBytes, spellWords, spell, Below, Fits}
 use Rattle.sheet.specs.Refused.{Good, AtCount, AtParameter, AtNumber, at-model, at-count, Reason, no-number, half-number, short-parameter, short-records, not-shortest, third-group, unknown-model, other-flag, count-over, bytes-after}
 use Rattle.sheet.proofs.Steps.{words-length}
@@ -82,23 +83,23 @@ module _ (s : List ℕ) where
   -- records
   module _ (count : ℕ) (l : List ℕ) (b : Below 256 l) (few : count ≤ most) (p : AtCount s (spellNumber count ++ l)) where
     front : List ℕ
-    front = take (count * sheetFloats * 8) l
+    front = take (count * sheetFloats (p .model) * 8) l
 
     words : List ℕ
-    words = wordsOf (count * sheetFloats) front
+    words = wordsOf (count * sheetFloats (p .model)) front
 
     sheet : List ℕ
     sheet = spell (p .model) (p .parameters) count words
 
-    module _ (h : count * sheetFloats * 8 ≤ length l) where
-      front-length : length front ≡ count * sheetFloats * 8
+    module _ (h : count * sheetFloats (p .model) * 8 ≤ length l) where
+      front-length : length front ≡ count * sheetFloats (p .model) * 8
       unfolding front
       front-length = simp length-take (omega arith)
 
       sheet-good : Good sheet
       unfolding sheet words front
       sheet-good =
-          let c = below-take 256 (count * sheetFloats * 8) l b in
+          let c = below-take 256 (count * sheetFloats (p .model) * 8) l b in
           record {
             model = p .model;
             parameters = p .parameters;
@@ -108,17 +109,17 @@ module _ (s : List ℕ) where
               known = p .known;
               fits = p .fits;
               few = few;
-              whole = words-length (count * sheetFloats) front;
-              bits = words-below (count * sheetFloats) front c front-length;
+              whole = words-length (count * sheetFloats (p .model)) front;
+              bits = words-below (count * sheetFloats (p .model)) front c front-length;
             };
             spelled = refl;
           }
 
-      sheet-front : s ≡ sheet ++ drop (count * sheetFloats * 8) l
+      sheet-front : s ≡ sheet ++ drop (count * sheetFloats (p .model) * 8) l
       unfolding sheet words spell front
       sheet-front =
-          let c = below-take 256 (count * sheetFloats * 8) l b in
-          p .spelled ∙ rw (words-spelled (count * sheetFloats) front c front-length) (simp (append-assoc, take-append-drop))
+          let c = below-take 256 (count * sheetFloats (p .model) * 8) l b in
+          p .spelled ∙ rw (words-spelled (count * sheetFloats (p .model)) front c front-length) (simp (append-assoc, take-append-drop))
 
       told-rest : (r : List ℕ) → s ≡ sheet ++ r → Told s
       told-rest [] e = let f = e ∙ append-nil sheet in good (subst Good (sym f) sheet-good)
@@ -126,9 +127,9 @@ module _ (s : List ℕ) where
 
     told-records : Told s
     told-records =
-        by-test (ltb (length l) (count * sheetFloats * 8))
-        (λ t. bad (short-records count l few (ltb-true (length l) (count * sheetFloats * 8) t) p))
-        (λ t. let h = ltb-false (length l) (count * sheetFloats * 8) t in told-rest h (drop (count * sheetFloats * 8) l) (sheet-front h))
+        by-test (ltb (length l) (count * sheetFloats (p .model) * 8))
+        (λ t. bad (short-records count l few p (ltb-true (length l) (count * sheetFloats (p .model) * 8) t)))
+        (λ t. let h = ltb-false (length l) (count * sheetFloats (p .model) * 8) t in told-rest h (drop (count * sheetFloats (p .model) * 8) l) (sheet-front h))
 
   told-count : (l : List ℕ) → Below 256 l → AtCount s l → Told s
   told-count l b p =

@@ -6,14 +6,18 @@ use mathlib.Core.Bool.{Bool, true, false, cond}
 use mathlib.Core.List.{List, [], _∷_, _++_, append-nil}
 use Prim.Native.Nat.{ℕ, zero, suc, _+_, _*_, _/_, _%_, _≤_, _<_}
 use native.Mathlib.Omega.{arith}
+use native.Mathlib.Nat.{mul-le-mul}
 use lib.ListN.{length, replicate, length-append, length-replicate}
 use lib.Dec.{ltb}
 use Rattle.model.specs.Kinds.{kindsOf}
-use Rattle.sheet.specs.Sheet.{most, sheetFloats, headerOf}
+use Rattle.record.specs.Layout.{floats}
+use Rattle.sheet.specs.Records.{sheetFloats}
+use Rattle.sheet.specs.Sheet.{most, headerOf}
 use Rattle.sheet.specs.Spelling.{spellNumber, spellWords, Below}
 use Rattle.sheet.specs.Refused.{Good, AtCount, AtParameter, AtNumber, at-model, at-count, Reason, no-number, half-number, short-parameter, short-records, not-shortest, third-group, unknown-model, other-flag, count-over, bytes-after}
 use Rattle.model.proofs.KindLaws.{kinds-most}
-use Rattle.sheet.proofs.Pieces.{fits-length, spelled-length}
+use Rattle.sheet.proofs.RecordLaws.{floats-most}
+use Rattle.sheet.proofs.Pieces.{below-append, fits-length, spelled-length}
 use Rattle.sheet.proofs.Refusals.{Later, later}
 use Rattle.sheet.proofs.Reasons.{good-exactly, refused-exactly}
 
@@ -54,16 +58,17 @@ at-length s l (at-count p) = count-length s l p
 
 -- a sheet that ends early is not long
 abbrev longest : ℕ
-longest = 66 + 2 + most * sheetFloats * 8
+longest = 66 + 2 + most * floats * 8
 
 ended-length : (s : List ℕ) (n : ℕ) → n ≡ 4 → Reason s n → length s ≤ longest
 ended-length s n e (no-number p) = let a = at-length s [] p in omega arith
 ended-length s n e (half-number low h p) = let a = at-length s (low ∷ []) p in omega arith
 ended-length s n e (short-parameter flag l h p) = let a = parameter-length s flag l p in omega arith
-ended-length s n e (short-records count l h k p) =
+ended-length s n e (short-records count l h p k) =
     let a = count-length s (spellNumber count ++ l) p in
     let b = length-append (spellNumber count) l in
     let c = number-length count in
+    let m = mul-le-mul h (floats-most (p .model)) in
     omega arith
 ended-length s n e (not-shortest low l h p) = absurd (omega arith)
 ended-length s n e (third-group low high l h k p) = absurd (omega arith)
@@ -71,10 +76,6 @@ ended-length s n e (unknown-model model l k h f) = absurd (omega arith)
 ended-length s n e (other-flag w l h z o p) = absurd (omega arith)
 ended-length s n e (count-over count l k h p) = absurd (omega arith)
 ended-length s n e (bytes-after t l g h f) = absurd (omega arith)
-
-below-append : (b : ℕ) (p l : List ℕ) → Below b p → Below b l → Below b (p ++ l)
-below-append b [] l h k = k
-below-append b (x ∷ p) l h k = (h .0, below-append b p l (h .1) k)
 
 zeros-below : (n : ℕ) → Below 256 (replicate n 0)
 zeros-below zero = tt

@@ -7,8 +7,9 @@ use lib.ListN.{length, getD, take, drop, length-drop}
 use lib.Seq.{take-at}
 use borrow.Author.Tests.{le-ltb}
 use Rattle.model.specs.Kinds.{last, kindsOf}
-use Rattle.sheet.specs.Sheet.{most, sheetFloats, wordsOf, padded, recordsEnd, headerOf}
-use Rattle.sheet.specs.Spelling.{spellNumber, spellWords, spell, Below, Fits, Writable, parametersOf, recordsOf}
+use Rattle.sheet.specs.Records.{sheetFloats}
+use Rattle.sheet.specs.Sheet.{most, wordsOf, wordsIn, padded, recordsEnd, headerOf}
+use Rattle.sheet.specs.Spelling.{spellNumber, spellWords, spell, Below, Fits, Writable, parametersOf}
 use Rattle.sheet.specs.declared.Header.{Header}
 use Rattle.sheet.proofs.Taken.{Taken, taken}
 use Rattle.sheet.proofs.Steps.{words-length}
@@ -19,11 +20,11 @@ pub below : (b : ℕ) (s : List ℕ) → ((i : ℕ) → getD s i 0 < b) → Belo
 below b [] h = tt
 below b (x ∷ s) h = (h 0, below b s (λ i. h (suc i)))
 
--- A sheet that is read without refusal is the spelling of the header's values and of the words that `read` delivers.
+-- A sheet that is read without refusal is the spelling of the header's values and of the words in it.
 pub record Accepted (s : List ℕ) (h : Header) : Type 0 where
-  pub writable : Writable (h .model) (parametersOf h) (h .count) (recordsOf s h)
+  pub writable : Writable (h .model) (parametersOf h) (h .count) (wordsIn s h)
   pub zeros : h .parameters ≡ padded (parametersOf h)
-  pub spelled : s ≡ spell (h .model) (parametersOf h) (h .count) (recordsOf s h)
+  pub spelled : s ≡ spell (h .model) (parametersOf h) (h .count) (wordsIn s h)
 
 module _ (s : List ℕ) (b : Below 256 s) (h : Header) (t : Taken s h) where
   words-stand : Fits (kindsOf (t .model)) (t .words)
@@ -33,16 +34,16 @@ module _ (s : List ℕ) (b : Below 256 s) (h : Header) (t : Taken s h) where
   words-are : take (length (kindsOf (t .model))) (padded (t .words)) ≡ t .words
   words-are = take-at (t .words) _ (length (kindsOf (t .model))) (fits-length (kindsOf (t .model)) (t .words) words-stand)
 
-  rest-length : length (drop (t .at) s) ≡ t .count * sheetFloats * 8
+  rest-length : length (drop (t .at) s) ≡ t .count * sheetFloats (t .model) * 8
   rest-length = let e = t .ends in omega (arith, length-drop (t .at) s)
 
-  spelled-is : s ≡ spell (t .model) (t .words) (t .count) (wordsOf (t .count * sheetFloats) (drop (t .at) s))
+  spelled-is : s ≡ spell (t .model) (t .words) (t .count) (wordsOf (t .count * sheetFloats (t .model)) (drop (t .at) s))
   unfolding spell
   spelled-is =
       let m = number-spelled s 0 (t .model) (t .after-model) b (t .is-model) in
       let p = parameters-spelled s b (kindsOf (t .model)) (t .after-model) (t .words) (t .after-words) (t .are-words) .spelled in
       let c = number-spelled s (t .after-words) (t .count) (t .at) b (t .is-count) in
-      let w = words-spelled (t .count * sheetFloats) (drop (t .at) s) (below-drop 256 (t .at) s b) rest-length in
+      let w = words-spelled (t .count * sheetFloats (t .model)) (drop (t .at) s) (below-drop 256 (t .at) s b) rest-length in
       rw w (m ∙ ap (λ (l : List ℕ). spellNumber (t .model) ++ l) (p ∙ ap (λ (l : List ℕ). spellWords (t .words) ++ l) c))
 
   of-taken : Accepted s (record { refusal = 0; model = t .model; parameters = padded (t .words); count = t .count; at = t .at })
@@ -52,8 +53,8 @@ module _ (s : List ℕ) (b : Below 256 s) (h : Header) (t : Taken s h) where
           known = t .known;
           fits = rw words-are words-stand;
           few = t .few;
-          whole = words-length (t .count * sheetFloats) (drop (t .at) s);
-          bits = words-below (t .count * sheetFloats) (drop (t .at) s) (below-drop 256 (t .at) s b) rest-length;
+          whole = words-length (t .count * sheetFloats (t .model)) (drop (t .at) s);
+          bits = words-below (t .count * sheetFloats (t .model)) (drop (t .at) s) (below-drop 256 (t .at) s b) rest-length;
         };
         zeros = rw words-are;
         spelled = rw words-are spelled-is;
@@ -68,7 +69,7 @@ pub record ReadBack (model : ℕ) (parameters : List ℕ) (count : ℕ) (words :
   pub model-is : h .model ≡ model
   pub parameters-are : h .parameters ≡ padded parameters
   pub count-is : h .count ≡ count
-  pub words-are : recordsOf s h ≡ words
+  pub words-are : wordsIn s h ≡ words
 
 module _ (model : ℕ) (parameters : List ℕ) (count : ℕ) (words : List ℕ) (g : Writable model parameters count words) where
   after-model : ℕ
@@ -99,7 +100,7 @@ module _ (model : ℕ) (parameters : List ℕ) (count : ℕ) (words : List ℕ) 
   unfolding first
   at-words = after sheet after-parameters (spellNumber count) (spellWords words) (length (spellNumber count)) at-count refl
 
-  left : length sheet - first ≡ count * sheetFloats * 8
+  left : length sheet - first ≡ count * sheetFloats model * 8
   left = sym (length-drop first sheet) ∙ ap length at-words ∙ spelled-length words ∙ ap (λ (n : ℕ). n * 8) (g .whole)
 
   header-is : headerOf sheet ≡ record { refusal = 0; model = model; parameters = padded parameters; count = count; at = first }
@@ -110,7 +111,7 @@ module _ (model : ℕ) (parameters : List ℕ) (count : ℕ) (words : List ℕ) 
       let m = number-read sheet 0 model _ (omega arith) at-model in
       let p = parameters-read sheet (kindsOf model) after-model parameters _ (g .fits) at-parameters in
       let c = number-read sheet after-parameters count _ (omega arith) at-count in
-      rw (m, le-ltb last model k, p, c, le-ltb most count f, left, le-ltb (count * sheetFloats * 8) (count * sheetFloats * 8) (omega arith))
+      rw (m, le-ltb last model k, p, c, le-ltb most count f, left, le-ltb (count * sheetFloats model * 8) (count * sheetFloats model * 8) (omega arith))
 
   pub read-back : ReadBack model parameters count words (spell model parameters count words) (headerOf (spell model parameters count words))
   unfolding sheet

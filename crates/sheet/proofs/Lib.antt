@@ -1,8 +1,10 @@
 pub mod Cases
+pub mod RecordLaws
 pub mod Steps
 pub mod Bounds
 pub mod Taken
 pub mod Rooms
+pub mod Filling
 pub mod Pieces
 pub mod Format
 pub mod Refusals

@@ -32,6 +32,10 @@ below-take b zero l h = tt
 below-take b (suc n) [] h = tt
 below-take b (suc n) (x ∷ l) h = (h .0, below-take b n l (h .1))
 
+pub below-append : (b : ℕ) (p l : List ℕ) → Below b p → Below b l → Below b (p ++ l)
+below-append b [] l h k = k
+below-append b (x ∷ p) l h k = (h .0, below-append b p l (h .1) k)
+
 -- what follows a piece that stands at a place
 pub after : (s : List ℕ) (at : ℕ) (p q : List ℕ) (k : ℕ) → drop at s ≡ p ++ q → length p ≡ k → drop (at + k) s ≡ q
 after s at p q k e n = sym (drop-drop k at s) ∙ ap (drop k) e ∙ drop-at p q k n

@@ -10,7 +10,8 @@ use lib.Dec.{ltb, eqb}
 use borrow.Author.Tests.{ltb-true, eqb-true, eqb-false, lt-ltb, le-ltb, le-leb, eq-eqb, ne-eqb}
 use Rattle.record.specs.Layout.{floats}
 use Rattle.model.specs.Kinds.{last, one, kindsOf}
-use Rattle.sheet.specs.Sheet.{most, sheetFloats, numberAt, firstGroup, wordAt, parameterAt, Stopped, parametersAt, padded, refusedBy, recordsEnd, afterCount, afterParameters, headerOf, readOf}
+use Rattle.sheet.specs.Records.{sheetFloats}
+use Rattle.sheet.specs.Sheet.{most, numberAt, firstGroup, wordAt, parameterAt, Stopped, parametersAt, padded, refusedBy, recordsEnd, afterCount, afterParameters, headerOf, readOf}
 use Rattle.sheet.specs.Spelling.{spellNumber, spellBytes, spellWords, Below, Fits}
 use Rattle.sheet.specs.Refused.{Good, AtCount, AtParameter, AtNumber, at-model, at-count, Reason, no-number, half-number, short-parameter, short-records, not-shortest, third-group, unknown-model, other-flag, count-over, bytes-after, ReasonWithRoom, uneven-room, by-sheet, short-room}
 use Rattle.sheet.specs.declared.Number.the-variants.{Refused as Number·Refused}
@@ -120,15 +121,15 @@ module _ (s : List ℕ) where
     over : most < count → headerOf s .refusal ≡ 7
     over k = rw (header-records, lt-ltb most count k)
 
-    short : count ≤ most → length l < count * sheetFloats * 8 → headerOf s .refusal ≡ 4
+    short : count ≤ most → length l < count * sheetFloats (p .model) * 8 → headerOf s .refusal ≡ 4
     unfolding recordsEnd
-    short k m = rw (header-records, le-ltb most count k, records-left, lt-ltb (length l) (count * sheetFloats * 8) m)
+    short k m = rw (header-records, le-ltb most count k, records-left, lt-ltb (length l) (count * sheetFloats (p .model) * 8) m)
 
   refused : (n : ℕ) → Reason s n → headerOf s .refusal ≡ n
   refused n (no-number p) = number-refused 4 [] (λ at. refl) p
   refused n (half-number low h p) = number-refused 4 (low ∷ []) (λ at. rw (le-ltb low 128 h)) p
   refused n (short-parameter flag l h p) = parameter-refused 4 flag l (parameter-short flag l h) p
-  refused n (short-records count l k m p) = short count l (omega arith) p k m
+  refused n (short-records count l k p m) = short count l (omega arith) p k m
   refused n (not-shortest low l h p) = number-refused 5 (low ∷ 0 ∷ l) (λ at. rw (le-ltb low 128 h)) p
   refused n (third-group low high l h k p) = number-refused 5 (low ∷ high ∷ l) (λ at. rw (le-ltb low 128 h, le-leb 128 high k)) p
   refused n (unknown-model model l k h e) = rw (header-unknown model l h e k)

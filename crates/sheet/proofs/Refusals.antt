@@ -10,7 +10,8 @@ use lib.Seq.{drop-append-le, take-append-le}
 use lib.Dec.{ltb, leb}
 use borrow.Author.Tests.{leb-true, leb-false, ltb-false, lt-ltb, le-ltb}
 use Rattle.model.specs.Kinds.{last, kindsOf}
-use Rattle.sheet.specs.Sheet.{most, sheetFloats, numberAt, firstGroup, secondGroup, wordOf, wordAt, checked, parameterAt, Fields, Got, Stopped, before, andThen, parametersAt, padded, refusedBy, recordsEnd, afterCount, afterParameters, afterModel, headerOf}
+use Rattle.sheet.specs.Records.{sheetFloats}
+use Rattle.sheet.specs.Sheet.{most, numberAt, firstGroup, secondGroup, wordOf, wordAt, checked, parameterAt, Fields, Got, Stopped, before, andThen, parametersAt, padded, refusedBy, recordsEnd, afterCount, afterParameters, afterModel, headerOf}
 use Rattle.sheet.specs.declared.Number.{Number}
 use Rattle.sheet.specs.declared.Number.the-variants.{Read as Number·Read, Refused as Number·Refused}
 use Rattle.sheet.specs.declared.Word.{Word}
@@ -87,23 +88,23 @@ module _ (s r : List ℕ) (more : 0 < length r) where
 
   later-end : (model : ℕ) (bits : List ℕ) (count at : ℕ) → at ≤ length s → Later (recordsEnd s model bits count at) (recordsEnd (s ++ r) model bits count at)
   unfolding recordsEnd
-  later-end model bits count at h = by-lengths (ltb (length s - at) (count * sheetFloats * 8)) (ltb (count * sheetFloats * 8) (length s - at)) refl refl
+  later-end model bits count at h = by-lengths (ltb (length s - at) (count * sheetFloats model * 8)) (ltb (count * sheetFloats model * 8) (length s - at)) refl refl
     where
       ok : Header
       ok = record { refusal = 0; model = model; parameters = bits; count = count; at = at }
 
-      longer : count * sheetFloats * 8 ≤ length s - at → cond (ltb (length (s ++ r) - at) (count * sheetFloats * 8)) (refusedBy 4) (cond (ltb (count * sheetFloats * 8) (length (s ++ r) - at)) (refusedBy 7) ok) ≡ refusedBy 7
+      longer : count * sheetFloats model * 8 ≤ length s - at → cond (ltb (length (s ++ r) - at) (count * sheetFloats model * 8)) (refusedBy 4) (cond (ltb (count * sheetFloats model * 8) (length (s ++ r) - at)) (refusedBy 7) ok) ≡ refusedBy 7
       longer k =
           let n = length-append s r in
-          let m : count * sheetFloats * 8 < length (s ++ r) - at = omega arith in
-          let l : count * sheetFloats * 8 ≤ length (s ++ r) - at = omega arith in
-          rw (le-ltb (length (s ++ r) - at) (count * sheetFloats * 8) l, lt-ltb (count * sheetFloats * 8) (length (s ++ r) - at) m)
+          let m : count * sheetFloats model * 8 < length (s ++ r) - at = omega arith in
+          let l : count * sheetFloats model * 8 ≤ length (s ++ r) - at = omega arith in
+          rw (le-ltb (length (s ++ r) - at) (count * sheetFloats model * 8) l, lt-ltb (count * sheetFloats model * 8) (length (s ++ r) - at) m)
 
-      by-lengths : (b c : Bool) → ltb (length s - at) (count * sheetFloats * 8) ≡ b → ltb (count * sheetFloats * 8) (length s - at) ≡ c
-          → Later (cond b (refusedBy 4) (cond c (refusedBy 7) ok)) (cond (ltb (length (s ++ r) - at) (count * sheetFloats * 8)) (refusedBy 4) (cond (ltb (count * sheetFloats * 8) (length (s ++ r) - at)) (refusedBy 7) ok))
+      by-lengths : (b c : Bool) → ltb (length s - at) (count * sheetFloats model * 8) ≡ b → ltb (count * sheetFloats model * 8) (length s - at) ≡ c
+          → Later (cond b (refusedBy 4) (cond c (refusedBy 7) ok)) (cond (ltb (length (s ++ r) - at) (count * sheetFloats model * 8)) (refusedBy 4) (cond (ltb (count * sheetFloats model * 8) (length (s ++ r) - at)) (refusedBy 7) ok))
       by-lengths true c t u = inl refl
-      by-lengths false true t u = rw (longer (ltb-false (length s - at) (count * sheetFloats * 8) t)) (later-same 7 is-7)
-      by-lengths false false t u = rw (longer (ltb-false (length s - at) (count * sheetFloats * 8) t)) (inr (inl (refl, refl)))
+      by-lengths false true t u = rw (longer (ltb-false (length s - at) (count * sheetFloats model * 8) t)) (later-same 7 is-7)
+      by-lengths false false t u = rw (longer (ltb-false (length s - at) (count * sheetFloats model * 8) t)) (inr (inl (refl, refl)))
 
   later-count : (model : ℕ) (bits : List ℕ) (x y : Number) → (x ≡ Number·Refused 4) ⊎ (y ≡ x) → Ends (length s) x → Later (afterCount s model bits x) (afterCount (s ++ r) model bits y)
   later-count model bits x y (inl e) h = inl (rw e)

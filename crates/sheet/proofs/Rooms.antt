@@ -1,16 +1,18 @@
 -- `readOf` and `roomOf` case by case, each from the tests that lead to it.
-use mathlib.Core.Path.{_≡_, refl, sym, ap, _∙_}
-use mathlib.Core.List.{List, _++_, append-nil}
+use mathlib.Core.Path.{_≡_, refl, _∙_}
+use mathlib.Core.List.{List, _++_}
 use Prim.Native.Nat.{ℕ, _+_, _*_, _-_, _%_, _≤_, _<_}
 use native.Mathlib.Omega.{arith}
 use lib.ListN.{length, drop}
-use lib.Seq.{drop-length}
 use borrow.Author.Tests.{lt-ltb, le-ltb, eq-eqb, ne-eqb}
 use Rattle.record.specs.Layout.{floats}
-use Rattle.sheet.specs.Sheet.{sheetFloats, refusedBy, headerOf, wordsOf, fitted, readOf, roomOf, recordAt, placed, roomAt}
+use Rattle.model.specs.Kinds.{last}
+use Rattle.sheet.specs.Records.{sheetFloats, completed}
+use Rattle.sheet.specs.Sheet.{refusedBy, headerOf, wordsOf, recordsOf, fitted, readOf, roomOf, recordAt, placed, roomAt}
 use Rattle.sheet.specs.declared.Place.{Place}
 use Rattle.sheet.specs.declared.Place.the-variants.{Next as Place·Next, Refused as Place·Refused}
 use Rattle.sheet.specs.declared.Header.{Header}
+use Rattle.sheet.proofs.RecordLaws.{floats-least}
 
 module _ (s room : List ℕ) where
   -- the header returned settles the room
@@ -39,7 +41,7 @@ module _ (s room : List ℕ) where
       pub narrow : (r : Header) → r ≡ refusedBy 8 → length room < h .count * floats → (r ≡ readOf s (length room)) × (room ≡ roomOf s room)
       narrow r q l = refused-8 r q (rw (even, eq-eqb (h .refusal) 0 z, lt-ltb (length room) (h .count * floats) l))
 
-      pub good : (out : List ℕ) → h .count * floats ≤ length room → out ≡ wordsOf (h .count * sheetFloats) (drop (h .at) s) ++ drop (h .count * floats) room
+      pub good : (out : List ℕ) → h .count * floats ≤ length room → out ≡ recordsOf s h ++ drop (h .count * floats) room
           → (h ≡ readOf s (length room)) × (out ≡ roomOf s room)
       unfolding roomOf
       good out l q =
@@ -47,26 +49,34 @@ module _ (s room : List ℕ) where
           (f, rw (← f, eq-eqb (h .refusal) 0 z) q)
 
 -- one record
-module _ (s : List ℕ) (at : ℕ) (room : List ℕ) where
-  settled : (p : Place) (out : List ℕ) → p ≡ recordAt s at (length room) → out ≡ placed p (wordsOf sheetFloats (drop at s)) room → (p ≡ recordAt s at (length room)) × (out ≡ roomAt s at room)
+module _ (model : ℕ) (s : List ℕ) (at : ℕ) (room : List ℕ) where
+  abbrev Settles : Place → List ℕ → Type 0
+  Settles p out = (p ≡ recordAt model s at (length room)) × (out ≡ roomAt model s at room)
+
+  settled : (p : Place) (out : List ℕ) → p ≡ recordAt model s at (length room) → out ≡ placed p (completed model (wordsOf (sheetFloats model) (drop at s))) room → Settles p out
   unfolding roomAt
   settled p out e f = (e, rw (← e) f)
 
-  pub other-size : (length room ≡ floats → ⊥) → (Place·Refused 8 ≡ recordAt s at (length room)) × (room ≡ roomAt s at room)
+  pub other-size : (length room ≡ floats → ⊥) → Settles (Place·Refused 8) room
   unfolding recordAt
   other-size n = settled (Place·Refused 8) room (rw (ne-eqb (length room) floats n)) refl
 
   module _ (m : length room ≡ floats) where
-    pub record-short : length s - at < floats * 8 → (Place·Refused 4 ≡ recordAt s at (length room)) × (room ≡ roomAt s at room)
+    pub other-model : last < model → Settles (Place·Refused 6) room
     unfolding recordAt
-    record-short l = settled (Place·Refused 4) room (rw (eq-eqb (length room) floats m, lt-ltb (length s - at) (sheetFloats * 8) l)) refl
+    other-model k = settled (Place·Refused 6) room (rw (eq-eqb (length room) floats m, lt-ltb last model k)) refl
 
-    pub record-late : length s < at → (Place·Refused 4 ≡ recordAt s at (length room)) × (room ≡ roomAt s at room)
-    record-late l = record-short (omega arith)
+    module _ (k : model ≤ last) where
+      pub record-short : length s - at < sheetFloats model * 8 → Settles (Place·Refused 4) room
+      unfolding recordAt
+      record-short l =
+          settled (Place·Refused 4) room (rw (eq-eqb (length room) floats m, le-ltb last model k, lt-ltb (length s - at) (sheetFloats model * 8) l)) refl
 
-    pub record-read : (out : List ℕ) → floats * 8 ≤ length s - at → out ≡ wordsOf sheetFloats (drop at s) ++ drop floats room
-        → (Place·Next (at + floats * 8) ≡ recordAt s at (length room)) × (out ≡ roomAt s at room)
-    unfolding recordAt
-    record-read out l e =
-        settled (Place·Next (at + floats * 8)) out (rw (eq-eqb (length room) floats m, le-ltb (length s - at) (sheetFloats * 8) l))
-        (e ∙ ap (λ (k : ℕ). wordsOf sheetFloats (drop at s) ++ drop k room) (sym m) ∙ ap (λ (t : List ℕ). wordsOf sheetFloats (drop at s) ++ t) (drop-length room) ∙ append-nil (wordsOf sheetFloats (drop at s)))
+      pub record-late : length s < at → Settles (Place·Refused 4) room
+      record-late l = record-short (let z = floats-least model in omega arith)
+
+      pub record-read : (out : List ℕ) → sheetFloats model * 8 ≤ length s - at → out ≡ completed model (wordsOf (sheetFloats model) (drop at s))
+          → Settles (Place·Next (at + sheetFloats model * 8)) out
+      unfolding recordAt
+      record-read out l e =
+          settled (Place·Next (at + sheetFloats model * 8)) out (rw (eq-eqb (length room) floats m, le-ltb last model k, le-ltb (length s - at) (sheetFloats model * 8) l)) e

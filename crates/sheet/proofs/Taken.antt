@@ -8,7 +8,8 @@ use lib.ListN.{length}
 use lib.Dec.{ltb}
 use borrow.Author.Tests.{ltb-false}
 use Rattle.model.specs.Kinds.{last, kindsOf}
-use Rattle.sheet.specs.Sheet.{most, sheetFloats, numberAt, Fields, Got, Stopped, parametersAt, padded, refusedBy, recordsEnd, afterCount, afterParameters, afterModel, headerOf}
+use Rattle.sheet.specs.Records.{sheetFloats}
+use Rattle.sheet.specs.Sheet.{most, numberAt, Fields, Got, Stopped, parametersAt, padded, refusedBy, recordsEnd, afterCount, afterParameters, afterModel, headerOf}
 use Rattle.sheet.specs.declared.Number.{Number}
 use Rattle.sheet.specs.declared.Number.the-variants.{Read as Number·Read, Refused as Number·Refused}
 use Rattle.sheet.specs.declared.Header.{Header}
@@ -26,7 +27,7 @@ pub record Taken (s : List ℕ) (h : Header) : Type 0 where
   pub are-words : parametersAt (kindsOf model) s after-model ≡ Got words after-words
   pub is-count : numberAt s after-words ≡ Number·Read count at
   pub few : count ≤ most
-  pub ends : at + count * sheetFloats * 8 ≡ length s
+  pub ends : at + count * sheetFloats model * 8 ≡ length s
   pub is : record { refusal = 0; model = model; parameters = padded words; count = count; at = at } ≡ h
 
 -- the two ways of a test
@@ -46,10 +47,10 @@ module _ (s : List ℕ) (h : Header) (z : h .refusal ≡ 0) where
       from-end : (count at : ℕ) → numberAt s after-words ≡ Number·Read count at → count ≤ most → recordsEnd s model (padded words) count at ≡ h → Taken s h
       unfolding recordsEnd
       from-end count at is-count few e =
-          either (ltb (length s - at) (count * sheetFloats * 8)) _ _ _ e (λ t p. clash 4 p (omega arith)) (λ t p.
-          either (ltb (count * sheetFloats * 8) (length s - at)) _ _ _ p (λ u q. clash 7 q (omega arith)) (λ u q.
-          let a = ltb-false (length s - at) (count * sheetFloats * 8) t in
-          let b = ltb-false (count * sheetFloats * 8) (length s - at) u in
+          either (ltb (length s - at) (count * sheetFloats model * 8)) _ _ _ e (λ t p. clash 4 p (omega arith)) (λ t p.
+          either (ltb (count * sheetFloats model * 8) (length s - at)) _ _ _ p (λ u q. clash 7 q (omega arith)) (λ u q.
+          let a = ltb-false (length s - at) (count * sheetFloats model * 8) t in
+          let b = ltb-false (count * sheetFloats model * 8) (length s - at) u in
           let i = number-inside s after-words count at is-count in
           record {
             model = model;
@@ -93,9 +94,10 @@ few s h e z =
     let c : t .count ≡ h .count = ap (λ (x : Header). x .count) (t .is ∙ sym e) in
     omega (arith, t .few)
 
-pub within : (s : List ℕ) (h : Header) → h ≡ headerOf s → h .refusal ≡ 0 → h .at + h .count * sheetFloats * 8 ≤ length s
+pub within : (s : List ℕ) (h : Header) → h ≡ headerOf s → h .refusal ≡ 0 → h .at + h .count * sheetFloats (h .model) * 8 ≤ length s
 within s h e z =
     let t = taken s (ap (λ (x : Header). x .refusal) (sym e) ∙ z) in
     let c : t .count ≡ h .count = ap (λ (x : Header). x .count) (t .is ∙ sym e) in
     let a : t .at ≡ h .at = ap (λ (x : Header). x .at) (t .is ∙ sym e) in
-    omega (arith, t .ends)
+    let m : t .model ≡ h .model = ap (λ (x : Header). x .model) (t .is ∙ sym e) in
+    omega (arith, rw (c, m) at (t .ends))

@@ -7,7 +7,8 @@ use Prim.Native.Nat.{ℕ, _*_, _%_, _^_, _≤_, _<_}
 use lib.ListN.{length}
 use Rattle.record.specs.Layout.{floats}
 use Rattle.model.specs.Kinds.{last, one, kindsOf}
-use Rattle.sheet.specs.Sheet.{most, sheetFloats}
+use Rattle.sheet.specs.Records.{sheetFloats}
+use Rattle.sheet.specs.Sheet.{most}
 use Rattle.sheet.specs.Spelling.{spellNumber, spellBytes, spellWords, spell, Fits, Writable}
 
 -- a sheet that can be written
@@ -48,7 +49,7 @@ pub data Reason (s : List ℕ) : ℕ → Type 0 where
   no-number : AtNumber s [] → Reason s 4
   half-number : (low : ℕ) → 128 ≤ low → AtNumber s (low ∷ []) → Reason s 4
   short-parameter : (flag : Bool) (l : List ℕ) → length l < 8 → AtParameter s flag l → Reason s 4
-  short-records : (count : ℕ) (l : List ℕ) → count ≤ most → length l < count * sheetFloats * 8 → AtCount s (spellNumber count ++ l) → Reason s 4
+  short-records : (count : ℕ) (l : List ℕ) → count ≤ most → (p : AtCount s (spellNumber count ++ l)) → length l < count * sheetFloats (p .model) * 8 → Reason s 4
   -- 5, a number is not shortest, its second group being zero, or has over two groups
   not-shortest : (low : ℕ) (l : List ℕ) → 128 ≤ low → AtNumber s (low ∷ 0 ∷ l) → Reason s 5
   third-group : (low high : ℕ) (l : List ℕ) → 128 ≤ low → 128 ≤ high → AtNumber s (low ∷ high ∷ l) → Reason s 5

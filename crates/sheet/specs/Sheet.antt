@@ -5,8 +5,9 @@ use Prim.Native.Nat.{ℕ, zero, suc, _+_, _*_, _-_, _%_}
 use lib.ListN.{length, take, drop, replicate}
 use lib.Dec.{ltb, leb, eqb}
 use Rattle.answers.specs.Refusals.{endsEarly, notShortest, unknown, tooMany, wrongLength}
-use Rattle.record.specs.Layout.{layout, whole, floats}
+use Rattle.record.specs.Layout.{floats}
 use Rattle.model.specs.Kinds.{last, places, kindsOf, allowed}
+use Rattle.sheet.specs.Records.{sheetFloats, completed, listWords}
 use Rattle.sheet.specs.declared.Number.{Number}
 use Rattle.sheet.specs.declared.Number.the-variants.{Read as Number·Read, Refused as Number·Refused}
 use Rattle.sheet.specs.declared.Word.{Word}
@@ -16,12 +17,9 @@ use Rattle.sheet.specs.declared.Place.the-variants.{Next as Place·Next,
 use Rattle.sheet.specs.declared.Parameters.{Parameters}
 use Rattle.sheet.specs.declared.Header.{Header}
 
--- how many particles a sheet may have, and how many floats a record in it
+-- how many particles a sheet may have
 abbrev pub most : ℕ
 most = 200
-
-abbrev pub sheetFloats : ℕ
-sheetFloats = whole layout
 
 -- A number in groups of seven bits, low group first, the top bit of a byte set where more follows. 4 where a byte is wanted
 -- and there is none; 5 where a third group would follow, or the second group is zero.
@@ -91,8 +89,8 @@ refusedBy n = record { refusal = n; model = 0; parameters = padded []; count = 0
 -- The records end the sheet: 4 where some are missing, 7 where bytes follow the last.
 unfoldable pub recordsEnd : List ℕ → ℕ → List ℕ → ℕ → ℕ → Header
 recordsEnd s model bits count at =
-    cond (ltb (length s - at) (count * sheetFloats * 8)) (refusedBy endsEarly)
-    (cond (ltb (count * sheetFloats * 8) (length s - at)) (refusedBy tooMany)
+    cond (ltb (length s - at) (count * sheetFloats model * 8)) (refusedBy endsEarly)
+    (cond (ltb (count * sheetFloats model * 8) (length s - at)) (refusedBy tooMany)
     (record { refusal = 0; model = model; parameters = bits; count = count; at = at }))
 
 abbrev pub afterCount : List ℕ → ℕ → List ℕ → Number → Header
@@ -120,26 +118,32 @@ fitted h room = cond (eqb (h .refusal) 0) (cond (ltb room (h .count * floats)) (
 unfoldable pub readOf : List ℕ → ℕ → Header
 readOf s room = cond (eqb (room % floats) 0) (fitted (headerOf s) room) (refusedBy wrongLength)
 
--- the room afterwards: the records' bits in front, where the sheet was read
+-- the floats of the records, as the sheet has them
+abbrev pub wordsIn : List ℕ → Header → List ℕ
+wordsIn s h = wordsOf (h .count * sheetFloats (h .model)) (drop (h .at) s)
+
+-- and as `read` delivers them
+abbrev pub recordsOf : List ℕ → Header → List ℕ
+recordsOf s h = listWords (h .model) (h .count) (wordsIn s h)
+
+-- the room afterwards: the records in front, where the sheet was read
 abbrev pub filled : List ℕ → List ℕ → Header → List ℕ
-filled s room h =
-    cond (eqb (h .refusal) 0)
-    (wordsOf (h .count * sheetFloats) (drop (h .at) s) ++ drop (h .count * floats) room)
-    room
+filled s room h = cond (eqb (h .refusal) 0) (recordsOf s h ++ drop (h .count * floats) room) room
 
 unfoldable pub roomOf : List ℕ → List ℕ → List ℕ
 roomOf s room = filled s room (readOf s (length room))
 
--- One record by itself: 8 where the room is not of its size, then 4 where the sheet ends early.
-unfoldable pub recordAt : List ℕ → ℕ → ℕ → Place
-recordAt s at room =
+-- One record by itself: 8 where the room is not of its size, 6 where no model has the number, then 4 where the sheet ends early.
+unfoldable pub recordAt : ℕ → List ℕ → ℕ → ℕ → Place
+recordAt model s at room =
     cond (eqb room floats)
-    (cond (ltb (length s - at) (sheetFloats * 8)) (Place·Refused endsEarly) (Place·Next (at + sheetFloats * 8)))
+    (cond (ltb last model) (Place·Refused unknown)
+    (cond (ltb (length s - at) (sheetFloats model * 8)) (Place·Refused endsEarly) (Place·Next (at + sheetFloats model * 8))))
     (Place·Refused wrongLength)
 
 abbrev pub placed : Place → List ℕ → List ℕ → List ℕ
 placed (Place·Next n) new old = new
 placed (Place·Refused n) new old = old
 
-unfoldable pub roomAt : List ℕ → ℕ → List ℕ → List ℕ
-roomAt s at room = placed (recordAt s at (length room)) (wordsOf sheetFloats (drop at s)) room
+unfoldable pub roomAt : ℕ → List ℕ → ℕ → List ℕ → List ℕ
+roomAt model s at room = placed (recordAt model s at (length room)) (completed model (wordsOf (sheetFloats model) (drop at s))) room

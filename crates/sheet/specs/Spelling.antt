@@ -1,13 +1,14 @@
--- The bytes of a sheet (RULES, section 7), from its model number, parameters, count and words, and which of these can
+-- The bytes of a sheet (RULES, section 7), from its model number, parameters, count and its records' words, and which of these can
 -- be written: the format that a reading accepts, and all of it.
 use mathlib.Core.Path.{_≡_}
 use mathlib.Core.Bool.{Bool, true, cond}
 use mathlib.Core.List.{List, [], _∷_, _++_}
 use Prim.Native.Nat.{ℕ, zero, suc, _+_, _*_, _/_, _%_, _^_, _≤_, _<_}
-use lib.ListN.{length, take, drop}
+use lib.ListN.{length, take}
 use lib.Dec.{ltb}
 use Rattle.model.specs.Kinds.{last, allowed, kindsOf}
-use Rattle.sheet.specs.Sheet.{most, sheetFloats, wordsOf}
+use Rattle.sheet.specs.Records.{sheetFloats}
+use Rattle.sheet.specs.Sheet.{most}
 use Rattle.sheet.specs.declared.Header.{Header}
 
 -- one group of seven bits, or two with the low one first; the top bit of a byte says that more follows
@@ -44,13 +45,9 @@ pub record Writable (model : ℕ) (parameters : List ℕ) (count : ℕ) (words :
   pub known : model ≤ last
   pub fits : Fits (kindsOf model) parameters
   pub few : count ≤ most
-  pub whole : length words ≡ count * sheetFloats
+  pub whole : length words ≡ count * sheetFloats model
   pub bits : Below (2 ^ 64) words
 
 -- the parameters of a header, without the zeros past the last
 abbrev pub parametersOf : Header → List ℕ
 parametersOf h = take (length (kindsOf (h .model))) (h .parameters)
-
--- the records' words, as `read` delivers them
-abbrev pub recordsOf : List ℕ → Header → List ℕ
-recordsOf s h = wordsOf (h .count * sheetFloats) (drop (h .at) s)

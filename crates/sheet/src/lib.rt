@@ -3,6 +3,7 @@
 mod fields;
 mod groups;
 mod reading;
+mod records;
 mod words;
 
 pub use groups::number_at;
@@ -10,6 +11,7 @@ use model::PARAMETERS;
 pub use reading::read;
 pub use reading::read_header;
 pub use reading::record_at;
+pub use records::floats_of;
 pub use words::word_at;
 
 // A number of one or two groups and the place after it, or why there is none.
@@ -52,9 +54,7 @@ pub const MOST: usize = 200;
 
 const MOST_COUNT: u64 = MOST as u64;
 
-// How many floats a sheet's record has, and how many bytes a float.
-pub const FLOATS: usize = record::FLOATS;
-
+// How many bytes a float has.
 pub const BYTES: usize = 8;
 
 // Rooms for the records and the answers of the most particles.
@@ -62,5 +62,6 @@ pub const MOST_WORDS: usize = MOST * record::FLOATS;
 
 pub const MOST_ANSWERS: usize = MOST * 2;
 
-// The bytes of the longest sheet: the model in one group, its parameters, the count in two groups, the records.
-pub const LONGEST: usize = 1 + PARAMETERS * BYTES + 2 + MOST * FLOATS * BYTES;
+// The bytes of the longest sheet: the model in one group, its parameters, the count in two groups, the records with their
+// determinants.
+pub const LONGEST: usize = 1 + PARAMETERS * BYTES + 2 + MOST * record::FLOATS * BYTES;

@@ -1,13 +1,14 @@
 // What stands before the records, and the records themselves.
 use crate::BYTES;
-use crate::FLOATS;
 use crate::Header;
 use crate::MOST_COUNT;
 use crate::Number;
 use crate::Place;
 use crate::fields::parameters;
 use crate::groups::number_at;
-use crate::words::fill;
+use crate::records::fill_record;
+use crate::records::fill_records;
+use crate::records::floats_of;
 use model::PARAMETERS;
 ghost use mathlib.Core.Path.{_≡_};
 ghost use Prim.Native.Nat.{_≤_};
@@ -37,7 +38,7 @@ fn records_end(
     requires { ⌜ (at ≤ length (now s)) × (count ≤ most) ⌝ }
     ensures { λ r. ⌜ r ≡ recordsEnd (now (s .entry)) model parameters count at ⌝ }
 {
-    let wanted = count * FLOATS * BYTES;
+    let wanted = count * floats_of(model) * BYTES;
     let left = s.len() - at;
     if left < wanted {
         return refused(answers::ENDS_EARLY);
@@ -95,7 +96,8 @@ pub fn read_header(s: &[u8]) -> Header
     }
 }
 
-// The records' bits go into the first places of the room; the others, and all of them beside a refusal, keep their bits.
+// The records go into the first places of the room, each with its determinant; the other places, and all of them beside a refusal,
+// keep their bits.
 pub fn read(s: &[u8], room: &mut [u64]) -> Header
     ensures header { λ r. ⌜ r ≡ readOf (now (s .entry)) (length (now (room .entry))) ⌝ }
     ensures room { λ r. ⌜ now (room .exit) ≡ roomOf (now (s .entry)) (now (room .entry)) ⌝ }
@@ -111,23 +113,27 @@ pub fn read(s: &[u8], room: &mut [u64]) -> Header
     if room.len() < n {
         return refused(answers::LENGTH);
     }
-    fill(s, h.at, n, room);
+    fill_records(s, h.model, h.at, h.count, room);
     h
 }
 
-// The record that stands at a place, into a room of its size; beside a refusal the room keeps its bits.
-pub fn record_at(s: &[u8], at: usize, room: &mut [u64]) -> Place
-    ensures { λ r. ⌜ (r ≡ recordAt (now (s .entry)) at (length (now (room .entry)))) × (now (room .exit) ≡ roomAt (now (s .entry)) at (now (room .entry))) ⌝ }
+// The record that stands at a place, into a room of a list's record; beside a refusal the room keeps its bits.
+pub fn record_at(s: &[u8], model: u64, at: usize, room: &mut [u64]) -> Place
+    ensures { λ r. ⌜ (r ≡ recordAt model (now (s .entry)) at (length (now (room .entry)))) × (now (room .exit) ≡ roomAt model (now (s .entry)) at (now (room .entry))) ⌝ }
 {
     if room.len() != record::FLOATS {
         return Place::Refused(answers::LENGTH);
     }
+    if model::LAST < model {
+        return Place::Refused(answers::UNKNOWN);
+    }
+    let wanted = floats_of(model) * BYTES;
     if s.len() < at {
         return Place::Refused(answers::ENDS_EARLY);
     }
-    if s.len() - at < FLOATS * BYTES {
+    if s.len() - at < wanted {
         return Place::Refused(answers::ENDS_EARLY);
     }
-    fill(s, at, record::FLOATS, room);
-    Place::Next(at + FLOATS * BYTES)
+    fill_record(s, model, at, room);
+    Place::Next(at + wanted)
 }

@@ -14,12 +14,10 @@ use Rattle.record.specs.Layout.{floats}
 use Rattle.particles.specs.Pass.{recordAt, worked, answers, wellSized, passRecords, passAnswers}
 use Rattle.particles.proofs.PassLaws.{record-keeps, worked-length, answers-length}
 use Rattle.sheet.specs.declared.Header.{Header}
-use Rattle.sheet.specs.Sheet.{refusedBy, headerOf, readOf, roomOf, wordsOf}
-use Rattle.sheet.specs.Spelling.{recordsOf}
-use Rattle.sheet.proofs.Steps.{words-length}
+use Rattle.sheet.specs.Sheet.{refusedBy, headerOf, readOf, roomOf, recordsOf}
 use Rattle.sheet_run.specs.declared.Ran.{Ran}
 use Rattle.sheet_run.specs.Run.{lawOf, recordsIn, answersIn, stopped, frontOf, frontRecords, frontAnswers, ranWith, ranOf, ranRecords, ranAnswers}
-use Rattle.sheet_run.proofs.Rooms.{read-fits, room-length}
+use Rattle.sheet_run.proofs.Rooms.{read-fits, records-length, room-length}
 
 pub taken : {P : Type 0} (b : Bool) (X Y : P) → b ≡ true → cond b X Y ≡ X
 taken true X Y q = refl
@@ -83,9 +81,9 @@ module _ (s xs : List ℕ) (e : readOf s (length xs) .refusal ≡ 0) where
   records-read =
       let h = readOf s (length xs) in
       let n = h .count * floats in
-      let w = wordsOf n (drop (h .at) s) in
+      let w = recordsOf s h in
       ap (take n) (taken (eqb (h .refusal) 0) (w ++ drop n xs) xs (eq-eqb (h .refusal) 0 e))
-      ∙ take-at w (drop n xs) n (words-length n (drop (h .at) s)) ∙ ap (recordsOf s) (header-own s (length xs) e)
+      ∙ take-at w (drop n xs) n (records-length s h) ∙ ap (recordsOf s) (header-own s (length xs) e)
 
 -- ---- what is found: the pass over the parts, in front of what else the rooms hold
 module _ (s xs out : List ℕ) (w : wellSized xs out ≡ true) (e : readOf s (length xs) .refusal ≡ 0) where

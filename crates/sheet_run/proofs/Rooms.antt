@@ -9,8 +9,10 @@ use lib.ListN.{length, drop, length-append, length-drop}
 use borrow.Author.Tests.{eq-eqb, eqb-true}
 use Rattle.record.specs.Layout.{floats}
 use Rattle.sheet.specs.declared.Header.{Header}
-use Rattle.sheet.specs.Sheet.{headerOf, readOf, roomOf, refusedBy, fitted, filled, wordsOf}
+use Rattle.sheet.specs.Records.{sheetFloats}
+use Rattle.sheet.specs.Sheet.{headerOf, readOf, roomOf, refusedBy, fitted, wordsIn, recordsOf}
 use Rattle.sheet.proofs.Steps.{words-length}
+use Rattle.sheet.proofs.RecordLaws.{list-length}
 
 short : (l : Bool) (h : Header) (room : ℕ) → (T (not l) → h .count * floats ≤ room)
     → (cond l (refusedBy 8) h) .refusal ≡ 0 → (cond l (refusedBy 8) h) .count * floats ≤ room
@@ -44,10 +46,13 @@ filled-length true ws room n f e =
     simp (length-append, length-drop) (omega arith)
 filled-length false ws room n f e = refl
 
+-- the records that a header speaks of, as they are delivered
+pub records-length : (s : List ℕ) (h : Header) → length (recordsOf s h) ≡ h .count * floats
+records-length s h = list-length (h .model) (h .count) (wordsIn s h) (words-length (h .count * sheetFloats (h .model)) (drop (h .at) s))
+
 pub room-length : (s room : List ℕ) → length (roomOf s room) ≡ length room
 unfolding roomOf
 room-length s room =
     let h = readOf s (length room) in
-    let n = h .count * floats in
-    filled-length (eqb (h .refusal) 0) (wordsOf n (drop (h .at) s)) room n
-    (λ e. read-fits s (length room) (eqb-true (h .refusal) 0 e)) (words-length n (drop (h .at) s))
+    filled-length (eqb (h .refusal) 0) (recordsOf s h) room (h .count * floats)
+    (λ e. read-fits s (length room) (eqb-true (h .refusal) 0 e)) (records-length s h)

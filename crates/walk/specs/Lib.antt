@@ -12,4 +12,5 @@ pub mod Tensor
 pub mod Answers
 pub mod Power
 pub mod Numbers
+pub mod Inner
 pub mod Before

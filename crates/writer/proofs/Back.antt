@@ -2,8 +2,9 @@
 use mathlib.Core.Path.{_≡_, refl, sym, ap, _∙_, subst}
 use mathlib.Core.Bool.{Bool, true, false, _&&_}
 use mathlib.Core.List.{List, [], _∷_, _++_}
-use Prim.Native.Nat.{ℕ, suc, _+_, _*_, _/_, _%_, _^_, _≤_, _<_}
+use Prim.Native.Nat.{ℕ, zero, suc, _+_, _*_, _/_, _%_, _^_, _≤_, _<_}
 use native.Mathlib.Omega.{arith}
+use native.Mathlib.Nat.{mul-le-mul}
 use native.Mathlib.Numerals.{add-one}
 use lib.ListN.{length, getD, take, drop, length-drop}
 use lib.Seq.{drop-cons, take-at, drop-at}
@@ -11,9 +12,13 @@ use borrow.Author.Tests.{lt-ltb, ne-eqb}
 use Rattle.numbers.proofs.Laws.{and-both}
 use Rattle.model.specs.Kinds.{kindsOf, allowed, flagsAllowed}
 use Rattle.model.proofs.KindLaws.{kinds-most}
-use Rattle.sheet.specs.Sheet.{most, sheetFloats, headerOf}
-use Rattle.sheet.specs.Spelling.{spellNumber, spell, Below, Fits, Writable, parametersOf, recordsOf}
-use Rattle.sheet.proofs.Pieces.{below-drop, fits-length}
+use Rattle.record.specs.Layout.{floats}
+use Rattle.sheet.specs.Records.{sheetFloats, dropped, each, listWords, sheetWords, AllRight}
+use Rattle.sheet.specs.Sheet.{most, wordsIn, recordsOf, headerOf}
+use Rattle.sheet.specs.Spelling.{spellNumber, spell, Below, Fits, Writable, parametersOf}
+use Rattle.sheet.proofs.Pieces.{below-take, below-drop, below-append, fits-length}
+use Rattle.sheet.proofs.RecordLaws.{floats-most, list-length, sheet-list, list-sheet}
+use Rattle.sheet.proofs.RecordLaws as records
 use Rattle.sheet.proofs.Format.{Accepted, accepted, ReadBack, read-back}
 use Rattle.sheet.specs.declared.Header.{Header}
 use Rattle.writer.specs.declared.Written.the-variants.{Length, Refused}
@@ -51,24 +56,55 @@ one-group : (n : ℕ) → n < 128 → length (spellNumber n) ≤ 1
 unfolding spellNumber
 one-group n h = rw (lt-ltb n 128 h) (omega arith)
 
+-- the floats of a sheet are floats of the list
+dropped-below : (b model n : ℕ) (words : List ℕ) → Below b words → Below b (sheetWords model n words)
+unfolding each dropped
+dropped-below b model zero words h = tt
+dropped-below b model (suc n) words h =
+    let r = drop (n * floats) words in
+    below-append b (sheetWords model n words) (take (sheetFloats model) (take floats r)) (dropped-below b model n words h)
+    (below-take b (sheetFloats model) (take floats r) (below-take b floats r (below-drop b (n * floats) words h)))
+
 module _ (model : ℕ) (p words : List ℕ) where
+  -- the records as the sheet has them
+  abbrev inSheet : List ℕ
+  inSheet = sheetWords model (countOf words) words
+
+  even-length : length words % floats ≡ 0 → length words ≡ countOf words * floats
+  even-length e = omega arith
+
   -- ---- what is written can be read
   module _ (room : ℕ) (bp : Below (2 ^ 64) p) (bw : Below (2 ^ 64) words) where
-    writable : Fine model p words room → Writable model p (countOf words) words
+    writable : Fine model p words room → Writable model p (countOf words) inSheet
     writable f =
         let l = f .named .listed in
         record {
           known = l .known;
           fits = fitting (kindsOf model) 0 p (l .many ∙ omega arith) bp (f .named .flags);
           few = f .few;
-          whole = let e = l .even in omega (arith, e);
-          bits = bw;
+          whole = records.sheet-length model (countOf words) words (even-length (l .even));
+          bits = dropped-below (2 ^ 64) model (countOf words) words bw;
         }
 
-    -- model, parameters, count and every bit of every record
-    pub reads-back : refusalOf model p words room ≡ 0 → ReadBack model p (countOf words) words (sheetOf model p words) (headerOf (sheetOf model p words))
-    unfolding sheetOf
-    reads-back e = read-back model p (countOf words) words (writable (fine model p words room e))
+    module _ (e : refusalOf model p words room ≡ 0) where
+      -- model, parameters, count, and of every record each bit that is in the sheet
+      pub reads-back : ReadBack model p (countOf words) inSheet (sheetOf model p words) (headerOf (sheetOf model p words))
+      unfolding sheetOf
+      reads-back = read-back model p (countOf words) inSheet (writable (fine model p words room e))
+
+      -- what `read` then delivers: where the sheet has no determinant, it is filled in
+      pub delivered : recordsOf (sheetOf model p words) (headerOf (sheetOf model p words)) ≡ listWords model (countOf words) inSheet
+      delivered = let r = reads-back in rw (r .words-are, r .model-is, r .count-is)
+
+      -- so that the floats in the sheet are those that were written
+      pub same-floats : sheetWords model (countOf words) (recordsOf (sheetOf model p words) (headerOf (sheetOf model p words))) ≡ inSheet
+      same-floats =
+          rw delivered (sheet-list model (countOf words) inSheet (writable (fine model p words room e) .whole))
+
+      -- and where each determinant was right, or is in the sheet, every bit of every record
+      pub same-records : AllRight model (countOf words) words → recordsOf (sheetOf model p words) (headerOf (sheetOf model p words)) ≡ words
+      same-records r =
+          delivered ∙ list-sheet model (countOf words) words (even-length (fine model p words room e .named .listed .even)) r
 
   -- ---- the room: the sheet, then its own bytes
   pub record Room (room after : List ℕ) : Type 0 where
@@ -97,14 +133,15 @@ module _ (model : ℕ) (p words : List ℕ) where
       kept room 9 (λ z. omega (arith, z)) (told model p words (length room) 9 (short-room (f .named) (f .few) (omega (arith, n))))
 
   -- the longest sheet
-  pub longest : (room : ℕ) → refusalOf model p words room ≡ 0 → length (sheetOf model p words) ≤ 1 + 8 * 8 + 2 + most * sheetFloats * 8
+  pub longest : (room : ℕ) → refusalOf model p words room ≡ 0 → length (sheetOf model p words) ≤ 1 + 8 * 8 + 2 + most * floats * 8
   longest room e =
       let f = fine model p words room e in
       let l = f .named .listed in
       let v = l .even in
       let w = f .few in
       let k = kinds-most model in
-      rw (sheet-length model p words, l .many) (omega (arith, v, w, k, number-most (countOf words), one-group model (let q = l .known in omega (arith, q))))
+      let m = mul-le-mul w (floats-most model) in
+      rw (sheet-length model p words, l .many) (omega (arith, v, w, k, m, number-most (countOf words), one-group model (let q = l .known in omega (arith, q))))
 
 -- ---- what is read can be written, to the same bytes
 module _ (s : List ℕ) (b : Below 256 s) (e : headerOf s .refusal ≡ 0) where
@@ -112,12 +149,14 @@ module _ (s : List ℕ) (b : Below 256 s) (e : headerOf s .refusal ≡ 0) where
   h = headerOf s
 
   counted : countOf (recordsOf s h) ≡ h .count
-  counted = let w = accepted s b e .writable .whole in omega (arith, w)
+  counted = let w = list-length (h .model) (h .count) (wordsIn s h) (accepted s b e .writable .whole) in omega (arith, w)
 
   pub same-bytes : sheetOf (h .model) (parametersOf h) (recordsOf s h) ≡ s
   unfolding sheetOf
   same-bytes =
-      ap (λ (n : ℕ). spell (h .model) (parametersOf h) n (recordsOf s h)) counted ∙ sym (accepted s b e .spelled)
+      ap (λ (n : ℕ). spell (h .model) (parametersOf h) n (sheetWords (h .model) n (recordsOf s h))) counted
+      ∙ ap (spell (h .model) (parametersOf h) (h .count)) (sheet-list (h .model) (h .count) (wordsIn s h) (accepted s b e .writable .whole))
+      ∙ sym (accepted s b e .spelled)
 
   pub rewritten : (room : ℕ) → length s ≤ room → refusalOf (h .model) (parametersOf h) (recordsOf s h) room ≡ 0
   rewritten room r =
@@ -126,7 +165,7 @@ module _ (s : List ℕ) (b : Below 256 s) (e : headerOf s .refusal ≡ 0) where
       written (h .model) (parametersOf h) (recordsOf s h) room
       (record {
         named = record {
-          listed = record { even = let v = w .whole in omega (arith, v); known = w .known; many = n };
+          listed = record { even = let v = list-length (h .model) (h .count) (wordsIn s h) (w .whole) in omega (arith, v); known = w .known; many = n };
           flags = allowing (kindsOf (h .model)) 0 (parametersOf h) (n ∙ omega arith) (w .fits);
         };
         few = let v = counted in let f = w .few in omega (arith, v, f);

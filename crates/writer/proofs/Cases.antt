@@ -9,7 +9,9 @@ use lib.ListN.{length}
 use borrow.Author.Tests.{leb-true, eqb-true, le-leb, lt-leb, le-ltb, eq-eqb, ne-eqb}
 use Rattle.numbers.proofs.Laws.{and-both}
 use Rattle.model.specs.Kinds.{last, kindsOf, flagsAllowed, parametersFit, modelKnown}
-use Rattle.sheet.specs.Sheet.{most, sheetFloats}
+use Rattle.record.specs.Layout.{floats}
+use Rattle.sheet.specs.Records.{sheetFloats}
+use Rattle.sheet.specs.Sheet.{most}
 use Rattle.sheet.specs.Spelling.{spellNumber}
 use Rattle.writer.specs.Writer.{countOf, sheetOf, refusalOf}
 use Rattle.writer.proofs.Stages as stages
@@ -34,37 +36,37 @@ module _ (model : ℕ) (p : List ℕ) where
 
   module _ (words : List ℕ) where
     pub sheet-length : length p ≡ length (kindsOf model)
-        → length (sheetOf model p words) ≡ length (spellNumber model) + length (kindsOf model) * 8 + length (spellNumber (countOf words)) + length words * 8
+        → length (sheetOf model p words) ≡ length (spellNumber model) + length (kindsOf model) * 8 + length (spellNumber (countOf words)) + countOf words * sheetFloats model * 8
     sheet-length e =
-        stages.sheet-length model p words ∙ ap (λ (k : ℕ). length (spellNumber model) + k * 8 + length (spellNumber (countOf words)) + length words * 8) e
+        stages.sheet-length model p words ∙ ap (λ (k : ℕ). length (spellNumber model) + k * 8 + length (spellNumber (countOf words)) + countOf words * sheetFloats model * 8) e
 
     module _ (room : ℕ) where
-      pub uneven : (length words % sheetFloats ≡ 0 → ⊥) → 8 ≡ refusalOf model p words room
+      pub uneven : (length words % floats ≡ 0 → ⊥) → 8 ≡ refusalOf model p words room
       unfolding refusalOf
-      uneven h = rw (ne-eqb (length words % sheetFloats) 0 h) refl
+      uneven h = rw (ne-eqb (length words % floats) 0 h) refl
 
-      module _ (even : length words % sheetFloats ≡ 0) where
+      module _ (even : length words % floats ≡ 0) where
         pub unfit : parametersFit model p ≡ false → 8 ≡ refusalOf model p words room
         unfolding refusalOf
-        unfit f = rw (eq-eqb (length words % sheetFloats) 0 even, f) refl
+        unfit f = rw (eq-eqb (length words % floats) 0 even, f) refl
 
         module _ (f : parametersFit model p ≡ true) where
           pub other-model : modelKnown model p ≡ false → 6 ≡ refusalOf model p words room
           unfolding refusalOf
-          other-model k = rw (eq-eqb (length words % sheetFloats) 0 even, f, k) refl
+          other-model k = rw (eq-eqb (length words % floats) 0 even, f, k) refl
 
           module _ (k : modelKnown model p ≡ true) where
             pub over : most < countOf words → 7 ≡ refusalOf model p words room
             unfolding refusalOf
-            over m = rw (eq-eqb (length words % sheetFloats) 0 even, f, k, lt-leb (countOf words) most m) refl
+            over m = rw (eq-eqb (length words % floats) 0 even, f, k, lt-leb (countOf words) most m) refl
 
             module _ (m : countOf words ≤ most) where
               pub short-room : room < length (sheetOf model p words) → 9 ≡ refusalOf model p words room
               unfolding refusalOf
               short-room r =
-                  rw (eq-eqb (length words % sheetFloats) 0 even, f, k, le-leb (countOf words) most m, lt-leb (length (sheetOf model p words)) room r) refl
+                  rw (eq-eqb (length words % floats) 0 even, f, k, le-leb (countOf words) most m, lt-leb (length (sheetOf model p words)) room r) refl
 
               pub fine : length (sheetOf model p words) ≤ room → 0 ≡ refusalOf model p words room
               unfolding refusalOf
               fine r =
-                  rw (eq-eqb (length words % sheetFloats) 0 even, f, k, le-leb (countOf words) most m, le-leb (length (sheetOf model p words)) room r) refl
+                  rw (eq-eqb (length words % floats) 0 even, f, k, le-leb (countOf words) most m, le-leb (length (sheetOf model p words)) room r) refl

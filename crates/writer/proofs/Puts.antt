@@ -53,13 +53,17 @@ bytes-next zero w = refl
 bytes-next (suc k) w = ap (λ (l : List ℕ). w % 256 ∷ l) (bytes-next k (w / 256) ∙ ap (λ (x : ℕ). spellBytes k (w / 256) ++ (x % 256 ∷ [])) (left-next k w))
 
 -- ---- a list's floats
-last-word : (a : List ℕ) (w : ℕ) → spellWords (a ++ (w ∷ [])) ≡ spellWords a ++ spellBytes 8 w
+pub words-append : (a b : List ℕ) → spellWords (a ++ b) ≡ spellWords a ++ spellWords b
 unfolding spellWords
-last-word [] w = append-nil (spellBytes 8 w)
-last-word (x ∷ a) w = ap (λ (l : List ℕ). spellBytes 8 x ++ l) (last-word a w) ∙ sym (append-assoc (spellBytes 8 x) (spellWords a) (spellBytes 8 w))
+words-append [] b = refl
+words-append (x ∷ a) b = ap (λ (l : List ℕ). spellBytes 8 x ++ l) (words-append a b) ∙ sym (append-assoc (spellBytes 8 x) (spellWords a) (spellWords b))
+
+one-word : (w : ℕ) → spellWords (w ∷ []) ≡ spellBytes 8 w
+unfolding spellWords
+one-word w = append-nil (spellBytes 8 w)
 
 pub words-next : (words : List ℕ) (i : ℕ) → i < length words → spellWords (take (suc i) words) ≡ spellWords (take i words) ++ spellBytes 8 (getD words i 0)
-words-next words i h = ap spellWords (take-suc words i 0 h) ∙ last-word (take i words) (getD words i 0)
+words-next words i h = ap spellWords (take-suc words i 0 h) ∙ words-append (take i words) (getD words i 0 ∷ []) ∙ ap (λ (l : List ℕ). spellWords (take i words) ++ l) (one-word (getD words i 0))
 
 -- one byte at a place, and two
 pub put-one : (room : List ℕ) (at x : ℕ) → at < length room → set room at x ≡ put room at (x ∷ [])

@@ -8,7 +8,8 @@ use lib.Dec.{eqb, ltb, leb}
 use lib.ListN.{length}
 use borrow.Author.Tests.{ltb-true, ltb-false, leb-true, leb-false, eqb-true, eqb-false, lt-ltb, le-ltb, lt-leb, le-leb, eq-eqb, ne-eqb}
 use Rattle.model.specs.Kinds.{last, kindsOf, flagsAllowed, parametersFit, modelKnown}
-use Rattle.sheet.specs.Sheet.{most, sheetFloats}
+use Rattle.record.specs.Layout.{floats}
+use Rattle.sheet.specs.Sheet.{most}
 use Rattle.sheet.proofs.AllSheets.{by-test}
 use Rattle.writer.specs.Writer.{countOf, sheetOf, refusalOf}
 use Rattle.writer.specs.Reasons.{Listed, Named, Reason, uneven, parameters, unknown-model, other-flag, over, short-room, Fine}
@@ -45,7 +46,7 @@ module _ (model : ℕ) (p words : List ℕ) where
 
     pub answered : Answered
     answered =
-        by-test (eqb (length words % sheetFloats) 0) (λ e. even (eqb-true (length words % sheetFloats) 0 e)) (λ e. refuses 8 (uneven (eqb-false (length words % sheetFloats) 0 e)))
+        by-test (eqb (length words % floats) 0) (λ e. even (eqb-true (length words % floats) 0 e)) (λ e. refuses 8 (uneven (eqb-false (length words % floats) 0 e)))
       where
         last-two : Named model p words → Answered
         last-two n =
@@ -55,7 +56,7 @@ module _ (model : ℕ) (p words : List ℕ) where
             (λ r. refuses 9 (short-room n (leb-true (countOf words) most f) (leb-false (length (sheetOf model p words)) room r))))
             (λ f. refuses 7 (over n (leb-false (countOf words) most f)))
 
-        even : length words % sheetFloats ≡ 0 → Answered
+        even : length words % floats ≡ 0 → Answered
         even e =
             by-test (ltb last model) (λ k. refuses 6 (unknown-model e (ltb-true last model k)))
             (λ k. by-test (eqb (length p) (length (kindsOf model)))

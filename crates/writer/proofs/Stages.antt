@@ -1,9 +1,12 @@
 -- The sheet put piece by piece into a room that has place for it.
 use mathlib.Core.Path.{_≡_, sym, ap, _∙_}
 use mathlib.Core.List.{List, _++_, append-assoc}
-use Prim.Native.Nat.{ℕ, _+_, _*_, _≤_}
+use Prim.Native.Nat.{ℕ, _+_, _*_, _/_, _≤_}
 use native.Mathlib.Omega.{arith}
 use lib.ListN.{length, length-append}
+use Rattle.record.specs.Layout.{floats}
+use Rattle.sheet.specs.Records.{sheetFloats, dropped, sheetWords}
+use Rattle.sheet.proofs.RecordLaws.{dropped-length, each-length}
 use Rattle.sheet.specs.Spelling.{spellNumber, spellWords, spell}
 use Rattle.sheet.proofs.Pieces.{spelled-length}
 use Rattle.writer.specs.Writer.{put, countOf, sheetOf}
@@ -20,13 +23,18 @@ module _ (model : ℕ) (p words : List ℕ) where
   third = spellNumber (countOf words)
 
   abbrev fourth : List ℕ
-  fourth = spellWords words
+  fourth = spellWords (sheetWords model (countOf words) words)
 
-  pub sheet-length : length (sheetOf model p words) ≡ length first + length p * 8 + length third + length words * 8
+  fourth-length : length fourth ≡ countOf words * sheetFloats model * 8
+  fourth-length =
+      spelled-length (sheetWords model (countOf words) words)
+      ∙ ap (λ (n : ℕ). n * 8) (each-length (dropped model) floats (sheetFloats model) (dropped-length model) words (countOf words) (omega arith))
+
+  pub sheet-length : length (sheetOf model p words) ≡ length first + length p * 8 + length third + countOf words * sheetFloats model * 8
   unfolding sheetOf spell
-  sheet-length = simp (length-append, spelled-length) (omega arith)
+  sheet-length = simp (length-append, fourth-length, spelled-length p) (omega arith)
 
-  module _ (room : List ℕ) (h : length first + length p * 8 + length third + length words * 8 ≤ length room) (a : ℕ) (at-second : a ≡ 0 + length first) where
+  module _ (room : List ℕ) (h : length first + length p * 8 + length third + countOf words * sheetFloats model * 8 ≤ length room) (a : ℕ) (at-second : a ≡ 0 + length first) where
     pub first-length : (r₁ : List ℕ) → r₁ ≡ put room 0 first → length r₁ ≡ length room
     first-length r₁ e = ap length e ∙ put-length room 0 first (omega arith)
 

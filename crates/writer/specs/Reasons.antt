@@ -5,12 +5,13 @@ use mathlib.Core.List.{List}
 use Prim.Native.Nat.{ℕ, _%_, _≤_, _<_}
 use lib.ListN.{length}
 use Rattle.model.specs.Kinds.{last, kindsOf, flagsAllowed}
-use Rattle.sheet.specs.Sheet.{most, sheetFloats}
+use Rattle.record.specs.Layout.{floats}
+use Rattle.sheet.specs.Sheet.{most}
 use Rattle.writer.specs.Writer.{countOf, sheetOf}
 
 -- whole records, and as many parameters as a known model has
 pub record Listed (model : ℕ) (p words : List ℕ) : Type 0 where
-  pub even : length words % sheetFloats ≡ 0
+  pub even : length words % floats ≡ 0
   pub known : model ≤ last
   pub many : length p ≡ length (kindsOf model)
 
@@ -21,10 +22,10 @@ pub record Named (model : ℕ) (p words : List ℕ) : Type 0 where
 
 pub data Reason (model : ℕ) (p words : List ℕ) (room : ℕ) : ℕ → Type 0 where
   -- 8: broken records, or not as many parameters as the model has (an unknown model has no number of them)
-  uneven : (length words % sheetFloats ≡ 0 → ⊥) → Reason model p words room 8
-  parameters : length words % sheetFloats ≡ 0 → model ≤ last → (length p ≡ length (kindsOf model) → ⊥) → Reason model p words room 8
+  uneven : (length words % floats ≡ 0 → ⊥) → Reason model p words room 8
+  parameters : length words % floats ≡ 0 → model ≤ last → (length p ≡ length (kindsOf model) → ⊥) → Reason model p words room 8
   -- 6: an unknown model, or a flag other than 0.0 and 1.0
-  unknown-model : length words % sheetFloats ≡ 0 → last < model → Reason model p words room 6
+  unknown-model : length words % floats ≡ 0 → last < model → Reason model p words room 6
   other-flag : Listed model p words → flagsAllowed 0 (kindsOf model) p ≡ false → Reason model p words room 6
   -- 7: over 200 records
   over : Named model p words → most < countOf words → Reason model p words room 7

@@ -7,7 +7,9 @@ use lib.Dec.{eqb, leb}
 use lib.ListN.{length, take, drop}
 use Rattle.answers.specs.Refusals.{wrongLength, unknown, tooMany, noRoom}
 use Rattle.model.specs.Kinds.{parametersFit, modelKnown}
-use Rattle.sheet.specs.Sheet.{most, sheetFloats}
+use Rattle.record.specs.Layout.{floats}
+use Rattle.sheet.specs.Records.{sheetWords}
+use Rattle.sheet.specs.Sheet.{most}
 use Rattle.sheet.specs.Spelling.{spell}
 use Rattle.writer.specs.declared.Written.{Written}
 use Rattle.writer.specs.declared.Written.the-variants.{Length, Refused}
@@ -18,15 +20,16 @@ put room at b = take at room ++ (b ++ drop (at + length b) room)
 
 -- how many records the words are
 abbrev pub countOf : List ℕ → ℕ
-countOf words = length words / sheetFloats
+countOf words = length words / floats
 
+-- a list's records, each as the model's sheets have it
 unfoldable pub sheetOf : ℕ → List ℕ → List ℕ → List ℕ
-sheetOf model parameters words = spell model parameters (countOf words) words
+sheetOf model parameters words = spell model parameters (countOf words) (sheetWords model (countOf words) words)
 
 -- 0 where nothing is refused; the room has so many bytes
 unfoldable pub refusalOf : ℕ → List ℕ → List ℕ → ℕ → ℕ
 refusalOf model parameters words room =
-    cond (eqb (length words % sheetFloats) 0 && parametersFit model parameters)
+    cond (eqb (length words % floats) 0 && parametersFit model parameters)
     (cond (modelKnown model parameters)
     (cond (leb (countOf words) most)
     (cond (leb (length (sheetOf model parameters words)) room) 0 noRoom) tooMany) unknown) wrongLength

@@ -23,9 +23,10 @@ fn fill(model: u64, parameters: &[u64], records: &[u64], room: &mut [u8]) -> usi
     let a = bytes::write_number(room, 0, model);
     bytes::write_words(room, a, parameters);
     let b = a + parameters.len() * BYTES;
-    let c = bytes::write_number(room, b, (records.len() / record::FLOATS) as u64);
-    bytes::write_words(room, c, records);
-    c + records.len() * BYTES
+    let count = records.len() / record::FLOATS;
+    let c = bytes::write_number(room, b, count as u64);
+    bytes::write_records(room, c, model, records);
+    c + count * sheet::floats_of(model) * BYTES
 }
 
 // 8, 6, 7 and 9, in this order; a NaN passes as it is.

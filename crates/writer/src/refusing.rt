@@ -5,7 +5,8 @@ ghost use mathlib.Core.Path.{_≡_};
 ghost use Prim.Native.Nat.{_+_, _*_, _/_, _<_, _^_};
 ghost use lib.ListN.{length};
 ghost use Rattle.model.specs.Kinds.{kindsOf};
-ghost use Rattle.sheet.specs.Sheet.{sheetFloats};
+ghost use Rattle.record.specs.Layout.{floats};
+ghost use Rattle.sheet.specs.Records.{sheetFloats};
 ghost use Rattle.sheet.specs.Spelling.{spellNumber};
 ghost use Rattle.writer.specs.Writer.{refusalOf};
 
@@ -15,16 +16,16 @@ fn number_length(n: u64) -> usize
     if n < 128 { 1 } else { 2 }
 }
 
-// The bytes of a known model's sheet with so many words of records.
+// The bytes of a known model's sheet of a list of so many words.
 fn sheet_length(model: u64, words: usize) -> usize
     requires { ⌜ words < 2 ^ 32 ⌝ }
-    ensures { λ r. ⌜ r ≡ length (spellNumber model) + length (kindsOf model) * 8 + length (spellNumber (words / sheetFloats)) + words * 8 ⌝ }
+    ensures { λ r. ⌜ r ≡ length (spellNumber model) + length (kindsOf model) * 8 + length (spellNumber (words / floats)) + words / floats * sheetFloats model * 8 ⌝ }
 {
-    let count = (words / record::FLOATS) as u64;
+    let count = words / record::FLOATS;
     number_length(model)
         + model::parameters_of(model) * BYTES
-        + number_length(count)
-        + words * BYTES
+        + number_length(count as u64)
+        + count * sheet::floats_of(model) * BYTES
 }
 
 // 0 where nothing is refused.

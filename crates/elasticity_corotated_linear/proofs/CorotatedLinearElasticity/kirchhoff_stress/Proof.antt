@@ -1,5 +1,5 @@
 -- The inputs, then the steps.
-use Rattle.elasticity_corotated_linear.proofs.Laws.{stress-inputs, stress-sigma}
+use Rattle.elasticity_corotated_linear.proofs.Laws.{stress-inputs, stress-sigma, stress-worked}
 use Rattle.elasticity_corotated_linear.specs.Stress.{stressWalk}
 use borrow.Author.Needs.{needs}
 use Rattle.elasticity_corotated_linear.proofs.CorotatedLinearElasticity.kirchhoff_stress.Statement.{
@@ -7,17 +7,17 @@ use Rattle.elasticity_corotated_linear.proofs.CorotatedLinearElasticity
 }
 use Rattle.elasticity_corotated_linear.proofs.CorotatedLinearElasticity.kirchhoff_stress.Tie as tie
 
-stress-requires : tie.Need-stress-requires
-stress-requires c κs =
-    let t0 = simp (c .before .stress-inputs .ensures) at (c .if1 .taken) in
-    let a = c .before .before .args in
+kirchhoff-requires : tie.Need-kirchhoff-requires
+kirchhoff-requires c κs =
+    let t0 = simp (c .before .before .stress-inputs .ensures) at (c .before .if1 .taken) in
+    let a = c .before .before .before .args in
     stress-sigma (a .self) (a .phase) (a .hardening) (a .f) (a .u) (a .sigma) (a .vt) t0
 
 returns : tie.Need-returns
 unfolding stressWalk
 returns c =
-    let t0 = simp (c .before .before .stress-inputs .ensures) at (c .before .if1 .taken) in
-    simp (c .stress .ensures, c .before .before .stress-inputs .ensures, t0, stress-inputs)
+    let t0 = simp (c .before .before .before .stress-inputs .ensures) at (c .before .before .if1 .taken) in
+    simp (c .kirchhoff .ensures, c .before .determinant .ensures, t0, stress-inputs, stress-worked)
 
 returns-2 : tie.Need-returns-2
 unfolding stressWalk
@@ -28,4 +28,4 @@ returns-2 c =
 pub kirchhoff-stress-spec : {M : Type 1} → statement M
 kirchhoff-stress-spec =
     tie.close
-    (tie.spec (λ c κs. search needs) stress-requires (λ c κs. search needs) returns returns-2)
+    (tie.spec (λ c κs. search needs) (λ c κs. search needs) kirchhoff-requires (λ c κs. search needs) returns returns-2)

@@ -1,5 +1,5 @@
 -- The inputs, then the steps.
-use Rattle.elasticity_corotated_linear.proofs.Laws.{pos-inputs, pos-sigma}
+use Rattle.elasticity_corotated_linear.proofs.Laws.{pos-inputs, pos-sigma, pos-worked}
 use Rattle.elasticity_corotated_linear.specs.Energy.{posWalk}
 use borrow.Author.Needs.{needs}
 use Rattle.elasticity_corotated_linear.proofs.CorotatedLinearElasticity.pos_energy.Statement.{
@@ -9,15 +9,15 @@ use Rattle.elasticity_corotated_linear.proofs.CorotatedLinearElasticity
 
 pos-requires : tie.Need-pos-requires
 pos-requires c κs =
-    let t0 = simp (c .before .is-finite .ensures, c .before .before .row-finite .ensures, c .before .before .before .mat-finite .ensures, c .before .before .before .before .law-finite .ensures) at (c .if1 .taken) in
-    let a = c .before .before .before .before .before .args in
+    let t0 = simp (c .before .before .is-finite .ensures, c .before .before .before .row-finite .ensures, c .before .before .before .before .mat-finite .ensures, c .before .before .before .before .before .law-finite .ensures) at (c .before .if1 .taken) in
+    let a = c .before .before .before .before .before .before .args in
     pos-sigma (a .self) (a .f) (a .sigma) (a .hardening) t0
 
 returns : tie.Need-returns
 unfolding posWalk
 returns c =
-    let t0 = simp (c .before .before .is-finite .ensures, c .before .before .before .row-finite .ensures, c .before .before .before .before .mat-finite .ensures, c .before .before .before .before .before .law-finite .ensures) at (c .before .if1 .taken) in
-    simp (c .pos .ensures, c .before .before .is-finite .ensures, c .before .before .before .row-finite .ensures, c .before .before .before .before .mat-finite .ensures, c .before .before .before .before .before .law-finite .ensures, t0, pos-inputs)
+    let t0 = simp (c .before .before .before .is-finite .ensures, c .before .before .before .before .row-finite .ensures, c .before .before .before .before .before .mat-finite .ensures, c .before .before .before .before .before .before .law-finite .ensures) at (c .before .before .if1 .taken) in
+    simp (c .pos .ensures, c .before .determinant .ensures, t0, pos-inputs, pos-worked)
 
 returns-2 : tie.Need-returns-2
 unfolding posWalk
@@ -29,4 +29,4 @@ pub pos-energy-spec : {M : Type 1} → statement M
 pos-energy-spec =
     tie.close
     (tie.spec (λ c κs. search needs) (λ c κs. search needs) (λ c κs. search needs) (λ c κs. search needs)
-    pos-requires returns returns-2)
+    (λ c κs. search needs) pos-requires returns returns-2)

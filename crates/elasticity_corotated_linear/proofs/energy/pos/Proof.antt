@@ -6,12 +6,12 @@ use Rattle.elasticity_corotated_linear.proofs.energy.pos.Tie as tie
 
 returns : tie.Need-returns
 returns c =
-    let c6 = c .before .before .before .before .before .before in
-    let a = c6 .args in
-    simp (c .pos-sum .ensures, c .before .spherical-energy .ensures, c .before .before .pos-dev-part .ensures, c .before .before .before .positive .ensures, c .before .before .before .before .less-one .ensures, c .before .before .before .before .before .determinant .ensures, pos-law (a .p) (a .f) (a .sigma) (a .hardening) (c6 .pre))
+    let s = c .before .before .before .before .before in
+    let a = s .args in
+    simp (c .pos-sum .ensures, c .before .spherical-energy .ensures, c .before .before .pos-dev-part .ensures, c .before .before .before .positive .ensures, c .before .before .before .before .less-one .ensures, pos-law (a .p) (a .sigma) (a .hardening) (s .pre) (a .j))
 
 pub pos-spec : {M : Type 1} → statement M
 pos-spec =
     tie.close
-    (tie.spec (λ c κs. search needs) (λ c κs. search needs) (λ c κs. search needs) (λ c κs. search needs)
+    (tie.spec (λ c κs. search needs) (λ c κs. search needs) (λ c κs. search needs)
     (λ c κs. search needs) (λ c κs. search needs) returns)

@@ -1,7 +1,7 @@
 -- The inputs, then the steps.
 use borrow.Author.Needs.{needs}
 use Rattle.elasticity_neo_hookean.specs.Energy.{energyWalkIn}
-use Rattle.elasticity_neo_hookean.proofs.Laws.{inputs-law}
+use Rattle.elasticity_neo_hookean.proofs.Laws.{inputs-law, energy-worked}
 use Rattle.elasticity_neo_hookean.proofs.NeoHookeanElasticity.elastic_energy_density_in.Statement.{
   statement,
 }
@@ -12,8 +12,9 @@ unfolding energyWalkIn
 returns c =
     let c1 = c .before in
     let c2 = c1 .before in
-    let t0 = simp (c2 .inputs-finite .ensures) at (c1 .if1 .taken) in
-    simp (c .energy .ensures, t0, inputs-law)
+    let c3 = c2 .before in
+    let t0 = simp (c3 .inputs-finite .ensures) at (c2 .if1 .taken) in
+    simp (c .density .ensures, c1 .determinant .ensures, t0, inputs-law, energy-worked)
 
 returns-2 : tie.Need-returns-2
 unfolding energyWalkIn
@@ -25,4 +26,4 @@ returns-2 c =
 pub elastic-energy-density-in-spec : {M : Type 1} → statement M
 elastic-energy-density-in-spec =
     tie.close
-    (tie.spec (λ c κs. search needs) (λ c κs. search needs) returns returns-2)
+    (tie.spec (λ c κs. search needs) (λ c κs. search needs) (λ c κs. search needs) returns returns-2)

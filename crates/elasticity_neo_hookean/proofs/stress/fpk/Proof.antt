@@ -21,10 +21,10 @@ returns c =
     let c14 = c13 .before in
     let c15 = c14 .before in
     let c16 = c15 .before in
-    let t0 = simp (c10 .mat-number2 .ensures, c11 .mat-number .ensures, c12 .is-number .ensures, c13 .cauchy-green-strain .ensures, c14 .inverse-transpose .ensures, c15 .bulk .ensures, c16 .determinant .ensures) at (c9 .if1 .taken) in
-    let t1 = simp (c8 .inv-cbrt-squared-on-path .ensures, c16 .determinant .ensures) at (c6 .w .given .1) in
-    let a = c16 .before .args in
-    simp (c .answered .ensures, c1 .mat-add .ensures, c2 .fpk-volumetric .ensures, c3 .mat-mul .ensures, c4 .shear-stress .ensures, c13 .cauchy-green-strain .ensures, c14 .inverse-transpose .ensures, c15 .bulk .ensures, c16 .determinant .ensures, fpk-given (a .p) (a .f) (a .hardening) t0 t1, worth-plus, worth-times, worth-rows)
+    let t0 = simp (c10 .mat-number2 .ensures, c11 .mat-number .ensures, c12 .is-number .ensures, c13 .cauchy-green-strain .ensures, c14 .inverse-transpose .ensures, c15 .bulk .ensures) at (c9 .if1 .taken) in
+    let t1 = simp (c8 .inv-cbrt-squared-on-path .ensures) at (c6 .w .given .1) in
+    let a = c16 .args in
+    simp (c .answered .ensures, c1 .mat-add .ensures, c2 .fpk-volumetric .ensures, c3 .mat-mul .ensures, c4 .shear-stress .ensures, c13 .cauchy-green-strain .ensures, c14 .inverse-transpose .ensures, c15 .bulk .ensures, fpk-given (a .p) (a .f) (a .hardening) (a .j) t0 t1, worth-plus, worth-times, worth-rows)
 
 returns-2 : tie.Need-returns-2
 returns-2 c =
@@ -38,10 +38,10 @@ returns-2 c =
     let c10 = c9 .before in
     let c11 = c10 .before in
     let c12 = c11 .before in
-    let t0 = simp (c6 .mat-number2 .ensures, c7 .mat-number .ensures, c8 .is-number .ensures, c9 .cauchy-green-strain .ensures, c10 .inverse-transpose .ensures, c11 .bulk .ensures, c12 .determinant .ensures) at (c5 .if1 .taken) in
-    let t1 = simp (c4 .inv-cbrt-squared-on-path .ensures, c12 .determinant .ensures) at (c2 .n .given .1) in
-    let a = c12 .before .args in
-    simp (c .refused-matrix .ensures, t0, t1, fpk-law (a .p) (a .f) (a .hardening))
+    let t0 = simp (c6 .mat-number2 .ensures, c7 .mat-number .ensures, c8 .is-number .ensures, c9 .cauchy-green-strain .ensures, c10 .inverse-transpose .ensures, c11 .bulk .ensures) at (c5 .if1 .taken) in
+    let t1 = simp (c4 .inv-cbrt-squared-on-path .ensures) at (c2 .n .given .1) in
+    let a = c12 .args in
+    simp (c .refused-matrix .ensures, t0, t1, fpk-law (a .p) (a .f) (a .hardening) (a .j))
 
 returns-3 : tie.Need-returns-3
 returns-3 c =
@@ -53,14 +53,14 @@ returns-3 c =
     let c6 = c5 .before in
     let c7 = c6 .before in
     let c8 = c7 .before in
-    let t0 = simp (c2 .mat-number2 .ensures, c3 .mat-number .ensures, c4 .is-number .ensures, c5 .cauchy-green-strain .ensures, c6 .inverse-transpose .ensures, c7 .bulk .ensures, c8 .determinant .ensures) at (c1 .if1 .left) in
-    let a = c8 .before .args in
-    simp (c .refused-matrix2 .ensures, t0, fpk-law (a .p) (a .f) (a .hardening))
+    let t0 = simp (c2 .mat-number2 .ensures, c3 .mat-number .ensures, c4 .is-number .ensures, c5 .cauchy-green-strain .ensures, c6 .inverse-transpose .ensures, c7 .bulk .ensures) at (c1 .if1 .left) in
+    let a = c8 .args in
+    simp (c .refused-matrix2 .ensures, t0, fpk-law (a .p) (a .f) (a .hardening) (a .j))
 
 pub fpk-spec : {M : Type 1} → statement M
 fpk-spec =
     tie.close
-    (tie.spec (λ c κs. search needs) (λ c κs. search needs) (λ c κs. search needs) (λ c κs. search needs)
+    (tie.spec (λ c κs. search needs) (λ c κs. search needs) (λ c κs. search needs)
     (λ c κs. search needs) (λ c κs. search needs) (λ c κs. search needs) (λ c κs. search needs) (λ c. search needs)
     (λ c κs. search needs) (λ c κs. search needs) (λ c κs. search needs) (λ c κs. search needs)
     (λ c κs. search needs) (λ c. search needs) (λ c κs. search needs) (λ c κs. search needs) returns returns-2

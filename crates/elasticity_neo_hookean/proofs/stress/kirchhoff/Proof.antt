@@ -19,9 +19,9 @@ returns c =
     let c12 = c11 .before in
     let c13 = c12 .before in
     let t0 = simp (c9 .mat-number .ensures, c10 .is-number .ensures, c11 .cauchy-green-strain .ensures, c12 .bulk .ensures) at (c8 .if1 .taken) in
-    let t1 = simp (c7 .inv-cbrt-squared-on-path .ensures, c13 .determinant .ensures) at (c5 .w .given .1) in
-    let a = c13 .before .args in
-    simp (c .split .ensures, c1 .volumetric-stress .ensures, c2 .phase-coeff .ensures, c3 .shear-stress .ensures, c11 .cauchy-green-strain .ensures, c12 .bulk .ensures, c13 .determinant .ensures, kirchhoff-given (a .p) (a .phase) (a .hardening) (a .f) t0 t1, worth-plus, worth-scaled, worth-rows)
+    let t1 = simp (c7 .inv-cbrt-squared-on-path .ensures) at (c5 .w .given .1) in
+    let a = c13 .args in
+    simp (c .split .ensures, c1 .volumetric-stress .ensures, c2 .phase-coeff .ensures, c3 .shear-stress .ensures, c11 .cauchy-green-strain .ensures, c12 .bulk .ensures, kirchhoff-given (a .p) (a .phase) (a .hardening) (a .f) (a .j) t0 t1, worth-plus, worth-scaled, worth-rows)
 
 returns-2 : tie.Need-returns-2
 returns-2 c =
@@ -34,9 +34,9 @@ returns-2 c =
     let c9 = c8 .before in
     let c10 = c9 .before in
     let t0 = simp (c6 .mat-number .ensures, c7 .is-number .ensures, c8 .cauchy-green-strain .ensures, c9 .bulk .ensures) at (c5 .if1 .taken) in
-    let t1 = simp (c4 .inv-cbrt-squared-on-path .ensures, c10 .determinant .ensures) at (c2 .n .given .1) in
-    let a = c10 .before .args in
-    simp (c .refused-matrix .ensures, t0, t1, kirchhoff-law (a .p) (a .phase) (a .hardening) (a .f))
+    let t1 = simp (c4 .inv-cbrt-squared-on-path .ensures) at (c2 .n .given .1) in
+    let a = c10 .args in
+    simp (c .refused-matrix .ensures, t0, t1, kirchhoff-law (a .p) (a .phase) (a .hardening) (a .f) (a .j))
 
 returns-3 : tie.Need-returns-3
 returns-3 c =
@@ -47,13 +47,13 @@ returns-3 c =
     let c5 = c4 .before in
     let c6 = c5 .before in
     let t0 = simp (c2 .mat-number .ensures, c3 .is-number .ensures, c4 .cauchy-green-strain .ensures, c5 .bulk .ensures) at (c1 .if1 .left) in
-    let a = c6 .before .args in
-    simp (c .refused-matrix2 .ensures, t0, kirchhoff-law (a .p) (a .phase) (a .hardening) (a .f))
+    let a = c6 .args in
+    simp (c .refused-matrix2 .ensures, t0, kirchhoff-law (a .p) (a .phase) (a .hardening) (a .f) (a .j))
 
 pub kirchhoff-spec : {M : Type 1} → statement M
 kirchhoff-spec =
     tie.close
-    (tie.spec (λ c κs. search needs) (λ c κs. search needs) (λ c κs. search needs) (λ c κs. search needs)
+    (tie.spec (λ c κs. search needs) (λ c κs. search needs) (λ c κs. search needs)
     (λ c κs. search needs) (λ c κs. search needs) (λ c. search needs) (λ c κs. search needs) (λ c κs. search needs)
     (λ c κs. search needs) (λ c κs. search needs) (λ c. search needs) (λ c κs. search needs) (λ c κs. search needs)
     returns returns-2 returns-3)

@@ -13,14 +13,14 @@ put-outcome-requires : tie.Need-put-outcome-requires
 put-outcome-requires c κs =
     let d = c .before .before .before .before .before .before .before .before in
     let a = d .before .before .before .before .before .args in
-    eqb-true _ _ (and-both (d .before .fit .result && eqb (length (a .r .now)) 36) (eqb (length (a .answer .now)) 2) (d .if1 .taken) .1)
+    eqb-true _ _ (and-both (d .before .fit .result && eqb (length (a .r .now)) 37) (eqb (length (a .answer .now)) 2) (d .if1 .taken) .1)
 
 returns : tie.Need-returns
 returns c =
     let d = c .before .before .before .before .before .before .before .before .before .before .before in
     let a = d .before .before .before .before .before .args in
-    let n = and-both (d .before .fit .result && eqb (length (a .r .now)) 36) (eqb (length (a .answer .now)) 2) (d .if1 .taken) in
-    let q = and-both (d .before .fit .result) (eqb (length (a .r .now)) 36) (n .0) in
+    let n = and-both (d .before .fit .result && eqb (length (a .r .now)) 37) (eqb (length (a .answer .now)) 2) (d .if1 .taken) in
+    let q = and-both (d .before .fit .result) (eqb (length (a .r .now)) 37) (n .0) in
     let f = sym (d .before .fit .ensures) ∙ q .0 in
     let k = sym (c .before .before .before .before .before .before .before .before .before .before .known .ensures) ∙ c .before .before .before .before .before .before .before .before .before .if2 .taken in
     let m = c .before .before .before .before .before .before .before .before .model-of .ensures in

@@ -10,13 +10,13 @@ finite-step-requires : tie.Need-finite-step-requires
 finite-step-requires c κs =
     let a = c .before .before .before .before .before .before .before .args in
     let t = simp (c .before .before .law-finite .ensures, c .before .before .before .limits-finite .ensures, c .before .before .before .before .all-finite .ensures) at (c .before .if1 .taken) in
-    (c .before .before .before .before .before .before .before .pre, finite-first (a .m) (a .l) (a .e) (a .r .now) t .0)
+    (c .before .before .before .before .before .before .before .pre, finite-first (a .m) (a .r .now) (a .l) (a .e) t .0)
 
 returns : tie.Need-returns
 returns c =
     let a = c .before .before .before .before .before .before .before .before .before .before .args in
     let t = simp (c .before .before .before .before .before .law-finite .ensures, c .before .before .before .before .before .before .limits-finite .ensures, c .before .before .before .before .before .before .before .all-finite .ensures) at (c .before .before .before .before .if1 .taken) in
-    let q = sym (finite-first (a .m) (a .l) (a .e) (a .r .now) t .1) in
+    let q = sym (finite-first (a .m) (a .r .now) (a .l) (a .e) t .1) in
     let k = c .before .before .finite-step .ensures in
     (k .0 ∙ ap (λ (w : Worked). w .outcome) q, (k .1 .0 ∙ ap (λ (w : Worked). w .failed) q, k .1 .1 ∙ ap (λ (w : Worked). w .after) q))
 
@@ -24,7 +24,7 @@ returns-2 : tie.Need-returns-2
 returns-2 c =
     let a = c .before .before .before .before .before .before .args in
     let t = simp (c .before .law-finite .ensures, c .before .before .limits-finite .ensures, c .before .before .before .all-finite .ensures) at (c .if1 .left) in
-    let q = sym (refused-first (a .m) (a .l) (a .e) (a .r .now) t) in
+    let q = sym (refused-first (a .m) (a .r .now) (a .l) (a .e) t) in
     (ap (λ (w : Worked). w .outcome) q, (ap (λ (w : Worked). w .failed) q, ap (λ (w : Worked). w .after) q))
 
 pub step-spec : {M : Type 1} → statement M

@@ -1,6 +1,7 @@
 -- `particles::plain::step` meets its contract: what its calls ensure, on each path.
-use mathlib.Core.Path.{sym, _∙_}
+use mathlib.Core.Path.{sym, ap, _∙_}
 use borrow.Author.Needs.{needs}
+use Rattle.particles.specs.Pass.{Worked}
 use Rattle.particles.proofs.NotFinite.{refused-law}
 use Rattle.particles.proofs.plain.step.Statement.{statement}
 use Rattle.particles.proofs.plain.step.Tie as tie
@@ -13,7 +14,10 @@ returns : tie.Need-returns
 returns c = let e = c .before .before .finite-step .ensures in (e .0, e .1)
 
 returns-2 : tie.Need-returns-2
-returns-2 c = let s = c .before .before .before .before in refused-law (s .args .m) (s .args .r .now) (sym (c .before .all-finite .ensures) ∙ c .if1 .left)
+returns-2 c =
+    let s = c .before .before .before .before in
+    let q = sym (refused-law (s .args .m) (s .args .r .now) (sym (c .before .all-finite .ensures) ∙ c .if1 .left)) in
+    (ap (λ (w : Worked). w .outcome) q, ap (λ (w : Worked). w .after) q)
 
 pub step-spec : {M : Type 1} → statement M
 step-spec =

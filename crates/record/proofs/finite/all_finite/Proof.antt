@@ -5,10 +5,10 @@ use Rattle.record.proofs.finite.all_finite.Tie as tie
 
 returns : tie.Need-returns
 returns c =
-    simp (c .mat-finite3 .ensures, c .before .mat-finite2 .ensures, c .before .before .scalars-finite .ensures, c .before .before .before .row-finite .ensures, c .before .before .before .before .mat-finite .ensures)
+    simp (c .word-finite .ensures, c .before .before .mat-finite3 .ensures, c .before .before .before .mat-finite2 .ensures, c .before .before .before .before .scalars-finite .ensures, c .before .before .before .before .before .row-finite .ensures, c .before .before .before .before .before .before .mat-finite .ensures)
 
 pub all-finite-spec : {M : Type 1} → statement M
 all-finite-spec =
     tie.close
     (tie.spec (λ c κs. search needs) (λ c κs. search needs) (λ c κs. search needs) (λ c κs. search needs)
-    (λ c κs. search needs) returns)
+    (λ c κs. search needs) (λ c. search needs) (λ c κs. search needs) returns)

@@ -20,14 +20,14 @@ mul-n c =
 returns-3 : tie.Need-returns-3
 returns-3 c = narrow _ _ _ (c .before .before .before .before .before .read-header .ensures) (c .before .before .before .before .before .before .if1 .left) (c .before .before .before .if2 .left) _ (c .refused2 .ensures) (c .before .if3 .taken)
 
-fill-requires : tie.Need-fill-requires
-fill-requires c κs = (within _ _ (c .before .before .before .before .before .read-header .ensures) (c .before .before .before .if2 .left), c .before .if3 .left)
+fill-records-requires : tie.Need-fill-records-requires
+fill-records-requires c κs = (within _ _ (c .before .before .before .before .before .read-header .ensures) (c .before .before .before .if2 .left), c .before .if3 .left)
 
 returns-4 : tie.Need-returns-4
-returns-4 c = good _ _ _ (c .before .before .before .before .before .before .before .before .read-header .ensures) (c .before .before .before .before .before .before .before .before .before .if1 .left) (c .before .before .before .before .before .before .if2 .left) _ (c .before .before .before .before .if3 .left) (c .before .before .fill .ensures)
+returns-4 c = good _ _ _ (c .before .before .before .before .before .before .before .before .read-header .ensures) (c .before .before .before .before .before .before .before .before .before .if1 .left) (c .before .before .before .before .before .before .if2 .left) _ (c .before .before .before .before .if3 .left) (c .before .before .fill-records .ensures)
 
 pub read-spec : {M : Type 1} → statement M
 read-spec =
     tie.close
     (tie.spec (λ c κs. search needs) returns (λ c κs. search needs) returns-2 mul-n (λ c κs. search needs) returns-3
-    fill-requires (λ c. search needs) returns-4)
+    fill-records-requires (λ c. search needs) returns-4)

@@ -1,0 +1,21 @@
+-- `host::of_record::pasoletu_record_corotated_elastic_energy_density` meets its contract.
+use borrow.Author.Needs.{needs}
+use Rattle.host.specs.OfRecord.{recordCorotatedElasticEnergyDensity}
+use Rattle.host.proofs.of_record.pasoletu_record_corotated_elastic_energy_density.Statement.{statement}
+use Rattle.host.proofs.of_record.pasoletu_record_corotated_elastic_energy_density.Tie as tie
+
+returns : tie.Need-returns
+unfolding recordCorotatedElasticEnergyDensity
+returns c =
+    let p = c .before .before .put .ensures in
+    let e0 = c .before .before .before .before .sized .ensures in
+    let e1 = c .before .before .before .before .before .flagged .ensures in
+    let e2 = c .before .before .before .before .before .before .word .ensures in
+    let e3 = c .before .before .before .before .before .before .before .elastic-energy-density .ensures in
+    let e4 = c .before .before .before .before .before .before .before .before .corotated .ensures in
+    (simp (p .0, e0, e1, e2, e3, e4), simp (p .1, e0, e1, e2, e3, e4))
+
+pub pasoletu-record-corotated-elastic-energy-density-spec : {M : Type 1} → statement M
+pasoletu-record-corotated-elastic-energy-density-spec =
+    tie.close
+    (tie.spec (λ c κs. search needs) (λ c κs. search needs) (λ c κs. search needs) (λ c κs. search needs) (λ c κs. search needs) (λ c κs. search needs) (λ c. search needs) returns)

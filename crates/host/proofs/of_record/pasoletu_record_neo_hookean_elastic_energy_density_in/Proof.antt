@@ -1,0 +1,21 @@
+-- `host::of_record::pasoletu_record_neo_hookean_elastic_energy_density_in` meets its contract.
+use borrow.Author.Needs.{needs}
+use Rattle.host.specs.OfRecord.{recordNeoHookeanElasticEnergyDensityIn}
+use Rattle.host.proofs.of_record.pasoletu_record_neo_hookean_elastic_energy_density_in.Statement.{statement}
+use Rattle.host.proofs.of_record.pasoletu_record_neo_hookean_elastic_energy_density_in.Tie as tie
+
+returns : tie.Need-returns
+unfolding recordNeoHookeanElasticEnergyDensityIn
+returns c =
+    let p = c .before .before .put .ensures in
+    let e0 = c .before .before .before .before .sized .ensures in
+    let e1 = c .before .before .before .before .before .flagged .ensures in
+    let e2 = c .before .before .before .before .before .before .elastic-energy-density-in .ensures in
+    let e3 = c .before .before .before .before .before .before .before .bits-of .ensures in
+    let e4 = c .before .before .before .before .before .before .before .before .neo-hookean .ensures in
+    (simp (p .0, e0, e1, e2, e3, e4), simp (p .1, e0, e1, e2, e3, e4))
+
+pub pasoletu-record-neo-hookean-elastic-energy-density-in-spec : {M : Type 1} → statement M
+pasoletu-record-neo-hookean-elastic-energy-density-in-spec =
+    tie.close
+    (tie.spec (λ c κs. search needs) (λ c κs. search needs) (λ c κs. search needs) (λ c κs. search needs) (λ c κs. search needs) (λ c κs. search needs) (λ c. search needs) returns)

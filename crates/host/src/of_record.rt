@@ -1,0 +1,141 @@
+// Stresses and energies of a record by the solid laws, with its stored determinant. The laws' lists are those of `elasticity`.
+ghost use mathlib.Core.Path.{_≡_};
+ghost use Rattle.host_lists.specs.Out.{numberCode, numberOut, matrixCode, matrixOut};
+ghost use Rattle.host.specs.OfRecord.{recordNeoHookeanKirchhoffStress, recordNeoHookeanFpkStress, recordNeoHookeanElasticEnergyDensity, recordNeoHookeanElasticEnergyDensityIn, recordNeoHookeanPosEnergy, recordCorotatedKirchhoffStress, recordCorotatedElasticEnergyDensity, recordCorotatedPosEnergy};
+
+#[no_mangle]
+pub extern "C" fn pasoletu_record_neo_hookean_kirchhoff_stress(
+    law: &[u64],
+    r: &[u64],
+    out: &mut [u64],
+) -> u8
+    ensures { λ n. ⌜ n ≡ matrixCode (recordNeoHookeanKirchhoffStress (now (law .entry)) (now (r .entry))) (now (out .entry)) ⌝ }
+    ensures { λ n. ⌜ now (out .exit) ≡ matrixOut (recordNeoHookeanKirchhoffStress (now (law .entry)) (now (r .entry))) (now (out .entry)) ⌝ }
+{
+    let ok = (law.len() == 3) & (r.len() == record::FLOATS);
+    let p = model::neo_hookean(law);
+    host_lists::put_matrix(
+        host_lists::sized_matrix(ok, solid::neo_hookean::kirchhoff_stress(p, r)),
+        out,
+    )
+}
+
+#[no_mangle]
+pub extern "C" fn pasoletu_record_neo_hookean_fpk_stress(
+    law: &[u64],
+    r: &[u64],
+    out: &mut [u64],
+) -> u8
+    ensures { λ n. ⌜ n ≡ matrixCode (recordNeoHookeanFpkStress (now (law .entry)) (now (r .entry))) (now (out .entry)) ⌝ }
+    ensures { λ n. ⌜ now (out .exit) ≡ matrixOut (recordNeoHookeanFpkStress (now (law .entry)) (now (r .entry))) (now (out .entry)) ⌝ }
+{
+    let ok = (law.len() == 3) & (r.len() == record::FLOATS);
+    let p = model::neo_hookean(law);
+    host_lists::put_matrix(
+        host_lists::sized_matrix(ok, solid::neo_hookean::fpk_stress(p, r)),
+        out,
+    )
+}
+
+#[no_mangle]
+pub extern "C" fn pasoletu_record_neo_hookean_elastic_energy_density(
+    law: &[u64],
+    r: &[u64],
+    out: &mut [u64],
+) -> u8
+    ensures { λ n. ⌜ n ≡ numberCode (recordNeoHookeanElasticEnergyDensity (now (law .entry)) (now (r .entry))) (now (out .entry)) ⌝ }
+    ensures { λ n. ⌜ now (out .exit) ≡ numberOut (recordNeoHookeanElasticEnergyDensity (now (law .entry)) (now (r .entry))) (now (out .entry)) ⌝ }
+{
+    let ok = (law.len() == 3) & (r.len() == record::FLOATS);
+    let p = model::neo_hookean(law);
+    host_lists::put(
+        host_lists::sized(ok, solid::neo_hookean::elastic_energy_density(p, r)),
+        out,
+    )
+}
+
+// `one_split` is a flag, told by its bits.
+#[no_mangle]
+pub extern "C" fn pasoletu_record_neo_hookean_elastic_energy_density_in(
+    law: &[u64],
+    one_split: f64,
+    r: &[u64],
+    out: &mut [u64],
+) -> u8
+    ensures { λ n. ⌜ n ≡ numberCode (recordNeoHookeanElasticEnergyDensityIn (now (law .entry)) «one_split» (now (r .entry))) (now (out .entry)) ⌝ }
+    ensures { λ n. ⌜ now (out .exit) ≡ numberOut (recordNeoHookeanElasticEnergyDensityIn (now (law .entry)) «one_split» (now (r .entry))) (now (out .entry)) ⌝ }
+{
+    let ok = (law.len() == 3) & (r.len() == record::FLOATS);
+    let p = model::neo_hookean(law);
+    let w = numbers::bits_of(one_split);
+    let a = solid::neo_hookean::elastic_energy_density_in(w != 0, p, r);
+    host_lists::put(host_lists::sized(ok, host_lists::flagged(w, a)), out)
+}
+
+#[no_mangle]
+pub extern "C" fn pasoletu_record_neo_hookean_pos_energy(
+    law: &[u64],
+    r: &[u64],
+    out: &mut [u64],
+) -> u8
+    ensures { λ n. ⌜ n ≡ numberCode (recordNeoHookeanPosEnergy (now (law .entry)) (now (r .entry))) (now (out .entry)) ⌝ }
+    ensures { λ n. ⌜ now (out .exit) ≡ numberOut (recordNeoHookeanPosEnergy (now (law .entry)) (now (r .entry))) (now (out .entry)) ⌝ }
+{
+    let ok = (law.len() == 3) & (r.len() == record::FLOATS);
+    let p = model::neo_hookean(law);
+    host_lists::put(
+        host_lists::sized(ok, solid::neo_hookean::pos_energy(p, r)),
+        out,
+    )
+}
+
+#[no_mangle]
+pub extern "C" fn pasoletu_record_corotated_kirchhoff_stress(
+    law: &[u64],
+    r: &[u64],
+    out: &mut [u64],
+) -> u8
+    ensures { λ n. ⌜ n ≡ matrixCode (recordCorotatedKirchhoffStress (now (law .entry)) (now (r .entry))) (now (out .entry)) ⌝ }
+    ensures { λ n. ⌜ now (out .exit) ≡ matrixOut (recordCorotatedKirchhoffStress (now (law .entry)) (now (r .entry))) (now (out .entry)) ⌝ }
+{
+    let ok = (law.len() == 4) & (r.len() == record::FLOATS);
+    let a = solid::corotated_linear::kirchhoff_stress(model::corotated(law), r);
+    host_lists::put_matrix(
+        host_lists::sized_matrix(ok, host_lists::flagged_matrix(record::word(law, 0), a)),
+        out,
+    )
+}
+
+#[no_mangle]
+pub extern "C" fn pasoletu_record_corotated_elastic_energy_density(
+    law: &[u64],
+    r: &[u64],
+    out: &mut [u64],
+) -> u8
+    ensures { λ n. ⌜ n ≡ numberCode (recordCorotatedElasticEnergyDensity (now (law .entry)) (now (r .entry))) (now (out .entry)) ⌝ }
+    ensures { λ n. ⌜ now (out .exit) ≡ numberOut (recordCorotatedElasticEnergyDensity (now (law .entry)) (now (r .entry))) (now (out .entry)) ⌝ }
+{
+    let ok = (law.len() == 4) & (r.len() == record::FLOATS);
+    let a = solid::corotated_linear::elastic_energy_density(model::corotated(law), r);
+    host_lists::put(
+        host_lists::sized(ok, host_lists::flagged(record::word(law, 0), a)),
+        out,
+    )
+}
+
+#[no_mangle]
+pub extern "C" fn pasoletu_record_corotated_pos_energy(
+    law: &[u64],
+    r: &[u64],
+    out: &mut [u64],
+) -> u8
+    ensures { λ n. ⌜ n ≡ numberCode (recordCorotatedPosEnergy (now (law .entry)) (now (r .entry))) (now (out .entry)) ⌝ }
+    ensures { λ n. ⌜ now (out .exit) ≡ numberOut (recordCorotatedPosEnergy (now (law .entry)) (now (r .entry))) (now (out .entry)) ⌝ }
+{
+    let ok = (law.len() == 4) & (r.len() == record::FLOATS);
+    let a = solid::corotated_linear::pos_energy(model::corotated(law), r);
+    host_lists::put(
+        host_lists::sized(ok, host_lists::flagged(record::word(law, 0), a)),
+        out,
+    )
+}

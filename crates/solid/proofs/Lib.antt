@@ -1,0 +1,5 @@
+pub mod Passed
+pub mod NeoHookeanStored
+pub mod CorotatedStored
+pub mod Numbers
+pub mod Told

@@ -1,0 +1,4 @@
+pub mod OfRecord
+pub mod NeoHookean
+pub mod Corotated
+pub mod Told
