@@ -48,3 +48,4 @@ uint8_t pasoletu_run_sheet(const uint8_t *bytes, size_t bytes_length, uint64_t *
 uint8_t pasoletu_write_sheet(uint64_t model, const uint64_t *parameters, size_t parameters_length,
                              const uint64_t *records, size_t records_length, uint8_t *bytes, size_t bytes_length,
                              uint64_t *written, size_t written_length);
+uint8_t pasoletu_report(const uint64_t *records, size_t records_length, uint64_t *report, size_t report_length);

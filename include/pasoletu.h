@@ -71,7 +71,8 @@ enum {
     PASOLETU_LENGTH = 8,             /* a list has the wrong length */
     PASOLETU_NO_ROOM = 9,            /* the lent room is shorter than the sheet */
     PASOLETU_ABOVE_RANGE = 10,       /* a function would get an argument above its range */
-    PASOLETU_WRONG_DETERMINANT = 11  /* the record's stored determinant is not that of its F */
+    PASOLETU_WRONG_DETERMINANT = 11, /* the record's stored determinant is not that of its F */
+    PASOLETU_TOO_LONG = 16           /* a report has over 4096 particles */
 };
 
 /* What a refusal means and what to do, in words. The text is constant: nothing is to be freed. */
@@ -106,6 +107,8 @@ static inline const char *pasoletu_refusal_text(uint64_t refusal)
     case PASOLETU_WRONG_DETERMINANT:
         return "the record's stored determinant is not that of its F: fill it in where you write F "
                "(fill_determinants)";
+    case PASOLETU_TOO_LONG:
+        return "a report has over 4096 particles: report them in lists of at most 4096";
     default:
         return "no refusal of this library: header and library do not belong together";
     }
@@ -177,6 +180,21 @@ static inline const char *pasoletu_refusal_text(uint64_t refusal)
 #define PASOLETU_HEADER_PARAMETERS 1  /* 8: bits of the parameters, 0 past the model's last */
 #define PASOLETU_HEADER_COUNT 9       /* particles */
 #define PASOLETU_HEADER_PLACE 10      /* of the first record's first byte in the sheet */
+
+/* Reports (section 7): three columns of six entries. Least, greatest and total are whole numbers of 2^-30, as
+ * int64_t. */
+#define PASOLETU_REPORT_MOST 4096               /* particles of a report */
+#define PASOLETU_REPORT 18                      /* entries of a report */
+#define PASOLETU_REPORT_COLUMN 6                /* entries of a column */
+#define PASOLETU_REPORT_PLASTIC_HARDENING 0     /* the first entry of this column */
+#define PASOLETU_REPORT_ELASTIC_HARDENING 6     /* of this */
+#define PASOLETU_REPORT_PLASTIC_DETERMINANT 12  /* and of this */
+#define PASOLETU_REPORT_COUNT 0                 /* in a column: how many values are counted */
+#define PASOLETU_REPORT_LEAST 1                 /* the least of them; 0 of none */
+#define PASOLETU_REPORT_GREATEST 2              /* the greatest; 0 of none */
+#define PASOLETU_REPORT_TOTAL 3                 /* their sum */
+#define PASOLETU_REPORT_OUTSIDE 4               /* how many lie not within 2^20 of zero */
+#define PASOLETU_REPORT_NOT_FINITE 5            /* how many are NaN or infinite */
 
 /* ---- Elementary functions (section 3) ---------------------------------------------------------------------------- */
 /* Each writes one double. The answer lies within the distance told of the exact value.
@@ -472,6 +490,25 @@ uint8_t pasoletu_run_sheet(const uint8_t *bytes, size_t bytes_length, double *re
 uint8_t pasoletu_write_sheet(uint64_t model, const double *parameters, size_t parameters_length, const double *records,
                              size_t records_length, uint8_t *bytes, size_t bytes_length, uint64_t *written,
                              size_t written_length);
+
+/* ---- Reports (section 7) ----------------------------------------------------------------------------------------- */
+
+/* report: 18. The report over a list of records: of plastic hardening, elastic hardening and plastic determinant how
+ * many values are counted, the least, the greatest and the total of them, how many lie not within 2^20 of zero, and
+ * how many are NaN or infinite; see PASOLETU_REPORT_COUNT and the others. Each counted value is taken down, towards
+ * minus infinity, to the next whole multiple of 2^-30, and least, greatest and total are whole numbers of 2^-30: no
+ * digit of them depends on the machine. No value is refused, and no other float of a record is looked at.
+ * Refusals, nothing written: 8 for records that are not whole or a report not of 18; then 16 for over 4096 records.
+ */
+uint8_t pasoletu_report(const double *records, size_t records_length, uint64_t *report, size_t report_length);
+
+/* first: 18; second: 18; joined: 18. Two reports put together: what pasoletu_report answers of the two lists one
+ * after the other, also by 16. Counts and totals are added (totals modulo 2^64, which no two reports of lists
+ * reach); least and greatest are over those columns that count a value.
+ * Refusals, nothing written: 8 for a list not of 18; then 16 where the three counts of a column and those of its
+ * like together pass 4096. */
+uint8_t pasoletu_join_reports(const uint64_t *first, size_t first_length, const uint64_t *second, size_t second_length,
+                              uint64_t *joined, size_t joined_length);
 
 /* ==== End of what tools/table makes ==== */
 

@@ -123,6 +123,20 @@ class Answers(Night):
         self.holds_every_answer()
         self.assertEqual(len(ran.stderr.decode().splitlines()), 2)
 
+    def test_the_last_part_is_the_night_in_whole_numbers(self):
+        bytes_of = (TOP / "samples" / "snow_slope.sheet").read_bytes()
+        (self.sheets / "a.sheet").write_bytes(bytes_of)
+        self.sheet("cut.sheet")
+        self.night()
+        told = (self.out / "report.txt").read_text()
+        printed = subprocess.run([TOP / "tools" / "report.py", self.sheets], stdout=subprocess.PIPE, stderr=subprocess.DEVNULL, cwd=self.folder).stdout.decode()
+        self.assertEqual(told, printed.replace(str(self.sheets) + "/", ""))
+        self.assertIn("the night in whole numbers: 1 sheet, ", told)
+        self.assertIn("cut.sheet: refused 4, in no table", told)
+        page = (self.out / "index.html").read_text()
+        self.assertIn('<pre id="report">%s</pre>' % html.escape(told), page)
+        self.assertLess(page.index("summary.csv"), page.index('id="report"'))
+
     def test_the_summary_counts(self):
         self.sheet("some.sheet", "particles 5\n0 untouched\n1 refused 1\n2 refused 2\n3 refused 10\n4 stored 3ff0000000000000\nend\n")
         self.sheet("cut.sheet", "sheet refused 4\n")

@@ -174,6 +174,7 @@ th { font-weight: 600; border-bottom-width: 2px } td.n, th.n { text-align: right
 td.name { overflow-wrap: anywhere; min-width: 15rem } th, td.short { white-space: nowrap }
 .picture { display: none; position: fixed; inset: 0; overflow: auto; background: rgba(0, 0, 0, .8); text-align: center; padding: 1rem }
 .picture:target { display: block } .picture img { max-width: 100%; background: white }
+pre { overflow-x: auto; font-variant-numeric: tabular-nums }
 summary { cursor: pointer; font-size: 1.1rem; margin-top: 2rem }
 """
 
@@ -269,8 +270,9 @@ class Rows:
         return "<details><summary>%s with nothing refused</summary>\n%s\n</details>" % (counted(len(good), "sheet"), listed)
 
 
-def page(results, out):
-    """The page of results that are sorted, the worst first. It needs no other file but for the answers and for pictures beyond the first."""
+def page(results, out, report="", note=None):
+    """The page of results that are sorted, the worst first, with the night in whole numbers last. It needs no other file but for the answers
+    and for pictures beyond the first."""
     t = totals(results)
     held_pictures = held(results, out)
     rows = Rows(out, held_pictures)
@@ -285,6 +287,8 @@ def page(results, out):
         rows.well(good) if good else "",
         '<p class="faint">A refused particle keeps every bit that it had: leave it out of the field, put no number in its place. '
         'Every sheet stands in <a href="summary.csv">summary.csv</a>; a picture of one that has none: <code>tools/draw.py X.sheet OUT.svg</code>.</p>',
+        '<h2>The night in whole numbers</h2>\n<pre id="report">%s</pre>' % html.escape(report) if report else "",
+        '<p class="faint">%s</p>' % html.escape(note.capitalize()) if note else "",
         *boxes(held_pictures, out),
     ]
     head = '<meta charset="utf-8"><meta name="viewport" content="width=device-width, initial-scale=1"><title>The night\'s sheets</title><style>%s</style>' % STYLE

@@ -2,6 +2,7 @@
 """Tests of the tools for people: tools/test_tools.py. They need the standard library alone; those of the proved library and the program run where
 these are found (PASOLETU_LIB, PASOLETU_SLOPE), those of numpy's decomposition where numpy is."""
 import contextlib
+import fractions
 import importlib.util
 import io
 import json
@@ -25,6 +26,7 @@ sys.path.insert(0, str(HERE))
 import cases  # noqa: E402
 import draw  # noqa: E402
 import no_division  # noqa: E402
+import report  # noqa: E402
 import samples  # noqa: E402
 import sheet  # noqa: E402
 import shell  # noqa: E402
@@ -32,7 +34,7 @@ import shell  # noqa: E402
 SHEETS = cases.SHEETS
 SAMPLES = sorted((HERE.parent / "samples").glob("*.sheet"))
 LINES = (HERE.parent / "crates" / "slope_cases" / "stdout").read_text()
-TOOLS = [HERE / name for name in ("sheet.py", "draw.py", "samples.py", "cases.py", "faults.py", "no_division.py", "measure/accuracy.py", "measure/surface.py", "measure/replayed.py")]
+TOOLS = [HERE / name for name in ("sheet.py", "draw.py", "samples.py", "cases.py", "faults.py", "no_division.py", "report.py", "measure/accuracy.py", "measure/surface.py", "measure/replayed.py")]
 NUMPY = importlib.util.find_spec("numpy")
 NOT_FINITE = (math.nan, math.inf, -math.inf)
 
@@ -817,6 +819,78 @@ class ByLibrary(InFolder):
             process = ran("measure/accuracy.py", 20, timeout=300)
             self.assertEqual(process.returncode, 0, process)
             self.assertEqual(process.stdout.count(b" 20 points"), 9)
+
+
+class Reports(InFolder):
+    """The morning table of sheets."""
+
+    def sheets(self, *values):
+        """A folder of Snow sheets, one for each list of plastic hardenings."""
+        for k, hardenings in enumerate(values):
+            records = [sheet.record({}, {**sheet.SCALARS, "plastic_hardening": x}, "a test") for x in hardenings]
+            (self.folder / ("%03d.sheet" % k)).write_bytes(sheet.written("snow", False, [0.025, 0.0045, 10.0], records, "a test"))
+
+    def printed(self, *options, status=0):
+        ended = quiet(report.main, *options, self.folder)
+        self.assertEqual(ended[0], status, ended)
+        return ended[1]
+
+    def test_the_table(self):
+        self.sheets([1.0, -0.1, 2.0 ** 20], [math.nan, -0.0, -2.0 ** 21])
+        self.assertEqual(self.printed("--second").split("elastic hardening")[0], """\
+the night in whole numbers: 2 sheets, 6 particles
+plastic hardening
+  counted                  4
+  least           -107374183/2^30 = -0.100000000558793544769287109375
+  greatest  1125899906842624/2^30 = 1048576
+  total     1125900873210265/2^30 = 1048576.899999999441206455230712890625
+  not within 2^20 of zero  1
+  NaN or infinite          1
+""")
+
+    def test_decimals_are_exact(self):
+        d = random.Random(7)
+        for k in [0, 1, -1, 2 ** 30, -2 ** 30, 5, -2 ** 62, 2 ** 62] + [d.randrange(-2 ** 62, 2 ** 62) >> d.randrange(60) for _ in range(1000)]:
+            self.assertEqual(fractions.Fraction(report.decimal(k)), fractions.Fraction(k, 2 ** 30))
+            self.assertRegex(report.decimal(k), r"^(-?(0|[1-9][0-9]*)(\.[0-9]*[1-9])?)$")
+
+    def test_over_4096_particles_are_told_in_parts(self):
+        self.sheets(*[[float(k)] * 200 for k in range(21)])
+        text = self.printed("--second")
+        self.assertEqual([line for line in text.splitlines() if "sheet" in line], [
+            "part 1 of 2: 20 sheets, 4000 particles", "part 2 of 2: 1 sheet, 200 particles", "the night in whole numbers: 21 sheets, 4200 particles"])
+        self.assertIn("  total     %d/2^30 = %d\n" % (42000 << 30, 42000), text)
+
+    def test_a_refused_sheet_is_named(self):
+        self.sheets([1.0])
+        (self.folder / "cut.sheet").write_bytes((self.folder / "000.sheet").read_bytes()[:-1])
+        text = self.printed("--second", status=3)
+        self.assertIn("1 sheet, 1 particle\n", text)
+        self.assertIn("cut.sheet: refused 4, in no table: the sheet ends early\n", text)
+
+    def test_no_sheet(self):
+        status, out, err = quiet(report.main, self.folder)
+        self.assertEqual((status, out), (2, ""))
+        self.assertEqual(err, "report.py: there is no file *.sheet in or below %s\n" % self.folder)
+
+    def test_the_library_and_fractions_print_the_same(self):
+        if not LIBRARY:
+            self.skipTest("the library is not here")
+        d = random.Random(3)
+        odd = NOT_FINITE + (2.0 ** 20, -2.0 ** 20, math.nextafter(2.0 ** 20, 2.0 ** 21), -5e-324, -0.0)
+        self.sheets(*[[d.choice(odd) if d.random() < 0.3 else d.uniform(-2, 2) * 2.0 ** d.randrange(-40, 22) for _ in range(n)] for n in [200] * 25 + [0, 1, 7]])
+        self.assertEqual(self.printed(), self.printed("--second"))
+        self.assertIn("part 1 of", self.printed())
+
+    def test_updated(self):
+        if not LIBRARY:
+            self.skipTest("the library is not here")
+        records = [sheet.record({"sigma": [0.9, 1.0, 1.0]}, dict(sheet.SCALARS), "a test")]
+        (self.folder / "one.sheet").write_bytes(sheet.written("snow", False, [0.025, 0.0045, 10.0], records, "a test"))
+        self.assertNotEqual(self.printed("--updated"), self.printed())
+        status, _, err = quiet(report.main, "--updated", "--second", self.folder)
+        self.assertEqual(status, 1)
+        self.assertIn("--updated: the records after the laws are those of the proved library", err)
 
 
 COMPILER = shutil.which("cc" if os.uname().machine == "x86_64" else "x86_64-linux-gnu-gcc")

@@ -672,6 +672,63 @@ static void of_a_record(void)
     REFUSED(1, 1, pasoletu_record_corotated_pos_energy, law, 4, r, 37);
 }
 
+/* A column's entries are as told: least, greatest and total as int64_t. */
+static int column(const uint64_t *c, uint64_t count, int64_t least, int64_t greatest, int64_t total, uint64_t outside,
+                  uint64_t not_finite)
+{
+    return c[PASOLETU_REPORT_COUNT] == count && c[PASOLETU_REPORT_LEAST] == (uint64_t)least
+        && c[PASOLETU_REPORT_GREATEST] == (uint64_t)greatest && c[PASOLETU_REPORT_TOTAL] == (uint64_t)total
+        && c[PASOLETU_REPORT_OUTSIDE] == outside && c[PASOLETU_REPORT_NOT_FINITE] == not_finite;
+}
+
+static void reports(void)
+{
+    static double r[(PASOLETU_REPORT_MOST + 1) * PASOLETU_FLOATS];
+    const int64_t bound = INT64_C(1) << 50;
+    uint64_t w[PASOLETU_REPORT + 1], a[PASOLETU_REPORT], b[PASOLETU_REPORT], j[PASOLETU_REPORT], was[PASOLETU_REPORT + 1];
+    memset(was, 0x55, sizeof was);
+    memcpy(w, was, sizeof w);
+
+    /* 8 for the lengths, then 16; nothing is written. */
+    CHECK(pasoletu_report(r, PASOLETU_FLOATS - 1, w, PASOLETU_REPORT) == 8);
+    CHECK(pasoletu_report(r, PASOLETU_FLOATS, w, PASOLETU_REPORT - 1) == 8);
+    CHECK(pasoletu_report(r, PASOLETU_FLOATS, w, PASOLETU_REPORT + 1) == 8);
+    CHECK(pasoletu_report(r, sizeof r / sizeof *r - 1, w, PASOLETU_REPORT) == 8);
+    CHECK(pasoletu_report(r, sizeof r / sizeof *r, w, 0) == 8);
+    CHECK(pasoletu_report(r, sizeof r / sizeof *r, w, PASOLETU_REPORT) == PASOLETU_TOO_LONG);
+    CHECK(memcmp(w, was, sizeof w) == 0);
+
+    /* None: nothing but zeros. */
+    memset(a, 0, sizeof a);
+    CHECK(pasoletu_report(r, 0, w, PASOLETU_REPORT) == 0 && memcmp(w, a, sizeof a) == 0 && w[PASOLETU_REPORT] == was[0]);
+
+    /* -0.1 goes down to -107374183; 2^20 is counted and the next number is not; the smallest below zero is -1. */
+    r[PASOLETU_PLASTIC_HARDENING] = -0.1;
+    r[PASOLETU_FLOATS + PASOLETU_PLASTIC_HARDENING] = 1048576.0;
+    r[PASOLETU_ELASTIC_HARDENING] = nan_with_payload();
+    r[PASOLETU_FLOATS + PASOLETU_ELASTIC_HARDENING] = -infinity();
+    r[PASOLETU_PLASTIC_DETERMINANT] = pasoletu_amount(UINT64_C(0x8000000000000001));
+    r[PASOLETU_FLOATS + PASOLETU_PLASTIC_DETERMINANT] = pasoletu_amount(UINT64_C(0xc130000000000001));
+    CHECK(pasoletu_report(r, 2 * PASOLETU_FLOATS, w, PASOLETU_REPORT) == 0 && w[PASOLETU_REPORT] == was[0]);
+    CHECK(column(w + PASOLETU_REPORT_PLASTIC_HARDENING, 2, -107374183, bound, bound - 107374183, 0, 0));
+    CHECK(column(w + PASOLETU_REPORT_ELASTIC_HARDENING, 0, 0, 0, 0, 0, 2));
+    CHECK(column(w + PASOLETU_REPORT_PLASTIC_DETERMINANT, 1, -1, -1, -1, 1, 0));
+
+    /* The same of the two records put together. */
+    CHECK(pasoletu_report(r, PASOLETU_FLOATS, a, PASOLETU_REPORT) == 0);
+    CHECK(pasoletu_report(r + PASOLETU_FLOATS, PASOLETU_FLOATS, b, PASOLETU_REPORT) == 0);
+    CHECK(pasoletu_join_reports(a, PASOLETU_REPORT, b, PASOLETU_REPORT, j, PASOLETU_REPORT) == 0);
+    CHECK(memcmp(w, j, sizeof j) == 0);
+
+    /* 8 and 16 of the joining; nothing is written. */
+    CHECK(pasoletu_join_reports(a, 17, b, PASOLETU_REPORT, j, PASOLETU_REPORT) == 8);
+    CHECK(pasoletu_join_reports(a, PASOLETU_REPORT, b, 0, j, PASOLETU_REPORT) == 8);
+    CHECK(pasoletu_join_reports(a, PASOLETU_REPORT, b, PASOLETU_REPORT, j, 17) == 8);
+    CHECK(pasoletu_report(r, PASOLETU_REPORT_MOST * PASOLETU_FLOATS, a, PASOLETU_REPORT) == 0);
+    CHECK(pasoletu_join_reports(a, PASOLETU_REPORT, b, PASOLETU_REPORT, j, PASOLETU_REPORT) == PASOLETU_TOO_LONG);
+    CHECK(memcmp(w, j, sizeof j) == 0);
+}
+
 /* WANTED_VERSION is what the file VERSION says. */
 static void version(void)
 {
@@ -690,6 +747,7 @@ static void refusal_texts(void)
     CHECK(strncmp(pasoletu_refusal_text(11), "the record's stored determinant is not that of its F: ", 54) == 0);
     CHECK(strstr(pasoletu_refusal_text(2), "below its range (crushed") != NULL);
     CHECK(strstr(pasoletu_refusal_text(10), "above its range (torn") != NULL);
+    CHECK(strstr(pasoletu_refusal_text(PASOLETU_TOO_LONG), "over 4096 particles") != NULL);
     CHECK(strcmp(pasoletu_refusal_text(4), "the sheet ends early: send the sheet again, whole") == 0);
     CHECK(strncmp(pasoletu_refusal_text(99), "no refusal of this library", 26) == 0);
 }
@@ -711,6 +769,7 @@ int main(void)
     sheets_out();
     determinants();
     of_a_record();
+    reports();
     printf("%d passed, %d failed\n", passed, failed);
     return failed != 0;
 }

@@ -43,8 +43,10 @@ from .lists import (
 from .outcome import Outcomes, Passed, Stored, Untouched
 from .particle import Particle
 from .refusal import REFUSALS, Refused
+from .reports import Column, Report, report
 
 __all__ = [
+    "Column",
     "CorotatedLinearElasticity",
     "DruckerPragerPlasticity",
     "FLOATS",
@@ -62,6 +64,7 @@ __all__ = [
     "Ran",
     "RankinePlasticity",
     "Refused",
+    "Report",
     "SHEET_MOST",
     "Sheet",
     "SnowPlasticity",
@@ -78,6 +81,7 @@ __all__ = [
     "raw",
     "read_sheet",
     "refusal",
+    "report",
     "run",
     "utils",
     "write_sheet",

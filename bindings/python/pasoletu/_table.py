@@ -63,6 +63,7 @@ LENGTH = 8
 NO_ROOM = 9
 ABOVE_RANGE = 10
 WRONG_DETERMINANT = 11
+TOO_LONG = 16
 REFUSALS: dict[int, Refusal] = {
     1: Refusal(
         "NOT_FINITE",
@@ -118,6 +119,11 @@ REFUSALS: dict[int, Refusal] = {
         "WRONG_DETERMINANT",
         "the record's stored determinant is not that of its F",
         "fill it in where you write F (fill_determinants)",
+    ),
+    16: Refusal(
+        "TOO_LONG",
+        "a report has over 4096 particles",
+        "report them in lists of at most 4096",
     ),
 }
 
@@ -195,6 +201,19 @@ HEADER_MODEL = 0
 HEADER_PARAMETERS = 1  # 8: bits of the parameters, 0 past the model's last
 HEADER_COUNT = 9  # particles
 HEADER_PLACE = 10  # of the first record's first byte in the sheet
+# Reports (section 7): three columns of six entries. Least, greatest and total are whole numbers of 2^-30, as int64_t.
+REPORT_MOST = 4096  # particles of a report
+REPORT = 18  # entries of a report
+REPORT_COLUMN = 6  # entries of a column
+REPORT_PLASTIC_HARDENING = 0  # the first entry of this column
+REPORT_ELASTIC_HARDENING = 6  # of this
+REPORT_PLASTIC_DETERMINANT = 12  # and of this
+REPORT_COUNT = 0  # in a column: how many values are counted
+REPORT_LEAST = 1  # the least of them; 0 of none
+REPORT_GREATEST = 2  # the greatest; 0 of none
+REPORT_TOTAL = 3  # their sum
+REPORT_OUTSIDE = 4  # how many lie not within 2^20 of zero
+REPORT_NOT_FINITE = 5  # how many are NaN or infinite
 
 # The calls by name, without pasoletu_; each answers a ctypes.c_uint8, 0 or the refusal's number.
 CALLS: dict[str, tuple[Argument, ...]] = {
@@ -495,6 +514,15 @@ CALLS: dict[str, tuple[Argument, ...]] = {
         Argument("records", "f64", 0, False),
         Argument("bytes", "u8", 0, True),
         Argument("written", "u64", 1, True),
+    ),
+    "report": (
+        Argument("records", "f64", 0, False),
+        Argument("report", "u64", 18, True),
+    ),
+    "join_reports": (
+        Argument("first", "u64", 18, False),
+        Argument("second", "u64", 18, False),
+        Argument("joined", "u64", 18, True),
     ),
 }
 ARGTYPES: dict[str, tuple[type, ...]] = {

@@ -12,6 +12,7 @@ from ._table import (
     NOT_FINITE,
     NOT_SHORTEST,
     REFUSALS,
+    TOO_LONG,
     TOO_MANY,
     UNKNOWN,
     WRONG_DETERMINANT,
@@ -27,6 +28,7 @@ __all__ = [
     "NO_NUMBER",
     "REFUSALS",
     "Refused",
+    "TOO_LONG",
     "TOO_MANY",
     "UNKNOWN",
     "WRONG_DETERMINANT",
@@ -36,7 +38,7 @@ __all__ = [
 class Refused(Exception):
     """A call or a particle was refused: whatever was refused holds every bit it held.
 
-    number    1 to 8, 10 or 11; REFUSALS has its name and its words
+    number    1 to 8, 10, 11 or 16; REFUSALS has its name and its words
     call      the call that refused
     particle  which particle of a list, or None
     place     of refusal 1, the first float that is not finite; of refusal 8, the list; or None

@@ -45,6 +45,7 @@ pub mod parallel;
 mod particle;
 mod plasticity;
 mod refusal;
+mod reports;
 #[cfg(feature = "alloc")]
 mod sheets;
 #[allow(dead_code, missing_docs)]
@@ -64,9 +65,10 @@ pub use lists::{
 pub use particle::Particle;
 pub use plasticity::{DruckerPragerPlasticity, Model, NaccPlasticity, Outcome, RankinePlasticity, SnowPlasticity};
 pub use refusal::Refusal;
+pub use reports::{report, Column, Report};
 #[cfg(feature = "alloc")]
 pub use sheets::{read_sheet, run_sheet, write_sheet, write_sheet_with_determinants, Ran, Sheet};
-pub use table::{SHEET_BYTES, SHEET_MOST};
+pub use table::{REPORT_MOST, SHEET_BYTES, SHEET_MOST};
 #[cfg(feature = "alloc")]
 pub use vectors::{pass, pass_with_failure, Passed};
 

@@ -30,6 +30,8 @@ impl Refusal {
     pub const ABOVE_RANGE: u8 = 10;
     /// The record's stored determinant is not that of its F.
     pub const WRONG_DETERMINANT: u8 = 11;
+    /// A report has over 4096 particles.
+    pub const TOO_LONG: u8 = 16;
 }
 
 /// What a refusal's number means, and what to do about it.
@@ -46,6 +48,7 @@ pub fn words(number: u8) -> Option<(&'static str, &'static str)> {
         9 => ("the lent room is shorter than the sheet", "lend 59267 bytes, which hold every sheet"),
         10 => ("a function would get an argument above its range (torn; of Snow: crushed)", "look at the singular values and the hardenings"),
         11 => ("the record's stored determinant is not that of its F", "fill it in where you write F (fill_determinants)"),
+        16 => ("a report has over 4096 particles", "report them in lists of at most 4096"),
         _ => return None,
     })
 }
@@ -102,6 +105,19 @@ pub const HEADER_MODEL: usize = 0;
 pub const HEADER_PARAMETERS: usize = 1;
 pub const HEADER_COUNT: usize = 9;
 pub const HEADER_PLACE: usize = 10;
+// Reports (section 7): three columns of six entries. Least, greatest and total are whole numbers of 2^-30, as int64_t.
+pub const REPORT_MOST: usize = 4096;
+pub const REPORT: usize = 18;
+pub const REPORT_COLUMN: usize = 6;
+pub const REPORT_PLASTIC_HARDENING: usize = 0;
+pub const REPORT_ELASTIC_HARDENING: usize = 6;
+pub const REPORT_PLASTIC_DETERMINANT: usize = 12;
+pub const REPORT_COUNT: usize = 0;
+pub const REPORT_LEAST: usize = 1;
+pub const REPORT_GREATEST: usize = 2;
+pub const REPORT_TOTAL: usize = 3;
+pub const REPORT_OUTSIDE: usize = 4;
+pub const REPORT_NOT_FINITE: usize = 5;
 
 extern "C" {
     pub fn pasoletu_exp(x: f64, out: *mut f64, out_length: usize) -> u8;
@@ -156,4 +172,6 @@ extern "C" {
     pub fn pasoletu_read_sheet(bytes: *const u8, bytes_length: usize, header: *mut u64, header_length: usize, records: *mut f64, records_length: usize) -> u8;
     pub fn pasoletu_run_sheet(bytes: *const u8, bytes_length: usize, records: *mut f64, records_length: usize, answers: *mut u64, answers_length: usize, counts: *mut u64, counts_length: usize) -> u8;
     pub fn pasoletu_write_sheet(model: u64, parameters: *const f64, parameters_length: usize, records: *const f64, records_length: usize, bytes: *mut u8, bytes_length: usize, written: *mut u64, written_length: usize) -> u8;
+    pub fn pasoletu_report(records: *const f64, records_length: usize, report: *mut u64, report_length: usize) -> u8;
+    pub fn pasoletu_join_reports(first: *const u64, first_length: usize, second: *const u64, second_length: usize, joined: *mut u64, joined_length: usize) -> u8;
 }

@@ -1,5 +1,6 @@
 pub mod Calls
 pub mod OfRecord
 pub mod Passes
+pub mod Reports
 pub mod Sheets
 pub mod Update

@@ -6,6 +6,7 @@ pub mod monaghan;
 pub mod of_record;
 pub mod passes;
 pub mod physics_calls;
+pub mod reports;
 pub mod returns;
 pub mod sheets;
 pub mod update;

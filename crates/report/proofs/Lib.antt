@@ -1,0 +1,13 @@
+pub mod Columns
+pub mod Exactly
+pub mod Examples
+pub mod Fits
+pub mod Floor
+pub mod Joining
+pub mod Orders
+pub mod Patterns
+pub mod Reasons
+pub mod Reports
+pub mod Swapped
+pub mod Values
+pub mod Words

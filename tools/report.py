@@ -1,0 +1,251 @@
+#!/usr/bin/env python3
+"""Prints the morning table of sheets: what their particles hold, in whole numbers, with the same digits on every machine.
+
+  tools/report.py [--updated] [--second] FOLDER_OR_SHEET ..
+
+Of plastic hardening, elastic hardening and plastic determinant it prints how many values are counted, the least, the greatest and the total,
+how many lie not within 2^20 of zero, and how many are NaN or infinite. Each counted value is taken down, towards minus infinity, to the next
+whole multiple of 2^-30; least, greatest and total are told as whole numbers of 2^-30 and as the decimals that these are, exactly.
+
+A folder is every *.sheet below it, by name. A report takes 4096 particles: sheets that have more are told in parts, each of whole sheets in
+their order, and then all parts together. A sheet that is refused stands in no table and is named.
+
+--updated   the records as their laws leave them, which the proved library alone works; without it as they stand in the sheets
+--second    by Python's fractions, not by the proved library
+
+The numbers are those of the proved library: the file that PASOLETU_LIB names, else the one that the Python package finds. Where there is
+none Python's fractions work them, to the same digits, and it is said on standard error.
+Exit status: 0 all well; 3 a sheet was refused; 1 something is wrong; 2 there is no sheet, or the command was misspelled.
+"""
+import argparse
+import dataclasses
+import math
+import os
+import pathlib
+import sys
+from fractions import Fraction
+from typing import NamedTuple
+
+sys.path.insert(0, str(pathlib.Path(__file__).resolve().parent))
+import cases  # noqa: E402
+import shell  # noqa: E402
+from night_page import TABLE  # noqa: E402
+from shell import Wrong  # noqa: E402
+
+PLACE = {part.field: part.at for part in TABLE.RECORD}
+MOST = TABLE.REPORT_MOST
+COLUMNS = {"plastic hardening": "plastic_hardening", "elastic hardening": "elastic_hardening", "plastic determinant": "plastic_deformation_gradient_det"}
+UNIT = 30  # the whole numbers are of 2^-30
+BOUND = 2**20
+NO_SHEET, SOME_REFUSED = 2, 3
+
+
+class Column(NamedTuple):
+    """A column: least, greatest and total are whole numbers of 2^-30."""
+
+    count: int = 0
+    least: int = 0
+    greatest: int = 0
+    total: int = 0
+    outside: int = 0
+    not_finite: int = 0
+
+
+class Page(NamedTuple):
+    """Sheets that are told together: how many, how many particles, and the three columns."""
+
+    sheets: int
+    particles: int
+    columns: tuple
+
+
+EMPTY = Page(0, 0, (Column(),) * len(COLUMNS))
+
+
+# ---- the second reading, from the ticket's words
+
+
+def column_of(values):
+    finite = [Fraction(x) for x in values if math.isfinite(x)]
+    wholes = [math.floor(x * 2**UNIT) for x in finite if abs(x) <= BOUND]
+    ends = (min(wholes), max(wholes), sum(wholes)) if wholes else (0, 0, 0)
+    return Column(len(wholes), *ends, len(finite) - len(wholes), len(values) - len(finite))
+
+
+def put_together(a, b):
+    """Two columns; one that counts nothing adds nothing to least and greatest."""
+    counted = [c for c in (a, b) if c.count]
+    least, greatest = (min(c.least for c in counted), max(c.greatest for c in counted)) if counted else (0, 0)
+    return Column(a.count + b.count, least, greatest, a.total + b.total, a.outside + b.outside, a.not_finite + b.not_finite)
+
+
+class Second:
+    """Reports by Python's fractions."""
+
+    def report(self, records):
+        return tuple(column_of([r[PLACE[field]] for r in records]) for field in COLUMNS.values())
+
+    def joined(self, a, b):
+        return tuple(map(put_together, a, b))
+
+    def updated(self, data):
+        raise Wrong("--updated: the records after the laws are those of the proved library, which is not here (./install.sh PREFIX makes it; PASOLETU_LIB names it)")
+
+
+class Proved:
+    """Reports by the proved library."""
+
+    def __init__(self, pasoletu):
+        self.pasoletu = pasoletu
+
+    def report(self, records):
+        return self._columns(self.pasoletu.report([self.pasoletu.Particle.from_floats(r) for r in records]))
+
+    def joined(self, a, b):
+        one, other = (self.pasoletu.Report(*(self.pasoletu.Column(*c) for c in columns)) for columns in (a, b))
+        return self._columns(one.joined(other))
+
+    def updated(self, data):
+        return [particle.floats() for particle in self.pasoletu.run(data).particles]
+
+    def _columns(self, report):
+        return tuple(Column(*entries) for entries in dataclasses.astuple(report))
+
+
+def worker(second):
+    """Who works the reports, and what is to be said where it is not the proved library."""
+    if second:
+        return Second(), None
+    try:
+        return Proved(shell.package()), None
+    except shell.NoLibrary as e:
+        if os.environ.get("PASOLETU_LIB"):
+            raise
+        why = "is for another processor" if e.other_processor else "is not here (./install.sh PREFIX makes it; PASOLETU_LIB names it)"
+        return Second(), "the proved library %s: the numbers are worked by Python's fractions" % why
+
+
+# ---- sheets into pages
+
+
+def records_of(data, by, updated):
+    """The floats of a sheet's records. Raises cases.Refused where the sheet is refused."""
+    _, _, records = cases.read(data)
+    return by.updated(data) if updated else records
+
+
+def add(page, columns, particles, by):
+    return Page(page.sheets + 1, page.particles + particles, by.joined(page.columns, columns))
+
+
+def pages_of(named, by, updated=False):
+    """The pages of (name, bytes) in their order, each of at most MOST particles, and the refused sheets: their names and numbers."""
+    pages, refused = [], []
+    for name, data in named:
+        try:
+            records = records_of(data, by, updated)
+        except cases.Refused as e:
+            refused.append((name, e.args[0]))
+            continue
+        if not pages or pages[-1].particles + len(records) > MOST:
+            pages.append(EMPTY)
+        pages[-1] = add(pages[-1], by.report(records), len(records), by)
+    return pages or [EMPTY], refused
+
+
+def whole(pages):
+    """All pages together: over MOST particles this is no report of the library, but the same whole numbers are added."""
+    total = EMPTY
+    for page in pages:
+        total = Page(total.sheets + page.sheets, total.particles + page.particles, tuple(map(put_together, total.columns, page.columns)))
+    return total
+
+
+# ---- words
+
+
+def decimal(k):
+    """k times 2^-30 as a decimal, exactly: 2^-30 has 30 places."""
+    digits = str(abs(k) * 5**UNIT).rjust(UNIT + 1, "0")
+    places = digits[-UNIT:].rstrip("0")
+    return ("-" if k < 0 else "") + digits[:-UNIT] + ("." + places if places else "")
+
+
+def counted(n, what):
+    return "%d %s%s" % (n, what, "" if n == 1 else "s")
+
+
+def lines(column):
+    """A column's lines: what, the whole number of 2^-30 or nothing, and the number that is told."""
+    for what, k in (("least", column.least), ("greatest", column.greatest), ("total", column.total)):
+        yield what, "%d/2^%d" % (k, UNIT), decimal(k)
+
+
+def text(page, title):
+    out = ["%s: %s, %s" % (title, counted(page.sheets, "sheet"), counted(page.particles, "particle"))]
+    for name, column in zip(COLUMNS, page.columns):
+        told = list(lines(column))
+        width = max(len(k) for _, k, _ in told)
+        out.append(name)
+        out.append("  counted                  %d" % column.count)
+        out += ["  %-9s %s = %s" % (what, k.rjust(width), value) for what, k, value in told]
+        out.append("  not within 2^20 of zero  %d" % column.outside)
+        out.append("  NaN or infinite          %d" % column.not_finite)
+    return "\n".join(out) + "\n"
+
+
+def told(pages, refused):
+    """The whole table."""
+    parts = [text(page, "part %d of %d" % (k, len(pages))) for k, page in enumerate(pages, 1)] if len(pages) > 1 else []
+    parts.append(text(whole(pages), "the night in whole numbers"))
+    parts += ["%s: refused %d, in no table: %s\n" % (name, number, TABLE.REFUSALS[number].what) for name, number in refused]
+    return "\n".join(parts)
+
+
+# ---- the command
+
+
+class NoSheet(Exception):
+    """There is no sheet to tell of."""
+
+
+def files_of(names):
+    """The sheets that the names stand for."""
+    for name in names:
+        path = pathlib.Path(name)
+        found = sorted(p for p in path.rglob("*.sheet") if p.is_file()) if path.is_dir() else [path]
+        if not found:
+            raise NoSheet("there is no file *.sheet in or below %s" % name)
+        yield from found
+
+
+def read(path):
+    """A sheet file's bytes; of a longer file no more than what makes it too long."""
+    with shell.reading(str(path)) as stream:
+        return stream.read(TABLE.SHEET_BYTES + 1)
+
+
+def morning(args):
+    by, note = worker(args.second)
+    pages, refused = pages_of(((str(path), read(path)) for path in files_of(args.names)), by, args.updated)
+    if note:
+        print("report.py: " + note, file=sys.stderr)
+    shell.say(told(pages, refused))
+    return SOME_REFUSED if refused else 0
+
+
+def main(argv=None):
+    about = argparse.ArgumentParser(description=__doc__, formatter_class=argparse.RawDescriptionHelpFormatter, usage=argparse.SUPPRESS)
+    about.add_argument("names", nargs="+", metavar="FOLDER_OR_SHEET")
+    about.add_argument("--updated", action="store_true")
+    about.add_argument("--second", action="store_true")
+    args = about.parse_args(argv)
+    try:
+        return shell.run("report.py", morning, args)
+    except NoSheet as e:
+        print("report.py: %s" % e, file=sys.stderr)
+        return NO_SHEET
+
+
+if __name__ == "__main__":
+    sys.exit(main())
