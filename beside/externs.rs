@@ -47,8 +47,12 @@ extern "C" {
     pub fn pasoletu_rankine_project(arguments: *const u64, arguments_length: usize, s: f64, strains: *const u64, strains_length: usize, out: *mut u64, out_length: usize) -> u8;
     pub fn pasoletu_drucker_prager_alpha(fields: *const u64, fields_length: usize, q: f64, out: *mut u64, out_length: usize) -> u8;
     pub fn pasoletu_update(model: u64, parameters: *const u64, parameters_length: usize, record: *mut u64, record_length: usize, answer: *mut u64, answer_length: usize) -> u8;
+    pub fn pasoletu_factor(record: *mut u64, record_length: usize) -> u8;
     pub fn pasoletu_pass(model: u64, parameters: *const u64, parameters_length: usize, records: *mut u64, records_length: usize, answers: *mut u64, answers_length: usize, counts: *mut u64, counts_length: usize) -> u8;
     pub fn pasoletu_pass_with_failure(model: u64, parameters: *const u64, parameters_length: usize, limits: *const u64, limits_length: usize, corotated: *const u64, corotated_length: usize, records: *mut u64, records_length: usize, answers: *mut u64, answers_length: usize, counts: *mut u64, counts_length: usize) -> u8;
+    pub fn pasoletu_factor_list(records: *mut u64, records_length: usize, answers: *mut u64, answers_length: usize, counts: *mut u64, counts_length: usize) -> u8;
+    pub fn pasoletu_pass_factored(model: u64, parameters: *const u64, parameters_length: usize, records: *mut u64, records_length: usize, answers: *mut u64, answers_length: usize, counts: *mut u64, counts_length: usize) -> u8;
+    pub fn pasoletu_pass_factored_with_failure(model: u64, parameters: *const u64, parameters_length: usize, limits: *const u64, limits_length: usize, corotated: *const u64, corotated_length: usize, records: *mut u64, records_length: usize, answers: *mut u64, answers_length: usize, counts: *mut u64, counts_length: usize) -> u8;
     pub fn pasoletu_fill_determinants(records: *mut u64, records_length: usize) -> u8;
     pub fn pasoletu_read_sheet(bytes: *const u8, bytes_length: usize, header: *mut u64, header_length: usize, records: *mut u64, records_length: usize) -> u8;
     pub fn pasoletu_run_sheet(bytes: *const u8, bytes_length: usize, records: *mut u64, records_length: usize, answers: *mut u64, answers_length: usize, counts: *mut u64, counts_length: usize) -> u8;

@@ -33,6 +33,7 @@ uint8_t pasoletu_record_corotated_pos_energy(const uint64_t *law, size_t law_len
                                              size_t record_length, uint64_t *out, size_t out_length);
 uint8_t pasoletu_update(uint64_t model, const uint64_t *parameters, size_t parameters_length, uint64_t *record,
                         size_t record_length, uint64_t *answer, size_t answer_length);
+uint8_t pasoletu_factor(uint64_t *record, size_t record_length);
 uint8_t pasoletu_pass(uint64_t model, const uint64_t *parameters, size_t parameters_length, uint64_t *records,
                       size_t records_length, uint64_t *answers, size_t answers_length, uint64_t *counts,
                       size_t counts_length);
@@ -40,6 +41,16 @@ uint8_t pasoletu_pass_with_failure(uint64_t model, const uint64_t *parameters, s
                                    const uint64_t *limits, size_t limits_length, const uint64_t *corotated,
                                    size_t corotated_length, uint64_t *records, size_t records_length, uint64_t *answers,
                                    size_t answers_length, uint64_t *counts, size_t counts_length);
+uint8_t pasoletu_factor_list(uint64_t *records, size_t records_length, uint64_t *answers, size_t answers_length,
+                             uint64_t *counts, size_t counts_length);
+uint8_t pasoletu_pass_factored(uint64_t model, const uint64_t *parameters, size_t parameters_length, uint64_t *records,
+                               size_t records_length, uint64_t *answers, size_t answers_length, uint64_t *counts,
+                               size_t counts_length);
+uint8_t pasoletu_pass_factored_with_failure(uint64_t model, const uint64_t *parameters, size_t parameters_length,
+                                            const uint64_t *limits, size_t limits_length, const uint64_t *corotated,
+                                            size_t corotated_length, uint64_t *records, size_t records_length,
+                                            uint64_t *answers, size_t answers_length, uint64_t *counts,
+                                            size_t counts_length);
 uint8_t pasoletu_fill_determinants(uint64_t *records, size_t records_length);
 uint8_t pasoletu_read_sheet(const uint8_t *bytes, size_t bytes_length, uint64_t *header, size_t header_length,
                             uint64_t *records, size_t records_length);

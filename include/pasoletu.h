@@ -25,8 +25,12 @@
  * Records. A record is PASOLETU_FLOATS doubles, the last of them the determinant of its F: whoever writes F fills it in
  * (pasoletu_fill_determinants), and every call that writes F writes it too. Another one is refused by 11.
  *
- * The order of refusals. 8 first, then 6, then 1; then 11 for a record's determinant; then 3 for moduli that are not
- * finite; then the law's steps in order to the first 2, 3 or 10; last 3 for a result that is not finite.
+ * Factors. The laws take U, sigma and V^T as they stand in a record. A host that decomposes nothing itself writes F and
+ * its determinant, any finite doubles for the factors, and asks pasoletu_factor, or a pass that factors first.
+ *
+ * The order of refusals. 8 first, then 6, then 1; then 11 for a record's determinant; then 14 for factors worked here;
+ * then 3 for moduli that are not finite; then the law's steps in order to the first 2, 3 or 10; last 3 for a result that
+ * is not finite.
  *
  * "Section n" below is section n of docs/RULES.md, the exact rules. What each call answers is proved for every input;
  * docs/PROMISES.md leads to each statement.
@@ -72,6 +76,7 @@ enum {
     PASOLETU_NO_ROOM = 9,            /* the lent room is shorter than the sheet */
     PASOLETU_ABOVE_RANGE = 10,       /* a function would get an argument above its range */
     PASOLETU_WRONG_DETERMINANT = 11, /* the record's stored determinant is not that of its F */
+    PASOLETU_NOT_ACCEPTED = 14,      /* the factors worked out miss their check */
     PASOLETU_TOO_LONG = 16           /* a report has over 4096 particles */
 };
 
@@ -107,6 +112,9 @@ static inline const char *pasoletu_refusal_text(uint64_t refusal)
     case PASOLETU_WRONG_DETERMINANT:
         return "the record's stored determinant is not that of its F: fill it in where you write F "
                "(fill_determinants)";
+    case PASOLETU_NOT_ACCEPTED:
+        return "the factors worked out miss their check: look at the sizes of F's entries, or give factors of your "
+               "own";
     case PASOLETU_TOO_LONG:
         return "a report has over 4096 particles: report them in lists of at most 4096";
     default:
@@ -148,7 +156,7 @@ static inline const char *pasoletu_refusal_text(uint64_t refusal)
 #define PASOLETU_FLOATS 37
 /* The place of each part in a record. */
 #define PASOLETU_F 0                     /* 9: deformation gradient, row by row */
-#define PASOLETU_U 9                     /* 9: U of F = U diag(sigma) V^T, row by row; the host's own decomposition */
+#define PASOLETU_U 9                     /* 9: U of F = U diag(sigma) V^T, row by row; the host's own, or pasoletu_factor's */
 #define PASOLETU_SIGMA 18                /* 3: singular values */
 #define PASOLETU_VT 21                   /* 9: V^T, row by row */
 #define PASOLETU_PHASE 30                /* 1.0 whole, 0.0 failed */
@@ -426,6 +434,15 @@ uint8_t pasoletu_drucker_prager_alpha(const double *fields, size_t fields_length
 uint8_t pasoletu_update(uint64_t model, const double *parameters, size_t parameters_length, double *record,
                         size_t record_length, uint64_t *answer, size_t answer_length);
 
+/* record: 37. The factors of the F that stands in a record, worked by this library (docs/FACTORS.md): U, sigma and
+ * V^T are written, whatever stood there, and nothing else. With m the largest size of an entry of F, each entry of U
+ * diag(sigma) V^T lies within m / 2^40 of F's, those of U U^T and V V^T within 2^-40 of the identity's, and no sigma
+ * is below 0; sigma are in no order. For hosts that decompose nothing themselves.
+ * Refusals, nothing written: 8; 1 for one of the 37 that is not finite, also of those about to be written; 11 for a
+ * stored determinant that is not that of F in every bit; 14 where the factors worked out miss that check, as found
+ * at the ends of the doubles alone. */
+uint8_t pasoletu_factor(double *record, size_t record_length);
+
 /* ---- Lists of particles (section 7) ------------------------------------------------------------------------------ */
 
 /* counts: 3. The plastic law on every record, each by its index; the pass goes on after a refused one.
@@ -452,6 +469,36 @@ uint8_t pasoletu_pass_with_failure(uint64_t model, const double *parameters, siz
                                    const double *limits, size_t limits_length, const double *corotated,
                                    size_t corotated_length, double *records, size_t records_length, uint64_t *answers,
                                    size_t answers_length, uint64_t *counts, size_t counts_length);
+
+/* counts: 3. pasoletu_factor on every record, each by its index. records, answers and counts as in pasoletu_pass: a
+ * record whose factors are accepted is stored, with the amount 0.0, and none is untouched; a refused one keeps its
+ * bits, and its answer is (PASOLETU_REFUSED, 1, 11 or 14).
+ * Refusals, before any record and with nothing written: 8. */
+uint8_t pasoletu_factor_list(double *records, size_t records_length, uint64_t *answers, size_t answers_length,
+                             uint64_t *counts, size_t counts_length);
+
+/* counts: 3. The pass that factors each record first: pasoletu_pass on the records with the factors of
+ * pasoletu_factor, so that a host sends F and its determinant, and any finite floats for U, sigma and V^T. A record
+ * that the law leaves untouched has the new factors.
+ * A refused record keeps all its bits, the factors that it had too: by 1 for a parameter or one of its 37 floats as
+ * they came, then 11, then 14, then as the law refuses the record with these factors.
+ * Refusals, before any record and with nothing written: 8; 6 for a model over 7 or a flag. */
+uint8_t pasoletu_pass_factored(uint64_t model, const double *parameters, size_t parameters_length, double *records,
+                               size_t records_length, uint64_t *answers, size_t answers_length, uint64_t *counts,
+                               size_t counts_length);
+
+/* limits: 2; corotated: 4; counts: 4. The pass with failure that factors each record first:
+ * pasoletu_pass_with_failure on the records with the factors of pasoletu_factor.
+ * A refused record keeps all its bits, the factors that it had too: by 1 for a parameter, a limit, a float of the
+ * corotated law or one of its 37 floats as they came, then 11, then 14, then as the law or the stress refuses the
+ * record with these factors.
+ * Refusals, before any record and with nothing written: 8; 6 for a model over 7 or a flag, also the corotated law's.
+ */
+uint8_t pasoletu_pass_factored_with_failure(uint64_t model, const double *parameters, size_t parameters_length,
+                                            const double *limits, size_t limits_length, const double *corotated,
+                                            size_t corotated_length, double *records, size_t records_length,
+                                            uint64_t *answers, size_t answers_length, uint64_t *counts,
+                                            size_t counts_length);
 
 /* Makes the last float of each record the determinant of the F that stands in it, a(ei - fh) - b(di - fg) + c(dh -
  * eg), whatever stood there; all others keep their bits. For hosts that write F, or that kept 36 floats a record. It

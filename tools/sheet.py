@@ -28,7 +28,8 @@ A particle has
   phase (1)  plastic_determinant (1)  plastic_hardening (1)  elastic_hardening (1)  log_gain (0)  alpha (0)
   determinant     in a sheet that keeps it: that of F where it is left out; another than that is refused by the law (11)
 Names are taken exactly as they stand here. An empty cell or a missing name takes the number in brackets. Of the matrices there may be given
-  F alone                  U, sigma and V^T are numpy's decomposition of it (Debian: python3-numpy)
+  F alone                  U, sigma and V^T are the library's factors of it, checked exactly (docs/FACTORS.md); where the library isn't
+                           at hand they are numpy's (Debian: python3-numpy), and standard error says so
   sigma alone              U and V^T are the identity, F is diagonal
   U, sigma and V^T         F is their product
   all four                 taken as they are, bit for bit
@@ -38,6 +39,7 @@ by 1). `print --json` writes what `make` turns into the same bytes again.
 """
 import argparse
 import csv
+import functools
 import glob
 import io
 import itertools
@@ -112,14 +114,50 @@ def spelled(x):
 # ---- records
 
 
+@functools.lru_cache(maxsize=None)
+def library():
+    """The Python package with its library, or None and why."""
+    try:
+        return shell.package(), None
+    except shell.NoLibrary as e:
+        return None, str(e)
+
+
+@functools.lru_cache(maxsize=None)
+def say_once(words):
+    sys.stderr.write(words)
+
+
 def decompose(f, where="F"):
     """U, sigma, V^T with U sigma V^T = F."""
     if not all(map(math.isfinite, f)):
         raise Wrong("%s: F has a NaN or an infinity, so it has no factors: give U, sigma and V^T too" % where)
+    package, missing = library()
+    if package:
+        return own(package, f, where)
+    factors = numpys(f, where)
+    say_once("sheet.py: the factors of F are numpy's, unchecked, and not the library's: %s\n" % missing)
+    return factors
+
+
+def own(package, f, where):
+    """The library's."""
+    particle = package.Particle(deformation_gradient=[f[0:3], f[3:6], f[6:9]])
+    try:
+        particle.factor()
+    except package.Refused as e:
+        what = "F's determinant is not finite" if e.number == 1 else REFUSALS[e.number]
+        raise Wrong("%s: the factors of F are refused by %d (%s): give U, sigma and V^T too" % (where, e.number, what))
+    r = particle.floats()
+    return r[9:18], r[18:21], r[21:30]
+
+
+def numpys(f, where):
+    """numpy's, unchecked."""
     try:
         import numpy
     except ImportError:
-        raise Wrong("%s: F alone has to be decomposed, and numpy is not here: install it (Debian: python3-numpy), or give U, sigma and V^T too" % where)
+        raise Wrong("%s: F alone has to be decomposed, and neither the library nor numpy is here: install one (Debian: python3-numpy), or give U, sigma and V^T too" % where)
     try:
         u, sigma, vt = numpy.linalg.svd(numpy.array(f).reshape(3, 3))
     except numpy.linalg.LinAlgError as e:

@@ -132,9 +132,10 @@ remedy = "turn it"
         self.told("crates/answers: UPSIDE_DOWN is None, in the table 250")
 
     def test_a_reserved_refusal_needs_no_row_and_may_have_none(self):
-        self.edit("calls.toml", "reserved = [12, ", "reserved = [")
-        self.told("crates/answers: OUT_OF_RANGE is not in calls.toml: add its row")
-        self.edit("calls.toml", "reserved = [", "reserved = [11, 12, ")
+        line = next(line for line in (self.top / "calls.toml").read_text().splitlines() if line.startswith("reserved = ["))
+        self.edit("calls.toml", line, "reserved = []")
+        self.told("crates/answers: AFTER_END is not in calls.toml: add its row")
+        self.edit("calls.toml", "reserved = []", line.replace("[", "[11, "))
         self.told("crates/answers: 11 has its row in calls.toml now: take it off `reserved`")
 
     def test_another_refusal_in_the_proved_crate_is_told(self):

@@ -1,6 +1,6 @@
 #!/usr/bin/env python3
 """Tests of the tools for people: tools/test_tools.py. They need the standard library alone; those of the proved library and the program run where
-these are found (PASOLETU_LIB, PASOLETU_SLOPE), those of numpy's decomposition where numpy is."""
+these are found (PASOLETU_LIB, PASOLETU_SLOPE), those of numpy's factors where numpy is."""
 import contextlib
 import fractions
 import importlib.util
@@ -170,19 +170,41 @@ class Tables(InFolder):
         b = self.made("a.json", '{"model": "drucker_prager", "parameters": {"young_modulus": 1e5, "poisson_ratio": 0.3}, "particles": []}')
         self.assertEqual(cases.read(b)[1][4:], [1e5 * 0.3 / (1.3 * 0.4), 1e5 / 2.6, 0.0, 1.0])
 
-    @unittest.skipUnless(NUMPY, "numpy is not here")
-    def test_only_f(self):
-        f = [1.0, 0.2, -0.1, 0.05, 0.9, 0.3, 0.0, -0.2, 1.1]
-        r = cases.read(self.made("a.json", json.dumps({"model": "snow", "particles": [{"F": [f[:3], f[3:6], f[6:]]}]})))[2][0]
-        self.assertEqual(r[:9], f)
-        self.check_factors(f, r[9:18], r[18:21], r[21:30])
+    F = [1.0, 0.2, -0.1, 0.05, 0.9, 0.3, 0.0, -0.2, 1.1]
 
-    def test_without_numpy(self):
-        """Only a table with F alone asks for numpy."""
+    def only_f(self):
+        """What is said of a table with F alone, twice."""
+        sheet.say_once.cache_clear()
+        table = self.file("a.json", json.dumps({"model": "snow", "particles": [{"F": [self.F[:3], self.F[3:6], self.F[6:]]}] * 2}))
+        status, _, err = quiet(sheet.main, "make", table, self.folder / "f.sheet")
+        self.assertEqual(status, 0, err)
+        for r in cases.read((self.folder / "f.sheet").read_bytes())[2]:
+            self.assertEqual(r[:9], self.F)
+            self.check_factors(self.F, r[9:18], r[18:21], r[21:30])
+        return err
+
+    @unittest.skipUnless(LIBRARY, "the library is not here")
+    def test_only_f(self):
         with unittest.mock.patch.dict(sys.modules, {"numpy": None}):
+            self.assertEqual(self.only_f(), "")
+            self.refused("particle 0: the factors of F are refused by 1 (F's determinant is not finite): give U, sigma and V^T too", "a.json",
+                         json.dumps({"model": "snow", "particles": [{"F": [1e200, 0, 0, 0, 1e200, 0, 0, 0, 1]}]}))
+            self.refused("particle 0: the factors of F are refused by 14 (the factors worked out miss their check)", "a.json",
+                         json.dumps({"model": "snow", "particles": [{"F": [1.7e308, 1.7e308, 0, 0, 0, 0, 0, 0, 0]}]}))
+
+    @unittest.skipUnless(NUMPY, "numpy is not here")
+    def test_only_f_without_the_library(self):
+        """It is said once whose the factors are."""
+        with unittest.mock.patch.object(sheet, "library", lambda: (None, "no library is here.")):
+            self.assertEqual(self.only_f(), "sheet.py: the factors of F are numpy's, unchecked, and not the library's: no library is here.\n")
+
+    def test_without_library_and_numpy(self):
+        """Only a table with F alone asks for one of them."""
+        with unittest.mock.patch.dict(sys.modules, {"numpy": None}), unittest.mock.patch.object(sheet, "library", lambda: (None, "none")):
             self.made("a.csv", "sigma1,sigma2,sigma3\n1,1,1\n", "--model", "snow")
             f = ",".join(sheet.COLUMNS["F"]) + "\n1,0,0,0,1,0,0,0,1\n"
-            self.refused("row 2: F alone has to be decomposed, and numpy is not here: install it (Debian: python3-numpy)", "a.csv", f, "--model", "snow")
+            words = "row 2: F alone has to be decomposed, and neither the library nor numpy is here: install one (Debian: python3-numpy)"
+            self.refused(words, "a.csv", f, "--model", "snow")
 
     def check_factors(self, f, u, s, vt):
         m = max(map(abs, f))
@@ -191,11 +213,21 @@ class Tables(InFolder):
         for a in (u, vt):
             for i in range(3):
                 for j in range(3):
-                    self.assertLessEqual(abs(sum(a[3 * i + k] * a[3 * j + k] for k in range(3)) - (i == j)), 2.0 ** -48)
+                    self.assertLessEqual(abs(sum(a[3 * i + k] * a[3 * j + k] for k in range(3)) - (i == j)), 2.0 ** -45)
         self.assertGreaterEqual(min(s), 0.0)
 
+    @unittest.skipUnless(LIBRARY, "the library is not here")
+    def test_own_factors(self):
+        self.check_decompose()
+        self.assertEqual(sheet.decompose([3.0, 0, 0, 0, 0.0, 0, 0, 0, 0.5])[1], [3.0, 0.0, 0.5])
+
     @unittest.skipUnless(NUMPY, "numpy is not here")
-    def test_decompose(self):
+    def test_numpys_factors(self):
+        with unittest.mock.patch.object(sheet, "library", lambda: (None, "none")), contextlib.redirect_stderr(io.StringIO()):
+            self.check_decompose()
+            self.assertEqual(sheet.decompose([3.0, 0, 0, 0, 0.0, 0, 0, 0, 0.5])[1], [3.0, 0.5, 0.0])
+
+    def check_decompose(self):
         draw_from = random.Random(1)
         for k in range(300):
             f = [draw_from.uniform(-1, 1) * 2.0 ** draw_from.randint(-20, 20) for _ in range(9)]
@@ -205,7 +237,6 @@ class Tables(InFolder):
                 f[3:] = [0.0] * 6
             self.check_factors(f, *sheet.decompose(f))
         self.check_factors([0.0] * 9, *sheet.decompose([0.0] * 9))
-        self.assertEqual(sheet.decompose([3.0, 0, 0, 0, 0.0, 0, 0, 0, 0.5])[1], [3.0, 0.5, 0.0])
 
     def test_errors_say_what_and_where(self):
         good = '{"model": "snow", "particles": [{}, %s]}'

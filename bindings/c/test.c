@@ -672,6 +672,123 @@ static void of_a_record(void)
     REFUSED(1, 1, pasoletu_record_corotated_pos_energy, law, 4, r, 37);
 }
 
+/* The calls with the library's own factors. */
+static uint8_t factored_pass(double *r, size_t floats, uint64_t *a, size_t answers, uint64_t *c, size_t counts)
+{
+    return pasoletu_pass_factored(PASOLETU_SNOW, SNOW, 3, r, floats, a, answers, c, counts);
+}
+
+static uint8_t factored_judge(double *r, size_t floats, uint64_t *a, size_t answers, uint64_t *c, size_t counts)
+{
+    const double limits[2] = {1e9, 1e9}, law[4] = {0, 0.9, 3, 1};
+    return pasoletu_pass_factored_with_failure(PASOLETU_SNOW, SNOW, 3, limits, 2, law, 4, r, floats, a, answers, c, counts);
+}
+
+static void factors(void)
+{
+    enum { LISTED = 5 };
+    static const double TURNED[9] = {0, -0.5, 0, 2, 0, 0, 0, 0, 1};
+    double r[LISTED * PASOLETU_FLOATS], was[LISTED * PASOLETU_FLOATS], worked[PASOLETU_FLOATS], sum;
+    uint64_t a[2 * LISTED], c[4];
+
+    /* One record: its factors alone are written, whatever stood there. */
+    at_rest(r);
+    memcpy(r + PASOLETU_F, TURNED, sizeof TURNED);
+    for (int k = PASOLETU_U; k < PASOLETU_PHASE; k++)
+        r[k] = 7;
+    pasoletu_fill_determinants(r, PASOLETU_FLOATS);
+    memcpy(was, r, sizeof was);
+    CHECK(pasoletu_factor(r, PASOLETU_FLOATS - 1) == 8 && pasoletu_factor(r, PASOLETU_FLOATS + 1) == 8);
+    CHECK(same(r, was, PASOLETU_FLOATS));
+    CHECK(pasoletu_factor(r, PASOLETU_FLOATS) == 0);
+    CHECK(same(r, was, PASOLETU_U) && same(r + PASOLETU_PHASE, was + PASOLETU_PHASE, PASOLETU_FLOATS - PASOLETU_PHASE));
+    for (int row = 0; row < 3; row++)
+        for (int column = 0; column < 3; column++) {
+            sum = 0;
+            for (int k = 0; k < 3; k++)
+                sum += r[PASOLETU_U + 3 * row + k] * r[PASOLETU_SIGMA + k] * r[PASOLETU_VT + 3 * k + column];
+            CHECK(near(sum, TURNED[3 * row + column]));
+        }
+    CHECK(r[PASOLETU_SIGMA] >= 0 && r[PASOLETU_SIGMA + 1] >= 0 && r[PASOLETU_SIGMA + 2] >= 0);
+    memcpy(worked, r, sizeof worked);
+
+    /* A diagonal keeps its entries, with the sign of a zero. */
+    at_rest(r);
+    r[PASOLETU_F] = 0.25;
+    r[PASOLETU_F + 4] = -0.0;
+    pasoletu_fill_determinants(r, PASOLETU_FLOATS);
+    CHECK(pasoletu_factor(r, PASOLETU_FLOATS) == 0 && r[PASOLETU_SIGMA] == 0.25 && r[PASOLETU_SIGMA + 2] == 1);
+    CHECK(bits(r[PASOLETU_SIGMA + 1]) == bits(-0.0));
+
+    /* 1 of any of the 37, also of one that is about to be written; then 11; then 14. */
+    at_rest(r);
+    r[PASOLETU_F] = r[PASOLETU_F + 1] = 1.7e308;
+    r[PASOLETU_F + 4] = r[PASOLETU_F + 8] = 0;
+    r[PASOLETU_DETERMINANT] = 0;
+    CHECK(pasoletu_factor(r, PASOLETU_FLOATS) == PASOLETU_NOT_ACCEPTED);
+    r[PASOLETU_DETERMINANT] = 1;
+    CHECK(pasoletu_factor(r, PASOLETU_FLOATS) == 11);
+    r[PASOLETU_VT + 5] = nan_with_payload();
+    memcpy(was, r, sizeof was);
+    CHECK(pasoletu_factor(r, PASOLETU_FLOATS) == 1 && same(r, was, PASOLETU_FLOATS));
+
+    /* A list: turned, too large, a NaN, a wrong determinant, at rest but for its factors. */
+    for (int k = 0; k < LISTED; k++)
+        at_rest(r + k * PASOLETU_FLOATS);
+    memcpy(r, TURNED, sizeof TURNED);
+    r[PASOLETU_FLOATS] = r[PASOLETU_FLOATS + 1] = 1.7e308;
+    r[PASOLETU_FLOATS + 4] = r[PASOLETU_FLOATS + 8] = 0;
+    pasoletu_fill_determinants(r, LISTED * PASOLETU_FLOATS);
+    r[2 * PASOLETU_FLOATS + PASOLETU_ALPHA] = nan_with_payload();
+    r[3 * PASOLETU_FLOATS + PASOLETU_DETERMINANT] = 2;
+    r[4 * PASOLETU_FLOATS + PASOLETU_U + 1] = 5;
+    memcpy(was, r, sizeof was);
+    memset(a, 0x55, sizeof a);
+    memset(c, 0x55, sizeof c);
+    CHECK(pasoletu_factor_list(r, LISTED * PASOLETU_FLOATS - 1, a, 2 * LISTED, c, 3) == 8);
+    CHECK(pasoletu_factor_list(r, LISTED * PASOLETU_FLOATS, a, 2 * LISTED - 1, c, 3) == 8);
+    CHECK(pasoletu_factor_list(r, LISTED * PASOLETU_FLOATS, a, 2 * LISTED, c, 4) == 8);
+    CHECK(same(r, was, LISTED * PASOLETU_FLOATS) && a[0] == a[1] && c[0] == a[0]);
+    CHECK(pasoletu_factor_list(r, 0, a, 0, c, 3) == 0 && c[0] + c[1] + c[2] == 0);
+    CHECK(pasoletu_factor_list(r, LISTED * PASOLETU_FLOATS, a, 2 * LISTED, c, 3) == 0);
+    CHECK(c[0] == 0 && c[1] == 2 && c[2] == 3);
+    CHECK(a[0] == PASOLETU_STORED && a[1] == 0 && a[2] == PASOLETU_REFUSED && a[3] == 14);
+    CHECK(a[4] == PASOLETU_REFUSED && a[5] == 1 && a[6] == PASOLETU_REFUSED && a[7] == 11 && a[8] == PASOLETU_STORED);
+    CHECK(same(r + PASOLETU_U, worked + PASOLETU_U, 21) && r[4 * PASOLETU_FLOATS + PASOLETU_U + 1] == 0);
+    CHECK(same(r + PASOLETU_FLOATS, was + PASOLETU_FLOATS, 3 * PASOLETU_FLOATS));
+
+    /* Both passes that factor first: the same factors, then the law; what is refused keeps the factors that it had. */
+    for (int judged = 0; judged < 2; judged++) {
+        uint8_t (*pass)(double *, size_t, uint64_t *, size_t, uint64_t *, size_t) = judged ? factored_judge : factored_pass;
+        size_t counts = judged ? 4 : 3;
+        uint64_t b[2 * LISTED];
+        memcpy(r, was, sizeof r);
+        CHECK(pass(r, LISTED * PASOLETU_FLOATS - 1, a, 2 * LISTED, c, counts) == 8);
+        CHECK(pass(r, LISTED * PASOLETU_FLOATS, a, 2, c, counts) == 8);
+        CHECK(pass(r, LISTED * PASOLETU_FLOATS, a, 2 * LISTED, c, counts - 1) == 8 && same(r, was, LISTED * PASOLETU_FLOATS));
+        CHECK(pass(r, LISTED * PASOLETU_FLOATS, a, 2 * LISTED, c, counts) == 0 && c[0] == 0 && c[1] == 2 && c[2] == 3);
+        CHECK(pasoletu_update(PASOLETU_SNOW, SNOW, 3, worked, PASOLETU_FLOATS, b, 2) == 0);
+        CHECK(same(r, worked, PASOLETU_FLOATS) && a[0] == b[0] && a[1] == b[1]);
+        CHECK(a[3] == 14 && a[5] == 1 && a[7] == 11 && a[8] == PASOLETU_STORED);
+        CHECK(same(r + PASOLETU_FLOATS, was + PASOLETU_FLOATS, 3 * PASOLETU_FLOATS));
+        memcpy(worked, was, sizeof worked);
+        CHECK(pasoletu_factor(worked, PASOLETU_FLOATS) == 0);
+    }
+
+    /* A law that refuses leaves the factors that the record had; one that leaves the record untouched has the new ones. */
+    const double rankine[4] = {1e5, 0.3, 1e9, 1};
+    memcpy(r, was, sizeof r);
+    r[PASOLETU_PLASTIC_DETERMINANT] = -1000;
+    memcpy(was, r, sizeof was);
+    CHECK(factored_pass(r, PASOLETU_FLOATS, a, 2, c, 3) == 0 && a[0] == PASOLETU_REFUSED && a[1] == 10);
+    CHECK(same(r, was, PASOLETU_FLOATS));
+    CHECK(factored_judge(r, PASOLETU_FLOATS, a, 2, c, 4) == 0 && a[1] == 10 && same(r, was, PASOLETU_FLOATS));
+    CHECK(pasoletu_pass_factored(PASOLETU_RANKINE, rankine, 4, r, PASOLETU_FLOATS, a, 2, c, 3) == 0);
+    CHECK(a[0] == PASOLETU_UNTOUCHED && c[0] == 1 && same(r + PASOLETU_U, worked + PASOLETU_U, 21));
+    CHECK(pasoletu_pass_factored(PASOLETU_RANKINE, rankine, 3, r, PASOLETU_FLOATS, a, 2, c, 3) == 8);
+    CHECK(pasoletu_pass_factored(8, rankine, 4, r, PASOLETU_FLOATS, a, 2, c, 3) == 6);
+}
+
 /* A column's entries are as told: least, greatest and total as int64_t. */
 static int column(const uint64_t *c, uint64_t count, int64_t least, int64_t greatest, int64_t total, uint64_t outside,
                   uint64_t not_finite)
@@ -747,6 +864,7 @@ static void refusal_texts(void)
     CHECK(strncmp(pasoletu_refusal_text(11), "the record's stored determinant is not that of its F: ", 54) == 0);
     CHECK(strstr(pasoletu_refusal_text(2), "below its range (crushed") != NULL);
     CHECK(strstr(pasoletu_refusal_text(10), "above its range (torn") != NULL);
+    CHECK(strncmp(pasoletu_refusal_text(PASOLETU_NOT_ACCEPTED), "the factors worked out miss their check: ", 41) == 0);
     CHECK(strstr(pasoletu_refusal_text(PASOLETU_TOO_LONG), "over 4096 particles") != NULL);
     CHECK(strcmp(pasoletu_refusal_text(4), "the sheet ends early: send the sheet again, whole") == 0);
     CHECK(strncmp(pasoletu_refusal_text(99), "no refusal of this library", 26) == 0);
@@ -769,6 +887,7 @@ int main(void)
     sheets_out();
     determinants();
     of_a_record();
+    factors();
     reports();
     printf("%d passed, %d failed\n", passed, failed);
     return failed != 0;

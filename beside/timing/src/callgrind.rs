@@ -6,13 +6,19 @@ use std::fs;
 use std::path::Path;
 use std::process::Command;
 
-/// A request to callgrind, as valgrind.h spells it for x86-64; nothing happens where the program runs by itself.
+/// A request to callgrind, as valgrind.h spells it; nothing happens where the program runs by itself.
 fn request(code: u64, argument: u64) {
     const CALLGRIND: u64 = 0x4354_0000;
     let words = [CALLGRIND + code, argument, 0, 0, 0, 0];
+    #[cfg(target_arch = "x86_64")]
     unsafe {
         asm!("rol rdi, 3", "rol rdi, 13", "rol rdi, 61", "rol rdi, 51", "xchg rbx, rbx",
             inout("rax") words.as_ptr() => _, inout("rdx") 0u64 => _);
+    }
+    #[cfg(target_arch = "aarch64")]
+    unsafe {
+        asm!("ror x12, x12, 3", "ror x12, x12, 13", "ror x12, x12, 51", "ror x12, x12, 61", "orr x10, x10, x10",
+            inout("x4") words.as_ptr() => _, inout("x3") 0u64 => _);
     }
 }
 

@@ -46,6 +46,30 @@ fn laws(work: &str) -> Vec<Row> {
     rows
 }
 
+/// Our factors of a law's records beside nalgebra's, the values the same.
+fn factors(work: &str) -> Vec<Row> {
+    let file = format!("{work}/libuntouched.so");
+    let row = |model: usize| {
+        let records = drawn(model, 4096);
+        let svd = TheirFactors::new(&file, &records).map(|side| Box::new(side) as Box<dyn Side>);
+        let sides = vec![some(OurFactors::new(&records)), svd];
+        Row { name: format!("factors of {}, 4096", LAWS[model].name), units: 4096, sides }
+    };
+    (0..LAWS.len()).map(row).collect()
+}
+
+/// A law's pass that factors first beside the untouched Rust's update, which does too.
+fn factored(work: &str) -> Vec<Row> {
+    let file = format!("{work}/libuntouched.so");
+    let row = |model: usize, units: usize| {
+        let (p, records) = (bits(LAWS[model].parameters), drawn(model, units));
+        let rust = untouched(&file).and_then(|updates| some(RustPass::new(model, &p, &records, true, Box::new(updates))));
+        let sides = vec![some(OurPass::factored(model, &p, &records)), rust];
+        Row { name: format!("factored {}, {units}", LAWS[model].name), units, sides }
+    };
+    (0..LAWS.len()).flat_map(|model| [row(model, 4096), row(model, 200)]).collect()
+}
+
 type Ours = unsafe extern "C" fn(f64, *mut u64, usize) -> u8;
 type Std = fn(f64) -> f64;
 const FUNCTIONS: [(&str, Ours, Std, f64, f64); 9] = [
@@ -153,6 +177,27 @@ fn agree(row: &mut Row) {
     }
 }
 
+/// Whether the sides have the same sigma of each record, in any order.
+fn same_values(row: &mut Row) {
+    let mut made = Vec::new();
+    for side in row.sides.iter_mut().flatten() {
+        side.ready();
+        side.run();
+        made.push(side.records());
+    }
+    let sorted = |r: &[u64]| {
+        let mut s: [f64; 3] = std::array::from_fn(|k| f64::from_bits(r[18 + k]));
+        s.sort_by(f64::total_cmp);
+        s
+    };
+    for other in &made[1..] {
+        for (record, (x, y)) in made[0].chunks(FLOATS).zip(other.chunks(FLOATS)).enumerate() {
+            let (x, y) = (sorted(x), sorted(y));
+            assert!((0..3).all(|k| (x[k] - y[k]).abs() <= 1e-12), "{}: record {record}: {x:?} for {y:?}", row.name);
+        }
+    }
+}
+
 fn count(row: &mut Row) {
     for (k, side) in row.sides.iter_mut().enumerate() {
         if let Some(side) = side {
@@ -181,13 +226,13 @@ fn table(title: &str, sides: &[&str], rows: &mut [Row], counts: &Option<BTreeMap
     let ratios = sides[1..].iter().map(|s| format!("{:>10}", format!("/{s}")));
     let heads: String = sides.iter().map(|s| format!("{s:>10}")).chain(ratios).collect();
     let wide = heads.len();
-    println!("\n{title}\n{:<26}{:<wide$}  |      instructions\n{:<26}{heads}  |{heads}", "", "      ns", "");
+    println!("\n{title}\n{:<34}{:<wide$}  |      instructions\n{:<34}{heads}  |{heads}", "", "      ns", "");
     let mut ours = Vec::new();
     for row in rows {
         let ns = times(row);
         let count = |k: usize| counts.as_ref()?.get(&format!("{} {k}", row.name)).map(|n| n / row.units as f64);
         let instructions: Vec<Option<f64>> = (0..sides.len()).map(count).collect();
-        println!("{:<26}{}  |{}", row.name, figures(&ns), figures(&instructions));
+        println!("{:<34}{}  |{}", row.name, figures(&ns), figures(&instructions));
         ours.extend(ns[0]);
     }
     ours
@@ -201,12 +246,15 @@ fn main() {
     let args: Vec<String> = std::env::args().collect();
     let work = &args[1];
     let (mut laws, mut functions, mut sheets) = (laws(work), functions(), sheets());
+    let (mut factors, mut factored) = (factors(work), factored(work));
     if args.len() > 2 {
-        laws.iter_mut().chain(&mut functions).chain(&mut sheets).for_each(count);
+        let rows = laws.iter_mut().chain(&mut factors).chain(&mut factored);
+        rows.chain(&mut functions).chain(&mut sheets).for_each(count);
         return;
     }
     let counts = callgrind::counted(work);
-    laws.iter_mut().for_each(agree);
+    laws.iter_mut().chain(&mut factored).for_each(agree);
+    factors.iter_mut().for_each(same_values);
     println!("Ours beside the Rust: CPU time, medians of interleaved rounds; the machine's load {}", load());
     if laws[0].sides[1].is_none() {
         println!("The untouched Rust is LEFT OUT: nalgebra could not be fetched, or --no-untouched.");
@@ -220,6 +268,14 @@ fn main() {
     let title =
         "A record of a law's pass, factors given, beside the untouched Rust's update and the same less its SVD (factors given)";
     table(title, &["ours", "Rust", "less SVD"], &mut laws, &counts);
+    table(
+        "A record's factors, worked and checked, beside nalgebra's SVD, unchecked",
+        &["ours", "nalgebra"],
+        &mut factors,
+        &counts,
+    );
+    let title = "A record of a law's pass that factors first, beside the untouched Rust's update with its SVD";
+    table(title, &["ours", "Rust"], &mut factored, &counts);
     table("A call of an elementary function, beside std's", &["ours", "std"], &mut functions, &counts);
     let ns = table("A record of a full sheet", &["ours"], &mut sheets, &counts);
     for (floats, ns) in [BARE, FLOATS].iter().zip(&ns) {

@@ -1,6 +1,6 @@
-//! What is timed: ours, the untouched Rust, and the Rust less its SVD.
+//! What is timed: ours, the untouched Rust, and the Rust less its SVD; our factors and nalgebra's.
 use crate::calls::{self, Particle, BARE, FLOATS};
-use crate::externs::{pasoletu_pass, pasoletu_read_sheet, pasoletu_run_sheet};
+use crate::externs::{pasoletu_factor_list, pasoletu_pass, pasoletu_pass_factored, pasoletu_read_sheet, pasoletu_run_sheet};
 use crate::library::Library;
 use crate::records::completed;
 use std::hint::black_box;
@@ -15,14 +15,21 @@ pub trait Side {
     }
 }
 
-pub fn our_pass(model: usize, p: &[u64], r: &mut [u64], a: &mut [u64], c: &mut [u64; 3]) {
+type Pass = unsafe extern "C" fn(u64, *const u64, usize, *mut u64, usize, *mut u64, usize, *mut u64, usize) -> u8;
+
+fn passed(pass: Pass, model: usize, p: &[u64], r: &mut [u64], a: &mut [u64], c: &mut [u64; 3]) {
     let (ps, rs, answers) = (p.len(), r.len(), a.len());
     let (r, a, c) = (r.as_mut_ptr(), a.as_mut_ptr(), c.as_mut_ptr());
-    let refusal = unsafe { pasoletu_pass(model as u64, p.as_ptr(), ps, r, rs, a, answers, c, 3) };
+    let refusal = unsafe { pass(model as u64, p.as_ptr(), ps, r, rs, a, answers, c, 3) };
     assert_eq!(refusal, 0);
 }
 
+pub fn our_pass(model: usize, p: &[u64], r: &mut [u64], a: &mut [u64], c: &mut [u64; 3]) {
+    passed(pasoletu_pass, model, p, r, a, c);
+}
+
 pub struct OurPass {
+    pass: Pass,
     model: usize,
     p: Vec<u64>,
     came: Vec<u64>,
@@ -32,8 +39,17 @@ pub struct OurPass {
 
 impl OurPass {
     pub fn new(model: usize, p: &[u64], records: &[u64]) -> Self {
+        Self::by(pasoletu_pass, model, p, records)
+    }
+
+    /// The pass that factors first; what stands for the factors is 0.
+    pub fn factored(model: usize, p: &[u64], records: &[u64]) -> Self {
+        Self::by(pasoletu_pass_factored, model, p, &bare(records))
+    }
+
+    fn by(pass: Pass, model: usize, p: &[u64], records: &[u64]) -> Self {
         let answers = vec![0; records.len() / FLOATS * 2];
-        OurPass { model, p: p.to_vec(), came: records.to_vec(), records: records.to_vec(), answers }
+        OurPass { pass, model, p: p.to_vec(), came: records.to_vec(), records: records.to_vec(), answers }
     }
 }
 
@@ -43,11 +59,72 @@ impl Side for OurPass {
     }
     fn run(&mut self) {
         let mut counts = [0; 3];
-        our_pass(self.model, &self.p, &mut self.records, &mut self.answers, &mut counts);
+        passed(self.pass, self.model, &self.p, &mut self.records, &mut self.answers, &mut counts);
         black_box(&counts);
     }
     fn records(&self) -> Vec<u64> {
         self.records.clone()
+    }
+}
+
+/// The records with 0 for their factors.
+fn bare(records: &[u64]) -> Vec<u64> {
+    records.iter().enumerate().map(|(k, x)| if (9..30).contains(&(k % FLOATS)) { 0 } else { *x }).collect()
+}
+
+/// Our factors of each record, worked and checked.
+pub struct OurFactors {
+    came: Vec<u64>,
+    records: Vec<u64>,
+    answers: Vec<u64>,
+}
+
+impl OurFactors {
+    pub fn new(records: &[u64]) -> Self {
+        OurFactors { came: bare(records), records: bare(records), answers: vec![0; records.len() / FLOATS * 2] }
+    }
+}
+
+impl Side for OurFactors {
+    fn ready(&mut self) {
+        self.records.copy_from_slice(&self.came);
+    }
+    fn run(&mut self) {
+        let mut counts = [0; 3];
+        let (r, a) = (&mut self.records, &mut self.answers);
+        let (rs, answers) = (r.len(), a.len());
+        let refusal = unsafe { pasoletu_factor_list(r.as_mut_ptr(), rs, a.as_mut_ptr(), answers, counts.as_mut_ptr(), 3) };
+        assert_eq!((refusal, black_box(counts)[2]), (0, 0));
+    }
+    fn records(&self) -> Vec<u64> {
+        self.records.clone()
+    }
+}
+
+type Svd = extern "C" fn(*const f64, *mut f64);
+
+/// nalgebra's factors of each record, a call each, where build 1 is there. U, sigma and V^T stand as in a record; nothing is checked.
+pub struct TheirFactors {
+    svd: Svd,
+    records: Vec<f64>,
+}
+
+impl TheirFactors {
+    pub fn new(file: &str, records: &[u64]) -> Option<Self> {
+        let svd = unsafe { std::mem::transmute::<usize, Svd>(Library::open(file)?.find("untouched_factors")?) };
+        Some(TheirFactors { svd, records: bare(records).into_iter().map(f64::from_bits).collect() })
+    }
+}
+
+impl Side for TheirFactors {
+    fn run(&mut self) {
+        for r in self.records.chunks_exact_mut(FLOATS) {
+            let (f, factors) = r.split_at_mut(9);
+            (self.svd)(f.as_ptr(), factors.as_mut_ptr());
+        }
+    }
+    fn records(&self) -> Vec<u64> {
+        self.records.iter().map(|x| x.to_bits()).collect()
     }
 }
 

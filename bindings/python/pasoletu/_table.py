@@ -63,6 +63,7 @@ LENGTH = 8
 NO_ROOM = 9
 ABOVE_RANGE = 10
 WRONG_DETERMINANT = 11
+NOT_ACCEPTED = 14
 TOO_LONG = 16
 REFUSALS: dict[int, Refusal] = {
     1: Refusal(
@@ -119,6 +120,11 @@ REFUSALS: dict[int, Refusal] = {
         "WRONG_DETERMINANT",
         "the record's stored determinant is not that of its F",
         "fill it in where you write F (fill_determinants)",
+    ),
+    14: Refusal(
+        "NOT_ACCEPTED",
+        "the factors worked out miss their check",
+        "look at the sizes of F's entries, or give factors of your own",
     ),
     16: Refusal(
         "TOO_LONG",
@@ -478,6 +484,9 @@ CALLS: dict[str, tuple[Argument, ...]] = {
         Argument("record", "f64", 37, True),
         Argument("answer", "u64", 2, True),
     ),
+    "factor": (
+        Argument("record", "f64", 37, True),
+    ),
     "pass": (
         Argument("model", "u64", None, False),
         Argument("parameters", "f64", 0, False),
@@ -486,6 +495,27 @@ CALLS: dict[str, tuple[Argument, ...]] = {
         Argument("counts", "u64", 3, True),
     ),
     "pass_with_failure": (
+        Argument("model", "u64", None, False),
+        Argument("parameters", "f64", 0, False),
+        Argument("limits", "f64", 2, False),
+        Argument("corotated", "f64", 4, False),
+        Argument("records", "f64", 0, True),
+        Argument("answers", "u64", 0, True),
+        Argument("counts", "u64", 4, True),
+    ),
+    "factor_list": (
+        Argument("records", "f64", 0, True),
+        Argument("answers", "u64", 0, True),
+        Argument("counts", "u64", 3, True),
+    ),
+    "pass_factored": (
+        Argument("model", "u64", None, False),
+        Argument("parameters", "f64", 0, False),
+        Argument("records", "f64", 0, True),
+        Argument("answers", "u64", 0, True),
+        Argument("counts", "u64", 3, True),
+    ),
+    "pass_factored_with_failure": (
         Argument("model", "u64", None, False),
         Argument("parameters", "f64", 0, False),
         Argument("limits", "f64", 2, False),

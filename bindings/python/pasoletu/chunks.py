@@ -44,12 +44,13 @@ def pass_array(
     records: Any,
     limits: Optional[MaximumStressFailure] = None,
     elasticity: Optional[CorotatedLinearElasticity] = None,
+    factored: bool = False,
 ) -> PassedArray:
-    """Either pass over a Dask array of float64, a record a row, (n, 37), chunked between rows only."""
+    """Either pass over a Dask array of float64, a record a row, (n, 37), chunked between rows only. factored: as in pass_records."""
     judge("pass_array", limits, elasticity)
     _check(records)
     work = delayed(_worked, nout=3, pure=True)
-    done = [work(block, model, limits, elasticity) for block in records.to_delayed()[:, 0]]
+    done = [work(block, model, limits, elasticity, factored) for block in records.to_delayed()[:, 0]]
     heights = records.chunks[0]
     return PassedArray(
         _joined([after for after, _, _ in done], heights, FLOATS, numpy.float64),
@@ -72,10 +73,10 @@ def _check(records: Any) -> None:
         raise ValueError("pass_array: records is chunked within its rows: pass records.rechunk({1: %d})" % FLOATS)
 
 
-def _worked(block: Any, model: Plasticity, limits: Any, elasticity: Any) -> tuple[Any, Any, Any]:
+def _worked(block: Any, model: Plasticity, limits: Any, elasticity: Any, factored: bool) -> tuple[Any, Any, Any]:
     """One chunk. A block may be others' too, so the pass works on a copy."""
     after = numpy.array(block, dtype=numpy.float64, order="C")
-    passed = pass_records(model, after, limits, elasticity)
+    passed = pass_records(model, after, limits, elasticity, factored)
     counts = [[passed.untouched, passed.stored, passed.refused, passed.failed]]
     return after, passed.answers, numpy.array(counts, dtype=numpy.uint64)
 

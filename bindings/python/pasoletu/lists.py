@@ -1,4 +1,4 @@
-"""The passes and the sheet (docs/RULES.md, section 7)."""
+"""The passes, our own factors and the sheet (docs/RULES.md, section 7)."""
 from __future__ import annotations
 
 import ctypes
@@ -24,7 +24,7 @@ from ._table import (
 )
 from .laws import PLASTICITIES, CorotatedLinearElasticity, MaximumStressFailure, Plasticity
 from .outcome import Passed, as_float
-from .particle import Particle
+from .particle import PLACES, Particle
 from .refusal import NOT_FINITE, Refused
 
 
@@ -55,19 +55,20 @@ def _of_type(told: str, name: str, given: Any, wanted: type) -> None:
 
 
 class Pass(NamedTuple):
-    """A pass over records: who called it, the law, where the records stand, and what it judges by."""
+    """A pass over records: who called it, the law, where the records stand, what it judges by, and whether it factors first."""
 
     told: str
     model: Plasticity
     records: Any
     judge: Optional[Judge]
+    factored: bool = False
 
     def run(self, room: ctypes.Array[ctypes.c_double]) -> Passed:
         """The pass over the records' own room."""
         _of_type(self.told, "model", self.model, Plasticity)
         laws = [_list(law) for law in (self.model, *(self.judge or ()))]
         answers, counts = words(len(room) // FLOATS * ANSWERS), words(4 if self.judge else 3)
-        call = "pass_with_failure" if self.judge else "pass"
+        call = "pass" + ("_factored" if self.factored else "") + ("_with_failure" if self.judge else "")
         status = ask(call, self.model.model, *laws, room, answers, counts)
         if status:
             raise Refused(status, self.told)
@@ -98,19 +99,28 @@ def _room(told: str, held: list[Particle]) -> ctypes.Array[ctypes.c_double]:
     return doubles(told, "particles", (x for particle in held for x in particle.floats()))
 
 
-def _pass_particles(told: str, model: Plasticity, particles: Iterable[Particle], by: Optional[Judge]) -> Passed:
-    held = list(particles)
-    room = _room(told, held)
-    passed = Pass(told, model, room, by).run(room)
+def _taken(held: list[Particle], room: ctypes.Array[ctypes.c_double], passed: Passed) -> Passed:
+    """The particles that were not refused take their records."""
     for k, (particle, outcome) in enumerate(zip(held, passed.outcomes)):
         if not isinstance(outcome, Refused):
             particle._take(room[FLOATS * k:FLOATS * (k + 1)])
     return passed
 
 
-def pass_particles(model: Plasticity, particles: Iterable[Particle]) -> Passed:
-    """The plastic law on every particle, in place. The pass goes on after a refused one."""
-    return _pass_particles("pass_particles", model, particles, None)
+def _pass_particles(
+    told: str, model: Plasticity, particles: Iterable[Particle], by: Optional[Judge], factored: bool
+) -> Passed:
+    held = list(particles)
+    room = _room(told, held)
+    return _taken(held, room, Pass(told, model, room, by, factored).run(room))
+
+
+def pass_particles(model: Plasticity, particles: Iterable[Particle], factored: bool = False) -> Passed:
+    """The plastic law on every particle, in place. The pass goes on after a refused one.
+
+    factored: on the particles with the library's own factors, as Particle.factor works them; u, singular_values and v_t may be any finite
+    floats. An untouched particle has the new factors; a refused one keeps every bit, the factors that it had too."""
+    return _pass_particles("pass_particles", model, particles, None, factored)
 
 
 def pass_with_failure(
@@ -118,11 +128,13 @@ def pass_with_failure(
     limits: MaximumStressFailure,
     elasticity: CorotatedLinearElasticity,
     particles: Iterable[Particle],
+    factored: bool = False,
 ) -> Passed:
     """The pass with failure, in place: applies the law to each particle, judges the stress of what it leaves by the phase as it came,
-    and sets the phase to 0.0 on a yes. A refused law is not judged; a refused stress leaves the particle as it came."""
+    and sets the phase to 0.0 on a yes. A refused law is not judged; a refused stress leaves the particle as it came. factored: as in
+    pass_particles."""
     _of_type("pass_with_failure", "limits", limits, MaximumStressFailure)
-    return _pass_particles("pass_with_failure", model, particles, judge("pass_with_failure", limits, elasticity))
+    return _pass_particles("pass_with_failure", model, particles, judge("pass_with_failure", limits, elasticity), factored)
 
 
 def pass_records(
@@ -130,9 +142,10 @@ def pass_records(
     records: Records,
     limits: Optional[MaximumStressFailure] = None,
     elasticity: Optional[CorotatedLinearElasticity] = None,
+    factored: bool = False,
 ) -> Passed:
     """Either pass over records that stand in one buffer, in place and without a copy. With failure where limits and elasticity are
-    given: both or none.
+    given: both or none. factored: as in pass_particles, so that records may hold F and its determinant with any finite factors.
 
     records: a numpy array of float64, a record a row, (n, 37), row after row in memory; or all records in one dimension, as in an
     array('d'). TypeError for what holds no writable doubles, ValueError for another shape or order, refused by 8 for one dimension
@@ -141,7 +154,36 @@ def pass_records(
     A refused record keeps its bits, and its outcome names the first float that is not finite: as the record stands when the outcome
     is asked for."""
     by = judge("pass_records", limits, elasticity)
-    return Pass("pass_records", model, records, by).run(lent("pass_records", records))
+    return Pass("pass_records", model, records, by, factored).run(lent("pass_records", records))
+
+
+def _factored(told: str, records: Any, room: ctypes.Array[ctypes.c_double]) -> Passed:
+    """The factors of the records in a room, their own or a copy."""
+    answers, counts = words(len(room) // FLOATS * ANSWERS), words(3)
+    status = ask("factor_list", room, answers, counts)
+    if status:
+        raise Refused(status, told)
+
+    def refusal(k: int, number: int) -> Refused:
+        if number != NOT_FINITE:
+            return Refused(number, told, k)
+        with flat(records, "d") as floats:
+            return Refused(number, told, k, first_not_finite(floats[FLOATS * k:FLOATS * (k + 1)], PLACES))
+
+    return Passed(answers, list(counts), refusal)
+
+
+def factor_particles(particles: Iterable[Particle]) -> Passed:
+    """Particle.factor on every particle, in place. One whose factors are accepted is stored, with the amount 0.0; a refused one keeps
+    every bit."""
+    held = list(particles)
+    room = _room("factor_particles", held)
+    return _taken(held, room, _factored("factor_particles", room, room))
+
+
+def factor_records(records: Records) -> Passed:
+    """factor_particles over records that stand in one buffer, in place. records: as pass_records takes them."""
+    return _factored("factor_records", records, lent("factor_records", records))
 
 
 def fill_determinants(records: Records) -> None:

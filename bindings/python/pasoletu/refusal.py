@@ -9,6 +9,7 @@ from ._table import (
     ENDS_EARLY,
     LENGTH,
     NO_NUMBER,
+    NOT_ACCEPTED,
     NOT_FINITE,
     NOT_SHORTEST,
     REFUSALS,
@@ -23,6 +24,7 @@ __all__ = [
     "BELOW_RANGE",
     "ENDS_EARLY",
     "LENGTH",
+    "NOT_ACCEPTED",
     "NOT_FINITE",
     "NOT_SHORTEST",
     "NO_NUMBER",
@@ -38,7 +40,7 @@ __all__ = [
 class Refused(Exception):
     """A call or a particle was refused: whatever was refused holds every bit it held.
 
-    number    1 to 8, 10, 11 or 16; REFUSALS has its name and its words
+    number    1 to 8, 10, 11, 14 or 16; REFUSALS has its name and its words
     call      the call that refused
     particle  which particle of a list, or None
     place     of refusal 1, the first float that is not finite; of refusal 8, the list; or None

@@ -4,7 +4,8 @@
 //! meets these differences:
 //! - a call answers a `Result`: what would have been a NaN that looks like packed snow is a [`Refusal`];
 //! - matrices are `[[f64; 3]; 3]`, three rows of three;
-//! - the factors U, sigma, V^T of F are given (in a [`Particle`], or to the corotated law), not worked out inside;
+//! - the factors U, sigma, V^T of F are given (in a [`Particle`], or to the corotated law), not worked out inside, unless they are asked
+//!   for: [`Particle::factor`], and the passes that factor first;
 //! - a [`Particle`] holds F's determinant: whoever writes F fills it in ([`fill_determinants`]).
 //!
 //! ```
@@ -22,9 +23,10 @@
 //!
 //! - `std` (by default): [`Refusal`] is a `std::error::Error`.
 //! - `alloc` (by default, with `std`): the passes and sheets that answer in a `Vec`. Without it the crate needs `core` alone:
-//!   [`pass_into`], [`pass_with_failure_into`], [`read_sheet_into`] and [`write_sheet_into`] write in the caller's room.
-//! - `parallel`: `parallel::pass` and `parallel::pass_with_failure` over all cores, by rayon. It needs rayon, which the manifest
-//!   in the folder `parallel` names and this one does not.
+//!   [`pass_into`], [`pass_with_failure_into`], [`pass_factored_into`], [`pass_factored_with_failure_into`], [`factor_list_into`],
+//!   [`read_sheet_into`] and [`write_sheet_into`] write in the caller's room.
+//! - `parallel`: `parallel::pass`, `parallel::pass_with_failure` and those that factor first over all cores, by rayon. It needs rayon,
+//!   which the manifest in the folder `parallel` names and this one does not.
 #![no_std]
 #![deny(missing_docs)]
 
@@ -59,8 +61,8 @@ pub use elasticity::{CorotatedLinearElasticity, EnergySplit, NeoHookeanElasticit
 pub use failure::MaximumStressFailure;
 pub use fluid::MonaghanSphEos;
 pub use lists::{
-    fill_determinants, pass_into, pass_with_failure_into, read_sheet_into, write_sheet_into, write_sheet_with_determinants_into,
-    Answer, Counts, Header,
+    factor_list_into, fill_determinants, pass_factored_into, pass_factored_with_failure_into, pass_into, pass_with_failure_into,
+    read_sheet_into, write_sheet_into, write_sheet_with_determinants_into, Answer, Counts, Header,
 };
 pub use particle::Particle;
 pub use plasticity::{DruckerPragerPlasticity, Model, NaccPlasticity, Outcome, RankinePlasticity, SnowPlasticity};
@@ -70,7 +72,7 @@ pub use reports::{report, Column, Report};
 pub use sheets::{read_sheet, run_sheet, write_sheet, write_sheet_with_determinants, Ran, Sheet};
 pub use table::{REPORT_MOST, SHEET_BYTES, SHEET_MOST};
 #[cfg(feature = "alloc")]
-pub use vectors::{pass, pass_with_failure, Passed};
+pub use vectors::{factor_list, pass, pass_factored, pass_factored_with_failure, pass_with_failure, Passed};
 
 /// The version of the crate, which is that of the library.
 pub const VERSION: &str = env!("CARGO_PKG_VERSION");

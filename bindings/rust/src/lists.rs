@@ -1,8 +1,9 @@
 //! The passes, and the reading and writing of a sheet, in the caller's room (docs/RULES.md, section 7): nothing is allocated.
 use crate::plasticity::Parameters;
 use crate::table::{
-    pasoletu_fill_determinants, pasoletu_pass, pasoletu_pass_with_failure, pasoletu_read_sheet, pasoletu_write_sheet, ANSWERS,
-    HEADER, HEADER_COUNT, HEADER_MODEL, HEADER_PARAMETERS, MOST_PARAMETERS, STORED, UNTOUCHED, WITH_DETERMINANT,
+    pasoletu_factor_list, pasoletu_fill_determinants, pasoletu_pass, pasoletu_pass_factored, pasoletu_pass_factored_with_failure,
+    pasoletu_pass_with_failure, pasoletu_read_sheet, pasoletu_write_sheet, ANSWERS, HEADER, HEADER_COUNT, HEADER_MODEL,
+    HEADER_PARAMETERS, MOST_PARAMETERS, STORED, UNTOUCHED, WITH_DETERMINANT,
 };
 use crate::{CorotatedLinearElasticity, MaximumStressFailure, Model, Outcome, Particle, Refusal};
 
@@ -65,32 +66,33 @@ impl Judge {
     }
 }
 
-/// A pass: the law, and the judge where it is one with failure.
+/// A pass: the law, the judge where it is one with failure, and whether it factors each particle first.
 pub(crate) struct Pass {
     pub call: &'static str,
     pub law: Parameters,
     pub judge: Option<Judge>,
+    pub factored: bool,
 }
 
 impl Pass {
     pub fn plain(call: &'static str, model: impl Into<Model>) -> Pass {
-        Pass { call, law: model.into().parameters(), judge: None }
+        Pass { call, law: model.into().parameters(), judge: None, factored: false }
     }
 
     pub fn with_failure(call: &'static str, model: impl Into<Model>, judge: Judge) -> Pass {
-        Pass { call, law: model.into().parameters(), judge: Some(judge) }
+        Pass { judge: Some(judge), ..Pass::plain(call, model) }
+    }
+
+    /// The same pass on the particles with the library's own factors.
+    pub fn factored(self) -> Pass {
+        Pass { factored: true, ..self }
     }
 
     /// Works the particles in one thread. Refused by 8 where there is not an answer for each.
     pub fn run(&self, particles: &mut [Particle], answers: &mut [Answer]) -> Result<Counts, Refusal> {
         let mut counts = [0u64; 4];
-        match self.status(particles, answers, &mut counts) {
-            0 => {
-                let [untouched, stored, refused, failed] = counts;
-                Ok(Counts { untouched, stored, refused, failed })
-            }
-            number => Err(Refusal::new(number, self.call)),
-        }
+        let status = self.status(particles, answers, &mut counts);
+        counted(status, counts, self.call)
     }
 
     fn status(&self, particles: &mut [Particle], answers: &mut [Answer], counts: &mut [u64; 4]) -> u8 {
@@ -99,12 +101,25 @@ impl Pass {
         let (a, words) = (answers.as_mut_ptr().cast(), answers.len() * ANSWERS);
         let counts = counts.as_mut_ptr();
         match &self.judge {
-            None => unsafe { pasoletu_pass(model, p, n, records, floats, a, words, counts, 3) },
-            Some(judge) => unsafe {
+            None => {
+                let pass = if self.factored { pasoletu_pass_factored } else { pasoletu_pass };
+                unsafe { pass(model, p, n, records, floats, a, words, counts, 3) }
+            }
+            Some(judge) => {
+                let pass = if self.factored { pasoletu_pass_factored_with_failure } else { pasoletu_pass_with_failure };
                 let (limits, law) = (judge.limits.as_ptr(), judge.corotated.as_ptr());
-                pasoletu_pass_with_failure(model, p, n, limits, 2, law, 4, records, floats, a, words, counts, 4)
-            },
+                unsafe { pass(model, p, n, limits, 2, law, 4, records, floats, a, words, counts, 4) }
+            }
         }
+    }
+}
+
+/// The counts that a call wrote, or its refusal.
+fn counted(status: u8, counts: [u64; 4], call: &'static str) -> Result<Counts, Refusal> {
+    let [untouched, stored, refused, failed] = counts;
+    match status {
+        0 => Ok(Counts { untouched, stored, refused, failed }),
+        number => Err(Refusal::new(number, call)),
     }
 }
 
@@ -140,6 +155,43 @@ pub fn pass_with_failure_into(
     answers: &mut [Answer],
 ) -> Result<Counts, Refusal> {
     Pass::with_failure("pass_with_failure_into", model, Judge::new(limits, elasticity)).run(particles, answers)
+}
+
+/// [`pass_into`] on the particles with the library's own factors ([`Particle::factor`]): a host gives `deformation_gradient` and
+/// `determinant`, and any finite `u`, `singular_values` and `v_t`. An untouched particle has the new factors; a refused one keeps every
+/// bit, the factors that it had too.
+pub fn pass_factored_into(
+    model: impl Into<Model>,
+    particles: &mut [Particle],
+    answers: &mut [Answer],
+) -> Result<Counts, Refusal> {
+    Pass::plain("pass_factored_into", model).factored().run(particles, answers)
+}
+
+/// [`pass_with_failure_into`] on the particles with the library's own factors, as [`pass_factored_into`].
+pub fn pass_factored_with_failure_into(
+    model: impl Into<Model>,
+    limits: &MaximumStressFailure,
+    elasticity: &CorotatedLinearElasticity,
+    particles: &mut [Particle],
+    answers: &mut [Answer],
+) -> Result<Counts, Refusal> {
+    let judge = Judge::new(limits, elasticity);
+    Pass::with_failure("pass_factored_with_failure_into", model, judge).factored().run(particles, answers)
+}
+
+/// [`Particle::factor`] on every particle, with an answer for each in `answers`: stored, with the amount 0.0, or refused. Refused by 8,
+/// with nothing written, unless there are as many answers as particles.
+pub fn factor_list_into(particles: &mut [Particle], answers: &mut [Answer]) -> Result<Counts, Refusal> {
+    factor_by("factor_list_into", particles, answers)
+}
+
+pub(crate) fn factor_by(call: &'static str, particles: &mut [Particle], answers: &mut [Answer]) -> Result<Counts, Refusal> {
+    let mut counts = [0u64; 4];
+    let (records, floats) = floats_of(particles);
+    let (a, words) = (answers.as_mut_ptr().cast(), answers.len() * ANSWERS);
+    let status = unsafe { pasoletu_factor_list(records, floats, a, words, counts.as_mut_ptr(), 3) };
+    counted(status, counts, call)
 }
 
 /// Makes each particle's `determinant` that of the `deformation_gradient` which stands there: for a host that has written F. It refuses

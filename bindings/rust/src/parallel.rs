@@ -29,3 +29,18 @@ pub fn pass_with_failure(
 ) -> Passed {
     Pass::with_failure("pass_with_failure", model, Judge::new(limits, elasticity)).over(particles, run)
 }
+
+/// [`pass_factored`](crate::pass_factored) over all cores.
+pub fn pass_factored(model: impl Into<Model>, particles: &mut [Particle]) -> Passed {
+    Pass::plain("pass_factored", model).factored().over(particles, run)
+}
+
+/// [`pass_factored_with_failure`](crate::pass_factored_with_failure) over all cores.
+pub fn pass_factored_with_failure(
+    model: impl Into<Model>,
+    limits: &MaximumStressFailure,
+    elasticity: &CorotatedLinearElasticity,
+    particles: &mut [Particle],
+) -> Passed {
+    Pass::with_failure("pass_factored_with_failure", model, Judge::new(limits, elasticity)).factored().over(particles, run)
+}

@@ -1,11 +1,12 @@
 use crate::lists::fill_determinants;
 use crate::math::{Matrix, Vector};
-use crate::table;
+use crate::table::{self, pasoletu_factor};
+use crate::Refusal;
 
 /// A particle: the 37 floats of a record (docs/RULES.md, section 7), with the names that the Rust gives them.
 ///
 /// The laws take the factors F = U diag(sigma) V^T as they stand here: the host decomposes F and does not lend factors of
-/// another F. An update that stores writes `deformation_gradient`, `singular_values`, the scalars that its law names and
+/// another F, or it asks [`Particle::factor`] or a pass that factors first. An update that stores writes `deformation_gradient`, `singular_values`, the scalars that its law names and
 /// `determinant`; `u` and `v_t` stay. Whoever writes `deformation_gradient` writes `determinant` with it, by
 /// [`Particle::with_determinant`] or [`fill_determinants`](crate::fill_determinants): one that does not belong to F is refused by 11.
 #[derive(Copy, Clone, Debug, PartialEq)]
@@ -78,6 +79,38 @@ impl Particle {
     pub fn with_determinant(mut self) -> Particle {
         fill_determinants(core::slice::from_mut(&mut self));
         self
+    }
+
+    /// Works `u`, `singular_values` and `v_t` out of `deformation_gradient`, whatever stood there, and checks them exactly: with m the
+    /// largest size of an entry of F, U diag(sigma) V^T lies within m / 2^40 of F in every entry, U and V times their transposes within
+    /// 2^-40 of the identity, and no singular value is below 0; they are in no order. Nothing else is written.
+    ///
+    /// Refused, with nothing written, by 1 for one of the 37 floats that is not finite, also of those about to be written, then by 11 for
+    /// a wrong `determinant`, then by 14 where the factors miss the check.
+    ///
+    /// ```
+    /// use pasoletu::Particle;
+    ///
+    /// let f = [[0.0, -2.0, 0.0], [0.5, 0.0, 0.0], [0.0, 0.0, 3.0]];
+    /// let mut particle = Particle { deformation_gradient: f, ..Particle::REST }.with_determinant();
+    /// particle.factor()?;
+    /// for wanted in [0.5, 2.0, 3.0] {
+    ///     assert!(particle.singular_values.iter().any(|sigma| (sigma - wanted).abs() < 1e-11));
+    /// }
+    /// # Ok::<(), pasoletu::Refusal>(())
+    /// ```
+    pub fn factor(&mut self) -> Result<(), Refusal> {
+        let status = unsafe { pasoletu_factor(self.floats_mut().as_mut_ptr(), Particle::FLOATS) };
+        match status {
+            0 => Ok(()),
+            number => Err(self.refusal(number, "Particle::factor", None)),
+        }
+    }
+
+    /// The refusal of this particle's factors, with the place where a float is not finite.
+    pub(crate) fn refusal(&self, number: u8, call: &'static str, particle: Option<usize>) -> Refusal {
+        let place = if number == Refusal::NOT_FINITE { self.first_not_finite() } else { None };
+        Refusal { number, call, particle, place }
     }
 
     /// The floats in the record's order: F, U, sigma, V^T, the six scalars and the determinant.

@@ -30,6 +30,8 @@ impl Refusal {
     pub const ABOVE_RANGE: u8 = 10;
     /// The record's stored determinant is not that of its F.
     pub const WRONG_DETERMINANT: u8 = 11;
+    /// The factors worked out miss their check.
+    pub const NOT_ACCEPTED: u8 = 14;
     /// A report has over 4096 particles.
     pub const TOO_LONG: u8 = 16;
 }
@@ -48,6 +50,7 @@ pub fn words(number: u8) -> Option<(&'static str, &'static str)> {
         9 => ("the lent room is shorter than the sheet", "lend 59267 bytes, which hold every sheet"),
         10 => ("a function would get an argument above its range (torn; of Snow: crushed)", "look at the singular values and the hardenings"),
         11 => ("the record's stored determinant is not that of its F", "fill it in where you write F (fill_determinants)"),
+        14 => ("the factors worked out miss their check", "look at the sizes of F's entries, or give factors of your own"),
         16 => ("a report has over 4096 particles", "report them in lists of at most 4096"),
         _ => return None,
     })
@@ -166,8 +169,12 @@ extern "C" {
     pub fn pasoletu_rankine_project(arguments: *const f64, arguments_length: usize, s: f64, strains: *const f64, strains_length: usize, out: *mut f64, out_length: usize) -> u8;
     pub fn pasoletu_drucker_prager_alpha(fields: *const f64, fields_length: usize, q: f64, out: *mut f64, out_length: usize) -> u8;
     pub fn pasoletu_update(model: u64, parameters: *const f64, parameters_length: usize, record: *mut f64, record_length: usize, answer: *mut u64, answer_length: usize) -> u8;
+    pub fn pasoletu_factor(record: *mut f64, record_length: usize) -> u8;
     pub fn pasoletu_pass(model: u64, parameters: *const f64, parameters_length: usize, records: *mut f64, records_length: usize, answers: *mut u64, answers_length: usize, counts: *mut u64, counts_length: usize) -> u8;
     pub fn pasoletu_pass_with_failure(model: u64, parameters: *const f64, parameters_length: usize, limits: *const f64, limits_length: usize, corotated: *const f64, corotated_length: usize, records: *mut f64, records_length: usize, answers: *mut u64, answers_length: usize, counts: *mut u64, counts_length: usize) -> u8;
+    pub fn pasoletu_factor_list(records: *mut f64, records_length: usize, answers: *mut u64, answers_length: usize, counts: *mut u64, counts_length: usize) -> u8;
+    pub fn pasoletu_pass_factored(model: u64, parameters: *const f64, parameters_length: usize, records: *mut f64, records_length: usize, answers: *mut u64, answers_length: usize, counts: *mut u64, counts_length: usize) -> u8;
+    pub fn pasoletu_pass_factored_with_failure(model: u64, parameters: *const f64, parameters_length: usize, limits: *const f64, limits_length: usize, corotated: *const f64, corotated_length: usize, records: *mut f64, records_length: usize, answers: *mut u64, answers_length: usize, counts: *mut u64, counts_length: usize) -> u8;
     pub fn pasoletu_fill_determinants(records: *mut f64, records_length: usize) -> u8;
     pub fn pasoletu_read_sheet(bytes: *const u8, bytes_length: usize, header: *mut u64, header_length: usize, records: *mut f64, records_length: usize) -> u8;
     pub fn pasoletu_run_sheet(bytes: *const u8, bytes_length: usize, records: *mut f64, records_length: usize, answers: *mut u64, answers_length: usize, counts: *mut u64, counts_length: usize) -> u8;

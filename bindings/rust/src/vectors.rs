@@ -1,6 +1,6 @@
 //! The passes that answer in a `Vec`.
 use crate::calls::all_finite;
-use crate::lists::{Answer, Counts, Judge, Pass};
+use crate::lists::{factor_by, Answer, Counts, Judge, Pass};
 use crate::{CorotatedLinearElasticity, MaximumStressFailure, Model, Outcome, Particle, Refusal};
 use alloc::vec;
 use alloc::vec::Vec;
@@ -18,6 +18,15 @@ pub struct Passed {
     pub refused: u64,
     /// How many of the particles not refused have failed in this pass; 0 in a pass without failure.
     pub failed: u64,
+}
+
+impl Passed {
+    /// The library's answers and counts, each refusal as told.
+    fn new(answers: &[Answer], counts: Counts, told: impl Fn(usize, u8) -> Refusal) -> Passed {
+        let outcomes = answers.iter().enumerate().map(|(k, a)| a.outcome().map_err(|number| told(k, number))).collect();
+        let Counts { untouched, stored, refused, failed } = counts;
+        Passed { outcomes, untouched, stored, refused, failed }
+    }
 }
 
 impl Judge {
@@ -40,9 +49,7 @@ impl Pass {
             let place = also.filter(|_| number == Refusal::NOT_FINITE).or(refusal.place);
             Refusal { place, ..refusal }
         };
-        let outcomes = answers.iter().enumerate().map(|(k, a)| a.outcome().map_err(|number| refused(k, number))).collect();
-        let Counts { untouched, stored, refused, failed } = counts;
-        Passed { outcomes, untouched, stored, refused, failed }
+        Passed::new(answers, counts, refused)
     }
 
     /// The whole pass, worked by `run`.
@@ -90,4 +97,38 @@ pub fn pass_with_failure(
     particles: &mut [Particle],
 ) -> Passed {
     Pass::with_failure("pass_with_failure", model, Judge::new(limits, elasticity)).over(particles, Pass::run)
+}
+
+/// [`pass`] on the particles with the library's own factors ([`Particle::factor`]): a host gives `deformation_gradient` and
+/// `determinant`, and any finite `u`, `singular_values` and `v_t`. An untouched particle has the new factors; a refused one keeps every
+/// bit, the factors that it had too.
+///
+/// ```
+/// use pasoletu::{pass_factored, Particle, SnowPlasticity};
+///
+/// let f = [[0.0, -0.9, 0.0], [1.0, 0.0, 0.0], [0.0, 0.0, 1.0]];
+/// let mut particles = [Particle { deformation_gradient: f, ..Particle::REST }.with_determinant()];
+/// assert_eq!(pass_factored(SnowPlasticity::new(), &mut particles).stored, 1);
+/// assert!(particles[0].singular_values.contains(&0.975));
+/// ```
+pub fn pass_factored(model: impl Into<Model>, particles: &mut [Particle]) -> Passed {
+    Pass::plain("pass_factored", model).factored().over(particles, Pass::run)
+}
+
+/// [`pass_with_failure`] on the particles with the library's own factors, as [`pass_factored`].
+pub fn pass_factored_with_failure(
+    model: impl Into<Model>,
+    limits: &MaximumStressFailure,
+    elasticity: &CorotatedLinearElasticity,
+    particles: &mut [Particle],
+) -> Passed {
+    Pass::with_failure("pass_factored_with_failure", model, Judge::new(limits, elasticity)).factored().over(particles, Pass::run)
+}
+
+/// [`Particle::factor`] on every particle. One whose factors are accepted is stored, with the amount 0.0; a refused one keeps every bit.
+pub fn factor_list(particles: &mut [Particle]) -> Passed {
+    const NAME: &str = "factor_list";
+    let mut answers = vec![Answer::default(); particles.len()];
+    let counts = belongs(factor_by(NAME, particles, &mut answers));
+    Passed::new(&answers, counts, |k, number| particles[k].refusal(number, NAME, Some(k)))
 }

@@ -70,6 +70,19 @@ fn the_pass_with_failure() {
 }
 
 #[test]
+fn the_passes_that_factor_first() {
+    let limits = MaximumStressFailure::new(3e3, 2e3).unwrap();
+    let elasticity = CorotatedLinearElasticity::new(1e5, 0.3).unwrap();
+    for law in laws() {
+        let passed = alike(MANY, |p| pasoletu::pass_factored(law, p), |p| parallel::pass_factored(law, p));
+        assert!(passed.stored > 0 && passed.refused > 0, "{law:?}");
+        let one = |p: &mut [Particle]| pasoletu::pass_factored_with_failure(law, &limits, &elasticity, p);
+        let passed = alike(MANY, one, |p| parallel::pass_factored_with_failure(law, &limits, &elasticity, p));
+        assert!(passed.failed > 0 && passed.failed < MANY as u64, "{law:?}");
+    }
+}
+
+#[test]
 fn lists_at_the_edge_of_a_part() {
     for count in [0, 1, 511, 512, 513] {
         alike(count, |p| pasoletu::pass(SnowPlasticity::new(), p), |p| parallel::pass(SnowPlasticity::new(), p));

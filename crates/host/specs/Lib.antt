@@ -1,4 +1,5 @@
 pub mod Calls
+pub mod Factored
 pub mod OfRecord
 pub mod Passes
 pub mod Reports

@@ -1,7 +1,8 @@
 // The calls for C, Rust and Python hosts: each answers 0 or RULES' refusal number, and writes nothing where it refuses.
+mod counts_out;
 pub mod determinants;
 pub mod elasticity;
-mod lists_out;
+pub mod factored;
 pub mod monaghan;
 pub mod of_record;
 pub mod passes;

@@ -1,49 +1,8 @@
 // The pass over a list of records, and the pass with failure.
-use crate::lists_out::copy;
-use particles::Passed;
-use particles::PassedWithFailure;
+use crate::counts_out::put_counts;
+use crate::counts_out::put_failure_counts;
 ghost use mathlib.Core.Path.{_≡_};
-ghost use lib.ListN.{length};
-ghost use Rattle.host.specs.Passes.{passedCode, countsOf, failureCode, failureCountsOf, passCode, recordsPassed, answersPassed, countsPassed, failurePassCode, recordsJudged, answersJudged, countsJudged};
-
-fn put_counts(passed: Passed, counts: &mut [u64]) -> u8
-    requires { ⌜ length (now counts) ≡ 3 ⌝ }
-    ensures { λ r. ⌜ r ≡ passedCode passed ⌝ }
-    ensures { λ r. ⌜ now (counts .exit) ≡ countsOf passed (now (counts .entry)) ⌝ }
-{
-    match passed {
-        Passed::Done(c) => {
-            copy(
-                &[c.untouched as u64, c.stored as u64, c.refused as u64],
-                counts,
-            );
-            0
-        }
-        Passed::Refused(n) => n,
-    }
-}
-
-fn put_failure_counts(passed: PassedWithFailure, counts: &mut [u64]) -> u8
-    requires { ⌜ length (now counts) ≡ 4 ⌝ }
-    ensures { λ r. ⌜ r ≡ failureCode passed ⌝ }
-    ensures { λ r. ⌜ now (counts .exit) ≡ failureCountsOf passed (now (counts .entry)) ⌝ }
-{
-    match passed {
-        PassedWithFailure::Done(c) => {
-            copy(
-                &[
-                    c.untouched as u64,
-                    c.stored as u64,
-                    c.refused as u64,
-                    c.failed as u64,
-                ],
-                counts,
-            );
-            0
-        }
-        PassedWithFailure::Refused(n) => n,
-    }
-}
+ghost use Rattle.host.specs.Passes.{passCode, recordsPassed, answersPassed, countsPassed, failurePassCode, recordsJudged, answersJudged, countsJudged};
 
 #[no_mangle]
 pub extern "C" fn pasoletu_pass(

@@ -1,5 +1,5 @@
 // A sheet of bytes: read, run to its answers, or written.
-use crate::lists_out::copy;
+use particles::copy;
 use sheet::Header;
 use sheet_run::Ran;
 use writer::Written;

@@ -1,5 +1,5 @@
 // The update of one record by a plastic law.
-use crate::lists_out::copy;
+use particles::copy;
 use plasticity::Outcome;
 ghost use mathlib.Core.Path.{_≡_};
 ghost use lib.ListN.{length};

@@ -1,4 +1,5 @@
 pub mod Bare
+pub mod Factored
 pub mod Fill
 pub mod Judged
 pub mod Pass

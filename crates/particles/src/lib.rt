@@ -1,10 +1,14 @@
-// One record by itself, the pass over a lent list of records, the pass with failure, and determinants filled in (RULES, section 7).
+// One record by itself, the pass over a lent list of records, the pass with failure, each with our own factors too, and determinants
+// filled in (RULES, section 7).
+mod factored;
 mod failure;
 mod fill;
 mod judged;
 mod law;
 mod list;
+mod own;
 mod plain;
+mod saved;
 mod step;
 mod stored;
 
@@ -17,3 +21,8 @@ pub use list::Passed;
 pub use list::pass;
 pub use list::update_record;
 pub use list::well_sized;
+pub use own::factor_list;
+pub use own::factor_record;
+pub use own::pass_factored;
+pub use own::pass_factored_with_failure;
+pub use saved::copy;

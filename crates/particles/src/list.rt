@@ -167,7 +167,7 @@ pub fn pass_by(s: Step, xs: &mut [u64], out: &mut [u64]) -> PassedWithFailure
     }
 }
 
-fn three(p: PassedWithFailure) -> Passed
+pub fn three(p: PassedWithFailure) -> Passed
     ensures { λ r. ⌜ r ≡ withoutVerdicts p ⌝ }
 {
     match p {

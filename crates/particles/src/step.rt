@@ -1,4 +1,5 @@
 // The step that a pass takes with each record.
+use crate::factored;
 use crate::judged;
 use crate::plain;
 use elasticity_corotated_linear::CorotatedLinearElasticity;
@@ -6,20 +7,36 @@ use failure_maximum_stress::MaximumStressFailure;
 use model::Model;
 use plasticity::Outcome;
 ghost use mathlib.Core.Path.{_≡_};
+ghost use mathlib.Core.Bool.{false};
 ghost use lib.ListN.{length};
 ghost use Rattle.record.specs.Layout.{floats};
 ghost use Rattle.particles.specs.Step.{stepLaw};
 
-// The plastic law; or that, and then the verdict, with these limits on the stress by this law.
+// The plastic law; or that, and then the verdict, with these limits on the stress by this law; or our own factors, by themselves or
+// before one of these.
 pub enum Step {
     Plain(Model),
     Judged(Model, MaximumStressFailure, CorotatedLinearElasticity),
+    Factors,
+    FactoredPlain(Model),
+    FactoredJudged(Model, MaximumStressFailure, CorotatedLinearElasticity),
 }
 
 // The outcome, and whether the record failed and was not refused.
 pub struct Stepped {
     pub outcome: Outcome,
     pub failed: bool,
+}
+
+// A step without a verdict.
+fn unjudged(o: Outcome) -> Stepped
+    ensures outcome { λ x. ⌜ x .outcome ≡ o ⌝ }
+    ensures failed { λ x. ⌜ x .failed ≡ false ⌝ }
+{
+    Stepped {
+        outcome: o,
+        failed: false,
+    }
 }
 
 pub fn take_step(s: Step, r: &mut [u64]) -> Stepped
@@ -29,13 +46,10 @@ pub fn take_step(s: Step, r: &mut [u64]) -> Stepped
     ensures record { λ x. ⌜ now (r .exit) ≡ stepLaw s (now (r .entry)) .after ⌝ }
 {
     match s {
-        Step::Plain(m) => {
-            let o = plain::step(m, r);
-            Stepped {
-                outcome: o,
-                failed: false,
-            }
-        }
+        Step::Plain(m) => unjudged(plain::step(m, r)),
         Step::Judged(m, l, e) => judged::step(m, l, e, r),
+        Step::Factors => unjudged(factored::alone(r)),
+        Step::FactoredPlain(m) => unjudged(factored::plain_first(m, r)),
+        Step::FactoredJudged(m, l, e) => factored::judged_first(m, l, e, r),
     }
 }

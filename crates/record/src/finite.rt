@@ -11,7 +11,7 @@ ghost use lib.Ieee.{binary64};
 ghost use Rattle.numbers.specs.Floats.{finite};
 ghost use Rattle.tensor.specs.Finite.{rowFinite, matFinite, rowsFinite};
 ghost use Rattle.plasticity.specs.State.{scalarsFinite};
-ghost use Rattle.record.specs.Layout.{floats, rowAt, matAt, rowsAt, uAt, vtAt, stateAt, recordFinite, determinantRight};
+ghost use Rattle.record.specs.Layout.{floats, placeF, rowAt, matAt, rowsAt, uAt, vtAt, stateAt, recordFinite, determinantRight};
 
 // Whether a pattern is a finite float's: its exponent is not all ones.
 pub fn word_finite(n: u64) -> bool
@@ -86,7 +86,15 @@ fn read_rows(r: &[u64], at: usize) -> Rows
     Rows { r0, r1, r2 }
 }
 
-// U of a finite record.
+// F of a finite record.
+pub fn read_f(r: &[u64]) -> [[f64; 3]; 3]
+    requires { ⌜ (length (now r) ≡ floats) × (recordFinite (now r) ≡ true) ⌝ }
+    ensures { λ x. ⌜ x ≡ matAt (now (r .entry)) placeF ⌝ }
+{
+    read_mat(r, crate::F)
+}
+
+// Its U.
 pub fn read_u(r: &[u64]) -> [[f64; 3]; 3]
     requires { ⌜ (length (now r) ≡ floats) × (recordFinite (now r) ≡ true) ⌝ }
     ensures { λ x. ⌜ x ≡ uAt (now (r .entry)) ⌝ }
@@ -107,7 +115,7 @@ pub fn determinant_right(r: &[u64]) -> bool
     requires { ⌜ (length (now r) ≡ floats) × (recordFinite (now r) ≡ true) ⌝ }
     ensures { λ b. ⌜ b ≡ determinantRight (now (r .entry)) ⌝ }
 {
-    let f = read_mat(r, crate::F);
+    let f = read_f(r);
     r[crate::DETERMINANT] == numbers::bits_of(tensor::determinant(f))
 }
 

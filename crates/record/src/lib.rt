@@ -4,6 +4,7 @@ mod total;
 
 pub use finite::all_finite;
 pub use finite::determinant_right;
+pub use finite::read_f;
 pub use finite::read_state;
 pub use finite::read_u;
 pub use finite::read_vt;

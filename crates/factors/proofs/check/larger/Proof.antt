@@ -1,0 +1,16 @@
+-- `factors::check::larger` meets its contract. Assumes nothing.
+use Rattle.nearness.proofs.Rounded.{yes}
+use Rattle.factors.proofs.Sizes.{no, left, right}
+use Rattle.factors.proofs.check.larger.Statement.{statement}
+use Rattle.factors.proofs.check.larger.Tie as tie
+
+returns : tie.Need-returns
+returns c = right (c .before .args .a) (c .before .args .b) (c .before .pre .0) (c .before .pre .1) (yes (c .if1 .taken))
+
+returns-2 : tie.Need-returns-2
+returns-2 c = left (c .before .args .a) (c .before .args .b) (c .before .pre .0) (c .before .pre .1) (no (c .if1 .left))
+
+pub larger-spec : {M : Type 1} → statement M
+larger-spec =
+    tie.close
+    (tie.spec returns returns-2)

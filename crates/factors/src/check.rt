@@ -1,0 +1,62 @@
+// The check of factors, exact over whole numbers.
+use crate::Factors;
+ghost use mathlib.Core.Path.{_≡_};
+ghost use Rattle.exact.specs.Units.{mag};
+ghost use Rattle.factors.specs.Check.{Size, larger, largestOf, largestIn, notBelow, acceptedOf};
+
+// The size of x; 0 where x isn't finite.
+fn magnitude(x: f64) -> f64
+    ensures { λ r. ⌜ Size (mag x) r ⌝ }
+{
+    if numbers::is_finite(x) {
+        if x < 0.0 { -x } else { x }
+    } else {
+        0.0
+    }
+}
+
+// The larger of two that are at least 0.
+fn larger(a: f64, b: f64) -> f64
+    requires { ⌜ Size (mag a) a × Size (mag b) b ⌝ }
+    ensures { λ r. ⌜ Size (larger (mag a) (mag b)) r ⌝ }
+{
+    if a < b { b } else { a }
+}
+
+fn largest_of(a: [f64; 3]) -> f64
+    ensures { λ r. ⌜ Size (largestOf a) r ⌝ }
+{
+    larger(larger(magnitude(a[0]), magnitude(a[1])), magnitude(a[2]))
+}
+
+// The largest size of an entry.
+pub(crate) fn largest(m: [[f64; 3]; 3]) -> f64
+    ensures { λ r. ⌜ Size (largestIn m) r ⌝ }
+{
+    larger(larger(largest_of(m[0]), largest_of(m[1])), largest_of(m[2]))
+}
+
+fn not_below(s: [f64; 3]) -> bool
+    ensures { λ r. ⌜ r ≡ notBelow s ⌝ }
+{
+    (0.0 <= s[0]) & (0.0 <= s[1]) & (0.0 <= s[2])
+}
+
+// Whether the factors of f pass the check.
+pub fn accepted(f: [[f64; 3]; 3], x: Factors) -> bool
+    ensures { λ r. ⌜ r ≡ acceptedOf f x ⌝ }
+{
+    let p = x.u;
+    let q = x.vt;
+    let s = x.sigma;
+    let u = tensor::of_rows(p);
+    let v = tensor::transpose(tensor::of_rows(q));
+    tensor::mat_finite(f)
+        & tensor::rows_finite(p)
+        & tensor::row_finite(s)
+        & tensor::rows_finite(q)
+        & not_below(s)
+        & nearness::near_all(u, s, v, f, largest(f))
+        & nearness::orthogonal(u)
+        & nearness::orthogonal(v)
+}

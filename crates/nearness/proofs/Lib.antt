@@ -1,0 +1,9 @@
+pub mod Carry
+pub mod TermSums
+pub mod Products
+pub mod Placed
+pub mod Steps
+pub mod Bits
+pub mod Judged
+pub mod Rounded
+pub mod Sounds

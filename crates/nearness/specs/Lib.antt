@@ -1,0 +1,5 @@
+pub mod Whole
+pub mod Cells
+pub mod Terms
+pub mod Near
+pub mod Quick

@@ -1,0 +1,130 @@
+// Our own factors of a record, by themselves or before a step (RULES, section 7).
+use crate::judged;
+use crate::plain;
+use crate::saved;
+use crate::step::Stepped;
+use elasticity_corotated_linear::CorotatedLinearElasticity;
+use factors::Factors;
+use failure_maximum_stress::MaximumStressFailure;
+use model::Model;
+use plasticity::Outcome;
+ghost use mathlib.Core.Path.{_≡_};
+ghost use mathlib.Core.Bool.{cond, _&&_};
+ghost use lib.Dec.{eqb};
+ghost use lib.ListN.{length};
+ghost use Rattle.record.specs.Layout.{floats};
+ghost use Rattle.model.specs.Model.{modelFinite};
+ghost use Rattle.particles.specs.Plain.{recordLaw};
+ghost use Rattle.particles.specs.Judged.{judgeFinite, failureLaw};
+ghost use Rattle.particles.specs.Factored.{putFactors, withFactors, factorRefusal, factorLaw, heldBy, factoredLaw};
+
+fn write_factors(r: &mut [u64], x: Factors)
+    requires { ⌜ length (now r) ≡ floats ⌝ }
+    ensures { λ _. ⌜ now (r .exit) ≡ putFactors (now (r .entry)) x ⌝ }
+{
+    let u = x.u;
+    let sigma = x.sigma;
+    let vt = x.vt;
+    record::write_rows(r, record::U, u);
+    record::write_row(r, record::SIGMA, sigma);
+    record::write_rows(r, record::VT, vt);
+}
+
+// The factors of F into the record, or the number that refuses them: then the record keeps its bits.
+fn factor(r: &mut [u64]) -> u8
+    requires { ⌜ length (now r) ≡ floats ⌝ }
+    ensures { λ n. ⌜ (n ≡ factorRefusal (now (r .entry))) × (now (r .exit) ≡ cond (eqb (factorRefusal (now (r .entry))) 0) (withFactors (now (r .entry))) (now (r .entry))) ⌝ }
+{
+    if !record::all_finite(&r[..]) {
+        return answers::NOT_FINITE;
+    }
+    if !record::determinant_right(&r[..]) {
+        return answers::WRONG_DETERMINANT;
+    }
+    let x = factors::factored(record::read_f(&r[..]));
+    if x.refusal != 0 {
+        return x.refusal;
+    }
+    let f = x.factors;
+    write_factors(r, f);
+    0
+}
+
+// By themselves.
+pub fn alone(r: &mut [u64]) -> Outcome
+    requires { ⌜ length (now r) ≡ floats ⌝ }
+    ensures { λ x. ⌜ (x ≡ factorLaw (now (r .entry)) .outcome) × (now (r .exit) ≡ factorLaw (now (r .entry)) .after) ⌝ }
+{
+    let n = factor(r);
+    if n == 0 {
+        Outcome::Stored(0.0)
+    } else {
+        Outcome::Refused(n)
+    }
+}
+
+// A step that refused leaves the record as it came.
+fn hold(o: Outcome, old: &[u64], r: &mut [u64])
+    requires { ⌜ length (now old) ≡ length (now r) ⌝ }
+    ensures { λ _. ⌜ now (r .exit) ≡ heldBy o (now (old .entry)) (now (r .entry)) ⌝ }
+{
+    match o {
+        Outcome::Untouched => {}
+        Outcome::Stored(_) => {}
+        Outcome::Refused(_) => {
+            saved::copy(old, r);
+        }
+    }
+}
+
+// Before the plastic law.
+pub fn plain_first(m: Model, r: &mut [u64]) -> Outcome
+    requires { ⌜ length (now r) ≡ floats ⌝ }
+    ensures { λ x. ⌜ (x ≡ factoredLaw (modelFinite m) (recordLaw m) (now (r .entry)) .outcome) × (now (r .exit) ≡ factoredLaw (modelFinite m) (recordLaw m) (now (r .entry)) .after) ⌝ }
+{
+    if !model::model_finite(m) {
+        return Outcome::Refused(answers::NOT_FINITE);
+    }
+    let mut old = [0u64; record::FLOATS];
+    saved::copy(&r[..], &mut old);
+    let n = factor(r);
+    if n != 0 {
+        return Outcome::Refused(n);
+    }
+    let o = plain::step(m, r);
+    hold(o, &old, r);
+    o
+}
+
+// Before the plastic law and the verdict.
+pub fn judged_first(
+    m: Model,
+    l: MaximumStressFailure,
+    e: CorotatedLinearElasticity,
+    r: &mut [u64],
+) -> Stepped
+    requires { ⌜ length (now r) ≡ floats ⌝ }
+    ensures outcome { λ x. ⌜ x .outcome ≡ factoredLaw (modelFinite m && judgeFinite l e) (failureLaw m l e) (now (r .entry)) .outcome ⌝ }
+    ensures failed { λ x. ⌜ x .failed ≡ factoredLaw (modelFinite m && judgeFinite l e) (failureLaw m l e) (now (r .entry)) .failed ⌝ }
+    ensures record { λ x. ⌜ now (r .exit) ≡ factoredLaw (modelFinite m && judgeFinite l e) (failureLaw m l e) (now (r .entry)) .after ⌝ }
+{
+    if !(model::model_finite(m) & (l.limits_finite() & e.law_finite())) {
+        return Stepped {
+            outcome: Outcome::Refused(answers::NOT_FINITE),
+            failed: false,
+        };
+    }
+    let mut old = [0u64; record::FLOATS];
+    saved::copy(&r[..], &mut old);
+    let n = factor(r);
+    if n != 0 {
+        return Stepped {
+            outcome: Outcome::Refused(n),
+            failed: false,
+        };
+    }
+    let d = judged::step(m, l, e, r);
+    let o = d.outcome;
+    hold(o, &old, r);
+    d
+}
