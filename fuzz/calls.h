@@ -52,6 +52,14 @@ uint8_t pasoletu_pass_factored_with_failure(uint64_t model, const uint64_t *para
                                             uint64_t *answers, size_t answers_length, uint64_t *counts,
                                             size_t counts_length);
 uint8_t pasoletu_fill_determinants(uint64_t *records, size_t records_length);
+uint8_t pasoletu_pass_by_zone(uint64_t model, const uint64_t *parameters, size_t parameters_length,
+                              const uint64_t *zones, size_t zones_length, uint64_t *records, size_t records_length,
+                              uint64_t *answers, size_t answers_length, uint64_t *tallies, size_t tallies_length);
+uint8_t pasoletu_pass_with_failure_by_zone(uint64_t model, const uint64_t *parameters, size_t parameters_length,
+                                           const uint64_t *limits, size_t limits_length, const uint64_t *corotated,
+                                           size_t corotated_length, const uint64_t *zones, size_t zones_length,
+                                           uint64_t *records, size_t records_length, uint64_t *answers,
+                                           size_t answers_length, uint64_t *tallies, size_t tallies_length);
 uint8_t pasoletu_read_sheet(const uint8_t *bytes, size_t bytes_length, uint64_t *header, size_t header_length,
                             uint64_t *records, size_t records_length);
 uint8_t pasoletu_run_sheet(const uint8_t *bytes, size_t bytes_length, uint64_t *records, size_t records_length,

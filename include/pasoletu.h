@@ -76,6 +76,8 @@ enum {
     PASOLETU_NO_ROOM = 9,            /* the lent room is shorter than the sheet */
     PASOLETU_ABOVE_RANGE = 10,       /* a function would get an argument above its range */
     PASOLETU_WRONG_DETERMINANT = 11, /* the record's stored determinant is not that of its F */
+    PASOLETU_OUT_OF_RANGE = 12,      /* a zone or a particle is out of range, there are over 256 tallies, or list lengths are unlike */
+    PASOLETU_TALLY_FULL = 13,        /* a tally would pass its end, 4294967295 */
     PASOLETU_NOT_ACCEPTED = 14,      /* the factors worked out miss their check */
     PASOLETU_TOO_LONG = 16           /* a report has over 4096 particles */
 };
@@ -112,6 +114,11 @@ static inline const char *pasoletu_refusal_text(uint64_t refusal)
     case PASOLETU_WRONG_DETERMINANT:
         return "the record's stored determinant is not that of its F: fill it in where you write F "
                "(fill_determinants)";
+    case PASOLETU_OUT_OF_RANGE:
+        return "a zone or a particle is out of range, there are over 256 tallies, or list lengths are unlike: hold "
+               "the zone list to the particles and the tallies";
+    case PASOLETU_TALLY_FULL:
+        return "a tally would pass its end, 4294967295: read the tallies, then clear them";
     case PASOLETU_NOT_ACCEPTED:
         return "the factors worked out miss their check: look at the sizes of F's entries, or give factors of your "
                "own";
@@ -506,6 +513,41 @@ uint8_t pasoletu_pass_factored_with_failure(uint64_t model, const double *parame
  * the law refuses that record by 1.
  * Refusals, nothing written: 8 for a list that is no whole number of records of 37, as a list of 36 a record is. */
 uint8_t pasoletu_fill_determinants(double *records, size_t records_length);
+
+/* ---- Tallies by zone (section 7) --------------------------------------------------------------------------------- */
+
+/* Clears the tallies and counts the particles now in each zone. zones: the zone number of each of so many particles;
+ * tallies: five words a zone, at most 256 zones: particles now, and so far untouched, stored, refused and failed.
+ * Refusals, nothing written: 8 for a list that is no whole number of tallies; 12 for over 256 tallies, for a zone
+ * list that has not a number a particle, and for a zone that is not below the number of tallies. */
+uint8_t pasoletu_clear_tallies(uint64_t particles, const uint64_t *zones, size_t zones_length, uint64_t *tallies,
+                               size_t tallies_length);
+
+/* Moves one particle, counted from 0, to another zone and counts the particles now in each zone afresh. What
+ * happened to it before stays in the zone where it happened.
+ * Refusals, nothing written: 8 and 12 as pasoletu_clear_tallies; 12 also for a particle or a zone out of range. */
+uint8_t pasoletu_move_particle(uint64_t particles, uint64_t particle, uint64_t zone, uint64_t *zones,
+                               size_t zones_length, uint64_t *tallies, size_t tallies_length);
+
+/* pasoletu_pass, with each outcome added to the tally of its particle's zone, and the particles now in each zone
+ * counted afresh.
+ * Refusals, before any record and with nothing written: 8 as pasoletu_pass, and for a list that is no whole number
+ * of tallies; 6 for a model over 7 or a flag; 12 as pasoletu_clear_tallies, of as many particles as there are
+ * records; 13 where for some zone one of the four numbers so far plus the particles listed there would pass
+ * 4294967295. */
+uint8_t pasoletu_pass_by_zone(uint64_t model, const double *parameters, size_t parameters_length, const uint64_t *zones,
+                              size_t zones_length, double *records, size_t records_length, uint64_t *answers,
+                              size_t answers_length, uint64_t *tallies, size_t tallies_length);
+
+/* limits: 2; corotated: 4. pasoletu_pass_with_failure, with tallies as in pasoletu_pass_by_zone; a record that is
+ * refused counts as refused only.
+ * Refusals, before any record and with nothing written: as pasoletu_pass_by_zone; 6 also for the corotated law's
+ * flag. */
+uint8_t pasoletu_pass_with_failure_by_zone(uint64_t model, const double *parameters, size_t parameters_length,
+                                           const double *limits, size_t limits_length, const double *corotated,
+                                           size_t corotated_length, const uint64_t *zones, size_t zones_length,
+                                           double *records, size_t records_length, uint64_t *answers,
+                                           size_t answers_length, uint64_t *tallies, size_t tallies_length);
 
 /* ---- Sheets (section 7) ------------------------------------------------------------------------------------------ */
 

@@ -155,6 +155,36 @@ def summary(results):
     return out.getvalue()
 
 
+def zones_of(text):
+    """The zone of each sheet: a line each, a zone number and the sheet's name."""
+    held = {}
+    for k, line in enumerate(text.splitlines(), 1):
+        zone, _, name = line.strip().partition(" ")
+        if not line.strip():
+            continue
+        if not zone.isdecimal() or not name.strip():
+            raise ValueError("line %d is no zone number and a sheet's name: %s" % (k, line))
+        held[name.strip()] = int(zone)
+    return held
+
+
+def by_zone(results, zones):
+    """The table for the phone: a line a zone, with what its sheets came to. A sheet that is in no zone stands under an empty one;
+    `not_worked` are sheets refused whole or without an answer."""
+    out = io.StringIO()
+    lines = csv.writer(out, lineterminator="\n")
+    lines.writerow(["zone", "sheets", "particles", "untouched", "stored", "refused", "not_worked"])
+    rows = {}
+    for r in results:
+        row = rows.setdefault(zones.get(r.sheet.name, ""), [0] * 6)
+        worked = r.answered and r.sheet_refused is None
+        for k, n in enumerate([1, r.particles, r.untouched, r.stored, r.refused_particles, 0] if worked else [1, 0, 0, 0, 0, 1]):
+            row[k] += n
+    for zone in sorted(rows, key=lambda z: (z == "", z)):
+        lines.writerow([zone, *rows[zone]])
+    return out.getvalue()
+
+
 # ---- the page
 
 STYLE = """

@@ -25,6 +25,7 @@ HERE = pathlib.Path(__file__).resolve().parent
 sys.path.insert(0, str(HERE))
 import cases  # noqa: E402
 import draw  # noqa: E402
+import night_page  # noqa: E402
 import no_division  # noqa: E402
 import report  # noqa: E402
 import samples  # noqa: E402
@@ -925,6 +926,28 @@ plastic hardening
 
 
 COMPILER = shutil.which("cc" if os.uname().machine == "x86_64" else "x86_64-linux-gnu-gcc")
+
+
+class ByZone(unittest.TestCase):
+    """The night's table for the phone."""
+
+    def result(self, name, *counts):
+        return night_page.Result(night_page.Sheet(name, "", None), *counts)
+
+    def test_table(self):
+        zones = night_page.zones_of("7 a.sheet\n7 b.sheet\n\n0 far/c.sheet\n")
+        results = [
+            self.result("a.sheet", True, None, 4, 1, 2, {1: [0]}),
+            self.result("b.sheet", True, None, 2, 0, 2, {}),
+            self.result("far/c.sheet", True, 4),
+            self.result("lost.sheet", False),
+        ]
+        self.assertEqual(night_page.by_zone(results, zones).splitlines()[1:], ["0,1,0,0,0,0,1", "7,2,6,1,4,1,0", ",1,0,0,0,0,1"])
+
+    def test_wrong_line(self):
+        for text in ("seven a.sheet", "7", "-1 a.sheet"):
+            with self.assertRaises(ValueError):
+                night_page.zones_of(text)
 
 
 class NoDivision(InFolder):

@@ -870,6 +870,60 @@ static void refusal_texts(void)
     CHECK(strncmp(pasoletu_refusal_text(99), "no refusal of this library", 26) == 0);
 }
 
+/* The phone's question: how many let go in zone 7? */
+static void tallies(void)
+{
+    enum { ZONES = 8, LISTED = 3, FIELDS = 5 };
+    double r[LISTED * PASOLETU_FLOATS], was[LISTED * PASOLETU_FLOATS];
+    uint64_t zones[LISTED] = {7, 7, 0}, t[ZONES * FIELDS], then[ZONES * FIELDS], a[2 * LISTED];
+    static const double LIMITS[2] = {-1, -1}, COROTATED[4] = {0, 0.5, 1, 1};
+
+    /* Clearing counts the particles now; 8 and 12 write nothing. */
+    memset(t, 255, sizeof t);
+    memcpy(then, t, sizeof t);
+    CHECK(pasoletu_clear_tallies(LISTED, zones, LISTED, t, ZONES * FIELDS - 1) == 8);
+    CHECK(pasoletu_clear_tallies(LISTED + 1, zones, LISTED, t, ZONES * FIELDS) == 12);
+    CHECK(pasoletu_clear_tallies(LISTED, zones, LISTED, t, 7 * FIELDS) == 12);
+    CHECK(memcmp(t, then, sizeof t) == 0);
+    CHECK(pasoletu_clear_tallies(LISTED, zones, LISTED, t, ZONES * FIELDS) == 0);
+    memset(then, 0, sizeof then);
+    then[0] = 1;
+    then[7 * FIELDS] = 2;
+    CHECK(memcmp(t, then, sizeof t) == 0);
+
+    /* A pass adds each outcome to its zone; one that is refused counts there as refused. */
+    for (int k = 0; k < LISTED; k++)
+        at_rest(r + k * PASOLETU_FLOATS);
+    r[PASOLETU_FLOATS + PASOLETU_PHASE] = nan_with_payload();
+    memcpy(was, r, sizeof was);
+    CHECK(pasoletu_pass_by_zone(PASOLETU_SNOW, SNOW, 3, zones, LISTED - 1, r, LISTED * PASOLETU_FLOATS, a, 2 * LISTED, t, ZONES * FIELDS) == 12);
+    CHECK(same(r, was, LISTED * PASOLETU_FLOATS) && memcmp(t, then, sizeof t) == 0);
+    CHECK(pasoletu_pass_by_zone(PASOLETU_SNOW, SNOW, 3, zones, LISTED, r, LISTED * PASOLETU_FLOATS, a, 2 * LISTED, t, ZONES * FIELDS) == 0);
+    CHECK(a[0] == 1 && a[2] == 2 && a[3] == 1 && a[4] == 1);
+    then[2] = 1;
+    then[7 * FIELDS + 2] = then[7 * FIELDS + 3] = 1;
+    CHECK(memcmp(t, then, sizeof t) == 0);
+
+    /* What happened before a move stays where it happened; failed counts beside stored, and not where refused. */
+    CHECK(pasoletu_move_particle(LISTED, 0, 8, zones, LISTED, t, ZONES * FIELDS) == 12 && zones[0] == 7);
+    CHECK(pasoletu_move_particle(LISTED, 0, 3, zones, LISTED, t, ZONES * FIELDS) == 0 && zones[0] == 3);
+    then[3 * FIELDS] = then[7 * FIELDS] = 1;
+    CHECK(memcmp(t, then, sizeof t) == 0);
+    CHECK(pasoletu_pass_with_failure_by_zone(PASOLETU_SNOW, SNOW, 3, LIMITS, 2, COROTATED, 4, zones, LISTED, r, LISTED * PASOLETU_FLOATS, a, 2 * LISTED,
+                                             t, ZONES * FIELDS) == 0);
+    then[2]++;
+    then[4]++;
+    then[3 * FIELDS + 2]++;
+    then[3 * FIELDS + 4]++;
+    then[7 * FIELDS + 3]++;
+    CHECK(memcmp(t, then, sizeof t) == 0);
+
+    /* A tally at its end refuses the pass before any record, also one of another kind of outcome. */
+    t[4] = then[4] = 4294967295u;
+    CHECK(pasoletu_pass_by_zone(PASOLETU_SNOW, SNOW, 3, zones, LISTED, r, LISTED * PASOLETU_FLOATS, a, 2 * LISTED, t, ZONES * FIELDS) == 13);
+    CHECK(memcmp(t, then, sizeof t) == 0);
+}
+
 int main(void)
 {
     version();
@@ -889,6 +943,7 @@ int main(void)
     of_a_record();
     factors();
     reports();
+    tallies();
     printf("%d passed, %d failed\n", passed, failed);
     return failed != 0;
 }

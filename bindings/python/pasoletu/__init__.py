@@ -46,6 +46,7 @@ from .outcome import Outcomes, Passed, Stored, Untouched
 from .particle import Particle
 from .refusal import REFUSALS, Refused
 from .reports import Column, Report, report
+from .zones import Tally, Zones
 
 __all__ = [
     "Column",
@@ -71,7 +72,9 @@ __all__ = [
     "Sheet",
     "SnowPlasticity",
     "Stored",
+    "Tally",
     "Untouched",
+    "Zones",
     "__version__",
     "completed",
     "elementary",

@@ -63,6 +63,8 @@ LENGTH = 8
 NO_ROOM = 9
 ABOVE_RANGE = 10
 WRONG_DETERMINANT = 11
+OUT_OF_RANGE = 12
+TALLY_FULL = 13
 NOT_ACCEPTED = 14
 TOO_LONG = 16
 REFUSALS: dict[int, Refusal] = {
@@ -120,6 +122,16 @@ REFUSALS: dict[int, Refusal] = {
         "WRONG_DETERMINANT",
         "the record's stored determinant is not that of its F",
         "fill it in where you write F (fill_determinants)",
+    ),
+    12: Refusal(
+        "OUT_OF_RANGE",
+        "a zone or a particle is out of range, there are over 256 tallies, or list lengths are unlike",
+        "hold the zone list to the particles and the tallies",
+    ),
+    13: Refusal(
+        "TALLY_FULL",
+        "a tally would pass its end, 4294967295",
+        "read the tallies, then clear them",
     ),
     14: Refusal(
         "NOT_ACCEPTED",
@@ -526,6 +538,36 @@ CALLS: dict[str, tuple[Argument, ...]] = {
     ),
     "fill_determinants": (
         Argument("records", "f64", 0, True),
+    ),
+    "clear_tallies": (
+        Argument("particles", "u64", None, False),
+        Argument("zones", "u64", 0, False),
+        Argument("tallies", "u64", 0, True),
+    ),
+    "move_particle": (
+        Argument("particles", "u64", None, False),
+        Argument("particle", "u64", None, False),
+        Argument("zone", "u64", None, False),
+        Argument("zones", "u64", 0, True),
+        Argument("tallies", "u64", 0, True),
+    ),
+    "pass_by_zone": (
+        Argument("model", "u64", None, False),
+        Argument("parameters", "f64", 0, False),
+        Argument("zones", "u64", 0, False),
+        Argument("records", "f64", 0, True),
+        Argument("answers", "u64", 0, True),
+        Argument("tallies", "u64", 0, True),
+    ),
+    "pass_with_failure_by_zone": (
+        Argument("model", "u64", None, False),
+        Argument("parameters", "f64", 0, False),
+        Argument("limits", "f64", 2, False),
+        Argument("corotated", "f64", 4, False),
+        Argument("zones", "u64", 0, False),
+        Argument("records", "f64", 0, True),
+        Argument("answers", "u64", 0, True),
+        Argument("tallies", "u64", 0, True),
     ),
     "read_sheet": (
         Argument("bytes", "u8", 0, False),

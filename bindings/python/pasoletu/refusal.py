@@ -12,7 +12,9 @@ from ._table import (
     NOT_ACCEPTED,
     NOT_FINITE,
     NOT_SHORTEST,
+    OUT_OF_RANGE,
     REFUSALS,
+    TALLY_FULL,
     TOO_LONG,
     TOO_MANY,
     UNKNOWN,
@@ -28,8 +30,10 @@ __all__ = [
     "NOT_FINITE",
     "NOT_SHORTEST",
     "NO_NUMBER",
+    "OUT_OF_RANGE",
     "REFUSALS",
     "Refused",
+    "TALLY_FULL",
     "TOO_LONG",
     "TOO_MANY",
     "UNKNOWN",
@@ -40,7 +44,7 @@ __all__ = [
 class Refused(Exception):
     """A call or a particle was refused: whatever was refused holds every bit it held.
 
-    number    1 to 8, 10, 11, 14 or 16; REFUSALS has its name and its words
+    number    1 to 8, 10 to 14 or 16; REFUSALS has its name and its words
     call      the call that refused
     particle  which particle of a list, or None
     place     of refusal 1, the first float that is not finite; of refusal 8, the list; or None

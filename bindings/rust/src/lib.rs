@@ -56,6 +56,7 @@ mod table;
 pub mod utils;
 #[cfg(feature = "alloc")]
 mod vectors;
+mod zones;
 
 pub use elasticity::{CorotatedLinearElasticity, EnergySplit, NeoHookeanElasticity};
 pub use failure::MaximumStressFailure;
@@ -73,6 +74,7 @@ pub use sheets::{read_sheet, run_sheet, write_sheet, write_sheet_with_determinan
 pub use table::{REPORT_MOST, SHEET_BYTES, SHEET_MOST};
 #[cfg(feature = "alloc")]
 pub use vectors::{factor_list, pass, pass_factored, pass_factored_with_failure, pass_with_failure, Passed};
+pub use zones::{Tally, Zones};
 
 /// The version of the crate, which is that of the library.
 pub const VERSION: &str = env!("CARGO_PKG_VERSION");

@@ -30,6 +30,10 @@ impl Refusal {
     pub const ABOVE_RANGE: u8 = 10;
     /// The record's stored determinant is not that of its F.
     pub const WRONG_DETERMINANT: u8 = 11;
+    /// A zone or a particle is out of range, there are over 256 tallies, or list lengths are unlike.
+    pub const OUT_OF_RANGE: u8 = 12;
+    /// A tally would pass its end, 4294967295.
+    pub const TALLY_FULL: u8 = 13;
     /// The factors worked out miss their check.
     pub const NOT_ACCEPTED: u8 = 14;
     /// A report has over 4096 particles.
@@ -50,6 +54,8 @@ pub fn words(number: u8) -> Option<(&'static str, &'static str)> {
         9 => ("the lent room is shorter than the sheet", "lend 59267 bytes, which hold every sheet"),
         10 => ("a function would get an argument above its range (torn; of Snow: crushed)", "look at the singular values and the hardenings"),
         11 => ("the record's stored determinant is not that of its F", "fill it in where you write F (fill_determinants)"),
+        12 => ("a zone or a particle is out of range, there are over 256 tallies, or list lengths are unlike", "hold the zone list to the particles and the tallies"),
+        13 => ("a tally would pass its end, 4294967295", "read the tallies, then clear them"),
         14 => ("the factors worked out miss their check", "look at the sizes of F's entries, or give factors of your own"),
         16 => ("a report has over 4096 particles", "report them in lists of at most 4096"),
         _ => return None,
@@ -176,6 +182,10 @@ extern "C" {
     pub fn pasoletu_pass_factored(model: u64, parameters: *const f64, parameters_length: usize, records: *mut f64, records_length: usize, answers: *mut u64, answers_length: usize, counts: *mut u64, counts_length: usize) -> u8;
     pub fn pasoletu_pass_factored_with_failure(model: u64, parameters: *const f64, parameters_length: usize, limits: *const f64, limits_length: usize, corotated: *const f64, corotated_length: usize, records: *mut f64, records_length: usize, answers: *mut u64, answers_length: usize, counts: *mut u64, counts_length: usize) -> u8;
     pub fn pasoletu_fill_determinants(records: *mut f64, records_length: usize) -> u8;
+    pub fn pasoletu_clear_tallies(particles: u64, zones: *const u64, zones_length: usize, tallies: *mut u64, tallies_length: usize) -> u8;
+    pub fn pasoletu_move_particle(particles: u64, particle: u64, zone: u64, zones: *mut u64, zones_length: usize, tallies: *mut u64, tallies_length: usize) -> u8;
+    pub fn pasoletu_pass_by_zone(model: u64, parameters: *const f64, parameters_length: usize, zones: *const u64, zones_length: usize, records: *mut f64, records_length: usize, answers: *mut u64, answers_length: usize, tallies: *mut u64, tallies_length: usize) -> u8;
+    pub fn pasoletu_pass_with_failure_by_zone(model: u64, parameters: *const f64, parameters_length: usize, limits: *const f64, limits_length: usize, corotated: *const f64, corotated_length: usize, zones: *const u64, zones_length: usize, records: *mut f64, records_length: usize, answers: *mut u64, answers_length: usize, tallies: *mut u64, tallies_length: usize) -> u8;
     pub fn pasoletu_read_sheet(bytes: *const u8, bytes_length: usize, header: *mut u64, header_length: usize, records: *mut f64, records_length: usize) -> u8;
     pub fn pasoletu_run_sheet(bytes: *const u8, bytes_length: usize, records: *mut f64, records_length: usize, answers: *mut u64, answers_length: usize, counts: *mut u64, counts_length: usize) -> u8;
     pub fn pasoletu_write_sheet(model: u64, parameters: *const f64, parameters_length: usize, records: *const f64, records_length: usize, bytes: *mut u8, bytes_length: usize, written: *mut u64, written_length: usize) -> u8;

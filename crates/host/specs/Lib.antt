@@ -5,3 +5,4 @@ pub mod Passes
 pub mod Reports
 pub mod Sheets
 pub mod Update
+pub mod Zones

@@ -11,6 +11,7 @@ pub mod reports;
 pub mod returns;
 pub mod sheets;
 pub mod update;
+pub mod zones;
 
 use host_lists::put;
 ghost use mathlib.Core.Path.{_≡_};

@@ -106,7 +106,7 @@ fn write_answer(out: &mut [u64], i: usize, o: Outcome)
 }
 
 // Record i, and its two answers.
-fn one(s: Step, xs: &mut [u64], out: &mut [u64], i: usize) -> Stepped
+pub fn one(s: Step, xs: &mut [u64], out: &mut [u64], i: usize) -> Stepped
     requires { ⌜ (i * floats + floats ≤ length (now xs)) × (i * 2 + 2 ≤ length (now out)) ⌝ }
     ensures outcome { λ d. ⌜ d .outcome ≡ stepLaw s (recordAt (now (xs .entry)) i) .outcome ⌝ }
     ensures failed { λ d. ⌜ d .failed ≡ stepLaw s (recordAt (now (xs .entry)) i) .failed ⌝ }

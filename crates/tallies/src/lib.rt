@@ -1,0 +1,23 @@
+// Tallies by zone beside a list of particles (RULES, section 7): clearing, a pass of either kind, and moving one particle.
+// Each particle has a zone number in a list of its own.
+mod held;
+mod lent;
+mod ranges;
+mod tally;
+mod words;
+
+pub use held::Held;
+pub use held::clear_held;
+pub use held::move_held;
+pub use held::pass_held;
+pub use lent::clear;
+pub use lent::move_particle;
+pub use lent::pass;
+pub use lent::pass_by;
+pub use lent::pass_with_failure;
+pub use tally::LAST;
+pub use tally::Tally;
+pub use tally::ZONES;
+pub use tally::no_tallies;
+pub use words::FIELDS;
+pub use words::whole_words;
