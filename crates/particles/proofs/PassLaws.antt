@@ -75,7 +75,7 @@ module _ (law : List ℕ → Worked) (k : Keeps law) (l : List ℕ) where
         ∙ ap (take floats) (drop-at (worked law l i) (drop (i * floats) l) (i * floats) (worked-length i h))
 
 -- two places after a prefix are written
-two-set : (q a : List ℕ) (k v w : ℕ) → length q ≡ k → k + 2 ≤ length a → set (set (q ++ drop k a) k v) (k + 1) w ≡ (q ++ (v ∷ w ∷ [])) ++ drop (k + 2) a
+pub two-set : (q a : List ℕ) (k v w : ℕ) → length q ≡ k → k + 2 ≤ length a → set (set (q ++ drop k a) k v) (k + 1) w ≡ (q ++ (v ∷ w ∷ [])) ++ drop (k + 2) a
 two-set q a k v w n h =
     let b1 : k < length a = omega arith in
     let b2 : suc k < length a = omega arith in

@@ -25,7 +25,7 @@ use Rattle.plasticity_rankine.specs.Rankine.{storeWalk, expsWalk, hardenWalk, m
 use Rattle.record.specs.Layout.{bare, determinantAt, determinantRight}
 use Rattle.model.specs.declared.Model.the-variants.{Rankine}
 use Rattle.particles.specs.Plain.{updatedAt, lawAt, recordLaw}
-use Rattle.sheet.specs.Sheet.{numberAt, wordOf, wordAt, wordsOf, parameterAt, parametersAt, recordsEnd, headerOf, readOf, roomOf}
+use Rattle.sheet.specs.Sheet.{numberAt, wordOf, wordAt, wordsOf, parameterAt, parametersAt, preambleOf, recordsEnd, headerOf, readOf, roomOf}
 use Rattle.sheet.specs.Records.{sheetFloats, completed, each}
 use Rattle.sheet.specs.Spelling.{spellNumber, spellBytes, spellWords, spell}
 use Rattle.sheet_run.specs.Run.{frontOf}
@@ -88,7 +88,7 @@ abbrev sheet : List ℕ
 sheet = spell 1 (0x4024000000000000 ∷ 0x3fd0000000000000 ∷ unit ∷ unit ∷ []) 1 (take bare (of two))
 
 brought : ReturnedAt arguments (of two) (sheetFound sheet (of unit) answers 0)
-unfolding spell spellNumber spellBytes spellWords sheetFloats completed each determinantAt ofBits toBits Ieee.add Ieee.sub Ieee.mul headerOf numberAt parametersAt parameterAt wordAt wordOf wordsOf model.kindsOf model.lawOf modelOf recordsEnd readOf roomOf frontOf
+unfolding spell spellNumber spellBytes spellWords sheetFloats completed each determinantAt ofBits toBits Ieee.add Ieee.sub Ieee.mul headerOf preambleOf numberAt parametersAt parameterAt wordAt wordOf wordsOf model.kindsOf model.lawOf modelOf recordsEnd readOf roomOf frontOf
 brought =
     let w : InSheet sheet (of unit) answers 0 = record { run = refl; rankine = refl; index = lit< tt } in
     let t = taken .0 in

@@ -7,7 +7,7 @@ use native.Mathlib.Omega.{arith}
 use lib.ListN.{length, drop, length-drop}
 use lib.Dec.{eqb, ltb, leb}
 use Rattle.model.specs.Kinds.{allowed}
-use Rattle.sheet.specs.Sheet.{numberAt, firstGroup, secondGroup, wordAt, checked, parameterAt, Fields, Got, Stopped, before, andThen, parametersAt, asParameters, refusedBy, afterCount, afterParameters}
+use Rattle.sheet.specs.Sheet.{numberAt, firstGroup, secondGroup, wordAt, checked, parameterAt, Fields, Got, Stopped, before, andThen, parametersAt, asParameters, refusedBy, afterCount, afterParameters, asHeader}
 use Rattle.sheet.specs.declared.Number.{Number}
 use Rattle.sheet.specs.declared.Number.the-variants.{Read as Number·Read, Refused as Number·Refused}
 use Rattle.sheet.specs.declared.Word.{Word}
@@ -109,11 +109,11 @@ stopped-not-0 flags s at n e = not-0 n (subst Stops e (stops flags s at))
 refusal-is : (f : Fields) (p : Parameters) → p ≡ asParameters f → p .refusal ≡ asParameters f .refusal
 refusal-is f p e = ap (λ (q : Parameters). q .refusal) e
 
-pub parameters-refused : (s : List ℕ) (model : ℕ) (f : Fields) (p : Parameters) → p ≡ asParameters f → (p .refusal ≡ 0 → ⊥) → refusedBy (p .refusal) ≡ afterParameters s model f
+pub parameters-refused : (s : List ℕ) (model : ℕ) (f : Fields) (p : Parameters) → p ≡ asParameters f → (p .refusal ≡ 0 → ⊥) → refusedBy (p .refusal) ≡ asHeader (afterParameters s model f)
 parameters-refused s model (Got ws at) p e h = absurd (h (refusal-is (Got ws at) p e))
 parameters-refused s model (Stopped n) p e h = ap refusedBy (refusal-is (Stopped n) p e)
 
 pub parameters-read : (s : List ℕ) (model : ℕ) (f : Fields) (p : Parameters) → p ≡ asParameters f → p .refusal ≡ 0 → Stops f
-    → afterCount s model (p .bits) (numberAt s (p .at)) ≡ afterParameters s model f
-parameters-read s model (Got ws at) p e h k = ap (λ (q : Parameters). afterCount s model (q .bits) (numberAt s (q .at))) e
+    → asHeader (afterCount model (p .bits) (numberAt s (p .at))) ≡ asHeader (afterParameters s model f)
+parameters-read s model (Got ws at) p e h k = ap (λ (q : Parameters). asHeader (afterCount model (q .bits) (numberAt s (q .at)))) e
 parameters-read s model (Stopped n) p e h k = absurd (not-0 n k (sym (refusal-is (Stopped n) p e) ∙ h))

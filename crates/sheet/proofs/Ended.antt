@@ -44,7 +44,7 @@ count-length s l p =
     let m = kinds-most (p .model) in
     front-length s (p .model) (p .parameters) l (omega arith) (p .spelled)
 
-parameter-length : (s : List ℕ) (flag : Bool) (l : List ℕ) → AtParameter s flag l → length s ≤ 66 + length l
+pub parameter-length : (s : List ℕ) (flag : Bool) (l : List ℕ) → AtParameter s flag l → length s ≤ 66 + length l
 parameter-length s flag l p =
     let n = fits-length (p .earlier) (p .parameters) (p .fits) in
     let m = kinds-most (p .model) in
@@ -52,7 +52,7 @@ parameter-length s flag l p =
     let a = length-append (p .earlier) (flag ∷ p .others) in
     front-length s (p .model) (p .parameters) l (omega arith) (p .spelled)
 
-at-length : (s l : List ℕ) → AtNumber s l → length s ≤ 66 + length l
+pub at-length : (s l : List ℕ) → AtNumber s l → length s ≤ 66 + length l
 at-length s l (at-model e) = let a = ap length e in omega arith
 at-length s l (at-count p) = count-length s l p
 

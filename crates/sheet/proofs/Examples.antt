@@ -8,10 +8,10 @@ use Rattle.model.specs.Kinds.{lawOf, kindsOf}
 use Rattle.record.specs.Layout.{floats, bare, determinantAt}
 use Rattle.sheet.specs.Records.{sheetFloats, completed}
 use Rattle.sheet.specs.Spelling.{spellBytes, spellWords}
-use Rattle.sheet.specs.Sheet.{numberAt, wordOf, wordAt, parameterAt, parametersAt, recordsEnd, headerOf}
+use Rattle.sheet.specs.Sheet.{numberAt, wordOf, wordAt, parameterAt, parametersAt, preambleOf, recordsEnd, headerOf}
 
 refusalOf : List ℕ → ℕ
-unfolding headerOf recordsEnd sheetFloats numberAt wordOf wordAt parameterAt lawOf kindsOf parametersAt
+unfolding headerOf preambleOf recordsEnd sheetFloats numberAt wordOf wordAt parameterAt lawOf kindsOf parametersAt
 refusalOf s = headerOf s .refusal
 
 -- Snow with its three parameters 0.0

@@ -8,7 +8,7 @@ use lib.Seq.{take-at}
 use borrow.Author.Tests.{le-ltb}
 use Rattle.model.specs.Kinds.{last, kindsOf}
 use Rattle.sheet.specs.Records.{sheetFloats}
-use Rattle.sheet.specs.Sheet.{most, wordsOf, wordsIn, padded, recordsEnd, headerOf}
+use Rattle.sheet.specs.Sheet.{most, wordsOf, wordsIn, padded, preambleOf, recordsEnd, headerOf}
 use Rattle.sheet.specs.Spelling.{spellNumber, spellWords, spell, Below, Fits, Writable, parametersOf}
 use Rattle.sheet.specs.declared.Header.{Header}
 use Rattle.sheet.proofs.Taken.{Taken, taken}
@@ -104,7 +104,7 @@ module _ (model : ℕ) (parameters : List ℕ) (count : ℕ) (words : List ℕ) 
   left = sym (length-drop first sheet) ∙ ap length at-words ∙ spelled-length words ∙ ap (λ (n : ℕ). n * 8) (g .whole)
 
   header-is : headerOf sheet ≡ record { refusal = 0; model = model; parameters = padded parameters; count = count; at = first }
-  unfolding headerOf recordsEnd after-model after-parameters first
+  unfolding headerOf preambleOf recordsEnd after-model after-parameters first
   header-is =
       let k = g .known in
       let f = g .few in

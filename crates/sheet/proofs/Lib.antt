@@ -2,6 +2,7 @@ pub mod Cases
 pub mod RecordLaws
 pub mod Steps
 pub mod Bounds
+pub mod Preambles
 pub mod Taken
 pub mod Rooms
 pub mod Filling

@@ -11,7 +11,7 @@ use borrow.Author.Tests.{ltb-true, eqb-true, eqb-false, lt-ltb, le-ltb, le-leb, 
 use Rattle.record.specs.Layout.{floats}
 use Rattle.model.specs.Kinds.{last, one, kindsOf}
 use Rattle.sheet.specs.Records.{sheetFloats}
-use Rattle.sheet.specs.Sheet.{most, numberAt, firstGroup, wordAt, parameterAt, Stopped, parametersAt, padded, refusedBy, recordsEnd, afterCount, afterParameters, headerOf, readOf}
+use Rattle.sheet.specs.Sheet.{most, numberAt, firstGroup, wordAt, parameterAt, Stopped, parametersAt, padded, refusedBy, Open, Shut, afterCount, afterParameters, preambleOf, recordsEnd, closed, headerOf, readOf}
 use Rattle.sheet.specs.Spelling.{spellNumber, spellBytes, spellWords, Below, Fits}
 use Rattle.sheet.specs.Refused.{Good, AtCount, AtParameter, AtNumber, at-model, at-count, Reason, no-number, half-number, short-parameter, short-records, not-shortest, third-group, unknown-model, other-flag, count-over, bytes-after, ReasonWithRoom, uneven-room, by-sheet, short-room}
 use Rattle.sheet.specs.declared.Number.the-variants.{Refused as Number·Refused}
@@ -33,12 +33,12 @@ module _ (s : List ℕ) where
     after-number : ℕ
     after-number = 0 + length (spellNumber model)
 
-    header-known : model ≤ last → headerOf s ≡ afterParameters s model (parametersAt (kindsOf model) s after-number)
-    unfolding headerOf after-number
+    header-known : model ≤ last → headerOf s ≡ closed s (afterParameters s model (parametersAt (kindsOf model) s after-number))
+    unfolding headerOf preambleOf after-number
     header-known k = rw (number-read s 0 model l h e, le-ltb last model k)
 
     header-unknown : last < model → headerOf s ≡ refusedBy 6
-    unfolding headerOf
+    unfolding headerOf preambleOf
     header-unknown k = rw (number-read s 0 model l h e, lt-ltb last model k)
 
     rest-stands : drop after-number s ≡ l
@@ -63,7 +63,7 @@ module _ (s : List ℕ) where
     unfolding place
     count-stands = after s at-words (spellWords (p .parameters)) l (length (spellWords (p .parameters))) words-stand refl
 
-    header-count : headerOf s ≡ afterCount s (p .model) (padded (p .parameters)) (numberAt s place)
+    header-count : headerOf s ≡ closed s (afterCount (p .model) (padded (p .parameters)) (numberAt s place))
     unfolding place at-words
     header-count =
         header-known (p .model) (spellWords (p .parameters) ++ l) small (p .spelled) (p .known)
@@ -71,7 +71,7 @@ module _ (s : List ℕ) where
 
   -- a number
   number-refused : (n : ℕ) (l : List ℕ) → ((at : ℕ) → firstGroup l at ≡ Number·Refused n) → AtNumber s l → headerOf s .refusal ≡ n
-  unfolding headerOf numberAt
+  unfolding headerOf preambleOf numberAt
   number-refused n l h (at-model e) = rw (e, h 0)
   number-refused n l h (at-count p) = rw (header-count l p, count-stands l p, h (place l p))
 
@@ -107,7 +107,7 @@ module _ (s : List ℕ) where
     first : ℕ
     first = place (spellNumber count ++ l) p + length (spellNumber count)
 
-    header-records : headerOf s ≡ cond (ltb most count) (refusedBy 7) (recordsEnd s (p .model) (padded (p .parameters)) count first)
+    header-records : headerOf s ≡ closed s (cond (ltb most count) (Shut 7) (Open (p .model) (padded (p .parameters)) count first))
     unfolding first
     header-records =
         header-count (spellNumber count ++ l) p ∙ rw (number-read s (place (spellNumber count ++ l) p) count l h (count-stands (spellNumber count ++ l) p))

@@ -11,7 +11,7 @@ use lib.Dec.{ltb, leb}
 use borrow.Author.Tests.{leb-true, leb-false, ltb-false, lt-ltb, le-ltb}
 use Rattle.model.specs.Kinds.{last, kindsOf}
 use Rattle.sheet.specs.Records.{sheetFloats}
-use Rattle.sheet.specs.Sheet.{most, numberAt, firstGroup, secondGroup, wordOf, wordAt, checked, parameterAt, Fields, Got, Stopped, before, andThen, parametersAt, padded, refusedBy, recordsEnd, afterCount, afterParameters, afterModel, headerOf}
+use Rattle.sheet.specs.Sheet.{most, numberAt, firstGroup, secondGroup, wordOf, wordAt, checked, parameterAt, Fields, Got, Stopped, before, andThen, parametersAt, padded, refusedBy, Preamble, Open, Shut, afterCount, afterParameters, afterModel, preambleOf, recordsEnd, closed, headerOf}
 use Rattle.sheet.specs.declared.Number.{Number}
 use Rattle.sheet.specs.declared.Number.the-variants.{Read as Number·Read, Refused as Number·Refused}
 use Rattle.sheet.specs.declared.Word.{Word}
@@ -32,7 +32,7 @@ first-stable : (at : ℕ) (l r : List ℕ) → (firstGroup l at ≡ Number·Refu
 first-stable at [] r = inl refl
 first-stable at (low ∷ l) r = by-test (ltb low 128) _ _ _ (second-stable low at l r)
 
-number-stable : (s r : List ℕ) (at : ℕ) → (numberAt s at ≡ Number·Refused 4) ⊎ (numberAt (s ++ r) at ≡ numberAt s at)
+pub number-stable : (s r : List ℕ) (at : ℕ) → (numberAt s at ≡ Number·Refused 4) ⊎ (numberAt (s ++ r) at ≡ numberAt s at)
 unfolding numberAt
 number-stable s r at = by-place (leb at (length s)) refl
   where
@@ -72,7 +72,7 @@ then-stable x y f g (inl e) h = inl (rw e)
 then-stable (Word·Refused n) y f g (inr e) h = inr (rw e)
 then-stable (Word·Read w to) y f g (inr e) h = rw e (before-stable w (f to) (g to) (h to))
 
-parameters-stable : (flags : List Bool) (s r : List ℕ) (at : ℕ) → (parametersAt flags s at ≡ Stopped 4) ⊎ (parametersAt flags (s ++ r) at ≡ parametersAt flags s at)
+pub parameters-stable : (flags : List Bool) (s r : List ℕ) (at : ℕ) → (parametersAt flags s at ≡ Stopped 4) ⊎ (parametersAt flags (s ++ r) at ≡ parametersAt flags s at)
 unfolding parametersAt
 parameters-stable [] s r at = inr refl
 parameters-stable (flag ∷ flags) s r at =
@@ -106,31 +106,31 @@ module _ (s r : List ℕ) (more : 0 < length r) where
       by-lengths false true t u = rw (longer (ltb-false (length s - at) (count * sheetFloats model * 8) t)) (later-same 7 is-7)
       by-lengths false false t u = rw (longer (ltb-false (length s - at) (count * sheetFloats model * 8) t)) (inr (inl (refl, refl)))
 
-  later-count : (model : ℕ) (bits : List ℕ) (x y : Number) → (x ≡ Number·Refused 4) ⊎ (y ≡ x) → Ends (length s) x → Later (afterCount s model bits x) (afterCount (s ++ r) model bits y)
+  later-count : (model : ℕ) (bits : List ℕ) (x y : Number) → (x ≡ Number·Refused 4) ⊎ (y ≡ x) → Ends (length s) x → Later (closed s (afterCount model bits x)) (closed (s ++ r) (afterCount model bits y))
   later-count model bits x y (inl e) h = inl (rw e)
   later-count model bits (Number·Refused n) y (inr e) h = rw e (later-same n h)
   later-count model bits (Number·Read count at) y (inr e) h = rw e (by-count (ltb most count))
     where
-      by-count : (b : Bool) → Later (cond b (refusedBy 7) (recordsEnd s model bits count at)) (cond b (refusedBy 7) (recordsEnd (s ++ r) model bits count at))
+      by-count : (b : Bool) → Later (closed s (cond b (Shut 7) (Open model bits count at))) (closed (s ++ r) (cond b (Shut 7) (Open model bits count at)))
       by-count true = later-same 7 is-7
       by-count false = later-end model bits count at h
 
-  later-parameters : (model : ℕ) (f g : Fields) → (f ≡ Stopped 4) ⊎ (g ≡ f) → Stops f → Later (afterParameters s model f) (afterParameters (s ++ r) model g)
+  later-parameters : (model : ℕ) (f g : Fields) → (f ≡ Stopped 4) ⊎ (g ≡ f) → Stops f → Later (closed s (afterParameters s model f)) (closed (s ++ r) (afterParameters (s ++ r) model g))
   later-parameters model f g (inl e) h = inl (rw e)
   later-parameters model (Stopped n) g (inr e) h = rw e (later-same n h)
   later-parameters model (Got ws at) g (inr e) h = rw e (later-count model (padded ws) (numberAt s at) (numberAt (s ++ r) at) (number-stable s r at) (ends s at))
 
-  later-model : (x y : Number) → (x ≡ Number·Refused 4) ⊎ (y ≡ x) → Ends (length s) x → Later (afterModel s x) (afterModel (s ++ r) y)
+  later-model : (x y : Number) → (x ≡ Number·Refused 4) ⊎ (y ≡ x) → Ends (length s) x → Later (closed s (afterModel s x)) (closed (s ++ r) (afterModel (s ++ r) y))
   later-model x y (inl e) h = inl (rw e)
   later-model (Number·Refused n) y (inr e) h = rw e (later-same n h)
   later-model (Number·Read model at) y (inr e) h = rw e (by-model (ltb last model))
     where
-      by-model : (b : Bool) → Later (cond b (refusedBy 6) (afterParameters s model (parametersAt (kindsOf model) s at))) (cond b (refusedBy 6) (afterParameters (s ++ r) model (parametersAt (kindsOf model) (s ++ r) at)))
+      by-model : (b : Bool) → Later (closed s (cond b (Shut 6) (afterParameters s model (parametersAt (kindsOf model) s at)))) (closed (s ++ r) (cond b (Shut 6) (afterParameters (s ++ r) model (parametersAt (kindsOf model) (s ++ r) at))))
       by-model true = later-same 6 is-6
       by-model false = later-parameters model _ _ (parameters-stable (kindsOf model) s r at) (stops (kindsOf model) s at)
 
   pub later : Later (headerOf s) (headerOf (s ++ r))
-  unfolding headerOf
+  unfolding headerOf preambleOf
   later = later-model (numberAt s 0) (numberAt (s ++ r) 0) (number-stable s r 0) (ends s 0)
 
 -- A sheet that is cut short anywhere is refused by 4.

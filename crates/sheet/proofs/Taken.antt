@@ -9,7 +9,7 @@ use lib.Dec.{ltb}
 use borrow.Author.Tests.{ltb-false}
 use Rattle.model.specs.Kinds.{last, kindsOf}
 use Rattle.sheet.specs.Records.{sheetFloats}
-use Rattle.sheet.specs.Sheet.{most, numberAt, Fields, Got, Stopped, parametersAt, padded, refusedBy, recordsEnd, afterCount, afterParameters, afterModel, headerOf}
+use Rattle.sheet.specs.Sheet.{most, numberAt, Fields, Got, Stopped, parametersAt, padded, refusedBy, afterCount, afterParameters, afterModel, preambleOf, recordsEnd, closed, headerOf}
 use Rattle.sheet.specs.declared.Number.{Number}
 use Rattle.sheet.specs.declared.Number.the-variants.{Read as Number·Read, Refused as Number·Refused}
 use Rattle.sheet.specs.declared.Header.{Header}
@@ -34,6 +34,11 @@ pub record Taken (s : List ℕ) (h : Header) : Type 0 where
 pub either : {A R : Type 0} (b : Bool) (x y z : A) → cond b x y ≡ z → (b ≡ true → x ≡ z → R) → (b ≡ false → y ≡ z → R) → R
 either true x y z e f g = f refl e
 either false x y z e f g = g refl e
+
+-- and of a test inside a function
+pub either-of : {A B R : Type 0} (k : A → B) (b : Bool) (x y : A) (z : B) → k (cond b x y) ≡ z → (b ≡ true → k x ≡ z → R) → (b ≡ false → k y ≡ z → R) → R
+either-of k true x y z e f g = f refl e
+either-of k false x y z e f g = g refl e
 
 module _ (s : List ℕ) (h : Header) (z : h .refusal ≡ 0) where
   refusal-0 : (n : ℕ) → refusedBy n ≡ h → n ≡ 0
@@ -68,23 +73,23 @@ module _ (s : List ℕ) (h : Header) (z : h .refusal ≡ 0) where
             is = q;
           }))
 
-      from-count : (n : Number) → numberAt s after-words ≡ n → afterCount s model (padded words) n ≡ h → Taken s h
+      from-count : (n : Number) → numberAt s after-words ≡ n → closed s (afterCount model (padded words) n) ≡ h → Taken s h
       from-count (Number·Refused n) e p = absurd (number-refused s after-words n e (refusal-0 n p))
       from-count (Number·Read count at) e p =
-          either (ltb most count) _ _ _ p (λ t q. clash 7 q (omega arith)) (λ t q. from-end count at e (ltb-false most count t) q)
+          either-of (closed s) (ltb most count) _ _ _ p (λ t q. clash 7 q (omega arith)) (λ t q. from-end count at e (ltb-false most count t) q)
 
-    from-words : (f : Fields) → parametersAt (kindsOf model) s after-model ≡ f → afterParameters s model f ≡ h → Taken s h
+    from-words : (f : Fields) → parametersAt (kindsOf model) s after-model ≡ f → closed s (afterParameters s model f) ≡ h → Taken s h
     from-words (Stopped n) e p = absurd (stopped-not-0 (kindsOf model) s after-model n e (refusal-0 n p))
     from-words (Got words at) e p = from-count words at e (numberAt s at) refl p
 
-  from-model : (n : Number) → numberAt s 0 ≡ n → afterModel s n ≡ h → Taken s h
+  from-model : (n : Number) → numberAt s 0 ≡ n → closed s (afterModel s n) ≡ h → Taken s h
   from-model (Number·Refused n) e p = absurd (number-refused s 0 n e (refusal-0 n p))
   from-model (Number·Read model at) e p =
-      either (ltb last model) _ _ _ p (λ t q. clash 6 q (omega arith)) (λ t q.
+      either-of (closed s) (ltb last model) _ _ _ p (λ t q. clash 6 q (omega arith)) (λ t q.
       from-words model at e (ltb-false last model t) (parametersAt (kindsOf model) s at) refl q)
 
 pub taken : (s : List ℕ) → headerOf s .refusal ≡ 0 → Taken s (headerOf s)
-unfolding headerOf
+unfolding headerOf preambleOf
 taken s z = from-model s (headerOf s) z (numberAt s 0) refl refl
 
 -- a header that was read has its records within the sheet

@@ -86,6 +86,33 @@ asParameters (Stopped n) = record { refusal = n; bits = padded []; at = 0 }
 abbrev pub refusedBy : ℕ → Header
 refusedBy n = record { refusal = n; model = 0; parameters = padded []; count = 0; at = 0 }
 
+-- What stands before the records: the model, its parameters in their places, the count, and the place of the first record; or the
+-- refusal that stopped the reading.
+pub data Preamble : Type 0 where
+  Open : ℕ → List ℕ → ℕ → ℕ → Preamble
+  Shut : ℕ → Preamble
+
+abbrev pub afterCount : ℕ → List ℕ → Number → Preamble
+afterCount model bits (Number·Refused n) = Shut n
+afterCount model bits (Number·Read count at) = cond (ltb most count) (Shut tooMany) (Open model bits count at)
+
+abbrev pub afterParameters : List ℕ → ℕ → Fields → Preamble
+afterParameters s model (Stopped n) = Shut n
+afterParameters s model (Got ws at) = afterCount model (padded ws) (numberAt s at)
+
+abbrev pub afterModel : List ℕ → Number → Preamble
+afterModel s (Number·Refused n) = Shut n
+afterModel s (Number·Read model at) =
+    cond (ltb last model) (Shut unknown) (afterParameters s model (parametersAt (kindsOf model) s at))
+
+unfoldable pub preambleOf : List ℕ → Preamble
+preambleOf s = afterModel s (numberAt s 0)
+
+-- as a header, whether or not the records are there
+abbrev pub asHeader : Preamble → Header
+asHeader (Open model bits count at) = record { refusal = 0; model = model; parameters = bits; count = count; at = at }
+asHeader (Shut n) = refusedBy n
+
 -- The records end the sheet: 4 where some are missing, 7 where bytes follow the last.
 unfoldable pub recordsEnd : List ℕ → ℕ → List ℕ → ℕ → ℕ → Header
 recordsEnd s model bits count at =
@@ -93,22 +120,13 @@ recordsEnd s model bits count at =
     (cond (ltb (count * sheetFloats model * 8) (length s - at)) (refusedBy tooMany)
     (record { refusal = 0; model = model; parameters = bits; count = count; at = at }))
 
-abbrev pub afterCount : List ℕ → ℕ → List ℕ → Number → Header
-afterCount s model bits (Number·Refused n) = refusedBy n
-afterCount s model bits (Number·Read count at) = cond (ltb most count) (refusedBy tooMany) (recordsEnd s model bits count at)
-
-abbrev pub afterParameters : List ℕ → ℕ → Fields → Header
-afterParameters s model (Stopped n) = refusedBy n
-afterParameters s model (Got ws at) = afterCount s model (padded ws) (numberAt s at)
-
-abbrev pub afterModel : List ℕ → Number → Header
-afterModel s (Number·Refused n) = refusedBy n
-afterModel s (Number·Read model at) =
-    cond (ltb last model) (refusedBy unknown) (afterParameters s model (parametersAt (kindsOf model) s at))
+abbrev pub closed : List ℕ → Preamble → Header
+closed s (Open model bits count at) = recordsEnd s model bits count at
+closed s (Shut n) = refusedBy n
 
 -- model number, parameters, count, then the length that the records take
 unfoldable pub headerOf : List ℕ → Header
-headerOf s = afterModel s (numberAt s 0)
+headerOf s = closed s (preambleOf s)
 
 -- A room that is no whole number of records is refused by 8 before anything is read, and one that is too short for the count
 -- by 8 once the sheet itself is good.

@@ -10,6 +10,7 @@ pub use groups::number_at;
 use model::PARAMETERS;
 pub use reading::read;
 pub use reading::read_header;
+pub use reading::read_preamble;
 pub use reading::record_at;
 pub use records::floats_of;
 pub use words::word_at;

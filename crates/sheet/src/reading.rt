@@ -14,7 +14,7 @@ ghost use mathlib.Core.Path.{_≡_};
 ghost use Prim.Native.Nat.{_≤_};
 ghost use lib.ListN.{length};
 ghost use Rattle.model.specs.Kinds.{kindsOf};
-ghost use Rattle.sheet.specs.Sheet.{most, numberAt, parametersAt, refusedBy, recordsEnd, afterCount, afterParameters, headerOf, readOf, roomOf, recordAt, roomAt};
+ghost use Rattle.sheet.specs.Sheet.{most, numberAt, parametersAt, refusedBy, afterCount, afterParameters, preambleOf, asHeader, recordsEnd, headerOf, readOf, roomOf, recordAt, roomAt};
 
 fn refused(n: u8) -> Header
     ensures { λ r. ⌜ r ≡ refusedBy n ⌝ }
@@ -25,6 +25,54 @@ fn refused(n: u8) -> Header
         parameters: [0u64; PARAMETERS],
         count: 0,
         at: 0,
+    }
+}
+
+fn after_parameters(s: &[u8], model: u64, parameters: [u64; PARAMETERS], at: usize) -> Header
+    ensures { λ r. ⌜ r ≡ asHeader (afterCount model parameters (numberAt (now (s .entry)) at)) ⌝ }
+{
+    let n = number_at(s, at);
+    match n {
+        Number::Refused(n) => refused(n),
+        Number::Read(count, next) => {
+            if MOST_COUNT < count {
+                return refused(answers::TOO_MANY);
+            }
+            Header {
+                refusal: 0,
+                model,
+                parameters,
+                count: count as usize,
+                at: next,
+            }
+        }
+    }
+}
+
+fn after_model(s: &[u8], model: u64, at: usize) -> Header
+    ensures { λ r. ⌜ r ≡ asHeader (afterParameters (now (s .entry)) model (parametersAt (kindsOf model) (now (s .entry)) at)) ⌝ }
+{
+    let p = parameters(s, model, at);
+    if p.refusal != 0 {
+        return refused(p.refusal);
+    }
+    let bits = p.bits;
+    after_parameters(s, model, bits, p.at)
+}
+
+// What stands before the records, in a sheet that may not have come whole: 4 where more is wanted.
+pub fn read_preamble(s: &[u8]) -> Header
+    ensures { λ r. ⌜ r ≡ asHeader (preambleOf (now (s .entry))) ⌝ }
+{
+    let n = number_at(s, 0);
+    match n {
+        Number::Refused(n) => refused(n),
+        Number::Read(model, at) => {
+            if model::LAST < model {
+                return refused(answers::UNKNOWN);
+            }
+            after_model(s, model, at)
+        }
     }
 }
 
@@ -55,45 +103,15 @@ fn records_end(
     }
 }
 
-fn after_parameters(s: &[u8], model: u64, parameters: [u64; PARAMETERS], at: usize) -> Header
-    ensures { λ r. ⌜ r ≡ afterCount (now (s .entry)) model parameters (numberAt (now (s .entry)) at) ⌝ }
-{
-    let n = number_at(s, at);
-    match n {
-        Number::Refused(n) => refused(n),
-        Number::Read(count, next) => {
-            if MOST_COUNT < count {
-                return refused(answers::TOO_MANY);
-            }
-            records_end(s, model, parameters, count as usize, next)
-        }
-    }
-}
-
-fn after_model(s: &[u8], model: u64, at: usize) -> Header
-    ensures { λ r. ⌜ r ≡ afterParameters (now (s .entry)) model (parametersAt (kindsOf model) (now (s .entry)) at) ⌝ }
-{
-    let p = parameters(s, model, at);
-    if p.refusal != 0 {
-        return refused(p.refusal);
-    }
-    let bits = p.bits;
-    after_parameters(s, model, bits, p.at)
-}
-
 pub fn read_header(s: &[u8]) -> Header
     ensures { λ r. ⌜ r ≡ headerOf (now (s .entry)) ⌝ }
 {
-    let n = number_at(s, 0);
-    match n {
-        Number::Refused(n) => refused(n),
-        Number::Read(model, at) => {
-            if model::LAST < model {
-                return refused(answers::UNKNOWN);
-            }
-            after_model(s, model, at)
-        }
+    let h = read_preamble(s);
+    if h.refusal != 0 {
+        return h;
     }
+    let parameters = h.parameters;
+    records_end(s, h.model, parameters, h.count, h.at)
 }
 
 // The records go into the first places of the room, each with its determinant; the other places, and all of them beside a refusal,

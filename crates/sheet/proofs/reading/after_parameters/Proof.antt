@@ -1,6 +1,4 @@
 -- `sheet::reading::after_parameters` meets its contract: each return is a case of `afterCount`.
-use Rattle.sheet.proofs.Bounds.{number-inside}
-use mathlib.Core.Path.{sym, _∙_}
 use borrow.Author.Tests.{lt-ltb, le-ltb}
 use borrow.Author.Needs.{needs}
 use Rattle.sheet.proofs.reading.after_parameters.Statement.{statement}
@@ -9,17 +7,14 @@ use Rattle.sheet.proofs.reading.after_parameters.Tie as tie
 returns : tie.Need-returns
 returns c = simp (← c .before .before .before .before .before .number-at .ensures, c .before .before .before .n2 .given .1, lt-ltb _ _ (c .before .if1 .taken)) (c .refused2 .ensures)
 
-records-end-requires : tie.Need-records-end-requires
-records-end-requires c κs = (number-inside _ _ _ _ (sym (c .before .before .before .before .number-at .ensures) ∙ c .before .before .n2 .given .1), c .if1 .left)
-
 returns-2 : tie.Need-returns-2
 returns-2 c = simp (← c .before .before .before .before .number-at .ensures, c .before .before .n .given .1) (c .refused .ensures)
 
 returns-3 : tie.Need-returns-3
-returns-3 c = simp (← c .before .before .before .before .before .number-at .ensures, c .before .before .before .n2 .given .1, le-ltb _ _ (c .before .if1 .left)) (c .records-end .ensures)
+returns-3 c = simp (← c .before .before .before .before .number-at .ensures, c .before .before .n2 .given .1, le-ltb _ _ (c .if1 .left))
 
 pub after-parameters-spec : {M : Type 1} → statement M
 after-parameters-spec =
     tie.close
     (tie.spec (λ c κs. search needs) (λ c. search needs) (λ c κs. search needs) (λ c. search needs)
-    (λ c κs. search needs) returns records-end-requires returns-2 returns-3)
+    (λ c κs. search needs) returns returns-2 returns-3)

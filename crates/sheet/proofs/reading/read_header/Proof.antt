@@ -1,24 +1,20 @@
--- `sheet::reading::read_header` meets its contract: each return is a case of `afterModel`.
-use Rattle.sheet.specs.Sheet.{headerOf}
-use borrow.Author.Tests.{lt-ltb, le-ltb}
+-- `sheet::reading::read_header` meets its contract: what stands before the records, then the test of the length.
+use mathlib.Core.Path.{_∙_}
+use Rattle.sheet.proofs.Preambles.{preamble-refused, preamble-inside, preamble-read}
 use borrow.Author.Needs.{needs}
 use Rattle.sheet.proofs.reading.read_header.Statement.{statement}
 use Rattle.sheet.proofs.reading.read_header.Tie as tie
 
 returns : tie.Need-returns
-unfolding headerOf
-returns c = simp (← c .before .before .before .before .before .number-at .ensures, c .before .before .before .n2 .given .1, lt-ltb _ _ (c .before .if1 .taken)) (c .refused2 .ensures)
+returns c = preamble-refused _ _ (c .before .before .read-preamble .ensures) (c .if1 .taken)
+
+records-end-requires : tie.Need-records-end-requires
+records-end-requires c κs = preamble-inside _ _ (c .before .before .before .read-preamble .ensures) (c .before .if1 .left)
 
 returns-2 : tie.Need-returns-2
-unfolding headerOf
-returns-2 c = simp (← c .before .before .before .before .number-at .ensures, c .before .before .n .given .1) (c .refused .ensures)
-
-returns-3 : tie.Need-returns-3
-unfolding headerOf
-returns-3 c = simp (← c .before .before .before .before .before .number-at .ensures, c .before .before .before .n2 .given .1, le-ltb _ _ (c .before .if1 .left)) (c .after-model .ensures)
+returns-2 c = c .records-end .ensures ∙ preamble-read _ _ (c .before .before .before .before .read-preamble .ensures) (c .before .before .if1 .left)
 
 pub read-header-spec : {M : Type 1} → statement M
 read-header-spec =
     tie.close
-    (tie.spec (λ c κs. search needs) (λ c. search needs) (λ c κs. search needs) (λ c. search needs)
-    (λ c κs. search needs) returns (λ c κs. search needs) returns-2 returns-3)
+    (tie.spec (λ c κs. search needs) returns records-end-requires returns-2)

@@ -1,0 +1,9 @@
+pub mod Cases
+pub mod OneRecord
+pub mod Cutting
+pub mod MoreBytes
+pub mod Held
+pub mod Growing
+pub mod Standing
+pub mod Ran
+pub mod Ending
