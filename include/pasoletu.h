@@ -3,7 +3,8 @@
  * THE RULES OF EVERY CALL
  *
  * What comes back. Every call returns 0, or the number of its refusal (below; pasoletu_refusal_text says it in words).
- * A refused call writes nothing: every list that was lent holds the bits it held.
+ * A refused call writes nothing: every list that was lent holds the bits it held. Only the calls of a sheet in parts
+ * write beside a refusal, and say so.
  *
  * Lists. A list is two arguments, a pointer and the number of its entries (not of its bytes). Lists are lent for the
  * time of the call: the library keeps no pointer, allocates nothing, holds no state, and frees nothing. The caller
