@@ -69,7 +69,7 @@ class Cuttings(unittest.TestCase):
     def test_every_model_in_sevens(self):
         laws = (
             pasoletu.SnowPlasticity(), pasoletu.RankinePlasticity.new(1.0e6, 0.2, 1.0e3, 1.0),
-            pasoletu.DruckerPragerPlasticity.new(1000.0, 1000.0), pasoletu.NaccPlasticity.new(1000.0, 0.3, False),
+            pasoletu.DruckerPragerPlasticity.new(1000.0, 0.25), pasoletu.NaccPlasticity.new(1000.0, 0.25, 0.1, True, 1.0, 0.5),
         )
         for law in laws:
             whole = pasoletu.write_sheet(law, particles(7))
@@ -128,7 +128,7 @@ class Faults(unittest.TestCase):
         self.assertEqual(arrival.ran.passed.answers.tolist(), pasoletu.run(whole).passed.answers.tolist())
 
     def test_faults_before_the_records(self):
-        flagged = pasoletu.write_sheet(pasoletu.DruckerPragerPlasticity.new(1000.0, 1000.0), [])
+        flagged = pasoletu.write_sheet(pasoletu.DruckerPragerPlasticity.new(1000.0, 0.25), [])
         bad = flagged[:1 + 6 * 8] + b"\1" + flagged[2 + 6 * 8:]
         for data, number in ((b"\x80\x00", NOT_SHORTEST), (b"\x80\x80", NOT_SHORTEST), (b"\x08", UNKNOWN), (bad, UNKNOWN),
                              (small(0)[:-1] + b"\xc9\x01", TOO_MANY)):

@@ -1,8 +1,8 @@
 //! Sheets that come in parts, over a slow line (docs/RULES.md, section 7).
 use crate::lists::{floats_of, Answer, Counts, Pass};
 use crate::table::{
-    pasoletu_begin_parts, pasoletu_end_parts, pasoletu_part, ANSWERS, MOST_PARAMETERS, PARTS_COMPLETE, PARTS_COUNT, PARTS_PROGRESS, PARTS_STATE,
-    PARTS_STATE_MODEL, PARTS_STATE_PARAMETERS, PARTS_STATE_WANTS, SHEET_MOST, WITH_DETERMINANT,
+    pasoletu_begin_parts, pasoletu_end_parts, pasoletu_part, ANSWERS, MOST_PARAMETERS, PARTS_COMPLETE, PARTS_COUNT,
+    PARTS_PROGRESS, PARTS_STATE, PARTS_STATE_MODEL, PARTS_STATE_PARAMETERS, PARTS_STATE_WANTS, SHEET_MOST, WITH_DETERMINANT,
 };
 use crate::vectors::belongs;
 use crate::{Model, Particle, Ran, Refusal};

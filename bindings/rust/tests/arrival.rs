@@ -1,5 +1,7 @@
 //! Sheets in parts: every cutting gives what the whole gives; faults stand and are told again (docs/RULES.md, section 7).
-use pasoletu::{run_sheet, write_sheet, write_sheet_with_determinants, Arrival, Particle, RankinePlasticity, Refusal, SnowPlasticity};
+use pasoletu::{
+    run_sheet, write_sheet, write_sheet_with_determinants, Arrival, Particle, RankinePlasticity, Refusal, SnowPlasticity,
+};
 
 fn particles(n: usize) -> Vec<Particle> {
     let sigmas = [1.0, 0.9, 1.02, f64::NAN, 1.3];
@@ -42,7 +44,7 @@ fn every_cutting_into_two() {
 
 #[test]
 fn one_byte_at_a_time_with_empty_parts_between() {
-    let whole = write_sheet(RankinePlasticity::new(1.0e6, 0.2, 1.0e3, 1.0), &particles(6)).unwrap();
+    let whole = write_sheet(RankinePlasticity::new(1.0e6, 0.2, 1.0e3, 1.0).unwrap(), &particles(6)).unwrap();
     let mut arrival = Arrival::new();
     for b in &whole {
         arrival.feed(&[]).unwrap();
