@@ -927,16 +927,16 @@ static void tallies(void)
 /* A sheet over a slow line: every cutting into two, byte by byte, faults, 15, and lists of a wrong length. */
 static void sheets_in_parts(void)
 {
-    enum { MOST = PASOLETU_SHEET_MOST, WORDS = MOST * PASOLETU_FLOATS, PLACES = MOST * PASOLETU_ANSWERS, STATE = PASOLETU_PARTS_STATE, N = 3 };
-    static double r[WORDS], whole_r[WORDS], given[N * PASOLETU_FLOATS];
+    enum { MOST = PASOLETU_SHEET_MOST, WORDS = MOST * PASOLETU_FLOATS, PLACES = MOST * PASOLETU_ANSWERS, STATE = PASOLETU_PARTS_STATE, LISTED = 3 };
+    static double r[WORDS], whole_r[WORDS], given[LISTED * PASOLETU_FLOATS];
     static uint64_t a[PLACES], whole_a[PLACES];
     static uint8_t s[PASOLETU_SHEET_BYTES];
     uint64_t state[STATE], was[STATE], p[2] = {9, 9}, c[4], n;
 
-    for (int k = 0; k < N; k++)
+    for (int k = 0; k < LISTED; k++)
         at_rest(given + k * PASOLETU_FLOATS);
     given[PASOLETU_FLOATS + PASOLETU_PHASE] = nan_with_payload();
-    CHECK(pasoletu_write_sheet(PASOLETU_SNOW, SNOW, 3, given, N * PASOLETU_FLOATS, s, sizeof s, &n, 1) == 0);
+    CHECK(pasoletu_write_sheet(PASOLETU_SNOW, SNOW, 3, given, LISTED * PASOLETU_FLOATS, s, sizeof s, &n, 1) == 0);
     CHECK(pasoletu_run_sheet(s, n, whole_r, WORDS, whole_a, PLACES, c, 4) == 0);
 
     /* Cut anywhere: the same records, answers and count. */
@@ -948,7 +948,7 @@ static void sheets_in_parts(void)
         cuts = cuts && pasoletu_part(s, k, state, STATE, r, WORDS, a, PLACES, p, 2) == 0;
         cuts = cuts && pasoletu_part(s + k, n - k, state, STATE, r, WORDS, a, PLACES, p, 2) == 0;
         cuts = cuts && pasoletu_end_parts(r, WORDS, a, PLACES, state, STATE, p, 2) == 0;
-        cuts = cuts && p[PASOLETU_PARTS_COMPLETE] == N && p[PASOLETU_PARTS_COUNT] == N;
+        cuts = cuts && p[PASOLETU_PARTS_COMPLETE] == LISTED && p[PASOLETU_PARTS_COUNT] == LISTED;
         cuts = cuts && same(r, whole_r, WORDS) && memcmp(a, whole_a, sizeof a) == 0;
     }
     CHECK(cuts);
@@ -969,15 +969,15 @@ static void sheets_in_parts(void)
         bytewise = bytewise && p[PASOLETU_PARTS_COMPLETE] == (k + 1 < 26 ? 0 : (k + 1 - 26) / 288);
     }
     CHECK(bytewise);
-    CHECK(pasoletu_end_parts(r, WORDS, a, PLACES, state, STATE, p, 2) == 4 && p[PASOLETU_PARTS_COMPLETE] == N - 1);
+    CHECK(pasoletu_end_parts(r, WORDS, a, PLACES, state, STATE, p, 2) == 4 && p[PASOLETU_PARTS_COMPLETE] == LISTED - 1);
     CHECK(pasoletu_part(s + n - 1, 1, state, STATE, r, WORDS, a, PLACES, p, 2) == 4);
     CHECK(pasoletu_end_parts(r, WORDS, a, PLACES, state, STATE, p, 2) == 4);
-    CHECK(same(r, whole_r, (N - 1) * PASOLETU_FLOATS) && r[(N - 1) * PASOLETU_FLOATS] == 0);
+    CHECK(same(r, whole_r, (LISTED - 1) * PASOLETU_FLOATS) && r[(LISTED - 1) * PASOLETU_FLOATS] == 0);
 
     /* A byte after the last: the records stand, and the fault is told again. */
     CHECK(pasoletu_begin_parts(state, STATE) == 0);
     CHECK(pasoletu_part(s, n, state, STATE, r, WORDS, a, PLACES, p, 2) == 0);
-    CHECK(pasoletu_part(s, 1, state, STATE, r, WORDS, a, PLACES, p, 2) == 7 && p[PASOLETU_PARTS_COMPLETE] == N);
+    CHECK(pasoletu_part(s, 1, state, STATE, r, WORDS, a, PLACES, p, 2) == 7 && p[PASOLETU_PARTS_COMPLETE] == LISTED);
     CHECK(pasoletu_end_parts(r, WORDS, a, PLACES, state, STATE, p, 2) == 7 && same(r, whole_r, WORDS));
 
     /* Lists of another length: 8, nothing written, and no fault. */
