@@ -91,7 +91,7 @@ module _ (xs₀ out₀ : List ℕ) (lists : Lent xs₀ out₀) where
         not-ended xs₀ out₀ lists (s ++ l) (after w l) (after-stands xs₀ out₀ lists s l (below-append 256 s l b (d .0)) w h)
         (sym (told-part l) ∙ e)
       where
-        told-part : (l : List ℕ) → answerOf w (Part l) ≡ after w l .arrival .refusal
+        told-part : (l : List ℕ) → partAnswer w l .refusal ≡ after w l .arrival .refusal
         told-part l = rw lent-there
     not-yet b End d e = by-way (way w lent-there)
       where
