@@ -26,6 +26,7 @@ from .laws import (
     Plasticity,
     RankinePlasticity,
     SnowPlasticity,
+    StressVerdict,
 )
 from .lists import (
     Ran,
@@ -72,6 +73,7 @@ __all__ = [
     "Sheet",
     "SnowPlasticity",
     "Stored",
+    "StressVerdict",
     "Tally",
     "Untouched",
     "Zones",

@@ -58,7 +58,7 @@ pub mod utils;
 mod vectors;
 mod zones;
 
-pub use elasticity::{CorotatedLinearElasticity, EnergySplit, NeoHookeanElasticity};
+pub use elasticity::{CorotatedLinearElasticity, EnergySplit, NeoHookeanElasticity, StressVerdict};
 pub use failure::MaximumStressFailure;
 pub use fluid::MonaghanSphEos;
 pub use lists::{
