@@ -58,6 +58,8 @@ class Judged(unittest.TestCase):
                 least, greatest = ends(stress)
                 part = 2.0**-36 * max(abs(x) for row in stress for x in row)
                 shear = (greatest - least) / 2.0
+                if part == 0.0:
+                    continue  # the tensile part is dropped, and nothing is left
                 for limits, wanted in ((greatest + part, 1e300), False), ((greatest - part, 1e300), True), ((1e300, shear + part), False), ((1e300, shear - part), True):
                     self.assertEqual(law.stress_and_verdict(MaximumStressFailure(*limits), p), (stress, wanted))
                 seen.add((type(law), p.phase, abs(stress[1][0]) > part))

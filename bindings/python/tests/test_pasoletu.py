@@ -93,8 +93,13 @@ class Document(Tests):
         self.assertEqual([pressure(2, 2.0), pressure(2, 0.0), pressure(0, 2.0), pressure(4294967295, 0.5)], [30.0, -1.0, 0.0, 10.0])
 
     def test_p10_p11(self):
-        self.assertIs(MaximumStressFailure.new(5.0, 9.0).particle_failed([5.0, 0.0, 0.0]), False)
-        self.assertIs(MaximumStressFailure.new(5.0, 2.0).particle_failed([4.0, 0.0, -1.0]), True)
+        # lambda 0: each stress is 2 mu (sigma - 1) sigma, so these are (5, 0, 0) and, near, (4, 0, -1)
+        def failed(principal, shear, mu, sigma):
+            law, limits = CorotatedLinearElasticity(True, 0.9, 0.0, mu), MaximumStressFailure.new(principal, shear)
+            return law.stress_and_verdict(limits, Particle.stretched(sigma)).failed
+
+        self.assertIs(failed(5.0, 9.0, 1.25, [2.0, 1.0, 1.0]), False)
+        self.assertIs(failed(5.0, 2.0, 8.0 / 3.0, [1.5, 1.0, 0.25]), True)
 
     def test_p12(self):
         self.assertEqual(DruckerPragerPlasticity.new(1e5, 0.3).update_particle(Particle()), Stored(0.0))
