@@ -1,4 +1,4 @@
-// RULES' sections 4, 6 and 7 a second time: the determinant, the sheet, the finite test, the principal stresses of a pass with failure.
+// RULES' sections 4, 6 and 7 a second time: the determinant, the sheet, the finite test, the principal stresses of a pass with failure, tallies by zone.
 #define ONE 0x3ff0000000000000ULL
 
 static double value(uint64_t w) {
@@ -176,4 +176,47 @@ static int judged(const uint64_t *limits, const uint64_t *law, const uint64_t *r
     }
     *fails = most > value(limits[0]) || (most - least) / 2.0 > value(limits[1]);
     return 1;
+}
+
+// ---- tallies by zone: five words a zone, particles now, untouched, stored, refused and failed
+#define TALLY 5
+#define MOST_ZONES 256
+#define LAST_TALLY 0xffffffffULL
+
+enum { CLEAR, MOVE, PASS_BY_ZONE, PASS_WITH_FAILURE_BY_ZONE, CALLS };
+static const char *const CALL_NAMES[CALLS] = {"clear_tallies", "move_particle", "pass_by_zone", "pass_with_failure_by_zone"};
+
+// Whether a zone list of so many particles and so many tallies are in range: else 12.
+static int zones_second(uint64_t particles, const uint64_t *zones, size_t nz, size_t tallies) {
+    int fit = nz == particles && tallies <= MOST_ZONES;
+    for (size_t k = 0; k < nz; k++)
+        fit = fit && zones[k] < tallies;
+    return fit;
+}
+
+// Particles now, counted zone by zone.
+static uint64_t there_second(const uint64_t *zones, size_t nz, uint64_t zone) {
+    uint64_t n = 0;
+    for (size_t k = 0; k < nz; k++)
+        n += zones[k] == zone;
+    return n;
+}
+
+static void afresh_second(uint64_t *t, size_t tallies, const uint64_t *zones, size_t nz) {
+    for (size_t z = 0; z < tallies; z++)
+        t[TALLY * z] = there_second(zones, nz, z);
+}
+
+// Whether some so-far number and the particles listed in its zone would pass the last: then 13.
+static int full_second(const uint64_t *t, size_t tallies, const uint64_t *zones, size_t nz) {
+    for (size_t z = 0; z < tallies; z++)
+        for (int k = 1; k < TALLY; k++)
+            if (t[TALLY * z + k] > LAST_TALLY - there_second(zones, nz, z))
+                return 1;
+    return 0;
+}
+
+static void outcome_second(uint64_t *t, uint64_t zone, uint64_t outcome, int failed) {
+    t[TALLY * zone + 1 + outcome] += 1;
+    t[TALLY * zone + 4] += failed;
 }
