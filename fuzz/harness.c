@@ -565,8 +565,8 @@ static void tallies_target(const uint8_t *b, size_t n) {
         zones_now[k] = zones ? below(zones) : 0;
     for (size_t k = 3 + below(6); k; k--) {
         struct lent this = c;
-        this.particle = below(c.nz + 1 + !below(16));
-        this.zone = below(16) ? below(zones + 1) : draw() >> below(64);
+        this.particle = c.nz && below(8) ? below(c.nz) : draw() >> below(64);
+        this.zone = zones && below(8) ? below(zones) : zones + (draw() >> below(64));
         twist(&this);
         if (!below(8) && zones)
             tallies_now[TALLY * below(zones) + 1 + below(4)] = below(4) ? LAST_TALLY - below(5) : draw() >> below(64);

@@ -3,7 +3,6 @@
 use mathlib.Core.Path.{_≡_, refl, sym, ap, subst}
 use Prim.Native.Nat.{ℕ, _*_, _+_, _-_, _<_, _^_}
 use native.Mathlib.Numerals.{add-one-dec}
-use native.Mathlib.Omega.{arith}
 use mathlib.Core.WellFounded.{WellFounded, InvImage·wf}
 use mathlib.Core.Bool.{Bool, true, false}
 use mathlib.Core.List.{[], _∷_, List}
@@ -50,6 +49,7 @@ use Rattle.tallies.specs.declared.tally.Tally.{Tally}
 use Rattle.tallies.specs.Zones.{belowIn}
 use Rattle.tallies.specs.Tallies.{none, withParticles, noParticles, recounted}
 use Rattle.tallies.proofs.Counting.{Counted, begun, zone, told, grown, long, inside, fits, next, over}
+use Rattle.tallies.proofs.Local.{place-fits, byte-fits, next-fits}
 use Rattle.tallies.proofs.tally.Tally as T
 use Rattle.tallies.proofs.tally.Tally.Laws as T′
 use Rattle.tallies.proofs.slice.count_all.Key.{name as #tallies·slice·count-all}
@@ -57,16 +57,6 @@ use Rattle.tallies.proofs.slice.count_all as f
 use Rattle.tallies.proofs.slice.count_all.Statement as stated
 use Rattle.tallies.proofs.slice.count_all.Code as code
 use Rattle.tallies.proofs.slice.count_all.Code.Mir as body
-
--- ---- numbers
-place-fits : (z n : ℕ) → z < n → n * 40 < 2 ^ 63 → z * 40 < 2 ^ 64
-place-fits z n l r = omega arith
-
-byte-fits : (i n : ℕ) → i < n → n * 8 < 2 ^ 63 → i * 8 < 2 ^ 64
-byte-fits i n l r = omega arith
-
-next-fits : (i n : ℕ) → i < n → n < 2 ^ 64 → i + 1 < 2 ^ 64
-next-fits i n l r = omega arith
 
 abbrev stayed : Stays (f.ended .signature .params) (f.ended .kept)
 stayed = (stay-slice (0 ∷ []) tt (plain (λ _. T.the-row)), (stay-none-slice (1 ∷ []) tt (plain (λ _. u64)) yes, tt))

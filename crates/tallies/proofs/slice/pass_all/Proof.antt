@@ -60,6 +60,7 @@ use Rattle.particles.proofs.step.Step.Laws as S′
 use Rattle.tallies.specs.declared.tally.Tally.{Tally}
 use Rattle.tallies.specs.Tallies.{none}
 use Rattle.tallies.proofs.Again.{LentAgain, lends-again, comes-back}
+use Rattle.tallies.proofs.Local.{place-fits, byte-fits, next-fits}
 use Rattle.tallies.proofs.Passing.{Ready, State, Stepped, Passed, start, zone, told, xs-long, out-long, ts-long, inside, asks, next, over}
 use Rattle.tallies.proofs.tally.Tally as T
 use Rattle.tallies.proofs.tally.Tally.Laws as T′
@@ -74,15 +75,6 @@ use Rattle.tallies.proofs.slice.pass_all.Code as code
 use Rattle.tallies.proofs.slice.pass_all.Code.Mir as body
 
 -- ---- numbers
-place-fits : (z n : ℕ) → z < n → n * 40 < 2 ^ 63 → z * 40 < 2 ^ 64
-place-fits z n l r = omega arith
-
-byte-fits : (i n : ℕ) → i < n → n * 8 < 2 ^ 63 → i * 8 < 2 ^ 64
-byte-fits i n l r = omega arith
-
-next-fits : (i n : ℕ) → i < n → n < 2 ^ 64 → i + 1 < 2 ^ 64
-next-fits i n l r = omega arith
-
 index-fits : (i n : ℕ) → i ≤ n → n < 2 ^ 64 → i < 2 ^ 64
 index-fits i n l r = omega arith
 
