@@ -1,7 +1,7 @@
 //! Tallies by zone: each call beside a count of its own, what is refused and by which number, and that a refused call changes nothing.
 use pasoletu::{
-    Answer, CorotatedLinearElasticity, MaximumStressFailure, Outcome, Particle, RankinePlasticity, Refusal, SnowPlasticity, Tally,
-    Zones,
+    Answer, CorotatedLinearElasticity, MaximumStressFailure, Outcome, Particle, RankinePlasticity, Refusal, SnowPlasticity,
+    Tally, Zones,
 };
 
 const LAST: u64 = u32::MAX as u64;
@@ -123,7 +123,10 @@ fn answers_of_another_length_are_refused_by_8() {
     assert_eq!(number(zones.pass_into(SnowPlasticity::new(), &mut particles, &mut [Answer::default(); 3])), 8);
     let (limits, elasticity) = limits();
     let mut answers = [Answer::default(); 1];
-    assert_eq!(number(zones.pass_with_failure_into(SnowPlasticity::new(), &limits, &elasticity, &mut particles, &mut answers)), 8);
+    assert_eq!(
+        number(zones.pass_with_failure_into(SnowPlasticity::new(), &limits, &elasticity, &mut particles, &mut answers)),
+        8
+    );
     assert_eq!(bits(&particles), was);
     assert_eq!(zones.tallies(), [tally(2, 0, 0, 0, 0)]);
 }
