@@ -19,18 +19,23 @@ comparedAs n held (a ∷ []) = Flagged n held
 comparedAs n held (a ∷ b ∷ []) = Tested n held a b
 comparedAs n held (a ∷ b ∷ c ∷ l) = Zeros n held a b c
 
-abbrev pub testAs : walk.Reason → Reason
-testAs r = comparedAs (r .test) (r .held) (r .compares)
+-- the last test, or r where none was made
+abbrev pub lastAs : Reason → Option walk.Reason → Reason
+lastAs r none = r
+lastAs r (some t) = comparedAs (t .test) (t .held) (t .compares)
 
--- the first refusal on the path with its step, else `told` of the last test
+-- the first refusal with its step, or r
 abbrev pub refusedOr : Option Refusal → Reason → Reason
 refusedOr none r = r
 refusedOr (some q) r = Refused (q .number) (q .step)
 
--- a walk that makes a test has a last one
-abbrev pub lastAs : Option walk.Reason → Reason
-lastAs none = Refused 0 0
-lastAs (some r) = testAs r
+-- r where the path has neither a refusal nor a test
+unfoldable pub reasonFrom : {A : Type 0} → Reason → Walk A → Reason
+reasonFrom r w = refusedOr (first (path w)) (lastAs r (last (path w)))
 
-unfoldable pub reasonOf : Walk Change → Reason
-reasonOf w = refusedOr (first (path w)) (lastAs (last (path w)))
+-- of a law that makes a test on every path: there `untold` is never met
+abbrev pub untold : Reason
+untold = Refused 0 0
+
+abbrev pub reasonOf : Walk Change → Reason
+reasonOf w = reasonFrom untold w
