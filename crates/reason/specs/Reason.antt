@@ -19,10 +19,13 @@ comparedAs n held (a ∷ []) = Flagged n held
 comparedAs n held (a ∷ b ∷ []) = Tested n held a b
 comparedAs n held (a ∷ b ∷ c ∷ l) = Zeros n held a b c
 
+abbrev pub testAs : walk.Reason → Reason
+testAs t = comparedAs (t .test) (t .held) (t .compares)
+
 -- the last test, or r where none was made
-abbrev pub lastAs : Reason → Option walk.Reason → Reason
-lastAs r none = r
-lastAs r (some t) = comparedAs (t .test) (t .held) (t .compares)
+abbrev pub lastOr : Reason → Option walk.Reason → Reason
+lastOr r none = r
+lastOr r (some t) = testAs t
 
 -- the first refusal with its step, or r
 abbrev pub refusedOr : Option Refusal → Reason → Reason
@@ -31,11 +34,14 @@ refusedOr (some q) r = Refused (q .number) (q .step)
 
 -- r where the path has neither a refusal nor a test
 unfoldable pub reasonFrom : {A : Type 0} → Reason → Walk A → Reason
-reasonFrom r w = refusedOr (first (path w)) (lastAs r (last (path w)))
+reasonFrom r w = refusedOr (first (path w)) (lastOr r (last (path w)))
 
 -- of a law that makes a test on every path: there `untold` is never met
 abbrev pub untold : Reason
 untold = Refused 0 0
 
-abbrev pub reasonOf : Walk Change → Reason
-reasonOf w = reasonFrom untold w
+abbrev pub lastAs : Option walk.Reason → Reason
+lastAs o = lastOr untold o
+
+unfoldable pub reasonOf : Walk Change → Reason
+reasonOf w = refusedOr (first (path w)) (lastAs (last (path w)))

@@ -18,7 +18,7 @@ use Rattle.walk.specs.Answers.{stops-positive}
 use Rattle.walk.specs.Update.{Change, updatedOf, refusalOf, numberOf, refused-exactly}
 use Rattle.reason.specs.declared.Reason.{Reason}
 use Rattle.reason.specs.declared.Reason.the-variants.{Tested, Zeros, Flagged, Clamped, Refused}
-use Rattle.reason.specs.Reason.{comparedAs, lastAs, refusedOr, reasonFrom}
+use Rattle.reason.specs.Reason.{comparedAs, lastOr, refusedOr, reasonFrom, untold, lastAs, reasonOf}
 
 -- the refusal's number, 0 where there is none
 abbrev pub reasonNumber : Reason → ℕ
@@ -54,11 +54,11 @@ none-first ms none h e = refl
 none-first ms (some r) h e = absurd (let q : Stops 0 ms = first-stops ms 0 .0 (ap numberOf h ∙ ap some e) in let z = stops-positive ms 0 q in omega arith)
 
 module _ (d : Reason) (h : reasonNumber d ≡ 0) where
-  last-number : (o : Option walk.Reason) → reasonNumber (lastAs d o) ≡ 0
+  last-number : (o : Option walk.Reason) → reasonNumber (lastOr d o) ≡ 0
   last-number none = h
   last-number (some t) = compared-number (t .test) (t .held) (t .compares)
 
-  told : (o : Option Refusal) (t : Option walk.Reason) → reasonNumber (refusedOr o (lastAs d t)) ≡ codeOf (numberOf o)
+  told : (o : Option Refusal) (t : Option walk.Reason) → reasonNumber (refusedOr o (lastOr d t)) ≡ codeOf (numberOf o)
   told none t = last-number t
   told (some r) t = refl
 
@@ -72,8 +72,21 @@ module _ (d : Reason) (h : reasonNumber d ≡ 0) where
     passes e = none-first (path w) (first (path w)) refl (sym (told (first (path w)) (last (path w))) ∙ e)
 
     -- where nothing refuses: the last test, and the path's end
-    pub last-told : reasonNumber (reasonFrom d w) ≡ 0 → (reasonFrom d w ≡ lastAs d (last (path w))) × (updatedOf s (result w) ≡ updatedOf s (given (final w)))
+    pub last-told : reasonNumber (reasonFrom d w) ≡ 0 → (reasonFrom d w ≡ lastOr d (last (path w))) × (updatedOf s (result w) ≡ updatedOf s (given (final w)))
     unfolding reasonFrom
     last-told e =
         let p = passes e in
-        (ap (λ o. refusedOr o (lastAs d (last (path w)))) p, ap (updatedOf s) (exactly w ∙ ap (λ o. answer o (final w)) p))
+        (ap (λ o. refusedOr o (lastOr d (last (path w)))) p, ap (updatedOf s) (exactly w ∙ ap (λ o. answer o (final w)) p))
+
+-- of a law that makes a test on every path
+of-untold : (w : Walk Change) → reasonOf w ≡ reasonFrom untold w
+unfolding reasonOf reasonFrom
+of-untold w = refl
+
+pub number-of : (s : State) (w : Walk Change) → reasonNumber (reasonOf w) ≡ outcomeNumber (updatedOf s (result w) .outcome)
+number-of s w = ap reasonNumber (of-untold w) ∙ number-told untold refl s w
+
+pub last-of : (s : State) (w : Walk Change) → reasonNumber (reasonOf w) ≡ 0 → (reasonOf w ≡ lastAs (last (path w))) × (updatedOf s (result w) ≡ updatedOf s (given (final w)))
+last-of s w e =
+    let q = last-told untold refl s w (sym (ap reasonNumber (of-untold w)) ∙ e) in
+    (of-untold w ∙ q .0, q .1)

@@ -16,9 +16,10 @@ use Rattle.walk.specs.Walk.{Function, lowOf, highOf, at, Test, holds, compared,
 use Rattle.walk.specs.Number.{picked-number}
 use Rattle.walk.specs.Exact as walk
 use Rattle.walk.specs.Exact.{Met, Refusal, path, first, stop, placeOf, lastFrom, all-clean, told, picked-clean, rows-clean}
+use Rattle.walk.specs.Update.{Change}
 use Rattle.reason.specs.declared.Reason.{Reason}
 use Rattle.reason.specs.declared.Reason.the-variants.{Refused}
-use Rattle.reason.specs.Reason.{comparedAs, lastAs, refusedOr, reasonFrom}
+use Rattle.reason.specs.Reason.{comparedAs, lastOr, refusedOr, reasonFrom, untold, reasonOf}
 
 -- an elementary function's answer at step n
 abbrev pub askedAt : ℕ → Answer → (Float → Reason) → Reason
@@ -54,7 +55,7 @@ asking false c m n v k o r h = refl
 module _ (d : Reason) where
   -- the last test so far
   abbrev At : Option walk.Reason → List Met → Reason
-  At o ms = refusedOr (first ms) (lastAs d (lastFrom o ms))
+  At o ms = refusedOr (first ms) (lastOr d (lastFrom o ms))
 
   fork : (c : Bool) (x y : Reason) (o : Option walk.Reason) (p q : List Met) → x ≡ At o p → y ≡ At o q → cond c x y ≡ At o (cond c p q)
   fork true x y o p q h i = h
@@ -66,22 +67,22 @@ module _ (d : Reason) where
   test-fork true x y n l p q h i = h
   test-fork false x y n l p q h i = i
 
-  pub why-read : {A : Type 0} (o : Option walk.Reason) (w : Walk A) → why (lastAs d o) w ≡ refusedOr (first (path w)) (lastAs d (lastFrom o (path w)))
-  why-read o (inputs l w) = gated (allOf finite l) 1 0 (placeOf l) (why (lastAs d o) w) (lastAs d (lastFrom o (path w))) (first (path w)) (why-read o w)
+  pub why-read : {A : Type 0} (o : Option walk.Reason) (w : Walk A) → why (lastOr d o) w ≡ refusedOr (first (path w)) (lastOr d (lastFrom o (path w)))
+  why-read o (inputs l w) = gated (allOf finite l) 1 0 (placeOf l) (why (lastOr d o) w) (lastOr d (lastFrom o (path w))) (first (path w)) (why-read o w)
   why-read o (ask n f e k) =
       let v = at f (value e) in
       let w = k (num v) in
       rw (← whole-tells e)
-      (asking (isNumber (value e)) (inRange (lowOf f) (highOf f) (value e)) (sideOf (lowOf f) (highOf f) (value e)) n v (λ x. why (lastAs d o) (k (num x))) (first (path w))
-      (lastAs d (lastFrom o (path w))) (why-read o (k (num (at f (value e))))))
+      (asking (isNumber (value e)) (inRange (lowOf f) (highOf f) (value e)) (sideOf (lowOf f) (highOf f) (value e)) n v (λ x. why (lastOr d o) (k (num x))) (first (path w))
+      (lastOr d (lastFrom o (path w))) (why-read o (k (num (at f (value e))))))
   why-read o (works n es k) =
       let w = k (values es) in
-      rw (← all-clean es) (gate (numbers es) 3 n (why (lastAs d o) w) (lastAs d (lastFrom o (path w))) (first (path w)) (why-read o (k (values es))))
+      rw (← all-clean es) (gate (numbers es) 3 n (why (lastOr d o) w) (lastOr d (lastFrom o (path w))) (first (path w)) (why-read o (k (values es))))
   why-read o (either n t a b k) =
       let w = k (num (picked t a b)) in
       let ok = isNumber (picked t a b) in
-      let x = why (lastAs d o) w in
-      let r = lastAs d (lastFrom o (path w)) in
+      let x = why (lastOr d o) w in
+      let r = lastOr d (lastFrom o (path w)) in
       rw (← told t, ← picked-clean (holds t) a b)
       (gate (tellable t) 3 n (cond ok x (Refused 3 n)) r (cond ok (first (path w)) (stop 3 n)) (gate ok 3 n x r (first (path w)) (why-read o (k (num (picked t a b))))))
   why-read o (branch n t w v) =
@@ -89,21 +90,25 @@ module _ (d : Reason) where
       let l = values (compared t) in
       let now : Option walk.Reason = some (record { test = n; compares = l; held = c }) in
       rw (← told t)
-      (gate (tellable t) 3 n (cond c (why (comparedAs n true l) w) (why (comparedAs n false l) v)) (lastAs d (lastFrom now (cond c (path w) (path v)))) (first (cond c (path w) (path v)))
+      (gate (tellable t) 3 n (cond c (why (comparedAs n true l) w) (why (comparedAs n false l) v)) (lastOr d (lastFrom now (cond c (path w) (path v)))) (first (cond c (path w) (path v)))
       (test-fork c (why (comparedAs n true l) w) (why (comparedAs n false l) v) n l (path w) (path v) (why-read (some (record { test = n; compares = l; held = true })) w) (why-read (some (record { test = n; compares = l; held = false })) v)))
   why-read o (split n t w v) =
       let c = holds t in
       rw (← told t)
-      (gate (tellable t) 3 n (cond c (why (lastAs d o) w) (why (lastAs d o) v)) (lastAs d (lastFrom o (cond c (path w) (path v)))) (first (cond c (path w) (path v)))
-      (fork c (why (lastAs d o) w) (why (lastAs d o) v) o (path w) (path v) (why-read o w) (why-read o v)))
+      (gate (tellable t) 3 n (cond c (why (lastOr d o) w) (why (lastOr d o) v)) (lastOr d (lastFrom o (cond c (path w) (path v)))) (first (cond c (path w) (path v)))
+      (fork c (why (lastOr d o) w) (why (lastOr d o) v) o (path w) (path v) (why-read o w) (why-read o v)))
   why-read o (results n rows w) =
       rw (← rows-clean rows)
-      (gate (allOf (allOf finite) (map values rows)) 3 n (why (lastAs d o) w) (lastAs d (lastFrom o (path w))) (first (path w)) (why-read o w))
+      (gate (allOf (allOf finite) (map values rows)) 3 n (why (lastOr d o) w) (lastOr d (lastFrom o (path w))) (first (path w)) (why-read o w))
   why-read o (end a) = refl
 
   pub why-exactly : {A : Type 0} (w : Walk A) → why d w ≡ reasonFrom d w
   unfolding reasonFrom
   why-exactly w = why-read none w
+
+pub why-of : (w : Walk Change) → why untold w ≡ reasonOf w
+unfolding reasonOf
+why-of w = why-read untold none w
 
 -- ---- a walk and what follows it tell one after the other
 abbrev pub whyThen : {A : Type 0} → Ended A → Reason → (A → Reason) → Reason
