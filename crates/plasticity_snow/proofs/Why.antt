@@ -11,6 +11,7 @@ use Rattle.plasticity.specs.State.{inputsFinite, stateFinite, scalarsFinite}
 use Rattle.plasticity.specs.declared.State.{State}
 use Rattle.walk.specs.Expr.{Expr, num, _+_, _-_, value}
 use Rattle.walk.specs.Walk.{Walk, least}
+use Rattle.walk.specs.Reason.{Branchless}
 use Rattle.walk.specs.Number.{finite-number, max-number, add-number, sub-number}
 use Rattle.walk.specs.Every.{and-left, and-right, every, all-every}
 use Rattle.walk.specs.Matrix.{value-entry, values-nums}
@@ -19,7 +20,7 @@ use Rattle.reason.specs.declared.Reason.{Reason}
 use Rattle.reason.specs.declared.Reason.the-variants as reason
 use Rattle.reason.specs.Why.{why, most-why, least-why}
 use Rattle.plasticity_snow.specs.declared.SnowPlasticity.{SnowPlasticity}
-use Rattle.plasticity_snow.specs.Snow.{one, defaults, parametersFinite, clampOf, clampedOf, clamps, storeWalk, hardenWalk, runWalk}
+use Rattle.plasticity_snow.specs.Snow.{one, defaults, parametersFinite, clampOf, clampedOf, clamps, storeWalk, hardenWalk, runWalk, snowWalk}
 use Rattle.plasticity_snow.specs.Reason.{boundOf}
 use Rattle.plasticity_snow.proofs.Laws.{bounds-numbers, sigma-finite}
 
@@ -48,6 +49,15 @@ pub store-why : (r : Reason) (u : List (List Float)) (sigma : List Float) (vt : 
     ≡ cond (matFinite (recomposeOf u sigma vt) && rowFinite sigma && (finite (value d) && finite (value h))) r (reason.Refused 3 4)
 unfolding storeWalk
 store-why r u sigma vt d h s = simp (value-entry, values-nums)
+
+-- no test of section 5 stands in the walk
+clamps-branchless : {A : Type 0} (p : SnowPlasticity) (l : List Float) (k : List Float → Walk A) → ((vs : List Float) → Branchless (k vs)) → Branchless (clamps p l k)
+clamps-branchless p [] k h = h []
+clamps-branchless p (x ∷ l) k h = λ y z. clamps-branchless p l (λ vs. k (value z ∷ vs)) (λ vs. h (value z ∷ vs))
+
+pub snow-branchless : (p : SnowPlasticity) (u vt : List (List Float)) (s : State) → Branchless (snowWalk p u vt s)
+unfolding snowWalk runWalk hardenWalk storeWalk
+snow-branchless p u vt s = clamps-branchless p (s .sigma) (λ new. hardenWalk p new u vt s) (λ new h. tt)
 
 -- ---- by computation
 abbrev of : Float → Float → SnowPlasticity
