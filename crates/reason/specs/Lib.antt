@@ -1,1 +1,2 @@
 pub mod Reason
+pub mod Traced
