@@ -20,3 +20,9 @@ pub enum Reason {
     // The refusal's number and the step that gave it; 0 is the inputs.
     Refused(u8, u8),
 }
+
+// A number as a step of a law, or the refusal's number and its step.
+pub enum Number {
+    Value(f64),
+    Refused(u8, u8),
+}
