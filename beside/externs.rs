@@ -63,4 +63,5 @@ extern "C" {
     pub fn pasoletu_write_sheet(model: u64, parameters: *const u64, parameters_length: usize, records: *const u64, records_length: usize, bytes: *mut u8, bytes_length: usize, written: *mut u64, written_length: usize) -> u8;
     pub fn pasoletu_report(records: *const u64, records_length: usize, report: *mut u64, report_length: usize) -> u8;
     pub fn pasoletu_join_reports(first: *const u64, first_length: usize, second: *const u64, second_length: usize, joined: *mut u64, joined_length: usize) -> u8;
+    pub fn pasoletu_why(model: u64, parameters: *const u64, parameters_length: usize, record: *const u64, record_length: usize, reason: *mut u64, reason_length: usize) -> u8;
 }

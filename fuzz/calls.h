@@ -68,3 +68,5 @@ uint8_t pasoletu_write_sheet(uint64_t model, const uint64_t *parameters, size_t 
                              const uint64_t *records, size_t records_length, uint8_t *bytes, size_t bytes_length,
                              uint64_t *written, size_t written_length);
 uint8_t pasoletu_report(const uint64_t *records, size_t records_length, uint64_t *report, size_t report_length);
+uint8_t pasoletu_why(uint64_t model, const uint64_t *parameters, size_t parameters_length, const uint64_t *record,
+                     size_t record_length, uint64_t *reason, size_t reason_length);

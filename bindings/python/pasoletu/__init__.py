@@ -45,10 +45,12 @@ from .lists import (
 from .outcome import Outcomes, Passed, Stored, Untouched
 from .particle import Particle
 from .refusal import REFUSALS, Refused
+from .reasons import Clamped, Stopped, Tested
 from .reports import Column, Report, report
 from .zones import Tally, Zones
 
 __all__ = [
+    "Clamped",
     "Column",
     "CorotatedLinearElasticity",
     "DruckerPragerPlasticity",
@@ -71,8 +73,10 @@ __all__ = [
     "SHEET_MOST",
     "Sheet",
     "SnowPlasticity",
+    "Stopped",
     "Stored",
     "Tally",
+    "Tested",
     "Untouched",
     "Zones",
     "__version__",

@@ -20,17 +20,28 @@ comparedAs n held (a ∷ b ∷ []) = Tested n held a b
 comparedAs n held (a ∷ b ∷ c ∷ l) = Zeros n held a b c
 
 abbrev pub testAs : walk.Reason → Reason
-testAs r = comparedAs (r .test) (r .held) (r .compares)
+testAs t = comparedAs (t .test) (t .held) (t .compares)
 
--- the first refusal on the path with its step, else `told` of the last test
+-- the last test, or r where none was made
+abbrev pub lastOr : Reason → Option walk.Reason → Reason
+lastOr r none = r
+lastOr r (some t) = testAs t
+
+-- the first refusal with its step, or r
 abbrev pub refusedOr : Option Refusal → Reason → Reason
 refusedOr none r = r
 refusedOr (some q) r = Refused (q .number) (q .step)
 
--- a walk that makes a test has a last one
+-- r where the path has neither a refusal nor a test
+unfoldable pub reasonFrom : {A : Type 0} → Reason → Walk A → Reason
+reasonFrom r w = refusedOr (first (path w)) (lastOr r (last (path w)))
+
+-- of a law that makes a test on every path: there `untold` is never met
+abbrev pub untold : Reason
+untold = Refused 0 0
+
 abbrev pub lastAs : Option walk.Reason → Reason
-lastAs none = Refused 0 0
-lastAs (some r) = testAs r
+lastAs o = lastOr untold o
 
 unfoldable pub reasonOf : Walk Change → Reason
 reasonOf w = refusedOr (first (path w)) (lastAs (last (path w)))
