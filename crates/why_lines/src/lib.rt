@@ -34,17 +34,22 @@ fn print_line(i: usize, model: u64, parameters: &[u64], r: &[u64]) -> bool {
     print(b"\n")
 }
 
-// The lines of the records, or that of `only`; whether all were written.
-fn print_lines(h: Header, parameters: &[u64], records: &[u64], only: usize) -> bool {
+// The line of record i, where it is there.
+fn print_at(i: usize, model: u64, parameters: &[u64], records: &[u64]) -> bool {
+    if records.len() / record::FLOATS <= i {
+        return true;
+    }
+    let a = i * record::FLOATS;
+    let b = a + record::FLOATS;
+    print_line(i, model, parameters, &records[a..b])
+}
+
+// The lines of the first n records, or that of `only`; whether all were written.
+fn print_lines(n: usize, model: u64, parameters: &[u64], records: &[u64], only: usize) -> bool {
     let mut i = 0;
-    while i < h.count {
-        if records.len() / record::FLOATS <= i {
-            return true;
-        }
-        let a = i * record::FLOATS;
-        let b = a + record::FLOATS;
+    while i < n {
         if (only == ALL) | (only == i) {
-            if !print_line(i, h.model, parameters, &records[a..b]) {
+            if !print_at(i, model, parameters, records) {
                 return false;
             }
         }
@@ -65,7 +70,7 @@ fn print_read(h: Header, records: &[u64], only: usize) -> bool {
     if !print(b"\n") {
         return false;
     }
-    if !print_lines(h, &bits[..k], records, only) {
+    if !print_lines(h.count, h.model, &bits[..k], records, only) {
         return false;
     }
     print(b"end\n")
