@@ -21,13 +21,13 @@ fn put_cause(model: u64, w: Cause, room: &mut [u64]) -> u8
 }
 
 #[no_mangle]
-pub extern "C" fn pasoletu_why(model: u64, parameters: &[u64], record: &[u64], reason: &mut [u64]) -> u8
-    ensures { λ r. ⌜ r ≡ whyCode model (now (parameters .entry)) (now (record .entry)) (now (reason .entry)) ⌝ }
-    ensures { λ r. ⌜ now (reason .exit) ≡ whyWritten model (now (parameters .entry)) (now (record .entry)) (now (reason .entry)) ⌝ }
+pub extern "C" fn pasoletu_why(model: u64, parameters: &[u64], r: &[u64], reason: &mut [u64]) -> u8
+    ensures { λ n. ⌜ n ≡ whyCode model (now (parameters .entry)) (now (r .entry)) (now (reason .entry)) ⌝ }
+    ensures { λ n. ⌜ now (reason .exit) ≡ whyWritten model (now (parameters .entry)) (now (r .entry)) (now (reason .entry)) ⌝ }
 {
     if reason.len() != 11 {
         return 8;
     }
-    let w = record_why::why(model, parameters, record);
+    let w = record_why::why(model, parameters, r);
     put_cause(model, w, reason)
 }

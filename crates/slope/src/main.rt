@@ -15,7 +15,7 @@ fn answer(room: &[u8], n: usize) -> bool {
         return lines::print_answer(room, n);
     }
     if asks_why() {
-        return why_lines::print_reasons(room, n, why_lines::only(2));
+        return why_lines::print_reasons(room, n, 2);
     }
     lines::write_updated(room, n)
 }

@@ -7,7 +7,7 @@ fn main() {
     let input = lines::read_whole(STDIN_FILENO, &mut room);
     match input {
         Input::Bytes(n) => {
-            if !why_lines::print_reasons(&room, n, why_lines::only(1)) {
+            if !why_lines::print_reasons(&room, n, 1) {
                 os::fail(b"standard output");
             }
         }

@@ -58,69 +58,83 @@ fn print_lines(n: usize, model: u64, parameters: &[u64], records: &[u64], only: 
     true
 }
 
-fn print_read(h: Header, records: &[u64], only: usize) -> bool {
-    let bits = h.parameters;
-    let k = model::parameters_of(h.model);
+fn print_refused(refusal: u8) -> bool {
+    if !print_number(b"sheet refused ", refusal as u64) {
+        return false;
+    }
+    print(b"\n")
+}
+
+// The first k of the parameters' bits are the model's.
+fn print_records(h: Header, bits: &[u64], k: usize, records: &[u64], only: usize) -> bool {
     if bits.len() < k {
         return false;
     }
+    print_lines(h.count, h.model, &bits[..k], records, only)
+}
+
+fn print_read(h: Header, records: &[u64], only: usize) -> bool {
+    let bits = h.parameters;
     if !print_number(b"particles ", h.count as u64) {
         return false;
     }
     if !print(b"\n") {
         return false;
     }
-    if !print_lines(h.count, h.model, &bits[..k], records, only) {
+    if !print_records(h, &bits, model::parameters_of(h.model), records, only) {
         return false;
     }
     print(b"end\n")
 }
 
-// Reads the sheet in the first n bytes of the room and prints why each record moves, or `only` one; whether all of it was written.
-pub fn print_reasons(room: &[u8], n: usize, only: usize) -> bool
+// Whether a byte is a digit.
+fn is_digit(d: u8) -> bool {
+    (b'0' <= d) & (d <= b'9')
+}
+
+// The number of three digits; NONE where one is none.
+fn number(a: u8, b: u8, c: u8) -> usize {
+    if is_digit(a) & is_digit(b) & is_digit(c) {
+        ((a % b'0') as usize) * 100 + ((b % b'0') as usize) * 10 + ((c % b'0') as usize)
+    } else {
+        NONE
+    }
+}
+
+// The record that argument i names, by one to three digits; all of them where there is no such argument.
+fn only(i: usize) -> usize {
+    if os::arg_count() <= i {
+        return ALL;
+    }
+    let mut word = [0u8; 3];
+    let n = os::arg(i, &mut word);
+    if n == 3 {
+        number(word[0], word[1], word[2])
+    } else if n == 2 {
+        number(b'0', word[0], word[1])
+    } else if n == 1 {
+        number(b'0', b'0', word[0])
+    } else {
+        NONE
+    }
+}
+
+// Reads the sheet and prints why each record moves, or that one which argument i names; whether all of it was written.
+fn print_sheet(s: &[u8], i: usize) -> bool {
+    let mut records = [0u64; sheet::MOST_WORDS];
+    let h = reader::read(s, &mut records);
+    if h.refusal != 0 {
+        return print_refused(h.refusal);
+    }
+    print_read(h, &records, only(i))
+}
+
+// The same of the sheet in the first n bytes of the room.
+pub fn print_reasons(room: &[u8], n: usize, i: usize) -> bool
     ensures { λ r. ⌜ (length (now (room .entry)) < n → r ≡ false) ⌝ }
 {
     if room.len() < n {
         return false;
     }
-    let mut records = [0u64; sheet::MOST_WORDS];
-    let h = reader::read(&room[..n], &mut records);
-    if h.refusal != 0 {
-        if !print_number(b"sheet refused ", h.refusal as u64) {
-            return false;
-        }
-        return print(b"\n");
-    }
-    print_read(h, &records, only)
-}
-
-// The record that a word of digits names; another word names none, so that no line is printed.
-fn named(word: &[u8], n: usize) -> usize {
-    let mut k = 0;
-    let mut i = 0;
-    while i < n {
-        if word.len() <= i {
-            return NONE;
-        }
-        let d = word[i];
-        if (d < b'0') | (b'9' < d) | (99 < k) {
-            return NONE;
-        }
-        k = k * 10 + (d - b'0') as usize;
-        i += 1;
-    }
-    k
-}
-
-// The record that argument i names; all of them where there is no such argument.
-pub fn only(i: usize) -> usize {
-    if os::arg_count() <= i {
-        return ALL;
-    }
-    let mut word = [0u8; 4];
-    let n = os::arg(i, &mut word);
-    if n == 0 {
-        return NONE;
-    }
-    named(&word, n)
+    print_sheet(&room[..n], i)
 }
