@@ -61,6 +61,9 @@ extern "C" {
     pub fn pasoletu_read_sheet(bytes: *const u8, bytes_length: usize, header: *mut u64, header_length: usize, records: *mut u64, records_length: usize) -> u8;
     pub fn pasoletu_run_sheet(bytes: *const u8, bytes_length: usize, records: *mut u64, records_length: usize, answers: *mut u64, answers_length: usize, counts: *mut u64, counts_length: usize) -> u8;
     pub fn pasoletu_write_sheet(model: u64, parameters: *const u64, parameters_length: usize, records: *const u64, records_length: usize, bytes: *mut u8, bytes_length: usize, written: *mut u64, written_length: usize) -> u8;
+    pub fn pasoletu_begin_parts(state: *mut u64, state_length: usize) -> u8;
+    pub fn pasoletu_part(bytes: *const u8, bytes_length: usize, state: *mut u64, state_length: usize, records: *mut u64, records_length: usize, answers: *mut u64, answers_length: usize, progress: *mut u64, progress_length: usize) -> u8;
+    pub fn pasoletu_end_parts(records: *const u64, records_length: usize, answers: *const u64, answers_length: usize, state: *mut u64, state_length: usize, progress: *mut u64, progress_length: usize) -> u8;
     pub fn pasoletu_report(records: *const u64, records_length: usize, report: *mut u64, report_length: usize) -> u8;
     pub fn pasoletu_join_reports(first: *const u64, first_length: usize, second: *const u64, second_length: usize, joined: *mut u64, joined_length: usize) -> u8;
 }

@@ -13,6 +13,9 @@ enum {
     PAST_SHEET,   // the byte of the room past the sheet's end cleared
     ELEVEN_MISSED, // a wrong determinant that is not refused by 11
     OLD_ONE,      // the determinant that came, kept beside a new F
+    EARLY,        // a shortage told before the end
+    FORGOTTEN,    // a fault that is not told again
+    HELD_BYTE,    // a held byte changed in the state
 };
 
 static int fault_is(int kind) {
@@ -125,6 +128,25 @@ static uint8_t broken_write_sheet(uint64_t model, const uint64_t *p, size_t np, 
     return n;
 }
 
+static uint8_t broken_part(const uint8_t *s, size_t ns, uint64_t *state, size_t nt, uint64_t *r, size_t nr, uint64_t *a, size_t na, uint64_t *p, size_t np) {
+    uint64_t before = nt ? state[0] : 0;
+    uint8_t n = pasoletu_part(s, ns, state, nt, r, nr, a, na, p, np);
+    peeked(s, ns);
+    if (fault_is(EARLY) && n == 0 && ns && p[0] < p[1])
+        return 4;
+    if (fault_is(FORGOTTEN) && n && n != 8 && before)
+        return 0;
+    if (fault_is(HELD_BYTE) && n == 0 && state[6] > 8)
+        state[15] ^= 1;
+    return spoiled(n, r, nr, p, np);
+}
+
+static uint8_t broken_end_parts(const uint64_t *r, size_t nr, const uint64_t *a, size_t na, uint64_t *state, size_t nt, uint64_t *p, size_t np) {
+    uint8_t n = pasoletu_end_parts(r, nr, a, na, state, nt, p, np);
+    peeked(r, 8 * nr);
+    return spoiled(n, p, np, p, np);
+}
+
 #if TARGET == 2 // elsewhere it is what a pass is compared with
 #define pasoletu_update broken_update
 #endif
@@ -132,5 +154,9 @@ static uint8_t broken_write_sheet(uint64_t model, const uint64_t *p, size_t np, 
 #define pasoletu_pass_with_failure broken_pass_with_failure
 #define pasoletu_fill_determinants broken_fill_determinants
 #define pasoletu_read_sheet broken_read_sheet
+#if TARGET != 6 // there it is what the parts are compared with
 #define pasoletu_run_sheet broken_run_sheet
+#endif
 #define pasoletu_write_sheet broken_write_sheet
+#define pasoletu_part broken_part
+#define pasoletu_end_parts broken_end_parts

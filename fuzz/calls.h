@@ -67,4 +67,11 @@ uint8_t pasoletu_run_sheet(const uint8_t *bytes, size_t bytes_length, uint64_t *
 uint8_t pasoletu_write_sheet(uint64_t model, const uint64_t *parameters, size_t parameters_length,
                              const uint64_t *records, size_t records_length, uint8_t *bytes, size_t bytes_length,
                              uint64_t *written, size_t written_length);
+uint8_t pasoletu_begin_parts(uint64_t *state, size_t state_length);
+uint8_t pasoletu_part(const uint8_t *bytes, size_t bytes_length, uint64_t *state, size_t state_length,
+                      uint64_t *records, size_t records_length, uint64_t *answers, size_t answers_length,
+                      uint64_t *progress, size_t progress_length);
+uint8_t pasoletu_end_parts(const uint64_t *records, size_t records_length, const uint64_t *answers,
+                           size_t answers_length, uint64_t *state, size_t state_length, uint64_t *progress,
+                           size_t progress_length);
 uint8_t pasoletu_report(const uint64_t *records, size_t records_length, uint64_t *report, size_t report_length);

@@ -1,5 +1,5 @@
 // One fuzz target a build, chosen by TARGET: 0 read_sheet, 1 run_sheet, 2 update, 3 pass, 4 pass_with_failure,
-// 5 write_sheet.
+// 5 write_sheet, 6 parts.
 // README.md says what is checked. The first thing that does not hold is printed, and the run stops there.
 #include "rooms.h"
 #include "calls.h"
@@ -9,14 +9,14 @@
 #endif
 #include <math.h>
 #include <stdarg.h>
-#define SHEETS (TARGET < 2 || TARGET == 5) // an input is a sheet's bytes
+#define SHEETS (TARGET < 2 || TARGET >= 5) // an input is a sheet's bytes
 #include "mutate.h"
 
 #define ROOM (MOST * FLOATS)
 #define LONGEST (1 + 8 * 8 + 2 + 8 * ROOM) // bytes of a sheet
 #define PASSED 8 // records in an input for the passes
 
-static struct room sheet_room, parameters_room, limits_room, law_room, records_room, answers_room, out_room, one_room, two_room, bytes_room, few_room;
+static struct room sheet_room, parameters_room, limits_room, law_room, records_room, answers_room, out_room, one_room, two_room, bytes_room, few_room, state_room, progress_room;
 
 // What was met is told to the fuzzer as coverage, since the library itself is not instrumented.
 __attribute__((section("__libfuzzer_extra_counters"))) static uint8_t met[1024];
@@ -110,7 +110,7 @@ static void check_stored(uint64_t model, const uint64_t *p, const uint64_t *was,
 
 // What a run has met in all, printed at its end: a target that never reaches a law's outcome has not tried it.
 // An outcome is untouched, stored, or refused by 1, 2, 3, 10 or 11.
-static unsigned long outcomes[LAWS][7], verdicts[2], refusals[9], writes[10], fills[9];
+static unsigned long outcomes[LAWS][7], verdicts[2], refusals[9], writes[10], fills[9], parts_told[16], ends_told[16];
 
 static void print_met(void) {
     static const char *names[LAWS] = {"snow", "rankine", "drucker_prager", "nacc"};
@@ -118,7 +118,11 @@ static void print_met(void) {
         fprintf(stderr, "met: sheets read %lu, refused 4: %lu, 5: %lu, 6: %lu, 7: %lu\n", refusals[0], refusals[4], refusals[5], refusals[6], refusals[7]);
     if (TARGET == 5)
         fprintf(stderr, "met: sheets written %lu, refused 6: %lu, 7: %lu, 8: %lu, 9: %lu\n", writes[0], writes[6], writes[7], writes[8], writes[9]);
-    for (int k = 0; k < (TARGET % 5 ? LAWS : 0); k++)
+    if (TARGET == 6) {
+        fprintf(stderr, "met: parts taken %lu, refused 5: %lu, 6: %lu, 7: %lu, 4 again: %lu, 15: %lu, 8: %lu\n", parts_told[0], parts_told[5], parts_told[6], parts_told[7], parts_told[4], parts_told[15], parts_told[8]);
+        fprintf(stderr, "met: ends taken %lu, refused 4: %lu, 5: %lu, 6: %lu, 7: %lu, 15: %lu, 8: %lu\n", ends_told[0], ends_told[4], ends_told[5], ends_told[6], ends_told[7], ends_told[15], ends_told[8]);
+    }
+    for (int k = 0; k < (TARGET % 5 && TARGET < 6 ? LAWS : 0); k++)
         fprintf(stderr, "met: %s untouched %lu, stored %lu, refused 1: %lu, 2: %lu, 3: %lu, 10: %lu, 11: %lu\n", names[k], outcomes[k][0], outcomes[k][1], outcomes[k][2], outcomes[k][3], outcomes[k][4], outcomes[k][5], outcomes[k][6]);
     if (TARGET == 3)
         fprintf(stderr, "met: lists filled %lu, refused 8: %lu\n", fills[0], fills[8]);
@@ -399,6 +403,138 @@ static void write_sheet_target(const uint8_t *b, size_t n) {
     any_sheet(b, n);
 }
 
+// ---- a sheet in parts, cut anywhere, beside the run of the whole
+
+#define STATE 52
+static uint64_t whole_records[ROOM], whole_answers[2 * MOST];
+
+// How many records are whole in the first n bytes, how many the sheet says it has (0 where that is not known), and its refusal.
+static size_t whole_in(const uint8_t *b, size_t n, size_t *count, uint8_t *refusal) {
+    struct sheet x = head_second(b, n);
+    *refusal = read_second(b, n).refusal;
+    *count = x.refusal ? 0 : x.count;
+    size_t k = x.refusal ? 0 : (n - x.at) / (8 * sheet_floats(x.model));
+    return k < *count ? k : *count;
+}
+
+struct came {
+    uint8_t fault; // the number that is told again, or 0
+    size_t complete, count;
+};
+
+// What the lists are to hold: the complete records of the whole run, then marks; state and progress as they are, inside their ends.
+static void want_lists(const struct came *c) {
+    memcpy(wanted(&records_room, ROOM), whole_records, 8 * FLOATS * c->complete);
+    memcpy(wanted(&answers_room, 2 * MOST), whole_answers, 16 * c->complete);
+    check_room(&records_room, "the records of a sheet in parts");
+    check_room(&answers_room, "the answers of a sheet in parts");
+    check_room(&state_room, "around the state of a sheet in parts");
+    check_room(&progress_room, "the progress of a sheet in parts");
+}
+
+static uint64_t *lent_state(void) {
+    return (uint64_t *)(state_room.write + state_room.bytes) - STATE;
+}
+
+static void want_told(const struct came *c, uint8_t got, uint8_t want, const char *what) {
+    check(got == want, what, got, want);
+    uint64_t *p = wanted(&progress_room, 2);
+    p[0] = c->complete;
+    p[1] = c->count;
+    uint64_t *state = lent_state(), *held = wanted(&state_room, STATE);
+    if (c->fault)
+        check(memcmp(state, held, 8 * STATE) == 0, "a call after a fault or the end changed the state: number", want, 0);
+    memcpy(held, state, 8 * STATE);
+    want_lists(c);
+}
+
+// A list of another length: 8, before all else, with nothing written.
+static void wrong_lengths(const struct came *c, const uint8_t *b, size_t n) {
+    uint64_t *state = lent_state(), *r = (uint64_t *)(records_room.write + records_room.bytes) - ROOM;
+    uint64_t *a = (uint64_t *)(answers_room.write + answers_room.bytes) - 2 * MOST, *p = (uint64_t *)(progress_room.write + progress_room.bytes) - 2;
+    int which = below(5);
+    size_t ns = STATE - (which == 0), nr = ROOM - (which == 1 ? FLOATS : 0), na = 2 * MOST - (which == 2), np = 2 - (which == 3);
+    if (which == 4)
+        ns = 0, nr = 0, na = 0;
+    uint8_t got = pasoletu_part(show_bytes(&sheet_room, b, n, 0), n, state, ns, r, nr, a, na, p, np);
+    check(got == 8, "a part with a list of the wrong length: answer", got, 8);
+    parts_told[got]++;
+    got = pasoletu_end_parts(r, nr, a, na, state, ns, p, np);
+    check(got == 8, "an end with a list of the wrong length: answer", got, 8);
+    ends_told[got]++;
+    want_lists(c);
+}
+
+static uint8_t handed(struct came *c, const uint8_t *b, size_t from, size_t n, uint64_t *state, uint64_t *r, uint64_t *a, uint64_t *p) {
+    uint8_t refusal = 0;
+    if (!c->fault)
+        c->complete = whole_in(b, from + n, &c->count, &refusal);
+    uint8_t want = c->fault ? c->fault : refusal == 4 ? 0 : refusal;
+    uint8_t got = pasoletu_part(show_bytes(&sheet_room, b + from, n, n % 2), n, state, STATE, r, ROOM, a, 2 * MOST, p, 2);
+    want_told(c, got, want, "a part: answer, should be");
+    c->fault = want;
+    parts_told[got]++;
+    return want;
+}
+
+static void ended(struct came *c, const uint8_t *b, size_t n, uint64_t *state, uint64_t *r, uint64_t *a, uint64_t *p) {
+    uint8_t want = c->fault, refusal = 0;
+    if (!want) {
+        whole_in(b, n, &c->count, &refusal);
+        want = refusal;
+    }
+    uint8_t got = pasoletu_end_parts(r, ROOM, a, 2 * MOST, state, STATE, p, 2);
+    want_told(c, got, want, "an end: answer, should be");
+    c->fault = want ? want : 15;
+    ends_told[got]++;
+}
+
+// The longest part of a style, so that some sheets come byte by byte, some whole.
+static void one_cutting(const uint8_t *b, size_t n, size_t longest) {
+    struct came c = {0, 0, 0};
+    uint64_t *state = lend(&state_room, NULL, STATE), *r = lend(&records_room, NULL, ROOM), *a = lend(&answers_room, NULL, 2 * MOST), *p = lend(&progress_room, NULL, 2);
+    uint8_t got = pasoletu_begin_parts(state, STATE);
+    check(got == 0, "begin_parts: answer", got, 0);
+    memcpy(wanted(&state_room, STATE), state, 8 * STATE);
+    for (size_t at = 0; at < n;) {
+        size_t k = below(8) ? 1 + below(longest) : 0;
+        k = k > n - at ? n - at : k;
+        handed(&c, b, at, k, state, r, a, p);
+        at += k;
+        if (!below(16))
+            wrong_lengths(&c, b, k);
+    }
+    ended(&c, b, n, state, r, a, p);
+    handed(&c, b, 0, n ? below(n) : 0, state, r, a, p);
+    handed(&c, b, 0, 0, state, r, a, p);
+    ended(&c, b, n, state, r, a, p);
+}
+
+// The run of the whole: of a sheet that is refused for its length, of its whole records alone.
+static void want_whole(const uint8_t *b, size_t n, const struct sheet *x) {
+    static uint8_t shorter[LONGEST];
+    uint64_t counts[4];
+    size_t count = 0, from = n;
+    uint8_t refusal, got = 0;
+    size_t k = whole_in(b, n, &count, &refusal);
+    if (!refusal) {
+        got = pasoletu_run_sheet(b, n, whole_records, ROOM, whole_answers, 2 * MOST, counts, 4);
+    } else if (k) {
+        records_second(b, &(struct sheet){0, x->model, {0}, k, x->at}, sheet_records);
+        from = spell_second(shorter, x->model, x->p, sheet_records, k);
+        got = pasoletu_run_sheet(shorter, from, whole_records, ROOM, whole_answers, 2 * MOST, counts, 4);
+    }
+    check(got == 0, "run_sheet of the whole records: answer", got, 0);
+}
+
+static void parts_target(const uint8_t *b, size_t n) {
+    struct sheet x = sheet_told(b, n);
+    want_whole(b, n, &x);
+    one_cutting(b, n, n < 1500 ? 1 + below(6) : 1 + n / 100);
+    one_cutting(b, n, 400);
+    one_cutting(b, n, n + 1);
+}
+
 // ---- the passes and one update: an input is a byte for the model, a byte for lengths, then the words; past the input's end all are 0
 
 static struct place from;
@@ -452,8 +588,8 @@ int LLVMFuzzerInitialize(int *argc, char ***argv) {
     answers_room = room_of(8 * (2 * MOST + 2));
     bytes_room = room_of(LONGEST + 64);
     few_room = room_of(2 * PAGE);
-    struct room *small[] = {&parameters_room, &limits_room, &law_room, &out_room, &one_room, &two_room};
-    for (int k = 0; k < 6; k++)
+    struct room *small[] = {&parameters_room, &limits_room, &law_room, &out_room, &one_room, &two_room, &state_room, &progress_room};
+    for (int k = 0; k < 8; k++)
         *small[k] = room_of(PAGE);
     atexit(print_met);
     return 0;
@@ -468,6 +604,8 @@ int LLVMFuzzerTestOneInput(const uint8_t *b, size_t n) {
         run_sheet_target(b, n);
     else if (TARGET == 5)
         write_sheet_target(b, n);
+    else if (TARGET == 6)
+        parts_target(b, n);
     else
         law_target(b, n);
     return 0;

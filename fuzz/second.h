@@ -82,7 +82,7 @@ static uint64_t take_word(struct place *s) {
     return w;
 }
 
-static struct sheet read_second(const uint8_t *b, size_t n) {
+static struct sheet head_second(const uint8_t *b, size_t n) {
     struct place s = {b, n, 0, 0};
     struct sheet x = {0};
     x.model = take_number(&s);
@@ -97,11 +97,16 @@ static struct sheet read_second(const uint8_t *b, size_t n) {
     if (!s.refusal && x.count > MOST)
         s.refusal = 7;
     x.at = s.at;
-    for (size_t k = 0; !s.refusal && k < x.count * sheet_floats(x.model); k++)
-        take_word(&s);
-    if (!s.refusal && s.at < n)
-        s.refusal = 7;
     x.refusal = s.refusal;
+    return x;
+}
+
+// The records are to end the sheet.
+static struct sheet read_second(const uint8_t *b, size_t n) {
+    struct sheet x = head_second(b, n);
+    size_t wanted = x.refusal ? 0 : 8 * sheet_floats(x.model) * x.count;
+    if (!x.refusal && n - x.at != wanted)
+        x.refusal = n - x.at < wanted ? 4 : 7;
     return x;
 }
 

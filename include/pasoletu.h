@@ -3,7 +3,8 @@
  * THE RULES OF EVERY CALL
  *
  * What comes back. Every call returns 0, or the number of its refusal (below; pasoletu_refusal_text says it in words).
- * A refused call writes nothing: every list that was lent holds the bits it held.
+ * A refused call writes nothing: every list that was lent holds the bits it held. Only the calls of a sheet in parts
+ * write beside a refusal, and say so.
  *
  * Lists. A list is two arguments, a pointer and the number of its entries (not of its bytes). Lists are lent for the
  * time of the call: the library keeps no pointer, allocates nothing, holds no state, and frees nothing. The caller
@@ -79,6 +80,7 @@ enum {
     PASOLETU_OUT_OF_RANGE = 12,      /* a zone or a particle is out of range, there are over 256 tallies, or list lengths are unlike */
     PASOLETU_TALLY_FULL = 13,        /* a tally would pass its end, 4294967295 */
     PASOLETU_NOT_ACCEPTED = 14,      /* the factors worked out miss their check */
+    PASOLETU_AFTER_END = 15,         /* a part or an end of a sheet in parts comes after its end */
     PASOLETU_TOO_LONG = 16           /* a report has over 4096 particles */
 };
 
@@ -122,6 +124,8 @@ static inline const char *pasoletu_refusal_text(uint64_t refusal)
     case PASOLETU_NOT_ACCEPTED:
         return "the factors worked out miss their check: look at the sizes of F's entries, or give factors of your "
                "own";
+    case PASOLETU_AFTER_END:
+        return "a part or an end of a sheet in parts comes after its end: begin the next sheet";
     case PASOLETU_TOO_LONG:
         return "a report has over 4096 particles: report them in lists of at most 4096";
     default:
@@ -195,6 +199,15 @@ static inline const char *pasoletu_refusal_text(uint64_t refusal)
 #define PASOLETU_HEADER_PARAMETERS 1  /* 8: bits of the parameters, 0 past the model's last */
 #define PASOLETU_HEADER_COUNT 9       /* particles */
 #define PASOLETU_HEADER_PLACE 10      /* of the first record's first byte in the sheet */
+
+/* Sheets in parts (section 7): the state's words are the calls' own; these places of it may be read. */
+#define PASOLETU_PARTS_STATE 52            /* entries of a state */
+#define PASOLETU_PARTS_STATE_WANTS 1       /* 4 while what stands before the records is not complete, 0 once it is */
+#define PASOLETU_PARTS_STATE_MODEL 2
+#define PASOLETU_PARTS_STATE_PARAMETERS 7  /* 8: bits of the parameters, 0 past the model's last */
+#define PASOLETU_PARTS_PROGRESS 2          /* entries of a call's progress */
+#define PASOLETU_PARTS_COMPLETE 0          /* in it: how many particles are complete and worked */
+#define PASOLETU_PARTS_COUNT 1             /* how many the sheet says it has; 0 before that is known */
 
 /* Reports (section 7): three columns of six entries. Least, greatest and total are whole numbers of 2^-30, as
  * int64_t. */
@@ -579,6 +592,33 @@ uint8_t pasoletu_run_sheet(const uint8_t *bytes, size_t bytes_length, double *re
 uint8_t pasoletu_write_sheet(uint64_t model, const double *parameters, size_t parameters_length, const double *records,
                              size_t records_length, uint8_t *bytes, size_t bytes_length, uint64_t *written,
                              size_t written_length);
+
+/* ---- Sheets in parts (section 7) --------------------------------------------------------------------------------- */
+
+/* state: 52. Begins a sheet that comes in parts, cut anywhere. The caller keeps the state between the calls and
+ * changes nothing in it; it holds at most one unfinished record. Words that no call wrote are answered too, as some
+ * state.
+ * Refusals, nothing written: 8 for a state not of 52. */
+uint8_t pasoletu_begin_parts(uint64_t *state, size_t state_length);
+
+/* state: 52; progress: 2. The next bytes of the sheet, as many as came, or none. Each record is read into its place
+ * of records and worked by the law when its last byte comes, with its two answers in answers; all that stands behind
+ * the complete records keeps its bits. records and answers: room for exactly PASOLETU_SHEET_MOST particles, the same
+ * room in every call of a sheet. progress: PASOLETU_PARTS_COMPLETE and the other. A sheet that is short so far is
+ * not refused. For every cutting, parts and end give what pasoletu_run_sheet gives of the whole.
+ * Refusals: 8 for a list of another length, before all else, with nothing written, and no fault; 5, 6 and 7 as soon
+ * as the fault is there; a fault's own number again after it, and 15 after the end, with nothing changed. Here a
+ * refused call does write: the records complete before the fault stand worked, state and progress tell them. */
+uint8_t pasoletu_part(const uint8_t *bytes, size_t bytes_length, uint64_t *state, size_t state_length, double *records,
+                      size_t records_length, uint64_t *answers, size_t answers_length, uint64_t *progress,
+                      size_t progress_length);
+
+/* state: 52; progress: 2. The sheet has ended. The lists are lent as to pasoletu_part, and records and answers are
+ * only looked at for their lengths.
+ * Refusals: 8 as pasoletu_part; a fault's own number; 15 after an end; 4 where something is missing, told only here
+ * and again by every later call. progress is written beside all but 8. */
+uint8_t pasoletu_end_parts(const double *records, size_t records_length, const uint64_t *answers, size_t answers_length,
+                           uint64_t *state, size_t state_length, uint64_t *progress, size_t progress_length);
 
 /* ---- Reports (section 7) ----------------------------------------------------------------------------------------- */
 

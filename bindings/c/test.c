@@ -924,6 +924,78 @@ static void tallies(void)
     CHECK(memcmp(t, then, sizeof t) == 0);
 }
 
+/* A sheet over a slow line: every cutting into two, byte by byte, faults, 15, and lists of a wrong length. */
+static void sheets_in_parts(void)
+{
+    enum { MOST = PASOLETU_SHEET_MOST, WORDS = MOST * PASOLETU_FLOATS, PLACES = MOST * PASOLETU_ANSWERS, STATE = PASOLETU_PARTS_STATE, LISTED = 3 };
+    static double r[WORDS], whole_r[WORDS], given[LISTED * PASOLETU_FLOATS];
+    static uint64_t a[PLACES], whole_a[PLACES];
+    static uint8_t s[PASOLETU_SHEET_BYTES];
+    uint64_t state[STATE], was[STATE], p[2] = {9, 9}, c[4], n;
+
+    for (int k = 0; k < LISTED; k++)
+        at_rest(given + k * PASOLETU_FLOATS);
+    given[PASOLETU_FLOATS + PASOLETU_PHASE] = nan_with_payload();
+    CHECK(pasoletu_write_sheet(PASOLETU_SNOW, SNOW, 3, given, LISTED * PASOLETU_FLOATS, s, sizeof s, &n, 1) == 0);
+    CHECK(pasoletu_run_sheet(s, n, whole_r, WORDS, whole_a, PLACES, c, 4) == 0);
+
+    /* Cut anywhere: the same records, answers and count. */
+    int cuts = 1;
+    for (uint64_t k = 0; k <= n; k++) {
+        memset(r, 0, sizeof r);
+        memset(a, 0, sizeof a);
+        cuts = cuts && pasoletu_begin_parts(state, STATE) == 0;
+        cuts = cuts && pasoletu_part(s, k, state, STATE, r, WORDS, a, PLACES, p, 2) == 0;
+        cuts = cuts && pasoletu_part(s + k, n - k, state, STATE, r, WORDS, a, PLACES, p, 2) == 0;
+        cuts = cuts && pasoletu_end_parts(r, WORDS, a, PLACES, state, STATE, p, 2) == 0;
+        cuts = cuts && p[PASOLETU_PARTS_COMPLETE] == LISTED && p[PASOLETU_PARTS_COUNT] == LISTED;
+        cuts = cuts && same(r, whole_r, WORDS) && memcmp(a, whole_a, sizeof a) == 0;
+    }
+    CHECK(cuts);
+
+    /* After the end 15, also to a part of no bytes and to an end, with nothing changed; 8 comes before it. */
+    memcpy(was, state, sizeof was);
+    CHECK(pasoletu_part(s, 0, state, STATE, r, WORDS, a, PLACES, p, 2) == PASOLETU_AFTER_END);
+    CHECK(pasoletu_part(s, n, state, STATE, r, WORDS, a, PLACES, p, 2) == PASOLETU_AFTER_END);
+    CHECK(pasoletu_end_parts(r, WORDS, a, PLACES, state, STATE, p, 2) == PASOLETU_AFTER_END);
+    CHECK(pasoletu_part(s, 0, state, STATE, r, WORDS, a, PLACES - 1, p, 2) == 8);
+    CHECK(memcmp(state, was, sizeof was) == 0 && same(r, whole_r, WORDS) && memcmp(a, whole_a, sizeof a) == 0);
+
+    /* Byte by byte: a record is worked with its last byte, and a shortage is told only at the end, then again. */
+    memset(r, 0, sizeof r);
+    int bytewise = pasoletu_begin_parts(state, STATE) == 0;
+    for (uint64_t k = 0; k + 1 < n; k++) {
+        bytewise = bytewise && pasoletu_part(s + k, 1, state, STATE, r, WORDS, a, PLACES, p, 2) == 0;
+        bytewise = bytewise && p[PASOLETU_PARTS_COMPLETE] == (k + 1 < 26 ? 0 : (k + 1 - 26) / 288);
+    }
+    CHECK(bytewise);
+    CHECK(pasoletu_end_parts(r, WORDS, a, PLACES, state, STATE, p, 2) == 4 && p[PASOLETU_PARTS_COMPLETE] == LISTED - 1);
+    CHECK(pasoletu_part(s + n - 1, 1, state, STATE, r, WORDS, a, PLACES, p, 2) == 4);
+    CHECK(pasoletu_end_parts(r, WORDS, a, PLACES, state, STATE, p, 2) == 4);
+    CHECK(same(r, whole_r, (LISTED - 1) * PASOLETU_FLOATS) && r[(LISTED - 1) * PASOLETU_FLOATS] == 0);
+
+    /* A byte after the last: the records stand, and the fault is told again. */
+    CHECK(pasoletu_begin_parts(state, STATE) == 0);
+    CHECK(pasoletu_part(s, n, state, STATE, r, WORDS, a, PLACES, p, 2) == 0);
+    CHECK(pasoletu_part(s, 1, state, STATE, r, WORDS, a, PLACES, p, 2) == 7 && p[PASOLETU_PARTS_COMPLETE] == LISTED);
+    CHECK(pasoletu_end_parts(r, WORDS, a, PLACES, state, STATE, p, 2) == 7 && same(r, whole_r, WORDS));
+
+    /* Lists of another length: 8, nothing written, and no fault. */
+    CHECK(pasoletu_begin_parts(state, STATE - 1) == 8 && pasoletu_begin_parts(state, 0) == 8);
+    CHECK(pasoletu_begin_parts(state, STATE) == 0);
+    memcpy(was, state, sizeof was);
+    p[0] = p[1] = 9;
+    CHECK(pasoletu_part(s, n, state, STATE - 1, r, WORDS, a, PLACES, p, 2) == 8);
+    CHECK(pasoletu_part(s, n, state, STATE, r, WORDS - PASOLETU_FLOATS, a, PLACES, p, 2) == 8);
+    CHECK(pasoletu_part(s, n, state, STATE, r, WORDS, a, PLACES - 2, p, 2) == 8);
+    CHECK(pasoletu_part(s, n, state, STATE, r, WORDS, a, PLACES, p, 1) == 8);
+    CHECK(pasoletu_end_parts(r, WORDS - 1, a, PLACES, state, STATE, p, 2) == 8);
+    CHECK(pasoletu_end_parts(r, WORDS, a, PLACES, state, STATE, p, 1) == 8);
+    CHECK(memcmp(state, was, sizeof was) == 0 && p[0] == 9 && p[1] == 9);
+    CHECK(pasoletu_part(s, n, state, STATE, r, WORDS, a, PLACES, p, 2) == 0);
+    CHECK(strncmp(pasoletu_refusal_text(PASOLETU_AFTER_END), "a part or an end of a sheet in parts comes after its end: ", 58) == 0);
+}
+
 int main(void)
 {
     version();
@@ -944,6 +1016,7 @@ int main(void)
     factors();
     reports();
     tallies();
+    sheets_in_parts();
     printf("%d passed, %d failed\n", passed, failed);
     return failed != 0;
 }

@@ -8,7 +8,7 @@ HEAD = """\
 #include <stddef.h>
 #include <stdint.h>
 """
-RECORDS = ("record", "records")
+RECORDS = ("record", "records", "state")
 
 
 def words(kind):

@@ -16,6 +16,7 @@ from . import elementary, raw, refusal, utils
 from ._find import NoLibrary
 from ._table import FLOATS, MODELS, SHEET_MOST
 from ._table import VERSION as __version__
+from .arrival import Arrival
 from .laws import (
     CorotatedLinearElasticity,
     DruckerPragerPlasticity,
@@ -49,6 +50,7 @@ from .reports import Column, Report, report
 from .zones import Tally, Zones
 
 __all__ = [
+    "Arrival",
     "Column",
     "CorotatedLinearElasticity",
     "DruckerPragerPlasticity",

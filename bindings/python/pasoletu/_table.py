@@ -66,6 +66,7 @@ WRONG_DETERMINANT = 11
 OUT_OF_RANGE = 12
 TALLY_FULL = 13
 NOT_ACCEPTED = 14
+AFTER_END = 15
 TOO_LONG = 16
 REFUSALS: dict[int, Refusal] = {
     1: Refusal(
@@ -137,6 +138,11 @@ REFUSALS: dict[int, Refusal] = {
         "NOT_ACCEPTED",
         "the factors worked out miss their check",
         "look at the sizes of F's entries, or give factors of your own",
+    ),
+    15: Refusal(
+        "AFTER_END",
+        "a part or an end of a sheet in parts comes after its end",
+        "begin the next sheet",
     ),
     16: Refusal(
         "TOO_LONG",
@@ -219,6 +225,14 @@ HEADER_MODEL = 0
 HEADER_PARAMETERS = 1  # 8: bits of the parameters, 0 past the model's last
 HEADER_COUNT = 9  # particles
 HEADER_PLACE = 10  # of the first record's first byte in the sheet
+# Sheets in parts (section 7): the state's words are the calls' own; these places of it may be read.
+PARTS_STATE = 52  # entries of a state
+PARTS_STATE_WANTS = 1  # 4 while what stands before the records is not complete, 0 once it is
+PARTS_STATE_MODEL = 2
+PARTS_STATE_PARAMETERS = 7  # 8: bits of the parameters, 0 past the model's last
+PARTS_PROGRESS = 2  # entries of a call's progress
+PARTS_COMPLETE = 0  # in it: how many particles are complete and worked
+PARTS_COUNT = 1  # how many the sheet says it has; 0 before that is known
 # Reports (section 7): three columns of six entries. Least, greatest and total are whole numbers of 2^-30, as int64_t.
 REPORT_MOST = 4096  # particles of a report
 REPORT = 18  # entries of a report
@@ -586,6 +600,22 @@ CALLS: dict[str, tuple[Argument, ...]] = {
         Argument("records", "f64", 0, False),
         Argument("bytes", "u8", 0, True),
         Argument("written", "u64", 1, True),
+    ),
+    "begin_parts": (
+        Argument("state", "u64", 52, True),
+    ),
+    "part": (
+        Argument("bytes", "u8", 0, False),
+        Argument("state", "u64", 52, True),
+        Argument("records", "f64", 0, True),
+        Argument("answers", "u64", 0, True),
+        Argument("progress", "u64", 2, True),
+    ),
+    "end_parts": (
+        Argument("records", "f64", 0, False),
+        Argument("answers", "u64", 0, False),
+        Argument("state", "u64", 52, True),
+        Argument("progress", "u64", 2, True),
     ),
     "report": (
         Argument("records", "f64", 0, False),

@@ -35,6 +35,8 @@ extern crate alloc;
 #[cfg(feature = "std")]
 extern crate std;
 
+#[cfg(feature = "alloc")]
+mod arrival;
 mod calls;
 mod elasticity;
 pub mod elementary;
@@ -58,6 +60,8 @@ pub mod utils;
 mod vectors;
 mod zones;
 
+#[cfg(feature = "alloc")]
+pub use arrival::Arrival;
 pub use elasticity::{CorotatedLinearElasticity, EnergySplit, NeoHookeanElasticity};
 pub use failure::MaximumStressFailure;
 pub use fluid::MonaghanSphEos;

@@ -36,6 +36,8 @@ impl Refusal {
     pub const TALLY_FULL: u8 = 13;
     /// The factors worked out miss their check.
     pub const NOT_ACCEPTED: u8 = 14;
+    /// A part or an end of a sheet in parts comes after its end.
+    pub const AFTER_END: u8 = 15;
     /// A report has over 4096 particles.
     pub const TOO_LONG: u8 = 16;
 }
@@ -57,6 +59,7 @@ pub fn words(number: u8) -> Option<(&'static str, &'static str)> {
         12 => ("a zone or a particle is out of range, there are over 256 tallies, or list lengths are unlike", "hold the zone list to the particles and the tallies"),
         13 => ("a tally would pass its end, 4294967295", "read the tallies, then clear them"),
         14 => ("the factors worked out miss their check", "look at the sizes of F's entries, or give factors of your own"),
+        15 => ("a part or an end of a sheet in parts comes after its end", "begin the next sheet"),
         16 => ("a report has over 4096 particles", "report them in lists of at most 4096"),
         _ => return None,
     })
@@ -114,6 +117,14 @@ pub const HEADER_MODEL: usize = 0;
 pub const HEADER_PARAMETERS: usize = 1;
 pub const HEADER_COUNT: usize = 9;
 pub const HEADER_PLACE: usize = 10;
+// Sheets in parts (section 7): the state's words are the calls' own; these places of it may be read.
+pub const PARTS_STATE: usize = 52;
+pub const PARTS_STATE_WANTS: usize = 1;
+pub const PARTS_STATE_MODEL: usize = 2;
+pub const PARTS_STATE_PARAMETERS: usize = 7;
+pub const PARTS_PROGRESS: usize = 2;
+pub const PARTS_COMPLETE: usize = 0;
+pub const PARTS_COUNT: usize = 1;
 // Reports (section 7): three columns of six entries. Least, greatest and total are whole numbers of 2^-30, as int64_t.
 pub const REPORT_MOST: usize = 4096;
 pub const REPORT: usize = 18;
@@ -189,6 +200,9 @@ extern "C" {
     pub fn pasoletu_read_sheet(bytes: *const u8, bytes_length: usize, header: *mut u64, header_length: usize, records: *mut f64, records_length: usize) -> u8;
     pub fn pasoletu_run_sheet(bytes: *const u8, bytes_length: usize, records: *mut f64, records_length: usize, answers: *mut u64, answers_length: usize, counts: *mut u64, counts_length: usize) -> u8;
     pub fn pasoletu_write_sheet(model: u64, parameters: *const f64, parameters_length: usize, records: *const f64, records_length: usize, bytes: *mut u8, bytes_length: usize, written: *mut u64, written_length: usize) -> u8;
+    pub fn pasoletu_begin_parts(state: *mut u64, state_length: usize) -> u8;
+    pub fn pasoletu_part(bytes: *const u8, bytes_length: usize, state: *mut u64, state_length: usize, records: *mut f64, records_length: usize, answers: *mut u64, answers_length: usize, progress: *mut u64, progress_length: usize) -> u8;
+    pub fn pasoletu_end_parts(records: *const f64, records_length: usize, answers: *const u64, answers_length: usize, state: *mut u64, state_length: usize, progress: *mut u64, progress_length: usize) -> u8;
     pub fn pasoletu_report(records: *const f64, records_length: usize, report: *mut u64, report_length: usize) -> u8;
     pub fn pasoletu_join_reports(first: *const u64, first_length: usize, second: *const u64, second_length: usize, joined: *mut u64, joined_length: usize) -> u8;
 }

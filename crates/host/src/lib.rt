@@ -3,6 +3,7 @@ mod counts_out;
 pub mod determinants;
 pub mod elasticity;
 pub mod factored;
+pub mod in_parts;
 pub mod monaghan;
 pub mod of_record;
 pub mod passes;
