@@ -13,10 +13,16 @@
 static const size_t FIELDS[MODELS] = {3, 4, 8, 6, 3, 4, 8, 6};
 static const int FLAG[MODELS] = {-1, -1, 6, 3, -1, -1, 6, 3};
 
+uint8_t pasoletu_neo_hookean_stress_and_verdict(const uint64_t *law, size_t law_length, const uint64_t *limits,
+                                                size_t limits_length, const uint64_t *record, size_t record_length,
+                                                uint64_t *stress, size_t stress_length, uint64_t *verdict,
+                                                size_t verdict_length);
+uint8_t pasoletu_corotated_stress_and_verdict(const uint64_t *law, size_t law_length, const uint64_t *limits,
+                                              size_t limits_length, const uint64_t *record, size_t record_length,
+                                              uint64_t *stress, size_t stress_length, uint64_t *verdict,
+                                              size_t verdict_length);
 uint8_t pasoletu_record_neo_hookean_fpk_stress(const uint64_t *law, size_t law_length, const uint64_t *record,
                                                size_t record_length, uint64_t *out, size_t out_length);
-uint8_t pasoletu_record_neo_hookean_kirchhoff_stress(const uint64_t *law, size_t law_length, const uint64_t *record,
-                                                     size_t record_length, uint64_t *out, size_t out_length);
 uint8_t pasoletu_record_neo_hookean_elastic_energy_density(const uint64_t *law, size_t law_length,
                                                            const uint64_t *record, size_t record_length, uint64_t *out,
                                                            size_t out_length);
@@ -25,8 +31,6 @@ uint8_t pasoletu_record_neo_hookean_elastic_energy_density_in(const uint64_t *la
                                                               size_t record_length, uint64_t *out, size_t out_length);
 uint8_t pasoletu_record_neo_hookean_pos_energy(const uint64_t *law, size_t law_length, const uint64_t *record,
                                                size_t record_length, uint64_t *out, size_t out_length);
-uint8_t pasoletu_record_corotated_kirchhoff_stress(const uint64_t *law, size_t law_length, const uint64_t *record,
-                                                   size_t record_length, uint64_t *out, size_t out_length);
 uint8_t pasoletu_record_corotated_elastic_energy_density(const uint64_t *law, size_t law_length, const uint64_t *record,
                                                          size_t record_length, uint64_t *out, size_t out_length);
 uint8_t pasoletu_record_corotated_pos_energy(const uint64_t *law, size_t law_length, const uint64_t *record,

@@ -110,7 +110,7 @@ static void check_stored(uint64_t model, const uint64_t *p, const uint64_t *was,
 
 // What a run has met in all, printed at its end: a target that never reaches a law's outcome has not tried it.
 // An outcome is untouched, stored, or refused by 1, 2, 3, 10 or 11.
-static unsigned long outcomes[LAWS][7], verdicts[2], refusals[9], writes[10], fills[9], parts_told[16], ends_told[16];
+static unsigned long outcomes[LAWS][7], verdicts[2], refusals[9], writes[10], fills[9], parts_told[16], ends_told[16], judgements[2][16];
 
 static void print_met(void) {
     static const char *names[LAWS] = {"snow", "rankine", "drucker_prager", "nacc"};
@@ -128,6 +128,8 @@ static void print_met(void) {
         fprintf(stderr, "met: lists filled %lu, refused 8: %lu\n", fills[0], fills[8]);
     if (TARGET == 4)
         fprintf(stderr, "met: failed %lu, not failed %lu\n", verdicts[1], verdicts[0]);
+    for (int k = 0; k < (TARGET == 4 ? 2 : 0); k++)
+        fprintf(stderr, "met: %s stress and verdict %lu, refused 1: %lu, 2: %lu, 3: %lu, 6: %lu, 8: %lu, 10: %lu, 11: %lu, 14: %lu\n", k ? "corotated" : "neo-Hookean", judgements[k][0], judgements[k][1], judgements[k][2], judgements[k][3], judgements[k][6], judgements[k][8], judgements[k][10], judgements[k][11], judgements[k][14]);
 }
 
 static void tell(uint64_t model, const uint64_t *was, const struct done *d) {
@@ -255,6 +257,44 @@ static void one_fill(const uint64_t *records, size_t nr) {
             w[BARE] = determinant(w);
     check_room(&records_room, want ? "a refused fill_determinants wrote its records" : "fill_determinants's records");
     fills[want]++;
+}
+
+// Stress and verdict of a record by either solid law, in lists of the lengths given: 8, 6, 1 and 11 exactly where RULES says and in this order; what is
+// refused writes neither; the stress is finite, and the verdict that on its principal values as worked in second.h, where no limit is near one.
+static void one_judged(int corotated, const struct judge *j, const uint64_t *record, size_t nr, size_t ns, size_t nv) {
+    const uint64_t *law = j->law + !corotated;
+    size_t nw = j->nw - !corotated, fields = 3 + corotated;
+    uint64_t *s = lend(&out_room, NULL, ns), *v = lend(&two_room, NULL, nv);
+    const uint64_t *l = show(&limits_room, j->limits, j->nl), *w = show(&law_room, law, nw), *r = show(&records_room, record, nr);
+    uint8_t got = corotated ? pasoletu_corotated_stress_and_verdict(w, nw, l, j->nl, r, nr, s, ns, v, nv)
+                            : pasoletu_neo_hookean_stress_and_verdict(w, nw, l, j->nl, r, nr, s, ns, v, nv);
+    uint8_t want = 0;
+    if (nw != fields || j->nl != 2 || nr != FLOATS || ns != 9 || nv != 1)
+        want = 8;
+    else if (corotated && !is_flag(law[0]))
+        want = 6;
+    else if (!finite_words(law, fields) || !finite_words(j->limits, 2) || !finite_words(record, FLOATS))
+        want = 1;
+    else if (record[BARE] != determinant(record))
+        want = 11;
+    if (want)
+        check(got == want, "stress and verdict: answer, should be", got, want);
+    else
+        check(got == 0 || got == 3 || got == 14 || (!corotated && (got == 2 || got == 10)), "stress and verdict: answer", got, 0);
+    if (got == 0) {
+        double ends[2], m;
+        check(finite_words(s, 9) && v[0] <= 1, "a stress is not finite, or its verdict neither yes nor no", s[0], v[0]);
+        principal_ends(s, ends, &m);
+        double shear = ends[1] / 2 - ends[0] / 2, a = value(j->limits[0]), b = value(j->limits[1]), part = m * 0x1p-36;
+        int told = ends[1] > a || shear > b, near = fabs(ends[1] - a) <= part || fabs(shear - b) <= part;
+        check(near || m > 0x1p1000 || m < 0x1p-900 || v[0] == (uint64_t)told, "a stress's verdict, should be", v[0], told);
+        memcpy(wanted(&out_room, 9), s, 72);
+        memcpy(wanted(&two_room, 1), v, 8);
+    }
+    check_room(&out_room, got ? "a refused stress and verdict wrote the stress" : "a stress");
+    check_room(&two_room, got ? "a refused stress and verdict wrote the verdict" : "a verdict");
+    judgements[corotated][got < 15 ? got : 15]++;
+    met[960 + corotated * 32 + (got ? got : 16 + v[0])] = 1;
 }
 
 // ---- sheets
@@ -575,6 +615,11 @@ static void law_target(const uint8_t *b, size_t n) {
     }
     if (TARGET == 3)
         one_fill(records, nr);
+    if (TARGET == 4) {
+        size_t ns = 9 + (nc == 5) - (nc == 3), nv = na % 2 ? 2 : 1, held = nr < FLOATS ? nr : nr % FLOATS ? FLOATS + 1 : FLOATS;
+        one_judged(0, &j, records, held, ns, nv);
+        one_judged(1, &j, records, held, ns, nv);
+    }
     if (TARGET == 2)
         updated(model, p, np, records, nr, na);
     else

@@ -1,4 +1,7 @@
-// RULES' sections 4, 6 and 7 a second time: the determinant, the sheet, the finite test, the principal stresses of a pass with failure.
+// RULES' sections 4, 6 and 7 a second time: the determinant, the sheet, the finite test, the principal stresses of a pass with failure, and the principal
+// values of a stress by Jacobi's turns.
+#include <math.h>
+
 #define ONE 0x3ff0000000000000ULL
 
 static double value(uint64_t w) {
@@ -181,4 +184,45 @@ static int judged(const uint64_t *limits, const uint64_t *law, const uint64_t *r
     }
     *fails = most > value(limits[0]) || (most - least) / 2.0 > value(limits[1]);
     return 1;
+}
+
+// Clears the entry between two axes of a symmetric matrix.
+static void turned(double a[3][3], int p, int q) {
+    if (a[p][q] == 0)
+        return;
+    double h = (a[q][q] - a[p][p]) / (2 * a[p][q]), t = (h < 0 ? -1 : 1) / (fabs(h) + sqrt(1 + h * h)), c = 1 / sqrt(1 + t * t), s = t * c;
+    for (int k = 0; k < 3; k++) {
+        double u = a[k][p], v = a[k][q];
+        a[k][p] = c * u - s * v;
+        a[k][q] = s * u + c * v;
+    }
+    for (int k = 0; k < 3; k++) {
+        double u = a[p][k], v = a[q][k];
+        a[p][k] = c * u - s * v;
+        a[q][k] = s * u + c * v;
+    }
+}
+
+// Least and greatest principal value of a stress's lower triangle with its diagonal, and the largest size there.
+static void principal_ends(const uint64_t *stress, double ends[2], double *m) {
+    double a[3][3];
+    *m = 0;
+    for (int i = 0; i < 3; i++)
+        for (int j = 0; j <= i; j++)
+            *m = fabs(value(stress[3 * i + j])) > *m ? fabs(value(stress[3 * i + j])) : *m;
+    for (int i = 0; i < 3; i++)
+        for (int j = 0; j <= i; j++)
+            a[i][j] = a[j][i] = *m > 0 ? value(stress[3 * i + j]) / *m : 0;
+    for (int sweep = 0; sweep < 12; sweep++) {
+        turned(a, 0, 1);
+        turned(a, 0, 2);
+        turned(a, 1, 2);
+    }
+    ends[0] = ends[1] = a[0][0];
+    for (int i = 1; i < 3; i++) {
+        ends[0] = a[i][i] < ends[0] ? a[i][i] : ends[0];
+        ends[1] = a[i][i] > ends[1] ? a[i][i] : ends[1];
+    }
+    ends[0] *= *m;
+    ends[1] *= *m;
 }

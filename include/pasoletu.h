@@ -3,8 +3,7 @@
  * THE RULES OF EVERY CALL
  *
  * What comes back. Every call returns 0, or the number of its refusal (below; pasoletu_refusal_text says it in words).
- * A refused call writes nothing: every list that was lent holds the bits it held. Only the calls of a sheet in parts
- * write beside a refusal, and say so.
+ * A refused call writes nothing: every list that was lent holds the bits it held.
  *
  * Lists. A list is two arguments, a pointer and the number of its entries (not of its bytes). Lists are lent for the
  * time of the call: the library keeps no pointer, allocates nothing, holds no state, and frees nothing. The caller
@@ -79,7 +78,7 @@ enum {
     PASOLETU_WRONG_DETERMINANT = 11, /* the record's stored determinant is not that of its F */
     PASOLETU_OUT_OF_RANGE = 12,      /* a zone or a particle is out of range, there are over 256 tallies, or list lengths are unlike */
     PASOLETU_TALLY_FULL = 13,        /* a tally would pass its end, 4294967295 */
-    PASOLETU_NOT_ACCEPTED = 14,      /* the factors worked out miss their check */
+    PASOLETU_NOT_ACCEPTED = 14,      /* the factors or the principal values worked out miss their check */
     PASOLETU_AFTER_END = 15,         /* a part or an end of a sheet in parts comes after its end */
     PASOLETU_TOO_LONG = 16           /* a report has over 4096 particles */
 };
@@ -122,8 +121,8 @@ static inline const char *pasoletu_refusal_text(uint64_t refusal)
     case PASOLETU_TALLY_FULL:
         return "a tally would pass its end, 4294967295: read the tallies, then clear them";
     case PASOLETU_NOT_ACCEPTED:
-        return "the factors worked out miss their check: look at the sizes of F's entries, or give factors of your "
-               "own";
+        return "the factors or the principal values worked out miss their check: look at the sizes of F's or the "
+               "stress's entries, or give factors of your own";
     case PASOLETU_AFTER_END:
         return "a part or an end of a sheet in parts comes after its end: begin the next sheet";
     case PASOLETU_TOO_LONG:
@@ -307,11 +306,6 @@ uint8_t pasoletu_decomposed_times(double spherical, const double *deviatoric, si
 uint8_t pasoletu_neo_hookean_fpk_stress(const double *law, size_t law_length, double hardening, const double *f,
                                         size_t f_length, double *out, size_t out_length);
 
-/* law: 3; f: 9; out: 9. The Kirchhoff stress, its tensile part times phase_coeff: from determinant 1 up all of it,
- * below 1 the deviatoric part. */
-uint8_t pasoletu_neo_hookean_kirchhoff_stress(const double *law, size_t law_length, double phase, double hardening,
-                                              const double *f, size_t f_length, double *out, size_t out_length);
-
 /* law: 3; f: 9; out: 1. The energy. Below determinant 1 the volumetric part is the tensile one, as the Rust has it. */
 uint8_t pasoletu_neo_hookean_elastic_energy_density(const double *law, size_t law_length, double phase,
                                                     double hardening, const double *f, size_t f_length, double *out,
@@ -332,18 +326,11 @@ uint8_t pasoletu_neo_hookean_pos_energy(const double *law, size_t law_length, do
 /* out: 1. (1 - 0.001) phase phase + 0.001. Refusals: 8; 1; 3 for a result that is not finite. */
 uint8_t pasoletu_phase_coeff(double phase, double *out, size_t out_length);
 
-/* ---- Corotated stress and energy (elasticity_corotated_linear.rs; section 5) ------------------------------------- */
-/* law is (split_stress_on_failure (flag), cfl_coeff, lambda, mu); f the deformation gradient; u, sigma and vt its
- * factors.
+/* ---- Corotated energy (elasticity_corotated_linear.rs; section 5) ------------------------------------------------ */
+/* law is (split_stress_on_failure (flag), cfl_coeff, lambda, mu); f the deformation gradient, sigma its singular
+ * values.
  * Refusals of each: 8 for a wrong length; 6 for a flag that is neither 0.0 nor 1.0; 1 for an input that is not
  * finite; 3 for a NaN on the way or a result that is not finite. */
-
-/* law: 4; f: 9; u: 9; sigma: 3; vt: 9; out: 9. The Kirchhoff stress. At phase exactly 1.0 whole; the tensile part is
- * dropped only at phase 0.0 with the flag. */
-uint8_t pasoletu_corotated_kirchhoff_stress(const double *law, size_t law_length, double phase, double hardening,
-                                            const double *f, size_t f_length, const double *u, size_t u_length,
-                                            const double *sigma, size_t sigma_length, const double *vt,
-                                            size_t vt_length, double *out, size_t out_length);
 
 /* law: 4; sigma: 3; out: 1. The energy. Takes the product of sigma for the determinant. */
 uint8_t pasoletu_corotated_elastic_energy_density(const double *law, size_t law_length, double hardening,
@@ -355,9 +342,38 @@ uint8_t pasoletu_corotated_pos_energy(const double *law, size_t law_length, doub
                                       size_t f_length, const double *sigma, size_t sigma_length, double *out,
                                       size_t out_length);
 
+/* ---- Stress and verdict of a record (sections 5 and 6) ----------------------------------------------------------- */
+/* The Kirchhoff stress of a record, by its F, phase, elastic hardening and stored determinant, and the failure rule
+ * on the principal values of that very stress, as one answer: no call judges a stress that is handed in.
+ * law is that of the calls above; limits is (max_principal_stress, max_shear_stress); stress is by rows; verdict is
+ * 1 (failed) exactly when the greatest principal value is over max_principal_stress or (greatest - least) / 2 over
+ * max_shear_stress, else 0.
+ * The principal values are worked by this library from the stress's diagonal and what stands below it
+ * (docs/FACTORS.md) and pass a check that is exact: with m the largest size there, turned back they lie within m /
+ * 2^40 of these entries. A diagonal stress is judged by its entries.
+ * Refusals of each, nothing written: 8 for a wrong length; 6 for a flag that is neither 0.0 nor 1.0; 1 for a float
+ * of the law, of the limits or one of the record's 37 that is not finite; 11 for a stored determinant that is not
+ * that of F in every bit; the stress's own, 3 for a NaN on the way or a result that is not finite and of the
+ * neo-Hookean law 2 and 10 for the determinant's range; then 14 where the principal values miss their check, as
+ * found at the ends of the doubles alone. */
+
+/* law: 3; limits: 2; record: 37; stress: 9; verdict: 1. The neo-Hookean stress, its tensile part times phase_coeff:
+ * from determinant 1 up all of it, below 1 the deviatoric part. */
+uint8_t pasoletu_neo_hookean_stress_and_verdict(const double *law, size_t law_length, const double *limits,
+                                                size_t limits_length, const double *record, size_t record_length,
+                                                double *stress, size_t stress_length, uint64_t *verdict,
+                                                size_t verdict_length);
+
+/* law: 4; limits: 2; record: 37; stress: 9; verdict: 1. The corotated stress, by the factors that stand in the
+ * record. At phase exactly 1.0 whole; the tensile part is dropped only at phase 0.0 with the flag. */
+uint8_t pasoletu_corotated_stress_and_verdict(const double *law, size_t law_length, const double *limits,
+                                              size_t limits_length, const double *record, size_t record_length,
+                                              double *stress, size_t stress_length, uint64_t *verdict,
+                                              size_t verdict_length);
+
 /* ---- Stress and energy of a record (sections 5 and 7) ------------------------------------------------------------ */
-/* The same stresses and energies of a record's F, phase, elastic hardening and factors, with its stored determinant.
- * law is that of the calls above.
+/* The same stresses and energies of a record's F, phase, elastic hardening and singular values, with its stored
+ * determinant. law is that of the calls above.
  * Refusals of each: 8 for a wrong length; 6 for a flag that is neither 0.0 nor 1.0; 1 for a float of the law or one
  * of the record's 37 that is not finite; 11 for a stored determinant that is not that of F in every bit; then those
  * of the call above. */
@@ -365,10 +381,6 @@ uint8_t pasoletu_corotated_pos_energy(const double *law, size_t law_length, doub
 /* law: 3; record: 37; out: 9. pasoletu_neo_hookean_fpk_stress of the record. */
 uint8_t pasoletu_record_neo_hookean_fpk_stress(const double *law, size_t law_length, const double *record,
                                                size_t record_length, double *out, size_t out_length);
-
-/* law: 3; record: 37; out: 9. pasoletu_neo_hookean_kirchhoff_stress of the record. */
-uint8_t pasoletu_record_neo_hookean_kirchhoff_stress(const double *law, size_t law_length, const double *record,
-                                                     size_t record_length, double *out, size_t out_length);
 
 /* law: 3; record: 37; out: 1. pasoletu_neo_hookean_elastic_energy_density of the record. */
 uint8_t pasoletu_record_neo_hookean_elastic_energy_density(const double *law, size_t law_length, const double *record,
@@ -382,10 +394,6 @@ uint8_t pasoletu_record_neo_hookean_elastic_energy_density_in(const double *law,
 /* law: 3; record: 37; out: 1. pasoletu_neo_hookean_pos_energy of the record. */
 uint8_t pasoletu_record_neo_hookean_pos_energy(const double *law, size_t law_length, const double *record,
                                                size_t record_length, double *out, size_t out_length);
-
-/* law: 4; record: 37; out: 9. pasoletu_corotated_kirchhoff_stress of the record and its factors. */
-uint8_t pasoletu_record_corotated_kirchhoff_stress(const double *law, size_t law_length, const double *record,
-                                                   size_t record_length, double *out, size_t out_length);
 
 /* law: 4; record: 37; out: 1. pasoletu_corotated_elastic_energy_density of the record: of sigma's product, not of
  * the determinant, which is tested all the same. */
@@ -418,13 +426,7 @@ uint8_t pasoletu_monaghan_timestep_bound(double pressure0, uint32_t gamma, doubl
                                          const double *velocity, size_t velocity_length, double cell_width, double *out,
                                          size_t out_length);
 
-/* ---- Verdict, and parts of the plastic laws (section 5) ---------------------------------------------------------- */
-
-/* stresses: 3; out: 1. The failure rule (failure_maximum_stress.rs) on the principal stresses: 1 (failed) exactly
- * when the greatest is over max_principal_stress or (greatest - least) / 2 over max_shear_stress, else 0.
- * Refusals: 8; 1 for an input that is not finite. */
-uint8_t pasoletu_failed(double max_principal_stress, double max_shear_stress, const double *stresses,
-                        size_t stresses_length, uint64_t *out, size_t out_length);
+/* ---- Parts of the plastic laws (section 5) ----------------------------------------------------------------------- */
 
 /* sigma: 3; out: 3. Snow's bare clamp (plasticity_snow.rs): the maximum with 1 - min_epsilon, then the minimum with
  * 1 + max_epsilon. A NaN answers the lower bound. Refusals: 8 only. */

@@ -165,7 +165,8 @@ name = "ln\"""")
             ('name = "ln"', 'name = "exp"', "a call's name stands twice: exp"),
             ("beside = 1\n", "beside = 0\n", "the numbers of beside/ are not 0 and on"),
             ('writes = "out[1]"', 'writes = "out"', "call exp: only lists can be written"),
-            ('writes = "out[1]"', 'writes = "out[1], more[2]"', "call exp: a call with a number writes one list"),
+            ('writes = "out[1]"', 'writes = "out[]"', "call exp: a call with a number tells the lengths of all its lists"),
+            ("retired = [25, 29, 35]", "retired = [29, 35]", "the numbers of beside/"),
             ('beside = "lists"', 'beside = "list"', "call pass: beside is 'list', which is neither"),
         )
         was = (self.top / "calls.toml").read_text()

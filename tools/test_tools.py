@@ -190,7 +190,7 @@ class Tables(InFolder):
             self.assertEqual(self.only_f(), "")
             self.refused("particle 0: the factors of F are refused by 1 (F's determinant is not finite): give U, sigma and V^T too", "a.json",
                          json.dumps({"model": "snow", "particles": [{"F": [1e200, 0, 0, 0, 1e200, 0, 0, 0, 1]}]}))
-            self.refused("particle 0: the factors of F are refused by 14 (the factors worked out miss their check)", "a.json",
+            self.refused("particle 0: the factors of F are refused by 14 (the factors or the principal values worked out miss their check)", "a.json",
                          json.dumps({"model": "snow", "particles": [{"F": [1.7e308, 1.7e308, 0, 0, 0, 0, 0, 0, 0]}]}))
 
     @unittest.skipUnless(NUMPY, "numpy is not here")

@@ -27,6 +27,7 @@ from .laws import (
     Plasticity,
     RankinePlasticity,
     SnowPlasticity,
+    StressVerdict,
 )
 from .lists import (
     Ran,
@@ -74,6 +75,7 @@ __all__ = [
     "Sheet",
     "SnowPlasticity",
     "Stored",
+    "StressVerdict",
     "Tally",
     "Untouched",
     "Zones",

@@ -136,8 +136,8 @@ REFUSALS: dict[int, Refusal] = {
     ),
     14: Refusal(
         "NOT_ACCEPTED",
-        "the factors worked out miss their check",
-        "look at the sizes of F's entries, or give factors of your own",
+        "the factors or the principal values worked out miss their check",
+        "look at the sizes of F's or the stress's entries, or give factors of your own",
     ),
     15: Refusal(
         "AFTER_END",
@@ -348,13 +348,6 @@ CALLS: dict[str, tuple[Argument, ...]] = {
         Argument("f", "f64", 9, False),
         Argument("out", "f64", 9, True),
     ),
-    "neo_hookean_kirchhoff_stress": (
-        Argument("law", "f64", 3, False),
-        Argument("phase", "f64", None, False),
-        Argument("hardening", "f64", None, False),
-        Argument("f", "f64", 9, False),
-        Argument("out", "f64", 9, True),
-    ),
     "neo_hookean_elastic_energy_density": (
         Argument("law", "f64", 3, False),
         Argument("phase", "f64", None, False),
@@ -381,16 +374,6 @@ CALLS: dict[str, tuple[Argument, ...]] = {
         Argument("phase", "f64", None, False),
         Argument("out", "f64", 1, True),
     ),
-    "corotated_kirchhoff_stress": (
-        Argument("law", "f64", 4, False),
-        Argument("phase", "f64", None, False),
-        Argument("hardening", "f64", None, False),
-        Argument("f", "f64", 9, False),
-        Argument("u", "f64", 9, False),
-        Argument("sigma", "f64", 3, False),
-        Argument("vt", "f64", 9, False),
-        Argument("out", "f64", 9, True),
-    ),
     "corotated_elastic_energy_density": (
         Argument("law", "f64", 4, False),
         Argument("hardening", "f64", None, False),
@@ -404,12 +387,21 @@ CALLS: dict[str, tuple[Argument, ...]] = {
         Argument("sigma", "f64", 3, False),
         Argument("out", "f64", 1, True),
     ),
-    "record_neo_hookean_fpk_stress": (
+    "neo_hookean_stress_and_verdict": (
         Argument("law", "f64", 3, False),
+        Argument("limits", "f64", 2, False),
         Argument("record", "f64", 37, False),
-        Argument("out", "f64", 9, True),
+        Argument("stress", "f64", 9, True),
+        Argument("verdict", "u64", 1, True),
     ),
-    "record_neo_hookean_kirchhoff_stress": (
+    "corotated_stress_and_verdict": (
+        Argument("law", "f64", 4, False),
+        Argument("limits", "f64", 2, False),
+        Argument("record", "f64", 37, False),
+        Argument("stress", "f64", 9, True),
+        Argument("verdict", "u64", 1, True),
+    ),
+    "record_neo_hookean_fpk_stress": (
         Argument("law", "f64", 3, False),
         Argument("record", "f64", 37, False),
         Argument("out", "f64", 9, True),
@@ -429,11 +421,6 @@ CALLS: dict[str, tuple[Argument, ...]] = {
         Argument("law", "f64", 3, False),
         Argument("record", "f64", 37, False),
         Argument("out", "f64", 1, True),
-    ),
-    "record_corotated_kirchhoff_stress": (
-        Argument("law", "f64", 4, False),
-        Argument("record", "f64", 37, False),
-        Argument("out", "f64", 9, True),
     ),
     "record_corotated_elastic_energy_density": (
         Argument("law", "f64", 4, False),
@@ -479,12 +466,6 @@ CALLS: dict[str, tuple[Argument, ...]] = {
         Argument("velocity", "f64", 3, False),
         Argument("cell_width", "f64", None, False),
         Argument("out", "f64", 1, True),
-    ),
-    "failed": (
-        Argument("max_principal_stress", "f64", None, False),
-        Argument("max_shear_stress", "f64", None, False),
-        Argument("stresses", "f64", 3, False),
-        Argument("out", "u64", 1, True),
     ),
     "snow_clamp": (
         Argument("min_epsilon", "f64", None, False),

@@ -62,7 +62,7 @@ mod zones;
 
 #[cfg(feature = "alloc")]
 pub use arrival::Arrival;
-pub use elasticity::{CorotatedLinearElasticity, EnergySplit, NeoHookeanElasticity};
+pub use elasticity::{CorotatedLinearElasticity, EnergySplit, NeoHookeanElasticity, StressVerdict};
 pub use failure::MaximumStressFailure;
 pub use fluid::MonaghanSphEos;
 pub use lists::{

@@ -34,7 +34,7 @@ impl Refusal {
     pub const OUT_OF_RANGE: u8 = 12;
     /// A tally would pass its end, 4294967295.
     pub const TALLY_FULL: u8 = 13;
-    /// The factors worked out miss their check.
+    /// The factors or the principal values worked out miss their check.
     pub const NOT_ACCEPTED: u8 = 14;
     /// A part or an end of a sheet in parts comes after its end.
     pub const AFTER_END: u8 = 15;
@@ -58,7 +58,7 @@ pub fn words(number: u8) -> Option<(&'static str, &'static str)> {
         11 => ("the record's stored determinant is not that of its F", "fill it in where you write F (fill_determinants)"),
         12 => ("a zone or a particle is out of range, there are over 256 tallies, or list lengths are unlike", "hold the zone list to the particles and the tallies"),
         13 => ("a tally would pass its end, 4294967295", "read the tallies, then clear them"),
-        14 => ("the factors worked out miss their check", "look at the sizes of F's entries, or give factors of your own"),
+        14 => ("the factors or the principal values worked out miss their check", "look at the sizes of F's or the stress's entries, or give factors of your own"),
         15 => ("a part or an end of a sheet in parts comes after its end", "begin the next sheet"),
         16 => ("a report has over 4096 particles", "report them in lists of at most 4096"),
         _ => return None,
@@ -162,26 +162,23 @@ extern "C" {
     pub fn pasoletu_spherical_part(m: *const f64, m_length: usize, out: *mut f64, out_length: usize) -> u8;
     pub fn pasoletu_decomposed_times(spherical: f64, deviatoric: *const f64, deviatoric_length: usize, v: *const f64, v_length: usize, out: *mut f64, out_length: usize) -> u8;
     pub fn pasoletu_neo_hookean_fpk_stress(law: *const f64, law_length: usize, hardening: f64, f: *const f64, f_length: usize, out: *mut f64, out_length: usize) -> u8;
-    pub fn pasoletu_neo_hookean_kirchhoff_stress(law: *const f64, law_length: usize, phase: f64, hardening: f64, f: *const f64, f_length: usize, out: *mut f64, out_length: usize) -> u8;
     pub fn pasoletu_neo_hookean_elastic_energy_density(law: *const f64, law_length: usize, phase: f64, hardening: f64, f: *const f64, f_length: usize, out: *mut f64, out_length: usize) -> u8;
     pub fn pasoletu_neo_hookean_elastic_energy_density_in(law: *const f64, law_length: usize, one_split: f64, phase: f64, hardening: f64, f: *const f64, f_length: usize, out: *mut f64, out_length: usize) -> u8;
     pub fn pasoletu_neo_hookean_pos_energy(law: *const f64, law_length: usize, phase: f64, hardening: f64, f: *const f64, f_length: usize, out: *mut f64, out_length: usize) -> u8;
     pub fn pasoletu_phase_coeff(phase: f64, out: *mut f64, out_length: usize) -> u8;
-    pub fn pasoletu_corotated_kirchhoff_stress(law: *const f64, law_length: usize, phase: f64, hardening: f64, f: *const f64, f_length: usize, u: *const f64, u_length: usize, sigma: *const f64, sigma_length: usize, vt: *const f64, vt_length: usize, out: *mut f64, out_length: usize) -> u8;
     pub fn pasoletu_corotated_elastic_energy_density(law: *const f64, law_length: usize, hardening: f64, sigma: *const f64, sigma_length: usize, out: *mut f64, out_length: usize) -> u8;
     pub fn pasoletu_corotated_pos_energy(law: *const f64, law_length: usize, hardening: f64, f: *const f64, f_length: usize, sigma: *const f64, sigma_length: usize, out: *mut f64, out_length: usize) -> u8;
+    pub fn pasoletu_neo_hookean_stress_and_verdict(law: *const f64, law_length: usize, limits: *const f64, limits_length: usize, record: *const f64, record_length: usize, stress: *mut f64, stress_length: usize, verdict: *mut u64, verdict_length: usize) -> u8;
+    pub fn pasoletu_corotated_stress_and_verdict(law: *const f64, law_length: usize, limits: *const f64, limits_length: usize, record: *const f64, record_length: usize, stress: *mut f64, stress_length: usize, verdict: *mut u64, verdict_length: usize) -> u8;
     pub fn pasoletu_record_neo_hookean_fpk_stress(law: *const f64, law_length: usize, record: *const f64, record_length: usize, out: *mut f64, out_length: usize) -> u8;
-    pub fn pasoletu_record_neo_hookean_kirchhoff_stress(law: *const f64, law_length: usize, record: *const f64, record_length: usize, out: *mut f64, out_length: usize) -> u8;
     pub fn pasoletu_record_neo_hookean_elastic_energy_density(law: *const f64, law_length: usize, record: *const f64, record_length: usize, out: *mut f64, out_length: usize) -> u8;
     pub fn pasoletu_record_neo_hookean_elastic_energy_density_in(law: *const f64, law_length: usize, one_split: f64, record: *const f64, record_length: usize, out: *mut f64, out_length: usize) -> u8;
     pub fn pasoletu_record_neo_hookean_pos_energy(law: *const f64, law_length: usize, record: *const f64, record_length: usize, out: *mut f64, out_length: usize) -> u8;
-    pub fn pasoletu_record_corotated_kirchhoff_stress(law: *const f64, law_length: usize, record: *const f64, record_length: usize, out: *mut f64, out_length: usize) -> u8;
     pub fn pasoletu_record_corotated_elastic_energy_density(law: *const f64, law_length: usize, record: *const f64, record_length: usize, out: *mut f64, out_length: usize) -> u8;
     pub fn pasoletu_record_corotated_pos_energy(law: *const f64, law_length: usize, record: *const f64, record_length: usize, out: *mut f64, out_length: usize) -> u8;
     pub fn pasoletu_monaghan_pressure(pressure0: f64, gamma: u32, viscosity: f64, max_neg_pressure: f64, mass: f64, volume0: f64, density: f64, out: *mut f64, out_length: usize) -> u8;
     pub fn pasoletu_monaghan_kirchhoff_stress(pressure0: f64, gamma: u32, viscosity: f64, max_neg_pressure: f64, mass: f64, volume0: f64, density: f64, determinant: f64, velocity_gradient: *const f64, velocity_gradient_length: usize, out: *mut f64, out_length: usize) -> u8;
     pub fn pasoletu_monaghan_timestep_bound(pressure0: f64, gamma: u32, viscosity: f64, max_neg_pressure: f64, determinant: f64, mass: f64, volume0: f64, density: f64, velocity: *const f64, velocity_length: usize, cell_width: f64, out: *mut f64, out_length: usize) -> u8;
-    pub fn pasoletu_failed(max_principal_stress: f64, max_shear_stress: f64, stresses: *const f64, stresses_length: usize, out: *mut u64, out_length: usize) -> u8;
     pub fn pasoletu_snow_clamp(min_epsilon: f64, max_epsilon: f64, hardening_coeff: f64, sigma: *const f64, sigma_length: usize, out: *mut f64, out_length: usize) -> u8;
     pub fn pasoletu_rankine_project(arguments: *const f64, arguments_length: usize, s: f64, strains: *const f64, strains_length: usize, out: *mut f64, out_length: usize) -> u8;
     pub fn pasoletu_drucker_prager_alpha(fields: *const f64, fields_length: usize, q: f64, out: *mut f64, out_length: usize) -> u8;

@@ -1,5 +1,6 @@
 pub mod Calls
 pub mod Factored
+pub mod Judged
 pub mod OfRecord
 pub mod Passes
 pub mod Reports

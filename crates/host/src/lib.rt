@@ -4,6 +4,7 @@ pub mod determinants;
 pub mod elasticity;
 pub mod factored;
 pub mod in_parts;
+pub mod judged;
 pub mod monaghan;
 pub mod of_record;
 pub mod passes;

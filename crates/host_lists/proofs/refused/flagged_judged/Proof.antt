@@ -1,7 +1,7 @@
--- `host_lists::refused::flagged_matrix` meets its contract: what its calls ensure, on each path.
+-- `host_lists::refused::flagged_judged` meets its contract: what its calls ensure, on each path.
 use borrow.Author.Needs.{needs}
-use Rattle.host_lists.proofs.refused.flagged_matrix.Statement.{statement}
-use Rattle.host_lists.proofs.refused.flagged_matrix.Tie as tie
+use Rattle.host_lists.proofs.refused.flagged_judged.Statement.{statement}
+use Rattle.host_lists.proofs.refused.flagged_judged.Tie as tie
 
 returns : tie.Need-returns
 returns c =
@@ -11,9 +11,9 @@ returns c =
 returns-2 : tie.Need-returns-2
 returns-2 c =
     let t = simp (c .before .before .is-flag .ensures) at (c .before .if1 .left) in
-    simp (t, c .refused-matrix .ensures)
+    simp (t, c .refused-judged .ensures)
 
-pub flagged-matrix-spec : {M : Type 1} → statement M
-flagged-matrix-spec =
+pub flagged-judged-spec : {M : Type 1} → statement M
+flagged-judged-spec =
     tie.close
     (tie.spec (λ c κs. search needs) (λ c κs. search needs) returns returns-2)
