@@ -1,5 +1,5 @@
 // One fuzz target a build, chosen by TARGET: 0 read_sheet, 1 run_sheet, 2 update, 3 pass, 4 pass_with_failure,
-// 5 write_sheet, 6 parts.
+// 5 write_sheet, 6 parts, 7 tallies.
 // README.md says what is checked. The first thing that does not hold is printed, and the run stops there.
 #include "rooms.h"
 #include "calls.h"
@@ -9,14 +9,15 @@
 #endif
 #include <math.h>
 #include <stdarg.h>
-#define SHEETS (TARGET < 2 || TARGET >= 5) // an input is a sheet's bytes
+#define SHEETS (TARGET < 2 || TARGET == 5 || TARGET == 6) // an input is a sheet's bytes
+#define JUDGED (TARGET == 4 || TARGET == 7) // limits and a corotated law stand in it
 #include "mutate.h"
 
 #define ROOM (MOST * FLOATS)
 #define LONGEST (1 + 8 * 8 + 2 + 8 * ROOM) // bytes of a sheet
 #define PASSED 8 // records in an input for the passes
 
-static struct room sheet_room, parameters_room, limits_room, law_room, records_room, answers_room, out_room, one_room, two_room, bytes_room, few_room, state_room, progress_room;
+static struct room sheet_room, parameters_room, limits_room, law_room, records_room, answers_room, out_room, one_room, two_room, bytes_room, few_room, state_room, progress_room, zones_room, tallies_room;
 
 // What was met is told to the fuzzer as coverage, since the library itself is not instrumented.
 __attribute__((section("__libfuzzer_extra_counters"))) static uint8_t met[1024];
@@ -110,7 +111,7 @@ static void check_stored(uint64_t model, const uint64_t *p, const uint64_t *was,
 
 // What a run has met in all, printed at its end: a target that never reaches a law's outcome has not tried it.
 // An outcome is untouched, stored, or refused by 1, 2, 3, 10 or 11.
-static unsigned long outcomes[LAWS][7], verdicts[2], refusals[9], writes[10], fills[9], parts_told[16], ends_told[16], judgements[2][16];
+static unsigned long outcomes[LAWS][7], verdicts[2], refusals[9], writes[10], fills[9], parts_told[16], ends_told[16], judgements[2][16], tallied[CALLS][14];
 
 static void print_met(void) {
     static const char *names[LAWS] = {"snow", "rankine", "drucker_prager", "nacc"};
@@ -122,11 +123,13 @@ static void print_met(void) {
         fprintf(stderr, "met: parts taken %lu, refused 5: %lu, 6: %lu, 7: %lu, 4 again: %lu, 15: %lu, 8: %lu\n", parts_told[0], parts_told[5], parts_told[6], parts_told[7], parts_told[4], parts_told[15], parts_told[8]);
         fprintf(stderr, "met: ends taken %lu, refused 4: %lu, 5: %lu, 6: %lu, 7: %lu, 15: %lu, 8: %lu\n", ends_told[0], ends_told[4], ends_told[5], ends_told[6], ends_told[7], ends_told[15], ends_told[8]);
     }
-    for (int k = 0; k < (TARGET % 5 && TARGET < 6 ? LAWS : 0); k++)
+    for (int k = 0; k < (TARGET % 5 && TARGET != 6 ? LAWS : 0); k++)
         fprintf(stderr, "met: %s untouched %lu, stored %lu, refused 1: %lu, 2: %lu, 3: %lu, 10: %lu, 11: %lu\n", names[k], outcomes[k][0], outcomes[k][1], outcomes[k][2], outcomes[k][3], outcomes[k][4], outcomes[k][5], outcomes[k][6]);
     if (TARGET == 3)
         fprintf(stderr, "met: lists filled %lu, refused 8: %lu\n", fills[0], fills[8]);
-    if (TARGET == 4)
+    for (int k = 0; k < (TARGET == 7 ? CALLS : 0); k++)
+        fprintf(stderr, "met: %s done %lu, refused 6: %lu, 8: %lu, 12: %lu, 13: %lu\n", CALL_NAMES[k], tallied[k][0], tallied[k][6], tallied[k][8], tallied[k][12], tallied[k][13]);
+    if (JUDGED)
         fprintf(stderr, "met: failed %lu, not failed %lu\n", verdicts[1], verdicts[0]);
     for (int k = 0; k < (TARGET == 4 ? 2 : 0); k++)
         fprintf(stderr, "met: %s stress and verdict %lu, refused 1: %lu, 2: %lu, 3: %lu, 6: %lu, 8: %lu, 10: %lu, 11: %lu, 14: %lu\n", k ? "corotated" : "neo-Hookean", judgements[k][0], judgements[k][1], judgements[k][2], judgements[k][3], judgements[k][6], judgements[k][8], judgements[k][10], judgements[k][11], judgements[k][14]);
@@ -195,6 +198,7 @@ struct judge {
 };
 
 static uint64_t want_records[ROOM], want_answers[2 * MOST], want_counts[4];
+static int want_failed[MOST];
 
 static void want_pass(uint64_t model, const uint64_t *p, const struct judge *j, const uint64_t *records, size_t count) {
     memset(want_counts, 0, sizeof want_counts);
@@ -218,6 +222,7 @@ static void want_pass(uint64_t model, const uint64_t *p, const struct judge *j, 
         want_answers[2 * k + 1] = d.status ? d.status : d.answer[1];
         want_counts[d.status ? 2 : d.answer[0]]++;
         want_counts[3] += fails;
+        want_failed[k] = fails;
         verdicts[fails] += !d.status;
     }
 }
@@ -626,6 +631,137 @@ static void law_target(const uint8_t *b, size_t n) {
         one_pass(model, p, np, TARGET == 4 ? &j : NULL, records, nr, na, nc);
 }
 
+// ---- tallies: a sequence of calls on one list of records, drawn from the input's bytes; the host may change tallies and zones between them
+
+static uint64_t zones_now[PASSED + 2], tallies_now[TALLY * (MOST_ZONES + 3)], records_now[(PASSED + 1) * FLOATS];
+
+// What a call is lent beside the tallies: lists of the lengths below.
+struct lent {
+    uint64_t model, p[9], particles, particle, zone;
+    size_t np, nr, na, nz, nt;
+    struct judge j;
+};
+
+static uint8_t want_of(int call, const struct lent *c) {
+    size_t count = c->nr / FLOATS;
+    int passes = call >= PASS_BY_ZONE, judges = call == PASS_WITH_FAILURE_BY_ZONE;
+    if (c->nt % TALLY || (passes && (!lengths_fit(c->model, c->np) || c->nr % FLOATS || c->na != 2 * count || (judges && (c->j.nl != 2 || c->j.nw != 4)))))
+        return 8;
+    if (passes && (c->model >= MODELS || !flag_fits(c->model, c->p) || (judges && !is_flag(c->j.law[0]))))
+        return 6;
+    if (!zones_second(passes ? count : c->particles, zones_now, c->nz, c->nt / TALLY))
+        return 12;
+    if (call == MOVE && (c->particle >= c->nz || c->zone >= c->nt / TALLY))
+        return 12;
+    return passes && full_second(tallies_now, c->nt / TALLY, zones_now, c->nz) ? 13 : 0;
+}
+
+// What the call leaves, from the lists as they were: particles now afresh, and a pass's outcomes in the zone of each record.
+static void leave_second(int call, const struct lent *c) {
+    if (call == CLEAR)
+        memset(tallies_now, 0, 8 * c->nt);
+    if (call == MOVE)
+        zones_now[c->particle] = c->zone;
+    afresh_second(tallies_now, c->nt / TALLY, zones_now, c->nz);
+    if (call < PASS_BY_ZONE)
+        return;
+    want_pass(c->model, c->p, call == PASS_BY_ZONE ? NULL : &c->j, records_now, c->nz);
+    memcpy(records_now, want_records, 8 * c->nr);
+    for (size_t k = 0; k < c->nz; k++)
+        outcome_second(tallies_now, zones_now[k], want_answers[2 * k], want_failed[k]);
+}
+
+static uint8_t call_lent(int call, const struct lent *c, const uint64_t *shown, uint64_t *zones, uint64_t *r, uint64_t *a, uint64_t *t) {
+    const uint64_t *p = show(&parameters_room, c->p, c->np);
+    switch (call) {
+    case CLEAR: return pasoletu_clear_tallies(c->particles, shown, c->nz, t, c->nt);
+    case MOVE: return pasoletu_move_particle(c->particles, c->particle, c->zone, zones, c->nz, t, c->nt);
+    case PASS_BY_ZONE: return pasoletu_pass_by_zone(c->model, p, c->np, shown, c->nz, r, c->nr, a, c->na, t, c->nt);
+    default:
+        return pasoletu_pass_with_failure_by_zone(c->model, p, c->np, show(&limits_room, c->j.limits, c->j.nl), c->j.nl, show(&law_room, c->j.law, c->j.nw), c->j.nw,
+                                                  shown, c->nz, r, c->nr, a, c->na, t, c->nt);
+    }
+}
+
+static void one_tallied(int call, const struct lent *c) {
+    uint8_t want = want_of(call, c);
+    uint64_t *zones = lend(&zones_room, zones_now, c->nz), *t = lend(&tallies_room, tallies_now, c->nt);
+    uint64_t *r = lend(&records_room, records_now, c->nr), *a = lend(&answers_room, NULL, c->na);
+    const uint64_t *shown = (const uint64_t *)(zones_room.read + ((uint8_t *)zones - zones_room.write));
+    uint8_t got = call_lent(call, c, shown, zones, r, a, t);
+    check(got == want, CALL_NAMES[call], got, want);
+    if (!want) {
+        leave_second(call, c);
+        memcpy(wanted(&zones_room, c->nz), zones_now, 8 * c->nz);
+        memcpy(wanted(&tallies_room, c->nt), tallies_now, 8 * c->nt);
+        if (call >= PASS_BY_ZONE) {
+            memcpy(wanted(&records_room, c->nr), want_records, 8 * c->nr);
+            memcpy(wanted(&answers_room, c->na), want_answers, 8 * c->na);
+        }
+    }
+    check_room(&zones_room, want ? "a refused call wrote its zones" : "zones after a call");
+    check_room(&tallies_room, want ? "a refused call wrote its tallies" : "tallies after a call");
+    check_room(&records_room, want ? "a refused call wrote its records" : "records after a call with tallies");
+    check_room(&answers_room, want ? "a refused call wrote its answers" : "answers after a call with tallies");
+    tallied[call][want]++;
+    met[900 + call * 16 + want] = 1;
+}
+
+// Now and then one of the call's lengths is another.
+static void twist(struct lent *c) {
+    switch (below(64)) {
+    case 0: c->nt += 1 + below(4); break;
+    case 1: c->nz += 1; break;
+    case 2: c->nz -= c->nz ? 1 : 0; break;
+    case 3: c->na += 1; break;
+    case 4: c->nr += 1; break;
+    case 5: c->np += below(2) ? 1 : -1; break;
+    case 6: c->j.nl += below(2) ? 1 : -1; break;
+    case 7: c->j.nw += below(2) ? 1 : -1; break;
+    case 8: c->particles = draw() >> below(64); break;
+    }
+}
+
+static void tallies_target(const uint8_t *b, size_t n) {
+    struct lent c = {.j = {.nl = 2, .nw = 4}};
+    from = (struct place){b, n, 0, 0};
+    uint8_t first = take_byte(&from), lengths = take_byte(&from);
+    c.model = first < 0xf0 ? first % MODELS : first;
+    c.np = FIELDS[c.model % MODELS];
+    words_taken(c.p, c.np);
+    words_taken(c.j.limits, 2);
+    words_taken(c.j.law, 4);
+    size_t left = (n - from.at) / 8;
+    c.nr = left < PASSED * FLOATS ? left / FLOATS * FLOATS : PASSED * FLOATS;
+    words_taken(records_now, c.nr);
+    drawing = lengths;
+    for (size_t k = 0; k < n; k++)
+        drawing = (drawing ^ b[k]) * 0x100000001b3ULL;
+    size_t zones = below(16) ? 1 + below(6) : below(4) ? MOST_ZONES - 1 + below(3) : 0;
+    c.nt = TALLY * zones;
+    c.nz = c.particles = c.nr / FLOATS;
+    c.na = 2 * c.nz;
+    memset(tallies_now, 0, sizeof tallies_now);
+    for (size_t k = 0; k < PASSED + 2; k++)
+        zones_now[k] = zones ? below(zones) : 0;
+    for (size_t k = 3 + below(6); k; k--) {
+        struct lent this = c;
+        this.particle = c.nz && below(8) ? below(c.nz) : draw() >> below(64);
+        this.zone = zones && below(8) ? below(zones) : zones + (draw() >> below(64));
+        twist(&this);
+        if (!below(8) && zones)
+            tallies_now[TALLY * below(zones) + 1 + below(4)] = below(4) ? LAST_TALLY - below(5) : draw() >> below(64);
+        size_t stray = below(24) ? PASSED + 1 : below(PASSED);
+        uint64_t was = zones_now[stray];
+        if (stray < PASSED)
+            zones_now[stray] = zones + (draw() >> below(64));
+        int call = below(CALLS + 2);
+        one_tallied(call < CALLS ? call : call - 2, &this);
+        if (stray < PASSED && zones_now[stray] >= zones)
+            zones_now[stray] = was;
+    }
+}
+
 int LLVMFuzzerInitialize(int *argc, char ***argv) {
     (void)argc, (void)argv;
     sheet_room = room_of(1 << 17);
@@ -633,6 +769,8 @@ int LLVMFuzzerInitialize(int *argc, char ***argv) {
     answers_room = room_of(8 * (2 * MOST + 2));
     bytes_room = room_of(LONGEST + 64);
     few_room = room_of(2 * PAGE);
+    zones_room = room_of(PAGE);
+    tallies_room = room_of(8 * TALLY * (MOST_ZONES + 3));
     struct room *small[] = {&parameters_room, &limits_room, &law_room, &out_room, &one_room, &two_room, &state_room, &progress_room};
     for (int k = 0; k < 8; k++)
         *small[k] = room_of(PAGE);
@@ -651,6 +789,8 @@ int LLVMFuzzerTestOneInput(const uint8_t *b, size_t n) {
         write_sheet_target(b, n);
     else if (TARGET == 6)
         parts_target(b, n);
+    else if (TARGET == 7)
+        tallies_target(b, n);
     else
         law_target(b, n);
     return 0;

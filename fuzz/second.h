@@ -1,5 +1,5 @@
-// RULES' sections 4, 6 and 7 a second time: the determinant, the sheet, the finite test, the principal stresses of a pass with failure, and the principal
-// values of a stress by Jacobi's turns.
+// RULES' sections 4, 6 and 7 a second time: the determinant, the sheet, the finite test, the principal stresses of a pass with failure, tallies by zone, and
+// the principal values of a stress by Jacobi's turns.
 #include <math.h>
 
 #define ONE 0x3ff0000000000000ULL
@@ -187,7 +187,7 @@ static int judged(const uint64_t *limits, const uint64_t *law, const uint64_t *r
 }
 
 // Clears the entry between two axes of a symmetric matrix.
-static void turned(double a[3][3], int p, int q) {
+static void cleared(double a[3][3], int p, int q) {
     if (a[p][q] == 0)
         return;
     double h = (a[q][q] - a[p][p]) / (2 * a[p][q]), t = (h < 0 ? -1 : 1) / (fabs(h) + sqrt(1 + h * h)), c = 1 / sqrt(1 + t * t), s = t * c;
@@ -214,9 +214,9 @@ static void principal_ends(const uint64_t *stress, double ends[2], double *m) {
         for (int j = 0; j <= i; j++)
             a[i][j] = a[j][i] = *m > 0 ? value(stress[3 * i + j]) / *m : 0;
     for (int sweep = 0; sweep < 12; sweep++) {
-        turned(a, 0, 1);
-        turned(a, 0, 2);
-        turned(a, 1, 2);
+        cleared(a, 0, 1);
+        cleared(a, 0, 2);
+        cleared(a, 1, 2);
     }
     ends[0] = ends[1] = a[0][0];
     for (int i = 1; i < 3; i++) {
@@ -225,4 +225,47 @@ static void principal_ends(const uint64_t *stress, double ends[2], double *m) {
     }
     ends[0] *= *m;
     ends[1] *= *m;
+}
+
+// ---- tallies by zone: five words a zone, particles now, untouched, stored, refused and failed
+#define TALLY 5
+#define MOST_ZONES 256
+#define LAST_TALLY 0xffffffffULL
+
+enum { CLEAR, MOVE, PASS_BY_ZONE, PASS_WITH_FAILURE_BY_ZONE, CALLS };
+static const char *const CALL_NAMES[CALLS] = {"clear_tallies", "move_particle", "pass_by_zone", "pass_with_failure_by_zone"};
+
+// Whether a zone list of so many particles and so many tallies are in range: else 12.
+static int zones_second(uint64_t particles, const uint64_t *zones, size_t nz, size_t tallies) {
+    int fit = nz == particles && tallies <= MOST_ZONES;
+    for (size_t k = 0; k < nz; k++)
+        fit = fit && zones[k] < tallies;
+    return fit;
+}
+
+// Particles now, counted zone by zone.
+static uint64_t there_second(const uint64_t *zones, size_t nz, uint64_t zone) {
+    uint64_t n = 0;
+    for (size_t k = 0; k < nz; k++)
+        n += zones[k] == zone;
+    return n;
+}
+
+static void afresh_second(uint64_t *t, size_t tallies, const uint64_t *zones, size_t nz) {
+    for (size_t z = 0; z < tallies; z++)
+        t[TALLY * z] = there_second(zones, nz, z);
+}
+
+// Whether some so-far number and the particles listed in its zone would pass the last: then 13.
+static int full_second(const uint64_t *t, size_t tallies, const uint64_t *zones, size_t nz) {
+    for (size_t z = 0; z < tallies; z++)
+        for (int k = 1; k < TALLY; k++)
+            if (t[TALLY * z + k] > LAST_TALLY - there_second(zones, nz, z))
+                return 1;
+    return 0;
+}
+
+static void outcome_second(uint64_t *t, uint64_t zone, uint64_t outcome, int failed) {
+    t[TALLY * zone + 1 + outcome] += 1;
+    t[TALLY * zone + 4] += failed;
 }

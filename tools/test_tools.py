@@ -1011,7 +1011,9 @@ class ByZone(unittest.TestCase):
             self.result("far/c.sheet", True, 4),
             self.result("lost.sheet", False),
         ]
-        self.assertEqual(night_page.by_zone(results, zones).splitlines()[1:], ["0,1,0,0,0,0,1", "7,2,6,1,4,1,0", ",1,0,0,0,0,1"])
+        self.assertEqual(night_page.by_zone(results, zones).splitlines()[1:], ["0,1,0,0,0,0,not judged,1", "7,2,6,1,4,1,not judged,0", ",1,0,0,0,0,not judged,1"])
+        judged = night_page.by_zone(results, zones, {"a.sheet": 2, "b.sheet": 1})
+        self.assertEqual(judged.splitlines(), ["zone,sheets,particles,untouched,stored,refused,failed,not_worked", "0,1,0,0,0,0,0,1", "7,2,6,1,4,1,3,0", ",1,0,0,0,0,0,1"])
 
     def test_wrong_line(self):
         for text in ("seven a.sheet", "7", "-1 a.sheet"):

@@ -1,4 +1,4 @@
--- `tallies::held::emptied` meets its contract: tally by tally.
+-- `tallies::slice::emptied` meets its contract: tally by tally.
 use mathlib.Core.Path.{_≡_, refl, sym, ap, _∙_}
 use mathlib.Core.Bool.{Bool, true, false, cond}
 use mathlib.Core.List.{List}
@@ -12,8 +12,8 @@ use borrow.Author.Needs.{needs}
 use Rattle.tallies.specs.declared.tally.Tally.{Tally}
 use Rattle.tallies.specs.Tallies.{none, withParticles, byZone}
 use Rattle.tallies.proofs.ByZone.{get-by, length-by, is-by, set-by}
-use Rattle.tallies.proofs.held.emptied.Statement.{statement}
-use Rattle.tallies.proofs.held.emptied.Tie as tie
+use Rattle.tallies.proofs.slice.emptied.Statement.{statement}
+use Rattle.tallies.proofs.slice.emptied.Tie as tie
 
 -- the tallies below k are emptied
 abbrev emptiedBelow : ℕ → ℕ → Tally → Tally
