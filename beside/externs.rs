@@ -63,4 +63,5 @@ extern "C" {
     pub fn pasoletu_end_parts(records: *const u64, records_length: usize, answers: *const u64, answers_length: usize, state: *mut u64, state_length: usize, progress: *mut u64, progress_length: usize) -> u8;
     pub fn pasoletu_report(records: *const u64, records_length: usize, report: *mut u64, report_length: usize) -> u8;
     pub fn pasoletu_join_reports(first: *const u64, first_length: usize, second: *const u64, second_length: usize, joined: *mut u64, joined_length: usize) -> u8;
+    pub fn pasoletu_why(model: u64, parameters: *const u64, parameters_length: usize, record: *const u64, record_length: usize, reason: *mut u64, reason_length: usize) -> u8;
 }

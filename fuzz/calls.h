@@ -83,3 +83,5 @@ uint8_t pasoletu_end_parts(const uint64_t *records, size_t records_length, const
                            size_t answers_length, uint64_t *state, size_t state_length, uint64_t *progress,
                            size_t progress_length);
 uint8_t pasoletu_report(const uint64_t *records, size_t records_length, uint64_t *report, size_t report_length);
+uint8_t pasoletu_why(uint64_t model, const uint64_t *parameters, size_t parameters_length, const uint64_t *record,
+                     size_t record_length, uint64_t *reason, size_t reason_length);

@@ -223,6 +223,18 @@ static inline const char *pasoletu_refusal_text(uint64_t refusal)
 #define PASOLETU_REPORT_OUTSIDE 4               /* how many lie not within 2^20 of zero */
 #define PASOLETU_REPORT_NOT_FINITE 5            /* how many are NaN or infinite */
 
+/* Why (section 7): the entries of a reason. Tests, steps and branches are numbered in docs/STEPS.md. */
+#define PASOLETU_REASON 11         /* entries of a reason */
+#define PASOLETU_REASON_KIND 0     /* 0 a test of two numbers, 1 of three zeros, 2 a flag, 3 Snow's bounds, 4 a refusal */
+#define PASOLETU_REASON_REFUSAL 1  /* its number, else 0 */
+#define PASOLETU_REASON_STEP 2     /* the step that refused, else 0 */
+#define PASOLETU_REASON_OF 3       /* for 1 whose place: 1 a parameter's, 2 the record's; else 0 */
+#define PASOLETU_REASON_PLACE 4    /* that place, from 0 */
+#define PASOLETU_REASON_TEST 5     /* the last test that chose the branch, else 0 */
+#define PASOLETU_REASON_HELD 6     /* whether it held */
+#define PASOLETU_REASON_BRANCH 7   /* the branch; 0 is untouched */
+#define PASOLETU_REASON_NUMBERS 8  /* 3: bits of the numbers compared; of Snow the bounds, 0 neither, 1 lower, 2 upper */
+
 /* ---- Elementary functions (section 3) ---------------------------------------------------------------------------- */
 /* Each writes one double. The answer lies within the distance told of the exact value.
  * Refusals: 8 unless out_length is 1; 1 where x is NaN or infinite; 2 where x lies below the range, 10 where above
@@ -640,6 +652,18 @@ uint8_t pasoletu_report(const double *records, size_t records_length, uint64_t *
  * like together pass 4096. */
 uint8_t pasoletu_join_reports(const uint64_t *first, size_t first_length, const uint64_t *second, size_t second_length,
                               uint64_t *joined, size_t joined_length);
+
+/* ---- Why (section 7) --------------------------------------------------------------------------------------------- */
+
+/* record: 37; reason: 11. Why the plastic law moves one record, leaves it or refuses it: the last test that chose
+ * among the law's branches, the numbers that it compared, as bits since they may be infinite, and the branch; of
+ * Snow the bound whose step last changed each sigma; of a refusal the number, the step and, for 1, the place of the
+ * first such float, parameters first. See PASOLETU_REASON_KIND and the others; an entry that a kind has not is 0. It
+ * refuses the record exactly where pasoletu_update does, by the same number. The record keeps its bits.
+ * Refusals, nothing written: 8 for a record not of 37, parameters not as many as the model has, or a reason not of
+ * 11; then 6 for a model over 7 or a flag. */
+uint8_t pasoletu_why(uint64_t model, const double *parameters, size_t parameters_length, const double *record,
+                     size_t record_length, uint64_t *reason, size_t reason_length);
 
 /* ==== End of what tools/table makes ==== */
 

@@ -47,11 +47,13 @@ from .lists import (
 from .outcome import Outcomes, Passed, Stored, Untouched
 from .particle import Particle
 from .refusal import REFUSALS, Refused
+from .reasons import Clamped, Stopped, Tested
 from .reports import Column, Report, report
 from .zones import Tally, Zones
 
 __all__ = [
     "Arrival",
+    "Clamped",
     "Column",
     "CorotatedLinearElasticity",
     "DruckerPragerPlasticity",
@@ -74,9 +76,11 @@ __all__ = [
     "SHEET_MOST",
     "Sheet",
     "SnowPlasticity",
+    "Stopped",
     "Stored",
     "StressVerdict",
     "Tally",
+    "Tested",
     "Untouched",
     "Zones",
     "__version__",

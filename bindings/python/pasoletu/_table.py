@@ -246,6 +246,17 @@ REPORT_GREATEST = 2  # the greatest; 0 of none
 REPORT_TOTAL = 3  # their sum
 REPORT_OUTSIDE = 4  # how many lie not within 2^20 of zero
 REPORT_NOT_FINITE = 5  # how many are NaN or infinite
+# Why (section 7): the entries of a reason. Tests, steps and branches are numbered in docs/STEPS.md.
+REASON = 11  # entries of a reason
+REASON_KIND = 0  # 0 a test of two numbers, 1 of three zeros, 2 a flag, 3 Snow's bounds, 4 a refusal
+REASON_REFUSAL = 1  # its number, else 0
+REASON_STEP = 2  # the step that refused, else 0
+REASON_OF = 3  # for 1 whose place: 1 a parameter's, 2 the record's; else 0
+REASON_PLACE = 4  # that place, from 0
+REASON_TEST = 5  # the last test that chose the branch, else 0
+REASON_HELD = 6  # whether it held
+REASON_BRANCH = 7  # the branch; 0 is untouched
+REASON_NUMBERS = 8  # 3: bits of the numbers compared; of Snow the bounds, 0 neither, 1 lower, 2 upper
 
 # The calls by name, without pasoletu_; each answers a ctypes.c_uint8, 0 or the refusal's number.
 CALLS: dict[str, tuple[Argument, ...]] = {
@@ -606,6 +617,12 @@ CALLS: dict[str, tuple[Argument, ...]] = {
         Argument("first", "u64", 18, False),
         Argument("second", "u64", 18, False),
         Argument("joined", "u64", 18, True),
+    ),
+    "why": (
+        Argument("model", "u64", None, False),
+        Argument("parameters", "f64", 0, False),
+        Argument("record", "f64", 37, False),
+        Argument("reason", "u64", 11, True),
     ),
 }
 ARGTYPES: dict[str, tuple[type, ...]] = {

@@ -19,10 +19,13 @@ from ._table import (
     NACC,
     NEO_HOOKEAN_CFL_COEFF,
     RANKINE,
+    REASON,
     SNOW,
 )
 from .outcome import Stored, Untouched, worked
 from .particle import PLACES, Particle
+from .reasons import Reason
+from .reasons import told as told_by
 from .refusal import NOT_FINITE, Refused
 
 _Answer = TypeVar("_Answer")
@@ -93,6 +96,16 @@ class Plasticity(Law):
             raise Refused(status, told, place=self.first_not_finite(list(record)) if status == NOT_FINITE else None)
         particle._take(record)
         return worked(answer[0], answer[1])
+
+    def reason(self, particle: Particle) -> Reason:
+        """Why the law moves this particle, leaves it or refuses it."""
+        asked = "reason"
+        given, record = doubles(asked, "the law", self.parameters()), doubles(asked, "particle", particle.floats())
+        entries = words(REASON)
+        status = ask("why", self.model, given, record, entries)
+        if status:
+            raise Refused(status, asked)
+        return told_by(list(entries))
 
 
 @dataclass(frozen=True)

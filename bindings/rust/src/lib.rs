@@ -49,6 +49,7 @@ pub mod parallel;
 mod particle;
 mod plasticity;
 mod refusal;
+mod reasons;
 mod reports;
 #[cfg(feature = "alloc")]
 mod sheets;
@@ -72,6 +73,7 @@ pub use lists::{
 pub use particle::Particle;
 pub use plasticity::{DruckerPragerPlasticity, Model, NaccPlasticity, Outcome, RankinePlasticity, SnowPlasticity};
 pub use refusal::Refusal;
+pub use reasons::{Bound, Place, Reason};
 pub use reports::{report, Column, Report};
 #[cfg(feature = "alloc")]
 pub use sheets::{read_sheet, run_sheet, write_sheet, write_sheet_with_determinants, Ran, Sheet};

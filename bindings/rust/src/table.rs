@@ -138,6 +138,17 @@ pub const REPORT_GREATEST: usize = 2;
 pub const REPORT_TOTAL: usize = 3;
 pub const REPORT_OUTSIDE: usize = 4;
 pub const REPORT_NOT_FINITE: usize = 5;
+// Why (section 7): the entries of a reason. Tests, steps and branches are numbered in docs/STEPS.md.
+pub const REASON: usize = 11;
+pub const REASON_KIND: usize = 0;
+pub const REASON_REFUSAL: usize = 1;
+pub const REASON_STEP: usize = 2;
+pub const REASON_OF: usize = 3;
+pub const REASON_PLACE: usize = 4;
+pub const REASON_TEST: usize = 5;
+pub const REASON_HELD: usize = 6;
+pub const REASON_BRANCH: usize = 7;
+pub const REASON_NUMBERS: usize = 8;
 
 extern "C" {
     pub fn pasoletu_exp(x: f64, out: *mut f64, out_length: usize) -> u8;
@@ -202,4 +213,5 @@ extern "C" {
     pub fn pasoletu_end_parts(records: *const f64, records_length: usize, answers: *const u64, answers_length: usize, state: *mut u64, state_length: usize, progress: *mut u64, progress_length: usize) -> u8;
     pub fn pasoletu_report(records: *const f64, records_length: usize, report: *mut u64, report_length: usize) -> u8;
     pub fn pasoletu_join_reports(first: *const u64, first_length: usize, second: *const u64, second_length: usize, joined: *mut u64, joined_length: usize) -> u8;
+    pub fn pasoletu_why(model: u64, parameters: *const f64, parameters_length: usize, record: *const f64, record_length: usize, reason: *mut u64, reason_length: usize) -> u8;
 }

@@ -7,3 +7,4 @@ pub mod Reports
 pub mod Sheets
 pub mod Update
 pub mod Zones
+pub mod Causes

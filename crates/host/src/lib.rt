@@ -1,4 +1,5 @@
 // The calls for C, Rust and Python hosts: each answers 0 or RULES' refusal number, and writes nothing where it refuses.
+pub mod causes;
 mod counts_out;
 pub mod determinants;
 pub mod elasticity;

@@ -3,8 +3,10 @@ use mathlib.Core.Bool.{Bool, _&&_}
 use mathlib.Core.List.{List, [], _∷_, _++_}
 use lib.Ieee as Ieee
 use lib.Ieee.{Float}
+use Rattle.numbers.specs.Floats.{finite}
 use Rattle.tensor.specs.Matrix as tensor
 use Rattle.tensor.specs.Matrix.{recomposeOf, rowsOf}
+use Rattle.tensor.specs.Finite.{rowFinite, matFinite}
 use Rattle.plasticity.specs.State.{refused}
 use Rattle.plasticity.specs.declared.Outcome.the-variants as outcome
 use Rattle.plasticity.specs.declared.State.{State}
@@ -13,9 +15,12 @@ use Rattle.walk.specs.Expr.{Expr, num, _+_, _-_, _*_, _/_, value, nums}
 use Rattle.walk.specs.Walk.{Walk, ln, less, flag, inputs, ask, work, either, branch, results, end, _then_, picked, result}
 use Rattle.walk.specs.Matrix.{product}
 use Rattle.walk.specs.Update.{Change, untouched, stored, updatedOf, recomposed, floatsOf}
+use Rattle.reason.specs.Traced.{Traced, reached, stopped, traced}
 use Rattle.plasticity_drucker_prager.specs.declared.Branch.{Branch}
 use Rattle.plasticity_drucker_prager.specs.declared.Branch.the-variants as branches
 use Rattle.plasticity_drucker_prager.specs.declared.DruckerPragerPlasticity.{DruckerPragerPlasticity}
+use Rattle.plasticity_drucker_prager.specs.declared.Measured.{Measured}
+use Rattle.plasticity_drucker_prager.specs.declared.Measured.the-variants as measured
 use Rattle.plasticity_drucker_prager.specs.Law.{parametersOf}
 use Rattle.plasticity_drucker_prager.specs.Alpha.{dim, alphaWalk}
 use Rattle.plasticity_drucker_prager.specs.Projection.{zero, Way, isotropic, expanding, inside, surface, projectWalk}
@@ -45,9 +50,15 @@ storeWalk u sigma vt d h gain dq s =
 abbrev pub correctedOf : DruckerPragerPlasticity → Float → Float → Float → Float
 correctedOf p prev grown diff = picked (less zero (num diff)) (num grown) (num prev + num diff * num (p .«volume_correction»))
 
--- new singular values. "With diff > 0 the new determinant stands; otherwise previous + diff * correction."
-unfoldable pub movedWalk : DruckerPragerPlasticity → List Float → Float → List (List Float) → List (List Float) → State → Walk Change
-movedWalk p sigma dq u vt s =
+-- plastic determinant, plastic hardening and log gain
+pub record Measures : Type 0 where
+  pub determinant : Expr
+  pub hardening : Expr
+  pub gain : Expr
+
+-- of new singular values. "With diff > 0 the new determinant stands; otherwise previous + diff * correction."
+abbrev pub measureWalk : DruckerPragerPlasticity → List Float → Float → State → Walk Measures
+measureWalk p sigma dq s =
     let prev = product (s .sigma) in
     let grown = product sigma in
     work 16 (grown - prev) (λ diff.
@@ -55,7 +66,11 @@ movedWalk p sigma dq u vt s =
     work 16 (num (s .scalars .«plastic_determinant») * (prev / new)) (λ d.
     ask 17 ln prev (λ x.
     ask 18 ln new (λ y.
-    storeWalk u sigma vt d (num (s .scalars .«plastic_hardening») + num dq) (num (s .scalars .«log_gain») + (x - y)) dq s)))))
+    end (record { determinant = d; hardening = num (s .scalars .«plastic_hardening») + num dq; gain = num (s .scalars .«log_gain») + (x - y) }))))))
+
+unfoldable pub movedWalk : DruckerPragerPlasticity → List Float → Float → List (List Float) → List (List Float) → State → Walk Change
+movedWalk p sigma dq u vt s =
+    measureWalk p sigma dq s then (λ m. storeWalk u sigma vt (m .determinant) (m .hardening) (m .gain) dq s)
 
 -- after the projection
 unfoldable pub wayWalk : DruckerPragerPlasticity → Way → List Float → Float → List (List Float) → List (List Float) → State → Walk Change
@@ -83,15 +98,25 @@ unfoldable pub druckerWalk : DruckerPragerPlasticity → List (List Float) → L
 druckerWalk p u vt s = inputs (floats p u vt s) (runWalk p u vt s)
 
 -- ---- as the code hands it on: a refused call hands the state back as it came
+abbrev pub measuredAs : Traced Measures → Measured
+measuredAs (reached m) = measured.Values (value (m .determinant)) (value (m .hardening)) (value (m .gain))
+measuredAs (stopped n step) = measured.Refused n step
+
+unfoldable pub measuredOf : DruckerPragerPlasticity → List Float → Float → State → Measured
+measuredOf p sigma dq s = measuredAs (traced (measureWalk p sigma dq s))
+
+abbrev pub finiteResults : List (List Float) → List Float → Float → Float → Float → Bool
+finiteResults f sigma d h gain = (matFinite f && rowFinite sigma) && ((finite d && finite h) && finite gain)
+
 abbrev pub untouchedOf : State → Updated
 untouchedOf s = record { state = s; outcome = outcome.Untouched }
 
 abbrev pub followedOf : Branch → DruckerPragerPlasticity → List Float → Float → List (List Float) → List (List Float) → State → Updated
-followedOf (branches.Isotropic x y) p sigma dq u vt s = updatedOf s (result (movedWalk p sigma dq u vt s))
+followedOf (branches.Isotropic x y z) p sigma dq u vt s = updatedOf s (result (movedWalk p sigma dq u vt s))
 followedOf (branches.Expanding x y) p sigma dq u vt s = updatedOf s (result (movedWalk p sigma dq u vt s))
 followedOf (branches.Inside x y) p sigma dq u vt s = untouchedOf s
 followedOf (branches.Surface x y z) p sigma dq u vt s = updatedOf s (result (movedWalk p sigma dq u vt s))
-followedOf (branches.Refused n) p sigma dq u vt s = refused n s
+followedOf (branches.Refused n step) p sigma dq u vt s = refused n s
 
 abbrev pub druckerUpdate : DruckerPragerPlasticity → List (List Float) → List (List Float) → State → Updated
 druckerUpdate p u vt s = updatedOf s (result (druckerWalk p u vt s))

@@ -1,19 +1,22 @@
 // The update of one particle.
 use crate::Branch;
 use crate::DruckerPragerPlasticity;
+use crate::Measured;
 use crate::Projected;
+use crate::steps;
 use answers::Answer;
 use plasticity::Outcome;
 use plasticity::Scalars;
 use plasticity::State;
 use plasticity::Updated;
+use reason::Number;
 ghost use mathlib.Core.Path.{_≡_};
 ghost use mathlib.Core.Bool.{true};
 ghost use Rattle.plasticity.specs.State.{inputsFinite};
 ghost use Rattle.walk.specs.Expr.{num};
 ghost use Rattle.walk.specs.Walk.{result};
 ghost use Rattle.walk.specs.Update.{updatedOf};
-ghost use Rattle.plasticity_drucker_prager.specs.DruckerPrager.{untouchedOf, stateOf, storeWalk, movedWalk, staysOf, runWalk, correctedOf, followedOf, druckerUpdate};
+ghost use Rattle.plasticity_drucker_prager.specs.DruckerPrager.{untouchedOf, stateOf, storeWalk, movedWalk, measuredOf, finiteResults, staysOf, runWalk, correctedOf, followedOf, druckerUpdate};
 
 fn untouched(s: State) -> Updated
     ensures { λ r. ⌜ r ≡ untouchedOf s ⌝ }
@@ -42,6 +45,15 @@ fn state_of(f: [[f64; 3]; 3], sigma: [f64; 3], d: f64, hardening: f64, gain: f64
     }
 }
 
+// Whether all results are finite.
+pub fn finite_results(f: [[f64; 3]; 3], sigma: [f64; 3], d: f64, hardening: f64, gain: f64) -> bool
+    ensures { λ r. ⌜ r ≡ finiteResults f sigma d hardening gain ⌝ }
+{
+    tensor::mat_finite(f)
+        & tensor::row_finite(sigma)
+        & (numbers::is_finite(d) & numbers::is_finite(hardening) & numbers::is_finite(gain))
+}
+
 // The results are stored where all are finite; then dq, a summand of the hardening, is finite too.
 fn store(
     u: [[f64; 3]; 3],
@@ -56,10 +68,7 @@ fn store(
     ensures { λ r. ⌜ r ≡ updatedOf s (result (storeWalk u sigma vt (num d) (num hardening) (num gain) dq s)) ⌝ }
 {
     let f = tensor::recompose(u, sigma, vt);
-    if tensor::mat_finite(f)
-        & tensor::row_finite(sigma)
-        & (numbers::is_finite(d) & numbers::is_finite(hardening) & numbers::is_finite(gain))
-    {
+    if finite_results(f, sigma, d, hardening, gain) {
         Updated {
             state: state_of(f, sigma, d, hardening, gain, s),
             outcome: Outcome::Stored(dq),
@@ -81,16 +90,9 @@ impl DruckerPragerPlasticity {
         }
     }
 
-    // New singular values: determinants, logarithms, hardening, recomposed F.
-    fn moved(
-        self,
-        sigma: [f64; 3],
-        dq: f64,
-        u: [[f64; 3]; 3],
-        vt: [[f64; 3]; 3],
-        s: State,
-    ) -> Updated
-        ensures { λ r. ⌜ r ≡ updatedOf s (result (movedWalk self sigma dq u vt s)) ⌝ }
+    // What is stored beside F and sigma.
+    pub(crate) fn measured(self, sigma: [f64; 3], dq: f64, s: State) -> Measured
+        ensures { λ r. ⌜ r ≡ measuredOf self sigma dq s ⌝ }
     {
         let old = s.sigma;
         let prev = tensor::product(old);
@@ -106,20 +108,39 @@ impl DruckerPragerPlasticity {
                             Answer::Value(y) => {
                                 let hardening = s.scalars.plastic_hardening + dq;
                                 let gain = s.scalars.log_gain + (x - y);
-                                store(u, sigma, vt, d, hardening, gain, dq, s)
+                                Measured::Values(d, hardening, gain)
                             }
-                            Answer::Refused(n) => plasticity::refuse(n, s),
+                            Answer::Refused(n) => Measured::Refused(n, steps::LOG_AFTER),
                         },
-                        Answer::Refused(n) => plasticity::refuse(n, s),
+                        Answer::Refused(n) => Measured::Refused(n, steps::LOG_BEFORE),
                     }
                 } else {
-                    plasticity::refuse(answers::NO_NUMBER, s)
+                    Measured::Refused(answers::NO_NUMBER, steps::DETERMINANTS)
                 }
             } else {
-                plasticity::refuse(answers::NO_NUMBER, s)
+                Measured::Refused(answers::NO_NUMBER, steps::DETERMINANTS)
             }
         } else {
-            plasticity::refuse(answers::NO_NUMBER, s)
+            Measured::Refused(answers::NO_NUMBER, steps::DETERMINANTS)
+        }
+    }
+
+    // New singular values: determinants, logarithms, hardening, recomposed F.
+    fn moved(
+        self,
+        sigma: [f64; 3],
+        dq: f64,
+        u: [[f64; 3]; 3],
+        vt: [[f64; 3]; 3],
+        s: State,
+    ) -> Updated
+        ensures { λ r. ⌜ r ≡ updatedOf s (result (movedWalk self sigma dq u vt s)) ⌝ }
+    {
+        match self.measured(sigma, dq, s) {
+            Measured::Values(d, hardening, gain) => {
+                store(u, sigma, vt, d, hardening, gain, dq, s)
+            }
+            Measured::Refused(n, _) => plasticity::refuse(n, s),
         }
     }
 
@@ -129,16 +150,16 @@ impl DruckerPragerPlasticity {
         let b = q.branch;
         let sigma = q.sigma;
         match b {
-            Branch::Isotropic(_, _) => self.moved(sigma, q.dq, u, vt, s),
+            Branch::Isotropic(_, _, _) => self.moved(sigma, q.dq, u, vt, s),
             Branch::Expanding(_, _) => self.moved(sigma, q.dq, u, vt, s),
             Branch::Inside(_, _) => untouched(s),
             Branch::Surface(_, _, _) => self.moved(sigma, q.dq, u, vt, s),
-            Branch::Refused(n) => plasticity::refuse(n, s),
+            Branch::Refused(n, _) => plasticity::refuse(n, s),
         }
     }
 
     // Whether the law leaves a particle of this phase alone.
-    fn stays(self, phase: f64) -> bool
+    pub(crate) fn stays(self, phase: f64) -> bool
         ensures { λ r. ⌜ r ≡ staysOf self phase ⌝ }
     {
         self.only_active_when_failed & (phase != 0.0)
@@ -152,12 +173,12 @@ impl DruckerPragerPlasticity {
             untouched(s)
         } else {
             match self.alpha_on_path(s.scalars.plastic_hardening) {
-                Answer::Value(a) => {
+                Number::Value(a) => {
                     let sigma = s.sigma;
                     let q = self.projected(sigma, s.scalars.log_gain, a);
                     self.branch(q, u, vt, s)
                 }
-                Answer::Refused(n) => plasticity::refuse(n, s),
+                Number::Refused(n, _) => plasticity::refuse(n, s),
             }
         }
     }

@@ -18,10 +18,11 @@ use Rattle.plasticity.specs.declared.Outcome.the-variants as outcome
 use Rattle.plasticity.specs.declared.State.{State}
 use Rattle.plasticity.specs.declared.Updated.{Updated}
 use Rattle.walk.specs.Expr.{Expr, num, neg, _+_, _-_, _*_, _/_, value, nums}
-use Rattle.walk.specs.Walk.{Walk, Test, ln, root, sinh, third, two-thirds, minus-two-thirds, less, flag, inputs, ask, asks, work, works, most, size, branch, split, when, results, end, _then_, Ended, given, refused, result}
+use Rattle.walk.specs.Walk.{Walk, Test, ln, root, sinh, third, two-thirds, minus-two-thirds, less, flag, inputs, ask, asks, work, works, most, size, branch, split, when, results, end, _then_, Ended, result}
 use Rattle.walk.specs.Matrix.{product}
 use Rattle.walk.specs.Every.{flat}
 use Rattle.walk.specs.Update.{Change, untouched, stored, updatedOf, recomposed, floatsOf}
+use Rattle.reason.specs.Traced.{Traced, reached, stopped, stepless}
 use Rattle.plasticity_nacc.specs.declared.Branch.{Branch}
 use Rattle.plasticity_nacc.specs.declared.Branch.the-variants.{Upper, Lower, Inside, Surface, Refused}
 use Rattle.plasticity_nacc.specs.declared.NaccArguments.{NaccArguments}
@@ -233,36 +234,40 @@ branchOf (lower x y) = Lower x y
 branchOf (inside x y) = Inside x y
 branchOf (surface x y) = Surface x y
 
-abbrev pub refusedStep : ℕ → Stepped
-refusedStep n = record { branch = Refused n; sigma = zeroRow; alpha = tensor.zero }
+abbrev pub refusedStep : ℕ → ℕ → Stepped
+refusedStep n step = record { branch = Refused n step; sigma = zeroRow; alpha = tensor.zero }
 
-abbrev pub asBranch : Branch → Ended Shape → Stepped
-asBranch b (given q) = record { branch = b; sigma = q .sigma; alpha = q .alpha }
-asBranch b (refused n) = refusedStep n
+abbrev pub asBranch : Branch → Traced Shape → Stepped
+asBranch b (reached q) = record { branch = b; sigma = q .sigma; alpha = q .alpha }
+asBranch b (stopped n step) = refusedStep n step
 
-abbrev pub steppedOf : Ended Landed → Stepped
-steppedOf (given q) = record { branch = branchOf (q .way); sigma = q .shape .sigma; alpha = q .shape .alpha }
-steppedOf (refused n) = refusedStep n
+abbrev pub steppedOf : Traced Landed → Stepped
+steppedOf (reached q) = record { branch = branchOf (q .way); sigma = q .shape .sigma; alpha = q .shape .alpha }
+steppedOf (stopped n step) = refusedStep n step
 
-abbrev pub refusedProjection : ℕ → Projected
-refusedProjection n = record { branch = Refused n; f = zeroRows; sigma = zeroRow; alpha = tensor.zero }
+abbrev pub refusedProjection : ℕ → ℕ → Projected
+refusedProjection n step = record { branch = Refused n step; f = zeroRows; sigma = zeroRow; alpha = tensor.zero }
 
+abbrev pub walkedOf : Traced Result → Projected
+walkedOf (reached q) = record { branch = branchOf (q .way); f = q .f; sigma = q .shape .sigma; alpha = q .shape .alpha }
+walkedOf (stopped n step) = refusedProjection n step
+
+-- where the step isn't told
 abbrev pub projectedOf : Ended Result → Projected
-projectedOf (given q) = record { branch = branchOf (q .way); f = q .f; sigma = q .shape .sigma; alpha = q .shape .alpha }
-projectedOf (refused n) = refusedProjection n
+projectedOf x = walkedOf (stepless x)
 
 unfoldable pub recomposedOf : Branch → List (List Float) → List Float → List (List Float) → Float → Projected
 recomposedOf b u sigma vt alpha =
     cond ((matFinite (recomposeOf u sigma vt) && rowFinite sigma) && finite alpha)
     (record { branch = b; f = rowsOf (recomposeOf u sigma vt); sigma = sigma; alpha = alpha })
-    (refusedProjection noNumber)
+    (refusedProjection noNumber 30)
 
 abbrev pub byBranch : Branch → List Float → Float → Rows → List (List Float) → List (List Float) → Projected
 byBranch (Upper x y) sigma alpha f u vt = recomposedOf (Upper x y) u sigma vt alpha
 byBranch (Lower x y) sigma alpha f u vt = recomposedOf (Lower x y) u sigma vt alpha
 byBranch (Inside x y) sigma alpha f u vt = record { branch = Inside x y; f = f; sigma = sigma; alpha = alpha }
 byBranch (Surface x y) sigma alpha f u vt = recomposedOf (Surface x y) u sigma vt alpha
-byBranch (Refused n) sigma alpha f u vt = refusedProjection n
+byBranch (Refused n step) sigma alpha f u vt = refusedProjection n step
 
 -- as it is handed out: the branch and what it compared stay inside
 abbrev pub outcomeOf : Branch → Float → Outcome
@@ -270,7 +275,7 @@ outcomeOf (Upper x y) alpha = outcome.Stored alpha
 outcomeOf (Lower x y) alpha = outcome.Stored alpha
 outcomeOf (Inside x y) alpha = outcome.Untouched
 outcomeOf (Surface x y) alpha = outcome.Stored alpha
-outcomeOf (Refused n) alpha = outcome.Refused n
+outcomeOf (Refused n step) alpha = outcome.Refused n
 
 abbrev pub resultsOf : Projected → Results
 resultsOf q = record { outcome = outcomeOf (q .branch) (q .alpha); f = q .f; sigma = q .sigma }
@@ -283,7 +288,7 @@ storedBy (Upper x y) f sigma alpha s = storedAs f sigma alpha s
 storedBy (Lower x y) f sigma alpha s = storedAs f sigma alpha s
 storedBy (Inside x y) f sigma alpha s = record { state = s; outcome = outcome.Untouched }
 storedBy (Surface x y) f sigma alpha s = storedAs f sigma alpha s
-storedBy (Refused n) f sigma alpha s = law.refused n s
+storedBy (Refused n step) f sigma alpha s = law.refused n s
 
 abbrev pub naccUpdate : NaccPlasticity → List (List Float) → List (List Float) → State → Updated
 naccUpdate p u vt s = updatedOf s (result (naccWalk p u vt s))

@@ -3,12 +3,13 @@ use crate::Branch;
 use crate::NaccPlasticity;
 use crate::Stepped;
 use crate::Trial;
+use crate::steps;
 use crate::surface;
 use answers::Answer;
 ghost use mathlib.Core.Path.{_≡_};
 ghost use mathlib.Core.Bool.{true, _&&_};
 ghost use Rattle.numbers.specs.Floats.{finite, isNumber};
-ghost use Rattle.walk.specs.Walk.{result};
+ghost use Rattle.reason.specs.Traced.{traced};
 ghost use Rattle.plasticity_nacc.specs.Formulas.{trialOf};
 ghost use Rattle.plasticity_nacc.specs.Nacc.{steppedOf, settled, yieldWalk, lowerWalk, branchWalk, stepsWalk};
 
@@ -16,7 +17,7 @@ impl NaccPlasticity {
     // Between the tips.
     fn yielded(self, t: Trial, sigma: [f64; 3], alpha: f64) -> Stepped
         requires { ⌜ settled self t ≡ true ⌝ }
-        ensures { λ r. ⌜ r ≡ steppedOf (result (yieldWalk self t sigma alpha)) ⌝ }
+        ensures { λ r. ⌜ r ≡ steppedOf (traced (yieldWalk self t sigma alpha)) ⌝ }
     {
         let y = self.y0() * t.squares + self.y1(t);
         if numbers::is_number(y) {
@@ -30,39 +31,39 @@ impl NaccPlasticity {
                 self.surface(Branch::Surface(y, 0.0001), t, alpha)
             }
         } else {
-            surface::refused_step(3)
+            surface::refused_step(answers::NO_NUMBER, steps::YIELD)
         }
     }
 
     // Not above the upper tip.
     fn lowered(self, t: Trial, sigma: [f64; 3], alpha: f64) -> Stepped
         requires { ⌜ isNumber (t .p0) && isNumber (t .p) ≡ true ⌝ }
-        ensures { λ r. ⌜ r ≡ steppedOf (result (lowerWalk self t sigma alpha)) ⌝ }
+        ensures { λ r. ⌜ r ≡ steppedOf (traced (lowerWalk self t sigma alpha)) ⌝ }
     {
         let low = -self.cohesion * t.p0;
         if numbers::is_number(low) {
             if t.p < low {
                 match square_root::sqrt_on_path(2.0 * self.cohesion * t.p0 / self.kappa + 1.0) {
                     Answer::Value(x) => self.tip(Branch::Lower(t.p, low), x, t.j, alpha),
-                    Answer::Refused(n) => surface::refused_step(n),
+                    Answer::Refused(n) => surface::refused_step(n, steps::TIP_VOLUME),
                 }
             } else {
                 self.yielded(t, sigma, alpha)
             }
         } else {
-            surface::refused_step(3)
+            surface::refused_step(answers::NO_NUMBER, steps::LOWER)
         }
     }
 
     // The branch of a trial state whose pressures are numbers.
     fn branched(self, t: Trial, sigma: [f64; 3], alpha: f64) -> Stepped
         requires { ⌜ isNumber (t .p0) && (isNumber (t .squares) && isNumber (t .p)) ≡ true ⌝ }
-        ensures { λ r. ⌜ r ≡ steppedOf (result (branchWalk self t sigma alpha)) ⌝ }
+        ensures { λ r. ⌜ r ≡ steppedOf (traced (branchWalk self t sigma alpha)) ⌝ }
     {
         if t.p > t.p0 {
             match square_root::sqrt_on_path(self.volume_square(t.p0)) {
                 Answer::Value(x) => self.tip(Branch::Upper(t.p, t.p0), x, t.j, alpha),
-                Answer::Refused(n) => surface::refused_step(n),
+                Answer::Refused(n) => surface::refused_step(n, steps::TIP_VOLUME),
             }
         } else {
             self.lowered(t, sigma, alpha)
@@ -95,7 +96,7 @@ impl NaccPlasticity {
     // NaN.
     pub(crate) fn steps(self, sigma: [f64; 3], alpha: f64) -> Stepped
         requires { ⌜ finite alpha ≡ true ⌝ }
-        ensures { λ r. ⌜ r ≡ steppedOf (result (stepsWalk self sigma alpha)) ⌝ }
+        ensures { λ r. ⌜ r ≡ steppedOf (traced (stepsWalk self sigma alpha)) ⌝ }
     {
         match exponential::sinh_on_path(self.hardening_factor * numbers::max(-alpha, 0.0)) {
             Answer::Value(x) => {
@@ -108,16 +109,16 @@ impl NaccPlasticity {
                             if numbers::is_number(t.squares) & numbers::is_number(t.p) {
                                 self.branched(t, sigma, alpha)
                             } else {
-                                surface::refused_step(3)
+                                surface::refused_step(answers::NO_NUMBER, steps::TRIAL)
                             }
                         }
-                        Answer::Refused(n) => surface::refused_step(n),
+                        Answer::Refused(n) => surface::refused_step(n, steps::POWER),
                     }
                 } else {
-                    surface::refused_step(3)
+                    surface::refused_step(answers::NO_NUMBER, steps::P0)
                 }
             }
-            Answer::Refused(n) => surface::refused_step(n),
+            Answer::Refused(n) => surface::refused_step(n, steps::SINH),
         }
     }
 }

@@ -2,6 +2,8 @@
 mod arguments;
 mod branches;
 mod hardening;
+mod reasons;
+mod steps;
 mod surface;
 mod update;
 
@@ -45,7 +47,7 @@ pub struct Trial {
     pub p: f64,
 }
 
-// The branch taken, with the two numbers last compared; or the refusal's number.
+// The branch taken, with the two numbers last compared; or the refusal's number and its step.
 pub enum Branch {
     // The trial pressure and p0.
     Upper(f64, f64),
@@ -55,7 +57,7 @@ pub enum Branch {
     Inside(f64, f64),
     // y and 1e-4.
     Surface(f64, f64),
-    Refused(u8),
+    Refused(u8, u8),
 }
 
 // The branch with the singular values and alpha after it; zeros stand beside a refusal.

@@ -3,20 +3,22 @@ use crate::Branch;
 use crate::NaccPlasticity;
 use crate::Stepped;
 use crate::Trial;
+use crate::steps;
 use answers::Answer;
+use reason::Number;
 ghost use mathlib.Core.Path.{_≡_};
 ghost use mathlib.Core.Bool.{true};
 ghost use Rattle.walk.specs.Expr.{num, value, values};
-ghost use Rattle.walk.specs.Walk.{result};
+ghost use Rattle.reason.specs.Traced.{traced};
 ghost use Rattle.plasticity_nacc.specs.Formulas.{y0, y1, spread};
 ghost use Rattle.plasticity_nacc.specs.Nacc.{refusedStep, asBranch, tipWalk, rootsWalk, landWalk, surfaceWalk, settled};
 
-pub fn refused_step(n: u8) -> Stepped
-    ensures { λ r. ⌜ r ≡ refusedStep n ⌝ }
+pub fn refused_step(n: u8, step: u8) -> Stepped
+    ensures { λ r. ⌜ r ≡ refusedStep n step ⌝ }
 {
     let z = [0.0, 0.0, 0.0];
     Stepped {
-        branch: Branch::Refused(n),
+        branch: Branch::Refused(n, step),
         sigma: z,
         alpha: 0.0,
     }
@@ -35,7 +37,7 @@ fn spread(k: f64, s: [f64; 3], norm: f64, mean: f64) -> [f64; 3]
 
 // The singular values are the roots of these.
 fn roots(b: Branch, e: [f64; 3], alpha: f64) -> Stepped
-    ensures { λ r. ⌜ r ≡ asBranch b (result (rootsWalk e alpha)) ⌝ }
+    ensures { λ r. ⌜ r ≡ asBranch b (traced (rootsWalk e alpha)) ⌝ }
 {
     match square_root::sqrt_on_path(e[0]) {
         Answer::Value(x) => match square_root::sqrt_on_path(e[1]) {
@@ -48,18 +50,18 @@ fn roots(b: Branch, e: [f64; 3], alpha: f64) -> Stepped
                         alpha,
                     }
                 }
-                Answer::Refused(n) => refused_step(n),
+                Answer::Refused(n) => refused_step(n, steps::ROOTS),
             },
-            Answer::Refused(n) => refused_step(n),
+            Answer::Refused(n) => refused_step(n, steps::ROOTS),
         },
-        Answer::Refused(n) => refused_step(n),
+        Answer::Refused(n) => refused_step(n, steps::ROOTS),
     }
 }
 
 impl NaccPlasticity {
     // All singular values alike, at the tip whose volume is x.
     pub(crate) fn tip(self, b: Branch, x: f64, j: f64, alpha: f64) -> Stepped
-        ensures { λ r. ⌜ r ≡ asBranch b (result (tipWalk self (num x) j alpha)) ⌝ }
+        ensures { λ r. ⌜ r ≡ asBranch b (traced (tipWalk self (num x) j alpha)) ⌝ }
     {
         match thirds::cbrt_on_path(x) {
             Answer::Value(e) => {
@@ -71,7 +73,7 @@ impl NaccPlasticity {
                             sigma,
                             alpha: alpha + l,
                         },
-                        Answer::Refused(n) => refused_step(n),
+                        Answer::Refused(n) => refused_step(n, steps::TIP_LOG),
                     }
                 } else {
                     Stepped {
@@ -81,7 +83,7 @@ impl NaccPlasticity {
                     }
                 }
             }
-            Answer::Refused(n) => refused_step(n),
+            Answer::Refused(n) => refused_step(n, steps::TIP_SIZE),
         }
     }
 
@@ -99,7 +101,7 @@ impl NaccPlasticity {
 
     // Onto the surface, once the new alpha is known.
     fn land(self, b: Branch, t: Trial, alpha: f64) -> Stepped
-        ensures { λ r. ⌜ r ≡ asBranch b (result (landWalk self t alpha)) ⌝ }
+        ensures { λ r. ⌜ r ≡ asBranch b (traced (landWalk self t alpha)) ⌝ }
     {
         match square_root::sqrt_on_path(-self.y1(t) / self.y0()) {
             Answer::Value(r) => match thirds::cbrt_squared_on_path(t.j) {
@@ -113,29 +115,29 @@ impl NaccPlasticity {
                                 if tensor::row_number(e) {
                                     roots(b, e, alpha)
                                 } else {
-                                    refused_step(3)
+                                    refused_step(answers::NO_NUMBER, steps::SQUARES)
                                 }
                             }
-                            Answer::Refused(n) => refused_step(n),
+                            Answer::Refused(n) => refused_step(n, steps::NORM),
                         }
                     } else {
-                        refused_step(3)
+                        refused_step(answers::NO_NUMBER, steps::SCALE)
                     }
                 }
-                Answer::Refused(n) => refused_step(n),
+                Answer::Refused(n) => refused_step(n, steps::POWER_BACK),
             },
-            Answer::Refused(n) => refused_step(n),
+            Answer::Refused(n) => refused_step(n, steps::RATIO),
         }
     }
 
     // The hardening step comes first.
     pub(crate) fn surface(self, b: Branch, t: Trial, alpha: f64) -> Stepped
         requires { ⌜ settled self t ≡ true ⌝ }
-        ensures { λ r. ⌜ r ≡ asBranch b (result (surfaceWalk self t alpha)) ⌝ }
+        ensures { λ r. ⌜ r ≡ asBranch b (traced (surfaceWalk self t alpha)) ⌝ }
     {
         match self.hardened(t, alpha) {
-            Answer::Value(a) => self.land(b, t, a),
-            Answer::Refused(n) => refused_step(n),
+            Number::Value(a) => self.land(b, t, a),
+            Number::Refused(n, step) => refused_step(n, step),
         }
     }
 }

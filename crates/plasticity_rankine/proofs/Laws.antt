@@ -129,7 +129,7 @@ values-change [] b = refl
 values-change (x ∷ a) [] = refl
 values-change (x ∷ a) (y ∷ b) = ap (λ t. sub (value x) (value y) ∷ t) (values-change a b)
 
-change-law : (old : List Float) (new : List Expr) → values (pairwise _-_ (nums old) new) ≡ rowSubOf old (values new)
+pub change-law : (old : List Float) (new : List Expr) → values (pairwise _-_ (nums old) new) ≡ rowSubOf old (values new)
 unfolding rowSubOf
 change-law old new = values-change (nums old) new ∙ ap (λ l. pairwise sub l (values new)) (values-nums old)
 

@@ -1,6 +1,7 @@
 // Rankine: log strains are returned to the tensile surface (plasticity_rankine.rs; RULES, section 5).
 mod arguments;
 mod projection;
+mod reasons;
 mod sorting;
 mod update;
 

@@ -42,13 +42,13 @@ fn returned(q: Projected) -> VectorAnswer
 
 impl RankinePlasticity {
     // The left sides of the three tests.
-    fn first_side(self, sum: f64, a: f64) -> f64
+    pub(crate) fn first_side(self, sum: f64, a: f64) -> f64
         ensures { λ r. ⌜ r ≡ value (firstSide self (num sum) (num a)) ⌝ }
     {
         self.lambda * sum + 2.0 * self.mu * a
     }
 
-    fn second_side(self, sum: f64, a: f64, b: f64) -> f64
+    pub(crate) fn second_side(self, sum: f64, a: f64, b: f64) -> f64
         ensures { λ r. ⌜ r ≡ value (secondSide self (num sum) (num a) (num b)) ⌝ }
     {
         (2.0 * self.mu + self.lambda) * b + self.lambda * (sum - a)

@@ -1,4 +1,4 @@
--- `plasticity_nacc::NaccPlasticity::hardened` answers `answerAs (result (hardenedWalk self t alpha))`.
+-- `plasticity_nacc::NaccPlasticity::hardened` answers `numberAs (traced (hardenedWalk self t alpha))`.
 use borrow.Author.Needs.{needs}
 use Rattle.plasticity_nacc.proofs.Laws.{harden-law}
 use Rattle.plasticity_nacc.proofs.NaccPlasticity.hardened.Statement.{statement}

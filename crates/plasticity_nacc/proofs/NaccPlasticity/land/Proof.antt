@@ -1,4 +1,4 @@
--- `plasticity_nacc::NaccPlasticity::land` answers `asBranch b (result (landWalk self t alpha))`.
+-- `plasticity_nacc::NaccPlasticity::land` answers `asBranch b (traced (landWalk self t alpha))`.
 use borrow.Author.Needs.{needs}
 use Rattle.plasticity_nacc.specs.Nacc.{landWalk}
 use Rattle.plasticity_nacc.proofs.NaccPlasticity.land.Statement.{statement}

@@ -1,4 +1,4 @@
--- `plasticity_nacc::NaccPlasticity::lowered` answers `steppedOf (result (lowerWalk self t sigma alpha))`.
+-- `plasticity_nacc::NaccPlasticity::lowered` answers `steppedOf (traced (lowerWalk self t sigma alpha))`.
 use borrow.Author.Needs.{needs}
 use mathlib.Core.Path.{sym}
 use Rattle.numbers.specs.Floats.{isNumber}

@@ -1,4 +1,4 @@
--- `plasticity_nacc::NaccPlasticity::steps` answers `steppedOf (result (stepsWalk self sigma alpha))`.
+-- `plasticity_nacc::NaccPlasticity::steps` answers `steppedOf (traced (stepsWalk self sigma alpha))`.
 use borrow.Author.Needs.{needs}
 use Rattle.walk.specs.Matrix.{value-product}
 use Rattle.plasticity_nacc.specs.Formulas.{trialOf}

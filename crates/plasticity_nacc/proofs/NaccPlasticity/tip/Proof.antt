@@ -1,4 +1,4 @@
--- `plasticity_nacc::NaccPlasticity::tip` answers `asBranch b (result (tipWalk self (num x) j alpha))`.
+-- `plasticity_nacc::NaccPlasticity::tip` answers `asBranch b (traced (tipWalk self (num x) j alpha))`.
 use borrow.Author.Needs.{needs}
 use Rattle.plasticity_nacc.specs.Nacc.{tipWalk}
 use Rattle.plasticity_nacc.proofs.NaccPlasticity.tip.Statement.{statement}

@@ -1,4 +1,4 @@
--- `plasticity_nacc::NaccPlasticity::yielded` answers `steppedOf (result (yieldWalk self t sigma alpha))`.
+-- `plasticity_nacc::NaccPlasticity::yielded` answers `steppedOf (traced (yieldWalk self t sigma alpha))`.
 use borrow.Author.Needs.{needs}
 use Rattle.plasticity_nacc.specs.Nacc.{yieldWalk}
 use Rattle.plasticity_nacc.proofs.Laws.{shape-then, small-number}
