@@ -14,11 +14,13 @@ use Rattle.plasticity.specs.declared.State.{State}
 use Rattle.walk.specs.Expr.{Expr, num, value}
 use Rattle.walk.specs.Walk.{Walk, root, less, end, branch, ask, _then_}
 use Rattle.walk.specs.Exact.{path, final, last, lastFrom, Reason}
+use Rattle.walk.specs.Update.{Change}
 use Rattle.walk.specs.Reason.{final-then, last-then, Told, branch-told, Branchless, quiet, branchless-when, branchless-asks, branchless-then}
 use Rattle.walk.specs.Numbers.{Stops, refused-when}
 use Rattle.plasticity_nacc.specs.declared.NaccArguments.{NaccArguments}
 use Rattle.plasticity_nacc.specs.declared.NaccPlasticity.{NaccPlasticity}
 use Rattle.plasticity_nacc.specs.declared.Trial.{Trial}
+use Rattle.plasticity_nacc.specs.Law.{lawOf}
 use Rattle.plasticity_nacc.specs.Formulas as of
 use Rattle.plasticity_nacc.specs.Formulas.{small}
 use Rattle.plasticity_nacc.specs.Nacc.{Way, upper, lower, inside, surface, Shape, Landed, Result, tipWalk, growWalk, crossWalk, hardenWalk, conditions, hardenedWalk, rootsWalk, landWalk, surfaceWalk, ends, yieldWalk, lowerWalk, branchWalk, pressWalk, stepsWalk, recomposedWalk, wayWalk, projectWalk, changeOf, runWalk, naccWalk, argumentsWalk, naccUpdate, argumentsUpdate}
@@ -118,3 +120,20 @@ nacc-reason p u vt s =
     let before = lastFrom none (path w) in
     last-then (w then g) (λ q. end (changeOf (q .way) (q .f) (q .shape) s)) none ∙ last-then w g none
     ∙ quiet (g (final w)) (way-branchless (final w .way) (final w .shape) (s .f) u vt) before ∙ steps-told p (s .sigma) (s .scalars .alpha) none
+
+-- and that branch gives the stored record
+pub nacc-branch : (p : NaccPlasticity) (u vt : List (List Float)) (s : State) → let q = final (stepsWalk p (s .sigma) (s .scalars .alpha)) in
+    final (naccWalk p u vt s) ≡ final (wayWalk (q .way) (q .shape) (s .f) u vt then (λ r. end (changeOf (r .way) (r .f) (r .shape) s)))
+unfolding naccWalk runWalk projectWalk
+nacc-branch p u vt s =
+    let w = stepsWalk p (s .sigma) (s .scalars .alpha) in
+    let g : Landed → Walk Result = λ q. wayWalk (q .way) (q .shape) (s .f) u vt in
+    let e : Result → Walk Change = λ r. end (changeOf (r .way) (r .f) (r .shape) s) in
+    final-then (w then g) e ∙ ap (λ r. final (e r)) (final-then w g) ∙ sym (final-then (g (final w)) e)
+
+-- of the arguments
+pub arguments-reason : (a : NaccArguments) (u vt : List (List Float)) (s : State) → let q = final (stepsWalk (lawOf a) (s .sigma) (s .scalars .alpha)) in
+    (last (path (argumentsWalk a u vt s)) ≡ some (reasonOf (q .way)))
+    × (final (argumentsWalk a u vt s) ≡ final (wayWalk (q .way) (q .shape) (s .f) u vt then (λ r. end (changeOf (r .way) (r .f) (r .shape) s))))
+unfolding argumentsWalk naccWalk
+arguments-reason a u vt s = (nacc-reason (lawOf a) u vt s, nacc-branch (lawOf a) u vt s)
