@@ -18,7 +18,7 @@ use Rattle.walk.specs.Matrix.{values-nums}
 use Rattle.plasticity_rankine.specs.declared.RankineArguments.{RankineArguments}
 use Rattle.plasticity_rankine.specs.declared.RankinePlasticity.{RankinePlasticity}
 use Rattle.plasticity_rankine.specs.Law.{argumentsFinite, argumentsFloats, elasticFinite}
-use Rattle.plasticity_rankine.specs.Sorting.{orderOf, restoredOf}
+use Rattle.plasticity_rankine.specs.Sorting.{orderOf, arrangedOf, restoredOf}
 use Rattle.plasticity_rankine.specs.Projection.{Way, none-moves, one-moves, two-move, all-move, Moved}
 use Rattle.plasticity_rankine.specs.Rankine.{softStrength}
 use Rattle.plasticity_rankine.proofs.Laws.{changes-law, grows-law, hardening-of, soft-of}
@@ -39,24 +39,23 @@ pub order-of-two : (x y : Float) → orderOf (pair x y) ≡ indexesOf (le x y)
 unfolding orderOf
 order-of-two x y = upwards (le x y)
 
-pub order-of : (e : List Float) → length e ≡ 2 → indexesOf (le (getD e 0 nan) (getD e 1 nan)) ≡ orderOf e
+order-of : (e : List Float) → length e ≡ 2 → indexesOf (le (getD e 0 nan) (getD e 1 nan)) ≡ orderOf e
 order-of e h = sym (order-of-two (getD e 0 nan) (getD e 1 nan)) ∙ of-one orderOf nan e h
 
-abbrev pub laidOf : Bool → Float → Float → Sorted
+pub order-by : (e : List Float) → length e ≡ 2 → (b : Bool) → le (getD e 0 nan) (getD e 1 nan) ≡ b → indexesOf b ≡ orderOf e
+order-by e h b q = ap indexesOf (sym q) ∙ order-of e h
+
+abbrev laidOf : Bool → Float → Float → Sorted
 laidOf true x y = record { up = true; low = x; high = y }
 laidOf false x y = record { up = false; low = y; high = x }
 
 -- `arrange`, by the test that it makes
-pub sorted-law : (e : List Float) → length e ≡ 2 → laidOf (le (getD e 0 nan) (getD e 1 nan)) (getD e 0 nan) (getD e 1 nan) ≡ sortedOf e
-sorted-law e h =
-    let x = getD e 0 nan in
-    let y = getD e 1 nan in
-    rw (← order-of e h) (go x y (le x y))
+pub sorted-law : (e : List Float) → length e ≡ 2 → (b : Bool) → le (getD e 0 nan) (getD e 1 nan) ≡ b → laidOf b (getD e 0 nan) (getD e 1 nan) ≡ sortedOf e
+sorted-law e h b q = rw (← order-of e h, q) (go b)
   where
-    go : (x y : Float) (b : Bool)
-        → laidOf b (getD e 0 nan) (getD e 1 nan) ≡ record { up = b; low = getD e (getD (indexesOf b) 0 0) nan; high = getD e (getD (indexesOf b) 1 0) nan }
-    go x y true = refl
-    go x y false = refl
+    go : (b : Bool) → laidOf b (getD e 0 nan) (getD e 1 nan) ≡ record { up = b; low = getD (arrangedOf (indexesOf b) e) 0 nan; high = getD (arrangedOf (indexesOf b) e) 1 nan }
+    go true = refl
+    go false = refl
 
 pub restored : (up : Bool) (x y : Expr) → values (restoredOf (indexesOf up) (pair x y)) ≡ restoredOf (indexesOf up) (pair (value x) (value y))
 restored true x y = refl

@@ -1,11 +1,11 @@
 use crate::Sorted;
 ghost use mathlib.Core.Path.{_≡_};
-ghost use Rattle.plasticity_rankine.specs.Sorting.{restoredOf};
+ghost use Rattle.plasticity_rankine.specs.Sorting.{orderOf, restoredOf};
 ghost use Rattle.flat_rankine.specs.Projection.{pair, indexesOf, sortedOf};
 
 // Equal strains keep index order.
 pub fn arrange(e: [f64; 2]) -> Sorted
-    ensures { λ r. ⌜ r ≡ sortedOf e ⌝ }
+    ensures { λ r. ⌜ (r ≡ sortedOf e) × (indexesOf (r .up) ≡ orderOf e) ⌝ }
 {
     let x = e[0];
     let y = e[1];
