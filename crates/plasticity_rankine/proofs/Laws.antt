@@ -30,7 +30,7 @@ use Rattle.plasticity_rankine.specs.declared.RankinePlasticity.{RankineP
 use Rattle.plasticity_rankine.specs.Law.{lawOf, parametersOf, argumentsFloats, elasticFinite, parametersFinite, moduli}
 use Rattle.plasticity_rankine.specs.Sorting.{indexesOf, restoredOf}
 use Rattle.plasticity_rankine.specs.Projection.{Way, none-moves, one-moves, two-move, all-move, Moved, projectWalk, returnedWalk, callFloats, projectCall, argumentsCall, branchOf, movedOf, projectedOf, vectorOf, byBranch, projectOf, argumentsProject}
-use Rattle.plasticity_rankine.specs.Rankine.{stateOf, storeWalk, expsWalk, hardenWalk, movedWalk, wayWalk, softStrength, strainedWalk, runWalk, floats, rankineWalk, argumentsWalk, followedOf, rankineUpdate}
+use Rattle.plasticity_rankine.specs.Rankine.{stateOf, storeWalk, expsWalk, hardenWalk, movedWalk, wayWalk, softStrength, strainedWalk, runWalk, floats, rankineWalk, argumentsWalk, followedOf, rankineUpdate, grows, changes}
 
 -- ---- the inputs
 pub inputs-law : (l : List Float) (u vt : List (List Float)) (s : State) → allOf finite (floats l u vt s) ≡ allOf finite l && inputsFinite u vt s
@@ -133,30 +133,40 @@ change-law : (old : List Float) (new : List Expr) → values (pairwise _-_ (nums
 unfolding rowSubOf
 change-law old new = values-change (nums old) new ∙ ap (λ l. pairwise sub l (values new)) (values-nums old)
 
+-- over any state
+pub changes-law : {A : Type 0} (old : List Float) (new : List Expr) (k : Expr → Walk A)
+    → result (changes old new k) ≡ asked (normOf (rowSubOf old (values new))) (λ norm. result (k (num norm)))
+changes-law old new k =
+    let change = pairwise _-_ (nums old) new in
+    rw (value-dots change change, change-law old new)
+
+same : {A : Type 0} (b : Bool) (x y : Ended A) → (b ≡ true → x ≡ y) → cond b x (refused 3) ≡ cond b y (refused 3)
+same true x y h = h refl
+same false x y h = refl
+
+pub grows-law : {A : Type 0} (p : RankinePlasticity) (hardening norm : Float) (k : Expr → Walk A) → finite (p .«tensile_strength») ≡ true
+    → let grown = add hardening (mul (p .«softening_rate») norm) in
+    result (grows p hardening (num norm) k) ≡ cond (isNumber grown) (result (k (num (minOf grown (p .«tensile_strength»))))) (refused 3)
+grows-law p hardening norm k h =
+    let grown = add hardening (mul (p .«softening_rate») norm) in
+    let strength = p .«tensile_strength» in
+    same (isNumber grown) _ (result (k (num (minOf grown strength))))
+    (λ i. least-answers 8 (num grown) (num strength) k i (finite-number strength h))
+
 module _ (p : RankinePlasticity) (u vt : List (List Float)) (s : State) where
   pub moved-law : (old : List Float) (new : List Expr)
       → result (movedWalk p old new u vt s) ≡ asked (normOf (rowSubOf old (values new))) (λ norm. result (hardenWalk p (num norm) (values new) u vt s))
   unfolding movedWalk
-  moved-law old new =
-      let change = pairwise _-_ (nums old) new in
-      rw (value-dots change change, change-law old new)
+  moved-law old new = changes-law old new (λ norm. hardenWalk p norm (values new) u vt s)
 
   numbers-moved : (old : List Float) (new : List Expr) → result (movedWalk p old new u vt s) ≡ result (movedWalk p old (nums (values new)) u vt s)
   numbers-moved old new = moved-law old new ∙ sym (moved-law old (nums (values new)) ∙ rw (values-nums (values new)))
-
-  same : (b : Bool) (x y : Ended Change) → (b ≡ true → x ≡ y) → cond b x (refused 3) ≡ cond b y (refused 3)
-  same true x y h = h refl
-  same false x y h = refl
 
   pub harden-law : (norm : Float) (e : List Float) → finite (p .«tensile_strength») ≡ true
       → let grown = add (s .scalars .«plastic_hardening») (mul (p .«softening_rate») norm) in
       result (hardenWalk p (num norm) e u vt s) ≡ cond (isNumber grown) (result (expsWalk e u vt (num (minOf grown (p .«tensile_strength»))) s)) (refused 3)
   unfolding hardenWalk
-  harden-law norm e h =
-      let grown = add (s .scalars .«plastic_hardening») (mul (p .«softening_rate») norm) in
-      let strength = p .«tensile_strength» in
-      same (isNumber grown) _ (result (expsWalk e u vt (num (minOf grown strength)) s))
-      (λ i. least-answers 8 (num grown) (num strength) (λ h. expsWalk e u vt h s) i (finite-number strength h))
+  harden-law norm e h = grows-law p (s .scalars .«plastic_hardening») norm (λ g. expsWalk e u vt g s) h
 
   -- ---- the projection is followed by its branch
   way-law : (w : Way) (old : List Float) (new : List Expr) → updatedOf s (result (wayWalk p w old new u vt s)) ≡ followedOf (branchOf w) p old (values new) u vt s
