@@ -7,6 +7,7 @@ use Rattle.tensor.specs.Matrix as tensor
 use Rattle.tensor.specs.Matrix.{recomposeOf, rowsOf}
 use Rattle.plasticity.specs.State.{refused}
 use Rattle.plasticity.specs.declared.Outcome.the-variants as outcome
+use Rattle.plasticity.specs.declared.Scalars.{Scalars}
 use Rattle.plasticity.specs.declared.State.{State}
 use Rattle.plasticity.specs.declared.Updated.{Updated}
 use Rattle.walk.specs.Expr.{Expr, num, _+_, _-_, _*_, _/_, value, nums}
@@ -18,22 +19,27 @@ use Rattle.plasticity_drucker_prager.specs.declared.Branch.the-variants 
 use Rattle.plasticity_drucker_prager.specs.declared.DruckerPragerPlasticity.{DruckerPragerPlasticity}
 use Rattle.plasticity_drucker_prager.specs.Law.{parametersOf}
 use Rattle.plasticity_drucker_prager.specs.Alpha.{dim, alphaWalk}
-use Rattle.plasticity_drucker_prager.specs.Projection.{zero, Way, isotropic, expanding, inside, surface, projectWalk}
+use Rattle.plasticity_drucker_prager.specs.Projection.{zero, Way, isotropic, expanding, inside, surface, Returned, projectWalk}
 
--- F, sigma, plastic determinant, plastic hardening and log gain are new
+-- plastic determinant, plastic hardening and log gain are new
+abbrev pub scalarsOf : Float → Float → Float → Scalars → Scalars
+scalarsOf d h gain x =
+    record {
+      phase = x .phase;
+      «plastic_determinant» = d;
+      «plastic_hardening» = h;
+      «elastic_hardening» = x .«elastic_hardening»;
+      «log_gain» = gain;
+      alpha = x .alpha;
+    }
+
+-- and F and sigma
 abbrev pub stateOf : List (List Float) → List Float → Float → Float → Float → State → State
 stateOf f sigma d h gain s =
     record {
       f = rowsOf f;
       sigma = sigma;
-      scalars = record {
-        phase = s .scalars .phase;
-        «plastic_determinant» = d;
-        «plastic_hardening» = h;
-        «elastic_hardening» = s .scalars .«elastic_hardening»;
-        «log_gain» = gain;
-        alpha = s .scalars .alpha;
-      };
+      scalars = scalarsOf d h gain (s .scalars);
     }
 
 -- stored where all results are finite; a finite hardening has a finite summand dq
@@ -45,17 +51,21 @@ storeWalk u sigma vt d h gain dq s =
 abbrev pub correctedOf : DruckerPragerPlasticity → Float → Float → Float → Float
 correctedOf p prev grown diff = picked (less zero (num diff)) (num grown) (num prev + num diff * num (p .«volume_correction»))
 
--- new singular values. "With diff > 0 the new determinant stands; otherwise previous + diff * correction."
-unfoldable pub movedWalk : DruckerPragerPlasticity → List Float → Float → List (List Float) → List (List Float) → State → Walk Change
-movedWalk p sigma dq u vt s =
-    let prev = product (s .sigma) in
+-- from old to new singular values, over however many axes; k is handed the plastic determinant, plastic hardening and log gain. "With
+-- diff > 0 the new determinant stands; otherwise previous + diff * correction."
+abbrev pub volumeWalk : {A : Type 0} → DruckerPragerPlasticity → List Float → List Float → Float → Scalars → (Expr → Expr → Expr → Walk A) → Walk A
+volumeWalk p old sigma dq x k =
+    let prev = product old in
     let grown = product sigma in
     work 16 (grown - prev) (λ diff.
     either 16 (less zero diff) grown (prev + diff * num (p .«volume_correction»)) (λ new.
-    work 16 (num (s .scalars .«plastic_determinant») * (prev / new)) (λ d.
-    ask 17 ln prev (λ x.
-    ask 18 ln new (λ y.
-    storeWalk u sigma vt d (num (s .scalars .«plastic_hardening») + num dq) (num (s .scalars .«log_gain») + (x - y)) dq s)))))
+    work 16 (num (x .«plastic_determinant») * (prev / new)) (λ d.
+    ask 17 ln prev (λ a.
+    ask 18 ln new (λ b.
+    k d (num (x .«plastic_hardening») + num dq) (num (x .«log_gain») + (a - b)))))))
+
+unfoldable pub movedWalk : DruckerPragerPlasticity → List Float → Float → List (List Float) → List (List Float) → State → Walk Change
+movedWalk p sigma dq u vt s = volumeWalk p (s .sigma) sigma dq (s .scalars) (λ d h gain. storeWalk u sigma vt d h gain dq s)
 
 -- after the projection
 unfoldable pub wayWalk : DruckerPragerPlasticity → Way → List Float → Float → List (List Float) → List (List Float) → State → Walk Change
@@ -68,12 +78,15 @@ wayWalk p (surface x norm) sigma dq u vt s = movedWalk p sigma dq u vt s
 abbrev pub staysOf : DruckerPragerPlasticity → Float → Bool
 staysOf p phase = p .«only_active_when_failed» && Ieee.ne phase tensor.zero
 
+-- phase, slope, projection, and what follows it, over however many axes
+abbrev pub lawWalk : {A : Type 0} → Expr → DruckerPragerPlasticity → List Float → Scalars → Walk A → (Returned → Walk A) → Walk A
+lawWalk axes p sigma x stays follows =
+    branch 1 (flag (staysOf p (x .phase))) stays
+    (alphaWalk p (x .«plastic_hardening») then (λ alpha.
+    projectWalk axes p sigma (x .«log_gain») alpha then follows))
+
 unfoldable pub runWalk : DruckerPragerPlasticity → List (List Float) → List (List Float) → State → Walk Change
-runWalk p u vt s =
-    branch 1 (flag (staysOf p (s .scalars .phase))) (end untouched)
-    (alphaWalk p (s .scalars .«plastic_hardening») then (λ alpha.
-    projectWalk dim p (s .sigma) (s .scalars .«log_gain») alpha then (λ q.
-    wayWalk p (q .way) (q .sigma) (q .dq) u vt s)))
+runWalk p u vt s = lawWalk dim p (s .sigma) (s .scalars) (end untouched) (λ q. wayWalk p (q .way) (q .sigma) (q .dq) u vt s)
 
 -- parameters first
 unfoldable pub floats : DruckerPragerPlasticity → List (List Float) → List (List Float) → State → List Float

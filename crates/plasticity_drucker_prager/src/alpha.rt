@@ -6,7 +6,7 @@ ghost use Rattle.plasticity_drucker_prager.specs.Alpha.{alphaWalk, alpha
 
 impl DruckerPragerPlasticity {
     // The slope of the cone at the hardening q, as a step of the law: a NaN is 3.
-    pub(crate) fn alpha_on_path(self, q: f64) -> Answer
+    pub fn alpha_on_path(self, q: f64) -> Answer
         ensures { λ r. ⌜ r ≡ answerAs (result (alphaWalk self q)) ⌝ }
     {
         match exponential::exp_on_path(-self.h2 * q) {

@@ -13,7 +13,7 @@ ghost use Rattle.plasticity.specs.State.{inputsFinite};
 ghost use Rattle.walk.specs.Expr.{num};
 ghost use Rattle.walk.specs.Walk.{result};
 ghost use Rattle.walk.specs.Update.{updatedOf};
-ghost use Rattle.plasticity_drucker_prager.specs.DruckerPrager.{untouchedOf, stateOf, storeWalk, movedWalk, staysOf, runWalk, correctedOf, followedOf, druckerUpdate};
+ghost use Rattle.plasticity_drucker_prager.specs.DruckerPrager.{untouchedOf, scalarsOf, stateOf, storeWalk, movedWalk, staysOf, runWalk, correctedOf, followedOf, druckerUpdate};
 
 fn untouched(s: State) -> Updated
     ensures { λ r. ⌜ r ≡ untouchedOf s ⌝ }
@@ -24,21 +24,28 @@ fn untouched(s: State) -> Updated
     }
 }
 
-// F, sigma, plastic determinant, plastic hardening and log gain are new.
+// Plastic determinant, plastic hardening and log gain are new.
+pub fn scalars_of(d: f64, hardening: f64, gain: f64, x: Scalars) -> Scalars
+    ensures { λ r. ⌜ r ≡ scalarsOf d hardening gain x ⌝ }
+{
+    Scalars {
+        phase: x.phase,
+        plastic_determinant: d,
+        plastic_hardening: hardening,
+        elastic_hardening: x.elastic_hardening,
+        log_gain: gain,
+        alpha: x.alpha,
+    }
+}
+
+// And F and sigma.
 fn state_of(f: [[f64; 3]; 3], sigma: [f64; 3], d: f64, hardening: f64, gain: f64, s: State) -> State
     ensures { λ r. ⌜ r ≡ stateOf f sigma d hardening gain s ⌝ }
 {
     State {
         f: tensor::to_rows(f),
         sigma,
-        scalars: Scalars {
-            phase: s.scalars.phase,
-            plastic_determinant: d,
-            plastic_hardening: hardening,
-            elastic_hardening: s.scalars.elastic_hardening,
-            log_gain: gain,
-            alpha: s.scalars.alpha,
-        },
+        scalars: scalars_of(d, hardening, gain, s.scalars),
     }
 }
 
@@ -71,7 +78,7 @@ fn store(
 
 impl DruckerPragerPlasticity {
     // With a growing volume the new determinant stands.
-    fn corrected(self, prev: f64, grown: f64, diff: f64) -> f64
+    pub fn corrected(self, prev: f64, grown: f64, diff: f64) -> f64
         ensures { λ r. ⌜ r ≡ correctedOf self prev grown diff ⌝ }
     {
         if diff > 0.0 {
@@ -138,7 +145,7 @@ impl DruckerPragerPlasticity {
     }
 
     // Whether the law leaves a particle of this phase alone.
-    fn stays(self, phase: f64) -> bool
+    pub fn stays(self, phase: f64) -> bool
         ensures { λ r. ⌜ r ≡ staysOf self phase ⌝ }
     {
         self.only_active_when_failed & (phase != 0.0)
