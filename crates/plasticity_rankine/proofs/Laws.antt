@@ -14,6 +14,7 @@ use Rattle.physics.specs.Norm.{normOf}
 use Rattle.plasticity.specs.State as law
 use Rattle.plasticity.specs.State.{inputsFinite, stateFinite, scalarsFinite}
 use Rattle.plasticity.specs.declared.Outcome.the-variants.{Stored}
+use Rattle.plasticity.specs.declared.Scalars.{Scalars}
 use Rattle.plasticity.specs.declared.State.{State}
 use Rattle.walk.specs.Expr.{Expr, num, _-_, value, values, nums}
 use Rattle.walk.specs.Walk.{Walk, _then_, Ended, given, refused, asked, result}
@@ -74,12 +75,10 @@ arguments-call a e s =
 pub strength-finite : (p : RankinePlasticity) (u vt : List (List Float)) (s : State) → parametersFinite p && inputsFinite u vt s ≡ true → finite (p .«tensile_strength») ≡ true
 strength-finite p u vt s h = and-left (finite (p .«tensile_strength»)) (finite (p .«softening_rate»)) (and-left (parametersFinite p) (inputsFinite u vt s) h)
 
-hardening-finite : (u vt : List (List Float)) (s : State) → inputsFinite u vt s ≡ true → finite (s .scalars .«plastic_hardening») ≡ true
-hardening-finite u vt s h =
-    let x = s .scalars in
+pub hardening-of : (x : Scalars) → scalarsFinite x ≡ true → finite (x .«plastic_hardening») ≡ true
+hardening-of x all =
     let three = finite (x .phase) && finite (x .«plastic_determinant») && finite (x .«plastic_hardening») in
     let four = three && finite (x .«elastic_hardening») in
-    let all = and-right (rowsFinite (s .f) && rowFinite (s .sigma)) (scalarsFinite x) (and-right (matFinite u && matFinite vt) (stateFinite s) h) in
     and-right (finite (x .phase) && finite (x .«plastic_determinant»)) (finite (x .«plastic_hardening»))
     (and-left three (finite (x .«elastic_hardening»)) (and-left four (finite (x .«log_gain»)) (and-left (four && finite (x .«log_gain»)) (finite (x .alpha)) all)))
 
@@ -87,12 +86,15 @@ one-finite : finite one ≡ true
 unfolding finite ofBits
 one-finite = refl
 
+pub soft-of : (p : RankinePlasticity) (x : Float) → finite (p .«tensile_strength») ≡ true → finite x ≡ true → isNumber (value (softStrength p x)) ≡ true
+soft-of p x h f = finite-sub (p .«tensile_strength») (sub x one) h (sub-number x one (finite-number x f) one-finite)
+
 pub soft-number : (p : RankinePlasticity) (u vt : List (List Float)) (s : State) → parametersFinite p && inputsFinite u vt s ≡ true
     → isNumber (value (softStrength p (s .scalars .«plastic_hardening»))) ≡ true
 soft-number p u vt s h =
-    let x = s .scalars .«plastic_hardening» in
-    let f = hardening-finite u vt s (and-right (parametersFinite p) (inputsFinite u vt s) h) in
-    finite-sub (p .«tensile_strength») (sub x one) (strength-finite p u vt s h) (sub-number x one (finite-number x f) one-finite)
+    let i = and-right (matFinite u && matFinite vt) (stateFinite s) (and-right (parametersFinite p) (inputsFinite u vt s) h) in
+    soft-of p (s .scalars .«plastic_hardening») (strength-finite p u vt s h)
+    (hardening-of (s .scalars) (and-right (rowsFinite (s .f) && rowFinite (s .sigma)) (scalarsFinite (s .scalars)) i))
 
 -- ---- the strains in index order
 pub restored : (k : Rank) (x y z : Expr) → values (restoredOf (indexesOf k) (three x y z)) ≡ restoredOf (indexesOf k) (three (value x) (value y) (value z))
