@@ -28,9 +28,5 @@ pub fn arrange(e: [f64; 2]) -> Sorted
 pub fn restore(up: bool, low: f64, high: f64) -> [f64; 2]
     ensures { λ x. ⌜ x ≡ restoredOf (indexesOf up) (pair low high) ⌝ }
 {
-    if up {
-        [low, high]
-    } else {
-        [high, low]
-    }
+    if up { [low, high] } else { [high, low] }
 }
