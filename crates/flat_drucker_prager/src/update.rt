@@ -39,8 +39,12 @@ fn moved(
                             let named = numbers::is_finite(d)
                                 & numbers::is_finite(h)
                                 & numbers::is_finite(gain);
-                            let scalars =
-                                plasticity_drucker_prager::scalars_of(d, h, gain, s.scalars);
+                            let scalars = plasticity_drucker_prager::scalars_of(
+                                d,
+                                h,
+                                gain,
+                                s.scalars,
+                            );
                             flat::stored(u, sigma, vt, named, scalars, dq, s)
                         }
                         Answer::Refused(n) => flat::refuse(n, s),

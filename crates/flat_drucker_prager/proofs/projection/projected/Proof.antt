@@ -1,4 +1,4 @@
--- `flat_drucker_prager::projection::projected`.
+-- `flat_drucker_prager::projection::projected` answers `projectedOf (result (projectWalk dim p sigma gain alpha))`.
 use borrow.Author.Needs.{needs}
 use mathlib.Core.Path.{_∙_}
 use lib.Ieee.{nan}

@@ -1,4 +1,4 @@
--- `flat_drucker_prager::projection::strained` answers `projectedOf (result (strainedWalk dim self sigma e alpha))`.
+-- `flat_drucker_prager::projection::strained` answers `projectedOf (result (strainedWalk dim p sigma e alpha))`.
 use borrow.Author.Needs.{needs}
 use Rattle.flat_drucker_prager.proofs.Laws.{isotropic-tip, expanding-tip}
 use Rattle.walk.specs.Matrix.{value-sum}

@@ -1,4 +1,4 @@
--- `flat_drucker_prager::projection::tip` answers `tipOf b (three one one one) (normOf e)`.
+-- `flat_drucker_prager::projection::tip` answers `tipOf (normOf e)`.
 use borrow.Author.Needs.{needs}
 use Rattle.flat_drucker_prager.proofs.projection.tip.Statement.{statement}
 use Rattle.flat_drucker_prager.proofs.projection.tip.Tie as tie

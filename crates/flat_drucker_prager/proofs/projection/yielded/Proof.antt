@@ -1,4 +1,4 @@
--- `flat_drucker_prager::projection::yielded` answers `projectedOf (result (yieldWalk dim self sigma e d (num trace) alpha))`.
+-- `flat_drucker_prager::projection::yielded` answers `projectedOf (result (yieldWalk dim p sigma e d (num trace) alpha))`.
 use borrow.Author.Needs.{needs}
 use Rattle.walk.specs.Matrix.{value-dot}
 use Rattle.walk.specs.Expr.{zero-number}

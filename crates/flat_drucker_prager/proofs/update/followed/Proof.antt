@@ -1,4 +1,4 @@
--- `flat_drucker_prager::update::followed`.
+-- `flat_drucker_prager::update::followed` answers `followedOf (q .outcome) p (q .sigma) u vt s`.
 use borrow.Author.Needs.{needs}
 use Rattle.flat_drucker_prager.proofs.update.followed.Statement.{statement}
 use Rattle.flat_drucker_prager.proofs.update.followed.Tie as tie

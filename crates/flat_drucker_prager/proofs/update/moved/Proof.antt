@@ -1,4 +1,4 @@
--- `flat_drucker_prager::update::moved`.
+-- `flat_drucker_prager::update::moved` answers `updatedOf s (result (movedWalk p sigma dq u vt s))`.
 use borrow.Author.Needs.{needs}
 use Rattle.walk.specs.Matrix.{value-product}
 use Rattle.walk.specs.Expr.{zero-number}

@@ -1,4 +1,4 @@
--- `flat_drucker_prager::update::run` answers `updatedOf s (result (runWalk self u vt s))`.
+-- `flat_drucker_prager::update::run` answers `updatedOf s (result (runWalk p u vt s))`.
 use borrow.Author.Needs.{needs}
 use Rattle.walk.specs.Exact.{number-then}
 use Rattle.flat_drucker_prager.proofs.Laws.{way-then}

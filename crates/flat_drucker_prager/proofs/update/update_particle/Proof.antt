@@ -1,4 +1,4 @@
--- `flat_drucker_prager::update::update_particle` answers `druckerUpdate self u vt s`.
+-- `flat_drucker_prager::update::update_particle` answers `druckerUpdate p u vt s`.
 use borrow.Author.Needs.{needs}
 use Rattle.flat_drucker_prager.proofs.Laws.{inputs-law}
 use Rattle.flat_drucker_prager.specs.DruckerPrager.{druckerWalk}
