@@ -14,7 +14,7 @@ use Rattle.plasticity.specs.State as law
 use Rattle.plasticity.specs.State.{inputsFinite, stateFinite, scalarsFinite}
 use Rattle.plasticity.specs.declared.State.{State}
 use Rattle.plasticity.specs.declared.Updated.{Updated}
-use Rattle.walk.specs.Expr.{num, neg, value, zero-number}
+use Rattle.walk.specs.Expr.{Expr, num, neg, value, zero-number}
 use Rattle.walk.specs.Walk.{Walk, end, _then_, holds, Ended, given, refused, result}
 use Rattle.walk.specs.Number.{finite-number, neg-number, add-number, sub-number, finite-sub, picked-number, zero-finite}
 use Rattle.walk.specs.Exact.{andThen, result-then}
@@ -29,6 +29,7 @@ use Rattle.plasticity_nacc.specs.declared.Projected.{Projected}
 use Rattle.plasticity_nacc.specs.declared.Stepped.{Stepped}
 use Rattle.plasticity_nacc.specs.declared.Trial.{Trial}
 use Rattle.plasticity_nacc.specs.Law.{small, lawOf, parametersOf, argumentsFloats, elasticFinite, parametersFinite}
+use Rattle.plasticity_nacc.specs.Axes.{Axes, three-axes}
 use Rattle.plasticity_nacc.specs.Formulas as of
 use Rattle.plasticity_nacc.specs.Nacc.{Way, upper, lower, inside, surface, Shape, Landed, Result, sizeOf, tipWalk, hardenWalk, conditions, hardenedWalk, settled, ends, pressWalk, stepsWalk, recomposedWalk, wayWalk, projectWalk, moduli, projectInputs, projectFloats, changeOf, runWalk, floats, naccWalk, argumentsWalk, branchOf, asBranch, steppedOf, refusedProjection, projectedOf, recomposedOf, byBranch, storedBy, naccUpdate}
 
@@ -44,23 +45,23 @@ pub size-number : (v : Float) → isNumber v ≡ true → isNumber (sizeOf v) �
 size-number v h = picked-number (Ieee.le v tensor.zero) (tensor.sub tensor.zero v) v (finite-sub tensor.zero v zero-finite h) h
 
 -- the maximum of a finite alpha meets no NaN
-pub steps-law : (p : NaccPlasticity) (sigma : List Float) (alpha : Float) → finite alpha ≡ true
-    → result (stepsWalk p sigma alpha) ≡ result (pressWalk p (num (maxOf (Ieee.neg alpha) tensor.zero)) sigma alpha)
+pub steps-law : (axes : Axes) (p : NaccPlasticity) (sigma : List Float) (alpha : Float) → finite alpha ≡ true
+    → result (stepsWalk axes p sigma alpha) ≡ result (pressWalk axes p (num (maxOf (Ieee.neg alpha) tensor.zero)) sigma alpha)
 unfolding stepsWalk
-steps-law p sigma alpha h =
-    most-answers 2 (neg (num alpha)) of.zero (λ m. pressWalk p m sigma alpha) (neg-number alpha ∙ finite-number alpha h) zero-number
+steps-law axes p sigma alpha h =
+    most-answers 2 (neg (num alpha)) of.zero (λ m. pressWalk axes p m sigma alpha) (neg-number alpha ∙ finite-number alpha h) zero-number
 
 -- nor do the four conditions, once the branches are tested
-pub harden-law : (p : NaccPlasticity) (t : Trial) (alpha : Float) → settled p t ≡ true
-    → result (hardenedWalk p t alpha) ≡ cond (allOf holds (conditions p t)) (result (hardenWalk p t alpha)) (given alpha)
+pub harden-law : (d : Expr) (p : NaccPlasticity) (t : Trial) (alpha : Float) → settled p t ≡ true
+    → result (hardenedWalk d p t alpha) ≡ cond (allOf holds (conditions p t)) (result (hardenWalk d p t alpha)) (given alpha)
 unfolding hardenedWalk
-harden-law p t alpha h =
+harden-law d p t alpha h =
     let low = value (of.low p (num (t .p0))) in
     let two = and-left (isNumber (t .p0) && isNumber (t .p)) (isNumber low) h in
     let a = and-left (isNumber (t .p0)) (isNumber (t .p)) two in
     let b = and-right (isNumber (t .p0)) (isNumber (t .p)) two in
     let c = and-right (isNumber (t .p0) && isNumber (t .p)) (isNumber low) h in
-    when-answers 13 (conditions p t) (hardenWalk p t alpha) (end alpha)
+    when-answers 13 (conditions p t) (hardenWalk d p t alpha) (end alpha)
     (simp (a, b, small-number, sub-number (t .p0) small a small-finite, add-number low small c small-finite))
 
 pub pressures : (t : Trial) → isNumber (t .p0) && (isNumber (t .squares) && isNumber (t .p)) ≡ true → isNumber (t .p0) && isNumber (t .p) ≡ true
@@ -78,9 +79,9 @@ shape-then w v = ap steppedOf (result-then v (ends w)) ∙ ended w (result v)
 
 -- at the lower tip
 pub lower-law : (p : NaccPlasticity) (t : Trial) (alpha x : Float)
-    → steppedOf (result (tipWalk p (num x) (t .j) alpha then ends (lower (t .p) (value (of.low p (num (t .p0)))))))
-    ≡ asBranch (Lower (t .p) (value (of.low p (num (t .p0))))) (result (tipWalk p (num x) (t .j) alpha))
-lower-law p t alpha x = shape-then (lower (t .p) (value (of.low p (num (t .p0))))) (tipWalk p (num x) (t .j) alpha)
+    → steppedOf (result (tipWalk three-axes p (num x) (t .j) alpha then ends (lower (t .p) (value (of.low p (num (t .p0)))))))
+    ≡ asBranch (Lower (t .p) (value (of.low p (num (t .p0))))) (result (tipWalk three-axes p (num x) (t .j) alpha))
+lower-law p t alpha x = shape-then (lower (t .p) (value (of.low p (num (t .p0))))) (tipWalk three-axes p (num x) (t .j) alpha)
 
 kept : (q : Result) (b : Bool) → projectedOf (cond b (given q) (refused 3)) ≡ cond b (projectedOf (given q)) (refusedProjection 3)
 kept q true = refl
@@ -108,10 +109,10 @@ module _ (f : Rows) (u vt : List (List Float)) where
   followed (given q) = way-law (q .way) (q .shape)
   followed (refused n) = refl
 
-  pub project-law : (p : NaccPlasticity) (sigma : List Float) (alpha : Float) → projectedOf (result (projectWalk p f u sigma vt alpha)) ≡ byStep (steppedOf (result (stepsWalk p sigma alpha)))
+  pub project-law : (p : NaccPlasticity) (sigma : List Float) (alpha : Float) → projectedOf (result (projectWalk p f u sigma vt alpha)) ≡ byStep (steppedOf (result (stepsWalk three-axes p sigma alpha)))
   unfolding projectWalk
   project-law p sigma alpha =
-      ap projectedOf (result-then (stepsWalk p sigma alpha) (λ q. wayWalk (q .way) (q .shape) f u vt)) ∙ followed (result (stepsWalk p sigma alpha))
+      ap projectedOf (result-then (stepsWalk three-axes p sigma alpha) (λ q. wayWalk (q .way) (q .shape) f u vt)) ∙ followed (result (stepsWalk three-axes p sigma alpha))
 
 module _ (s : State) where
   abbrev pub byProjection : Projected → Updated

@@ -15,7 +15,7 @@ ghost use Rattle.numbers.specs.Floats.{finite};
 ghost use Rattle.plasticity.specs.State.{inputsFinite};
 ghost use Rattle.walk.specs.Walk.{result};
 ghost use Rattle.walk.specs.Update.{updatedOf};
-ghost use Rattle.plasticity_nacc.specs.Nacc.{outcomeOf, resultsOf, refusedProjection, recomposedOf, byBranch, projectedOf, projectInputs, projectCall, stateOf, storedBy, runWalk, naccUpdate};
+ghost use Rattle.plasticity_nacc.specs.Nacc.{outcomeOf, resultsOf, refusedProjection, recomposedOf, byBranch, projectedOf, projectInputs, projectCall, scalarsOf, stateOf, storedBy, runWalk, naccUpdate};
 
 fn refused_projection(n: u8) -> Projected
     ensures { λ r. ⌜ r ≡ refusedProjection n ⌝ }
@@ -78,20 +78,27 @@ fn projected(q: Stepped, f: Rows, u: [[f64; 3]; 3], vt: [[f64; 3]; 3]) -> Projec
     }
 }
 
+// Alpha is new.
+pub fn scalars_of(alpha: f64, x: Scalars) -> Scalars
+    ensures { λ r. ⌜ r ≡ scalarsOf alpha x ⌝ }
+{
+    Scalars {
+        phase: x.phase,
+        plastic_determinant: x.plastic_determinant,
+        plastic_hardening: x.plastic_hardening,
+        elastic_hardening: x.elastic_hardening,
+        log_gain: x.log_gain,
+        alpha,
+    }
+}
+
 fn state_of(f: Rows, sigma: [f64; 3], alpha: f64, s: State) -> State
     ensures { λ r. ⌜ r ≡ stateOf f sigma alpha s ⌝ }
 {
     State {
         f,
         sigma,
-        scalars: Scalars {
-            phase: s.scalars.phase,
-            plastic_determinant: s.scalars.plastic_determinant,
-            plastic_hardening: s.scalars.plastic_hardening,
-            elastic_hardening: s.scalars.elastic_hardening,
-            log_gain: s.scalars.log_gain,
-            alpha,
-        },
+        scalars: scalars_of(alpha, s.scalars),
     }
 }
 
