@@ -46,6 +46,7 @@ from .outcome import Outcomes, Passed, Stored, Untouched
 from .particle import Particle
 from .refusal import REFUSALS, Refused
 from .reports import Column, Report, report
+from .slices import FlatParticle, flat_pass
 from .zones import Tally, Zones
 
 __all__ = [
@@ -53,6 +54,7 @@ __all__ = [
     "CorotatedLinearElasticity",
     "DruckerPragerPlasticity",
     "FLOATS",
+    "FlatParticle",
     "MODELS",
     "MaximumStressFailure",
     "MonaghanSphEos",
@@ -81,6 +83,7 @@ __all__ = [
     "factor_particles",
     "factor_records",
     "fill_determinants",
+    "flat_pass",
     "law",
     "pass_particles",
     "pass_records",

@@ -50,6 +50,7 @@ mod refusal;
 mod reports;
 #[cfg(feature = "alloc")]
 mod sheets;
+mod slices;
 #[allow(dead_code, missing_docs)]
 #[rustfmt::skip]
 mod table;
@@ -71,6 +72,7 @@ pub use refusal::Refusal;
 pub use reports::{report, Column, Report};
 #[cfg(feature = "alloc")]
 pub use sheets::{read_sheet, run_sheet, write_sheet, write_sheet_with_determinants, Ran, Sheet};
+pub use slices::{flat_pass_into, FlatParticle};
 pub use table::{REPORT_MOST, SHEET_BYTES, SHEET_MOST};
 #[cfg(feature = "alloc")]
 pub use vectors::{factor_list, pass, pass_factored, pass_factored_with_failure, pass_with_failure, Passed};
