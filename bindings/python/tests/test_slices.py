@@ -289,7 +289,7 @@ class Lists(unittest.TestCase):
         """The larger strain is the second: only it is brought back while the smaller one stays below the surface."""
         particle = pasoletu.FlatParticle.stretched([0.9, 1.3])
         particle.update(pasoletu.RankinePlasticity(1e5, 0.3, 500.0, 2.0))
-        self.assertEqual(particle.singular_values[0], math.exp(math.log(0.9)))
+        self.assertTrue(near(particle.singular_values[0], 0.9))
         self.assertLess(particle.singular_values[1], 1.3)
 
 
