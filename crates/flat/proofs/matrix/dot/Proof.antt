@@ -1,3 +1,4 @@
+-- `flat::matrix::dot` answers `dotOf a b`.
 use borrow.Author.Needs.{needs}
 use lib.Ieee.{nan}
 use Rattle.flat.specs.Axes.{of-two}
@@ -5,7 +6,6 @@ use Rattle.tensor.specs.Matrix.{dotOf, sumOf}
 use Rattle.flat.proofs.matrix.dot.Statement.{statement}
 use Rattle.flat.proofs.matrix.dot.Tie as tie
 
--- src/matrix.rt:9:1
 returns : tie.Need-returns
 unfolding dotOf sumOf
 returns c = of-two dotOf nan nan (c .args .t1) (c .args .t2) (search needs) (search needs)

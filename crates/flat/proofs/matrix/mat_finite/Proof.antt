@@ -1,3 +1,4 @@
+-- `flat::matrix::mat_finite` answers `matFinite m`.
 use borrow.Author.Needs.{needs}
 use mathlib.Core.List.{[]}
 use Rattle.flat.specs.Axes.{of-one}
@@ -5,7 +6,6 @@ use Rattle.tensor.specs.Finite.{matFinite}
 use Rattle.flat.proofs.matrix.mat_finite.Statement.{statement}
 use Rattle.flat.proofs.matrix.mat_finite.Tie as tie
 
--- src/matrix.rt:75:1
 returns : tie.Need-returns
 returns c =
     simp (c .row-finite2 .ensures, c .before .before .row-finite .ensures)

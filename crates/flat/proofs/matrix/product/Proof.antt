@@ -1,3 +1,4 @@
+-- `flat::matrix::product` answers `productOf s`.
 use borrow.Author.Needs.{needs}
 use lib.Ieee.{nan}
 use Rattle.flat.specs.Axes.{of-one}
@@ -5,7 +6,6 @@ use Rattle.tensor.specs.Matrix.{productOf}
 use Rattle.flat.proofs.matrix.product.Statement.{statement}
 use Rattle.flat.proofs.matrix.product.Tie as tie
 
--- src/matrix.rt:40:1
 returns : tie.Need-returns
 unfolding productOf
 returns c = of-one productOf nan (c .args .t1) (search needs)

@@ -1,10 +1,10 @@
+-- `flat::matrix::recompose` answers `recomposeOver 2 u sigma vt`.
 use borrow.Author.Needs.{needs}
 use mathlib.Core.List.{[]}
 use Rattle.flat.specs.Axes.{recomposeOver, of-two}
 use Rattle.flat.proofs.matrix.recompose.Statement.{statement}
 use Rattle.flat.proofs.matrix.recompose.Tie as tie
 
--- src/matrix.rt:22:1
 returns : tie.Need-returns
 returns c =
     let c4 = c .before .before .before .before in

@@ -1,3 +1,4 @@
+-- `flat::matrix::row_finite` answers `rowFinite a`.
 use borrow.Author.Needs.{needs}
 use lib.Ieee.{nan}
 use Rattle.flat.specs.Axes.{of-one}
@@ -5,7 +6,6 @@ use Rattle.tensor.specs.Finite.{rowFinite}
 use Rattle.flat.proofs.matrix.row_finite.Statement.{statement}
 use Rattle.flat.proofs.matrix.row_finite.Tie as tie
 
--- src/matrix.rt:69:1
 returns : tie.Need-returns
 returns c =
     simp (c .is-finite2 .ensures, c .before .is-finite .ensures)

@@ -1,3 +1,4 @@
+-- `flat::matrix::row_sub` answers `rowSubOf a b`.
 use borrow.Author.Needs.{needs}
 use lib.Ieee.{nan}
 use Rattle.flat.specs.Axes.{of-two}
@@ -5,7 +6,6 @@ use Rattle.tensor.specs.Matrix.{rowSubOf}
 use Rattle.flat.proofs.matrix.row_sub.Statement.{statement}
 use Rattle.flat.proofs.matrix.row_sub.Tie as tie
 
--- src/matrix.rt:46:1
 returns : tie.Need-returns
 unfolding rowSubOf
 returns c = of-two rowSubOf nan nan (c .args .t1) (c .args .t2) (search needs) (search needs)

@@ -1,3 +1,4 @@
+-- `flat::matrix::rows_finite` answers `rowsFinite m`.
 use borrow.Author.Needs.{needs}
 use Rattle.flat.proofs.matrix.rows_finite.Statement.{statement}
 use Rattle.flat.proofs.matrix.rows_finite.Tie as tie
@@ -5,7 +6,6 @@ use Rattle.flat.proofs.matrix.rows_finite.Reads as reads
 use Rattle.flat.proofs.matrix.rows_finite.Lts as lts
 use Rattle.flat.proofs.matrix.row_finite.Reads as row-finite-reads
 
--- src/matrix.rt:81:1
 returns : tie.Need-returns
 returns c =
     simp (c .row-finite2 .ensures, c .before .row-finite .ensures)

@@ -1,3 +1,4 @@
+-- `flat::matrix::scaled_row` answers `scaledRowOf u s`.
 use borrow.Author.Needs.{needs}
 use lib.Ieee.{nan}
 use Rattle.flat.specs.Axes.{of-two}
@@ -5,7 +6,6 @@ use Rattle.tensor.specs.Matrix.{scaledRowOf}
 use Rattle.flat.proofs.matrix.scaled_row.Statement.{statement}
 use Rattle.flat.proofs.matrix.scaled_row.Tie as tie
 
--- src/matrix.rt:15:1
 returns : tie.Need-returns
 unfolding scaledRowOf
 returns c = of-two scaledRowOf nan nan (c .args .t1) (c .args .t2) (search needs) (search needs)

@@ -1,3 +1,4 @@
+-- `flat::matrix::sum` answers `sumOf e`.
 use borrow.Author.Needs.{needs}
 use lib.Ieee.{nan}
 use Rattle.flat.specs.Axes.{of-one}
@@ -5,7 +6,6 @@ use Rattle.tensor.specs.Matrix.{sumOf}
 use Rattle.flat.proofs.matrix.sum.Statement.{statement}
 use Rattle.flat.proofs.matrix.sum.Tie as tie
 
--- src/matrix.rt:33:1
 returns : tie.Need-returns
 unfolding sumOf
 returns c = of-one sumOf nan (c .args .t1) (search needs)

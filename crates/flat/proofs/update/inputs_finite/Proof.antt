@@ -1,3 +1,4 @@
+-- `flat::update::inputs_finite` answers `inputsFinite u vt s`.
 use borrow.Author.Needs.{needs}
 use Rattle.flat.proofs.update.inputs_finite.Statement.{statement}
 use Rattle.flat.proofs.update.inputs_finite.Tie as tie
@@ -8,7 +9,6 @@ use Rattle.flat.proofs.matrix.row_finite.Reads as row-finite-reads
 use Rattle.flat.proofs.matrix.rows_finite.Reads as rows-finite-reads
 use Rattle.plasticity.proofs.scalars_finite.Reads as scalars-finite-reads
 
--- src/update.rt:11:1
 returns : tie.Need-returns
 returns c =
     simp (c .mat-finite2 .ensures, c .before .mat-finite .ensures, c .before .before .scalars-finite .ensures, c .before .before .before .row-finite .ensures, c .before .before .before .before .rows-finite .ensures)
