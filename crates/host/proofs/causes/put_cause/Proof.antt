@@ -13,11 +13,12 @@ returns c =
 
 returns-2 : tie.Need-returns-2
 returns-2 c =
-    let d = c .before .before .before .before .before .before in
+    let w = c .before .before .before .before .before in
+    let d = w .before in
     let t = simp (d .before .call-refusal .ensures) at (d .if1 .left) in
-    (sym t, simp (c .before .before .copy .ensures, t))
+    (sym t, simp (c .before .before .copy .ensures, w .words .ensures, t))
 
 pub put-cause-spec : {M : Type 1} → statement M
 put-cause-spec =
     tie.close
-    (tie.spec (λ c κs. search needs) returns (λ c κs. search needs) (λ c κs. search needs) (λ c. search needs) returns-2)
+    (tie.spec (λ c κs. search needs) returns (λ c κs. search needs) (λ c. search needs) (λ c κs. search needs) (λ c. search needs) returns-2)
