@@ -1,30 +1,37 @@
 -- What is handed from one piece of the walk to the next, as the code hands it on; and the powers' range.
 use mathlib.Core.Bool.{Bool, true, false, cond, _&&_}
 use mathlib.Core.List.{List, [], _∷_}
-use mathlib.Core.Path.{_≡_, refl, ap, _∙_}
+use mathlib.Core.Path.{_≡_, refl, sym, ap, _∙_}
 use Prim.Native.Nat.{ℕ}
 use native.Mathlib.Omega.{arith}
+use lib.Ieee as Ieee
 use lib.Ieee.{Float}
 use Rattle.answers.specs.Range.{ranged, onPath, inRange, sideOf}
 use Rattle.answers.specs.Refusals.{noNumber}
 use Rattle.answers.specs.declared.Answer.{Answer}
 use Rattle.answers.specs.declared.Answer.the-variants as answers
-use Rattle.numbers.specs.Floats.{finite, isNumber}
+use Rattle.numbers.specs.Floats.{finite, isNumber, maxOf}
 use Rattle.thirds.specs.Thirds as thirds
 use Rattle.tensor.specs.Axes.{allOf}
+use Rattle.tensor.specs.Matrix.{zero}
 use Rattle.tensor.specs.Finite.{rowFinite, matFinite}
 use Rattle.plasticity.specs.State.{scalarsFinite}
 use Rattle.walk.specs.Expr.{num, value}
 use Rattle.walk.specs.Walk.{Walk, third, two-thirds, minus-two-thirds, at, answerOf, _then_, Ended, given, refused, result}
 use Rattle.walk.specs.Exact.{andThen, result-then}
 use Rattle.walk.specs.Every.{and-right}
+use Rattle.reason.specs.declared.Number.{Number}
+use Rattle.reason.specs.declared.Number.the-variants as number
+use Rattle.reason.specs.Traced.{Traced, reached, stopped, traced, untraced, numberAs}
+use Rattle.reason.proofs.Laws.{result-traced}
 use Rattle.plasticity_nacc.specs.declared.NaccArguments.{NaccArguments}
 use Rattle.plasticity_nacc.specs.declared.NaccPlasticity.{NaccPlasticity}
 use Rattle.plasticity_nacc.specs.Law.{argumentsFloats, argumentsFinite}
 use Rattle.plasticity_nacc.specs.declared.Trial.{Trial}
 use Rattle.plasticity_nacc.specs.Axes.{two-axes}
 use Rattle.plasticity_nacc.specs.Formulas.{low}
-use Rattle.plasticity_nacc.specs.Nacc.{Way, upper, lower, inside, surface, Shape, Landed, tipWalk, ends, stepsWalk, scalarsOf}
+use Rattle.plasticity_nacc.specs.Nacc.{Way, upper, lower, inside, surface, Shape, Landed, tipWalk, ends, pressWalk, stepsWalk, scalarsOf}
+use Rattle.plasticity_nacc.proofs.Laws as nacc
 use Rattle.flat.specs.State.{inputsFinite, stateFinite, rowsFinite, keptOf}
 use Rattle.flat.specs.Update.{updatedOf, inputs-finite, store-law}
 use Rattle.flat.specs.declared.State.{State}
@@ -82,6 +89,28 @@ squared-given x {v} h = within-given x v (at two-thirds x) h
 
 pub squared-refused : (x : Float) {n : ℕ} → withinOf x ≡ answers.Refused n → answerOf two-thirds x ≡ answers.Refused n
 squared-refused x {n} h = within-refused x n (at two-thirds x) h
+
+-- ---- the law's pieces tell the step of a refusal: it is left here
+pub steps-law : (p : NaccPlasticity) (sigma : List Float) (alpha : Float) → finite alpha ≡ true
+    → result (stepsWalk two-axes p sigma alpha) ≡ result (pressWalk two-axes p (num (maxOf (Ieee.neg alpha) zero)) sigma alpha)
+steps-law p sigma alpha h =
+    let v = pressWalk two-axes p (num (maxOf (Ieee.neg alpha) zero)) sigma alpha in
+    result-traced (stepsWalk two-axes p sigma alpha) ∙ ap untraced (nacc.steps-law two-axes p sigma alpha h) ∙ sym (result-traced v)
+
+module _ {B : Type 0} (g : Float → Ended B) where
+  abbrev pub numbered : Number → Ended B
+  numbered (number.Value x) = g x
+  numbered (number.Refused n step) = refused n
+
+  handed-on : (x : Traced Float) → andThen (untraced x) g ≡ numbered (numberAs x)
+  handed-on (reached v) = refl
+  handed-on (stopped n step) = refl
+
+-- the new alpha is handed on to what follows it
+pub alpha-then : {B : Type 0} (w : Walk Float) (g : Float → Walk B) → result (w then g) ≡ numbered (λ a. result (g a)) (numberAs (traced w))
+alpha-then w g =
+    let k = λ a. result (g a) in
+    result-then w g ∙ ap (λ x. andThen x k) (result-traced w) ∙ handed-on k (traced w)
 
 -- ---- one piece after the other
 ended : (w : Way) → ((alpha : Float) → outcomeOf w alpha ≡ outcomeOf (surface alpha alpha) alpha) → (x : Ended Shape)

@@ -5,6 +5,7 @@ use answers::Answer;
 use plasticity::Outcome;
 use plasticity_nacc::NaccPlasticity;
 use plasticity_nacc::Trial;
+use reason::Number;
 ghost use mathlib.Core.Path.{_≡_};
 ghost use mathlib.Core.Bool.{true};
 ghost use Rattle.numbers.specs.Floats.{isNumber};
@@ -66,14 +67,14 @@ pub fn tip(p: NaccPlasticity, x: f64, j: f64, alpha: f64) -> Stepped
     match power::within(x) {
         Answer::Value(_) => match square_root::sqrt_on_path(x) {
             Answer::Value(e) => match p.raised(x, j, alpha) {
-                Answer::Value(a) => {
+                Number::Value(a) => {
                     let sigma = [e, e];
                     Stepped {
                         outcome: Outcome::Stored(a),
                         sigma,
                     }
                 }
-                Answer::Refused(n) => refused_step(n),
+                Number::Refused(n, _) => refused_step(n),
             },
             Answer::Refused(n) => refused_step(n),
         },
@@ -122,7 +123,7 @@ pub fn surface(p: NaccPlasticity, t: Trial, s: [f64; 2], alpha: f64) -> Stepped
     ensures { λ r. ⌜ r ≡ shapedOf (result (surfaceWalk two-axes p t s alpha)) ⌝ }
 {
     match p.hardened(2.0, t, alpha) {
-        Answer::Value(a) => land(p, t, s, a),
-        Answer::Refused(n) => refused_step(n),
+        Number::Value(a) => land(p, t, s, a),
+        Number::Refused(n, _) => refused_step(n),
     }
 }

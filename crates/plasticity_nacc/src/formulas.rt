@@ -1,10 +1,12 @@
 // The formulas of one number each, over however many axes.
 use crate::NaccPlasticity;
 use crate::Trial;
+use crate::steps;
 use answers::Answer;
+use reason::Number;
 ghost use mathlib.Core.Path.{_≡_};
 ghost use Rattle.walk.specs.Expr.{num, neg, _*_, value};
-ghost use Rattle.walk.specs.Walk.{result, answerAs};
+ghost use Rattle.reason.specs.Traced.{traced, numberAs};
 ghost use Rattle.numbers.specs.Floats.{maxOf};
 ghost use Rattle.tensor.specs.Matrix.{zero};
 ghost use Rattle.plasticity_nacc.specs.Formulas.{p0, pressure, stressed, low, y0, y1, y, volumeSquare, lowerSquare, scale};
@@ -60,16 +62,16 @@ impl NaccPlasticity {
     }
 
     // Alpha at the tip whose volume is x.
-    pub fn raised(self, x: f64, j: f64, alpha: f64) -> Answer
-        ensures { λ r. ⌜ r ≡ answerAs (result (raiseWalk self (num x) j alpha)) ⌝ }
+    pub fn raised(self, x: f64, j: f64, alpha: f64) -> Number
+        ensures { λ r. ⌜ r ≡ numberAs (traced (raiseWalk self (num x) j alpha)) ⌝ }
     {
         if self.hardening_enabled {
             match logarithm::ln_on_path(j / x) {
-                Answer::Value(l) => Answer::Value(alpha + l),
-                Answer::Refused(n) => Answer::Refused(n),
+                Answer::Value(l) => Number::Value(alpha + l),
+                Answer::Refused(n) => Number::Refused(n, steps::TIP_LOG),
             }
         } else {
-            Answer::Value(alpha)
+            Number::Value(alpha)
         }
     }
 

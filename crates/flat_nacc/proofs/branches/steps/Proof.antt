@@ -5,8 +5,7 @@ use Rattle.walk.specs.Matrix.{value-product}
 use Rattle.plasticity_nacc.specs.Axes.{two-axes}
 use Rattle.plasticity_nacc.specs.Formulas.{trialOf}
 use Rattle.plasticity_nacc.specs.Nacc.{pressWalk}
-use Rattle.plasticity_nacc.proofs.Laws.{steps-law}
-use Rattle.flat_nacc.proofs.Laws.{inverse-given, inverse-refused}
+use Rattle.flat_nacc.proofs.Laws.{inverse-given, inverse-refused, steps-law}
 use Rattle.flat_nacc.proofs.branches.steps.Statement.{statement}
 use Rattle.flat_nacc.proofs.branches.steps.Tie as tie
 
@@ -41,7 +40,7 @@ returns c =
     let c18 = c17 .before in
     let c19 = c18 .before in
     let a = c19 .args in
-    let law = steps-law two-axes (a .p) (a .sigma) (a .alpha) (c19 .pre) in
+    let law = steps-law (a .p) (a .sigma) (a .alpha) (c19 .pre) in
     let t0 = simp (c17 .sinh-on-path .ensures, c18 .argument .ensures) at (c15 .x .given .1) in
     let t1 = simp (c12 .is-number .ensures, c13 .p0 .ensures) at (c11 .if1 .taken) in
     let within = simp (c9 .within .ensures, c10 .product .ensures) at (c7 .enum-told .given .1) in
@@ -67,7 +66,7 @@ returns-2 c =
     let c18 = c17 .before in
     let c19 = c18 .before in
     let a = c19 .args in
-    let law = steps-law two-axes (a .p) (a .sigma) (a .alpha) (c19 .pre) in
+    let law = steps-law (a .p) (a .sigma) (a .alpha) (c19 .pre) in
     let t0 = simp (c17 .sinh-on-path .ensures, c18 .argument .ensures) at (c15 .x .given .1) in
     let t1 = simp (c12 .is-number .ensures, c13 .p0 .ensures) at (c11 .if1 .taken) in
     let within = simp (c9 .within .ensures, c10 .product .ensures) at (c7 .enum-told .given .1) in
@@ -89,7 +88,7 @@ returns-3 c =
     let c13 = c12 .before in
     let c14 = c13 .before in
     let a = c14 .args in
-    let law = steps-law two-axes (a .p) (a .sigma) (a .alpha) (c14 .pre) in
+    let law = steps-law (a .p) (a .sigma) (a .alpha) (c14 .pre) in
     let t0 = simp (c12 .sinh-on-path .ensures, c13 .argument .ensures) at (c10 .x .given .1) in
     let t1 = simp (c7 .is-number .ensures, c8 .p0 .ensures) at (c6 .if1 .taken) in
     let within = simp (c4 .within .ensures, c5 .product .ensures) at (c2 .n .given .1) in
@@ -107,7 +106,7 @@ returns-4 c =
     let c8 = c7 .before in
     let c9 = c8 .before in
     let a = c9 .args in
-    let law = steps-law two-axes (a .p) (a .sigma) (a .alpha) (c9 .pre) in
+    let law = steps-law (a .p) (a .sigma) (a .alpha) (c9 .pre) in
     let t0 = simp (c7 .sinh-on-path .ensures, c8 .argument .ensures) at (c5 .x .given .1) in
     let t1 = simp (c2 .is-number .ensures, c3 .p0 .ensures) at (c1 .if1 .left) in
     simp (c .refused-step3 .ensures, t0, t1, law, value-product)
@@ -120,7 +119,7 @@ returns-5 c =
     let c5 = c4 .before in
     let c6 = c5 .before in
     let a = c6 .args in
-    let law = steps-law two-axes (a .p) (a .sigma) (a .alpha) (c6 .pre) in
+    let law = steps-law (a .p) (a .sigma) (a .alpha) (c6 .pre) in
     let t0 = simp (c4 .sinh-on-path .ensures, c5 .argument .ensures) at (c2 .n2 .given .1) in
     simp (c .refused-step4 .ensures, t0, law, value-product)
 

@@ -1,8 +1,7 @@
 -- `flat_nacc::surface::tip` answers `shapedOf (result (tipWalk two-axes p (num x) j alpha))`.
 use borrow.Author.Needs.{needs}
-use Rattle.walk.specs.Exact.{number-then}
 use Rattle.plasticity_nacc.specs.Nacc.{tipWalk}
-use Rattle.flat_nacc.proofs.Laws.{rooted-given, rooted-refused}
+use Rattle.flat_nacc.proofs.Laws.{alpha-then, rooted-given, rooted-refused}
 use Rattle.flat_nacc.proofs.surface.tip.Statement.{statement}
 use Rattle.flat_nacc.proofs.surface.tip.Tie as tie
 
@@ -19,7 +18,7 @@ returns c =
     let t0 = rooted-given (c10 .before .args .x) within in
     let t1 = simp (c7 .sqrt-on-path .ensures) at (c5 .e .given .1) in
     let t2 = simp (c3 .raised .ensures) at (c1 .a .given .1) in
-    simp (t0, t1, t2, number-then)
+    simp (t0, t1, t2, alpha-then)
 
 returns-2 : tie.Need-returns-2
 unfolding tipWalk
@@ -34,7 +33,7 @@ returns-2 c =
     let t0 = rooted-given (c11 .before .args .x) within in
     let t1 = simp (c8 .sqrt-on-path .ensures) at (c6 .e .given .1) in
     let t2 = simp (c4 .raised .ensures) at (c2 .n .given .1) in
-    simp (c .refused-step .ensures, t0, t1, t2, number-then)
+    simp (c .refused-step .ensures, t0, t1, t2, alpha-then)
 
 returns-3 : tie.Need-returns-3
 unfolding tipWalk

@@ -1,4 +1,4 @@
--- `plasticity_nacc::NaccPlasticity::raised` answers `answerAs (result (raiseWalk self (num x) j alpha))`.
+-- `plasticity_nacc::NaccPlasticity::raised` answers `numberAs (traced (raiseWalk self (num x) j alpha))`.
 use borrow.Author.Needs.{needs}
 use Rattle.plasticity_nacc.specs.Nacc.{raiseWalk}
 use Rattle.plasticity_nacc.proofs.NaccPlasticity.raised.Statement.{statement}
