@@ -62,13 +62,13 @@ def measure(args):
         mu, la = modulus(d, 1.0), modulus(d, 0.0) if d.one_of(4) else 0.0
         e = strains(d)
         s = strength(d, mu, la, e)
-        m, l = exact(mu), exact(la)
-        unit = (2 * m + 2 * l) * ONE
+        m, lam = exact(mu), exact(la)
+        unit = (2 * m + 2 * lam) * ONE
         if not (1.0 <= mu <= 2.0 ** 40 and 0.0 <= la <= 2.0 ** 40 and abs(exact(s)) * ONE <= 4 * unit):
             continue
         seen += 1
         branch, after = project(mu, la, e, s)
-        gap = (largest(m, l, after) - exact(s) * ONE) << DEMANDED
+        gap = (largest(m, lam, after) - exact(s) * ONE) << DEMANDED
         kept = gap <= unit and (branch == 0 or -gap <= unit)
         w = worst[branch]
         w[0], w[1], w[2] = w[0] + 1, max(w[1], gap / unit), max(w[2], -gap / unit if branch else 0.0)
