@@ -108,9 +108,7 @@ module _ {B : Type 0} (g : Float → Ended B) where
 
 -- the new alpha is handed on to what follows it
 pub alpha-then : {B : Type 0} (w : Walk Float) (g : Float → Walk B) → result (w then g) ≡ numbered (λ a. result (g a)) (numberAs (traced w))
-alpha-then w g =
-    let k = λ a. result (g a) in
-    result-then w g ∙ ap (λ x. andThen x k) (result-traced w) ∙ handed-on k (traced w)
+alpha-then w g = result-then w g ∙ ap (λ x. andThen x (λ a. result (g a))) (result-traced w) ∙ handed-on (λ a. result (g a)) (traced w)
 
 -- ---- one piece after the other
 ended : (w : Way) → ((alpha : Float) → outcomeOf w alpha ≡ outcomeOf (surface alpha alpha) alpha) → (x : Ended Shape)
