@@ -51,6 +51,8 @@ extern "C" {
     pub fn pasoletu_pass_factored(model: u64, parameters: *const u64, parameters_length: usize, records: *mut u64, records_length: usize, answers: *mut u64, answers_length: usize, counts: *mut u64, counts_length: usize) -> u8;
     pub fn pasoletu_pass_factored_with_failure(model: u64, parameters: *const u64, parameters_length: usize, limits: *const u64, limits_length: usize, corotated: *const u64, corotated_length: usize, records: *mut u64, records_length: usize, answers: *mut u64, answers_length: usize, counts: *mut u64, counts_length: usize) -> u8;
     pub fn pasoletu_fill_determinants(records: *mut u64, records_length: usize) -> u8;
+    pub fn pasoletu_flat_update(model: u64, parameters: *const u64, parameters_length: usize, record: *mut u64, record_length: usize, answer: *mut u64, answer_length: usize) -> u8;
+    pub fn pasoletu_flat_pass(model: u64, parameters: *const u64, parameters_length: usize, records: *mut u64, records_length: usize, answers: *mut u64, answers_length: usize, counts: *mut u64, counts_length: usize) -> u8;
     pub fn pasoletu_clear_tallies(particles: u64, zones: *const u64, zones_length: usize, tallies: *mut u64, tallies_length: usize) -> u8;
     pub fn pasoletu_move_particle(particles: u64, particle: u64, zone: u64, zones: *mut u64, zones_length: usize, tallies: *mut u64, tallies_length: usize) -> u8;
     pub fn pasoletu_pass_by_zone(model: u64, parameters: *const u64, parameters_length: usize, zones: *const u64, zones_length: usize, records: *mut u64, records_length: usize, answers: *mut u64, answers_length: usize, tallies: *mut u64, tallies_length: usize) -> u8;

@@ -56,6 +56,11 @@ uint8_t pasoletu_pass_factored_with_failure(uint64_t model, const uint64_t *para
                                             uint64_t *answers, size_t answers_length, uint64_t *counts,
                                             size_t counts_length);
 uint8_t pasoletu_fill_determinants(uint64_t *records, size_t records_length);
+uint8_t pasoletu_flat_update(uint64_t model, const uint64_t *parameters, size_t parameters_length, uint64_t *record,
+                             size_t record_length, uint64_t *answer, size_t answer_length);
+uint8_t pasoletu_flat_pass(uint64_t model, const uint64_t *parameters, size_t parameters_length, uint64_t *records,
+                           size_t records_length, uint64_t *answers, size_t answers_length, uint64_t *counts,
+                           size_t counts_length);
 uint8_t pasoletu_clear_tallies(uint64_t particles, const uint64_t *zones, size_t zones_length, uint64_t *tallies,
                                size_t tallies_length);
 uint8_t pasoletu_move_particle(uint64_t particles, uint64_t particle, uint64_t zone, uint64_t *zones,

@@ -208,6 +208,14 @@ static inline const char *pasoletu_refusal_text(uint64_t refusal)
 #define PASOLETU_PARTS_COMPLETE 0          /* in it: how many particles are complete and worked */
 #define PASOLETU_PARTS_COUNT 1             /* how many the sheet says it has; 0 before that is known */
 
+/* Flat records (section 7): 20 doubles a particle, without a determinant. */
+#define PASOLETU_FLAT_FLOATS 20  /* a flat record */
+#define PASOLETU_FLAT_F 0        /* deformation gradient, two rows of two */
+#define PASOLETU_FLAT_U 4        /* U of F = U diag(sigma) V^T, two rows of two */
+#define PASOLETU_FLAT_SIGMA 8    /* two singular values */
+#define PASOLETU_FLAT_VT 10      /* V^T, two rows of two */
+#define PASOLETU_FLAT_PHASE 14   /* the six scalars, in the order of PASOLETU_PHASE to PASOLETU_ALPHA */
+
 /* Reports (section 7): three columns of six entries. Least, greatest and total are whole numbers of 2^-30, as
  * int64_t. */
 #define PASOLETU_REPORT_MOST 4096               /* particles of a report */
@@ -540,6 +548,30 @@ uint8_t pasoletu_pass_factored_with_failure(uint64_t model, const double *parame
  * the law refuses that record by 1.
  * Refusals, nothing written: 8 for a list that is no whole number of records of 37, as a list of 36 a record is. */
 uint8_t pasoletu_fill_determinants(double *records, size_t records_length);
+
+/* ---- Slices of a slope (section 7) ------------------------------------------------------------------------------- */
+/* The four plastic laws in two axes, on flat records: 20 doubles, F, U, sigma and V^T of 4, 4, 2 and 4, then the six
+ * scalars, and no determinant. Snow, Drucker-Prager and NACC are the Rust's with DIM = 2; Rankine tests the smaller
+ * strain in its second branch and else divides by 2 mu + 2 lambda (docs/DIFFERENCES.md). */
+
+/* record: 20; answer: 2. The plastic law on one flat record. parameters: as many as the model has.
+ * Returns 0: answer is (PASOLETU_UNTOUCHED, 0) and the record keeps its bits, or (PASOLETU_STORED, the amount's
+ * bits) and F, sigma and those scalars that the law names are new; U and V^T stay.
+ * Refusals, nothing written: 8; 6 for a model over 7 or a flag; 1 for a parameter or one of the 20 that is not
+ * finite; 1, 2, 3 and 10 by the law. */
+uint8_t pasoletu_flat_update(uint64_t model, const double *parameters, size_t parameters_length, double *record,
+                             size_t record_length, uint64_t *answer, size_t answer_length);
+
+/* counts: 3. The plastic law on every flat record, each by its index; the pass goes on after a refused one.
+ * records: 20 doubles a particle, any number of particles; answers: exactly 2 numbers a particle; counts: how many
+ * are untouched, stored, refused.
+ * Returns 0: all answers and counts are written. A refused record keeps its bits, and its answer is
+ * (PASOLETU_REFUSED, 1, 2, 3 or 10), as pasoletu_flat_update would refuse it.
+ * Refusals, before any record and with nothing written: 8, also for a list that is no whole number of records of 20;
+ * 6 for a model over 7 or a flag. */
+uint8_t pasoletu_flat_pass(uint64_t model, const double *parameters, size_t parameters_length, double *records,
+                           size_t records_length, uint64_t *answers, size_t answers_length, uint64_t *counts,
+                           size_t counts_length);
 
 /* ---- Tallies by zone (section 7) --------------------------------------------------------------------------------- */
 

@@ -1026,6 +1026,46 @@ static void sheets_in_parts(void)
     CHECK(strncmp(pasoletu_refusal_text(PASOLETU_AFTER_END), "a part or an end of a sheet in parts comes after its end: ", 58) == 0);
 }
 
+/* Slices of a slope: flat records of 20. */
+static void slices(void)
+{
+    enum { LISTED = 3 };
+    double r[LISTED * PASOLETU_FLAT_FLOATS], was[LISTED * PASOLETU_FLAT_FLOATS];
+    uint64_t a[2 * LISTED] = {0}, counts[3] = {0};
+
+    memset(r, 0, sizeof r);
+    for (int k = 0; k < LISTED; k++) {
+        double *one = r + k * PASOLETU_FLAT_FLOATS;
+        one[PASOLETU_FLAT_F] = one[PASOLETU_FLAT_F + 3] = one[PASOLETU_FLAT_U] = one[PASOLETU_FLAT_U + 3] = 1;
+        one[PASOLETU_FLAT_SIGMA] = one[PASOLETU_FLAT_SIGMA + 1] = one[PASOLETU_FLAT_VT] = one[PASOLETU_FLAT_VT + 3] = 1;
+        for (int i = 0; i < 4; i++)
+            one[PASOLETU_FLAT_PHASE + i] = 1;
+    }
+    r[PASOLETU_FLAT_SIGMA] = 0.9;
+    r[PASOLETU_FLAT_FLOATS + PASOLETU_FLAT_U] = nan_with_payload();
+    memcpy(was, r, sizeof was);
+
+    /* 8 with 20, 6, and nothing written. */
+    CHECK(pasoletu_flat_update(PASOLETU_SNOW, SNOW, 3, r, PASOLETU_FLOATS, a, 2) == 8);
+    CHECK(pasoletu_flat_update(PASOLETU_SNOW, SNOW, 3, r, PASOLETU_FLAT_FLOATS - 1, a, 2) == 8);
+    CHECK(pasoletu_flat_update(PASOLETU_SNOW, SNOW, 2, r, PASOLETU_FLAT_FLOATS, a, 2) == 8);
+    CHECK(pasoletu_flat_update(8, SNOW, 0, r, PASOLETU_FLAT_FLOATS, a, 2) == 6);
+    CHECK(pasoletu_flat_pass(PASOLETU_SNOW, SNOW, 3, r, LISTED * PASOLETU_FLAT_FLOATS - 1, a, 2 * LISTED, counts, 3) == 8);
+    CHECK(pasoletu_flat_pass(PASOLETU_SNOW, SNOW, 3, r, LISTED * PASOLETU_FLAT_FLOATS, a, 2 * LISTED - 1, counts, 3) == 8);
+    CHECK(pasoletu_flat_pass(PASOLETU_SNOW, SNOW, 3, r, LISTED * PASOLETU_FLAT_FLOATS, a, 2 * LISTED, counts, 4) == 8);
+    CHECK(same(r, was, LISTED * PASOLETU_FLAT_FLOATS) && a[0] == 0 && counts[1] == 0);
+
+    /* A refused record keeps its bits, the others are still worked. */
+    CHECK(pasoletu_flat_pass(PASOLETU_SNOW, SNOW, 3, r, LISTED * PASOLETU_FLAT_FLOATS, a, 2 * LISTED, counts, 3) == 0);
+    CHECK(counts[0] == 0 && counts[1] == 2 && counts[2] == 1);
+    CHECK(a[0] == PASOLETU_STORED && a[2] == PASOLETU_REFUSED && a[3] == 1 && a[4] == PASOLETU_STORED);
+    CHECK(r[PASOLETU_FLAT_SIGMA] == 0.975 && r[PASOLETU_FLAT_F] == 0.975 && r[PASOLETU_FLAT_SIGMA + 1] == 1);
+    CHECK(same(r + PASOLETU_FLAT_FLOATS, was + PASOLETU_FLAT_FLOATS, PASOLETU_FLAT_FLOATS));
+    CHECK(pasoletu_flat_update(PASOLETU_SNOW, SNOW, 3, was, PASOLETU_FLAT_FLOATS, a, 2) == 0);
+    CHECK(same(r, was, PASOLETU_FLAT_FLOATS));
+    CHECK(pasoletu_flat_update(PASOLETU_SNOW, SNOW, 3, was + PASOLETU_FLAT_FLOATS, PASOLETU_FLAT_FLOATS, a, 2) == 1);
+}
+
 int main(void)
 {
     version();
@@ -1048,6 +1088,7 @@ int main(void)
     reports();
     tallies();
     sheets_in_parts();
+    slices();
     printf("%d passed, %d failed\n", passed, failed);
     return failed != 0;
 }

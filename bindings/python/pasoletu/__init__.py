@@ -49,6 +49,7 @@ from .particle import Particle
 from .refusal import REFUSALS, Refused
 from .reasons import Clamped, Stopped, Tested
 from .reports import Column, Report, report
+from .slices import FlatParticle, flat_pass
 from .zones import Tally, Zones
 
 __all__ = [
@@ -58,6 +59,7 @@ __all__ = [
     "CorotatedLinearElasticity",
     "DruckerPragerPlasticity",
     "FLOATS",
+    "FlatParticle",
     "MODELS",
     "MaximumStressFailure",
     "MonaghanSphEos",
@@ -89,6 +91,7 @@ __all__ = [
     "factor_particles",
     "factor_records",
     "fill_determinants",
+    "flat_pass",
     "law",
     "pass_particles",
     "pass_records",

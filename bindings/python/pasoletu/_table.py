@@ -233,6 +233,13 @@ PARTS_STATE_PARAMETERS = 7  # 8: bits of the parameters, 0 past the model's last
 PARTS_PROGRESS = 2  # entries of a call's progress
 PARTS_COMPLETE = 0  # in it: how many particles are complete and worked
 PARTS_COUNT = 1  # how many the sheet says it has; 0 before that is known
+# Flat records (section 7): 20 doubles a particle, without a determinant.
+FLAT_FLOATS = 20  # a flat record
+FLAT_F = 0  # deformation gradient, two rows of two
+FLAT_U = 4  # U of F = U diag(sigma) V^T, two rows of two
+FLAT_SIGMA = 8  # two singular values
+FLAT_VT = 10  # V^T, two rows of two
+FLAT_PHASE = 14  # the six scalars, in the order of PASOLETU_PHASE to PASOLETU_ALPHA
 # Reports (section 7): three columns of six entries. Least, greatest and total are whole numbers of 2^-30, as int64_t.
 REPORT_MOST = 4096  # particles of a report
 REPORT = 18  # entries of a report
@@ -544,6 +551,19 @@ CALLS: dict[str, tuple[Argument, ...]] = {
     ),
     "fill_determinants": (
         Argument("records", "f64", 0, True),
+    ),
+    "flat_update": (
+        Argument("model", "u64", None, False),
+        Argument("parameters", "f64", 0, False),
+        Argument("record", "f64", 20, True),
+        Argument("answer", "u64", 2, True),
+    ),
+    "flat_pass": (
+        Argument("model", "u64", None, False),
+        Argument("parameters", "f64", 0, False),
+        Argument("records", "f64", 0, True),
+        Argument("answers", "u64", 0, True),
+        Argument("counts", "u64", 3, True),
     ),
     "clear_tallies": (
         Argument("particles", "u64", None, False),

@@ -53,6 +53,7 @@ mod reasons;
 mod reports;
 #[cfg(feature = "alloc")]
 mod sheets;
+mod slices;
 #[allow(dead_code, missing_docs)]
 #[rustfmt::skip]
 mod table;
@@ -77,6 +78,7 @@ pub use reasons::{Bound, Place, Reason};
 pub use reports::{report, Column, Report};
 #[cfg(feature = "alloc")]
 pub use sheets::{read_sheet, run_sheet, write_sheet, write_sheet_with_determinants, Ran, Sheet};
+pub use slices::{flat_pass_into, FlatParticle};
 pub use table::{REPORT_MOST, SHEET_BYTES, SHEET_MOST};
 #[cfg(feature = "alloc")]
 pub use vectors::{factor_list, pass, pass_factored, pass_factored_with_failure, pass_with_failure, Passed};

@@ -125,6 +125,13 @@ pub const PARTS_STATE_PARAMETERS: usize = 7;
 pub const PARTS_PROGRESS: usize = 2;
 pub const PARTS_COMPLETE: usize = 0;
 pub const PARTS_COUNT: usize = 1;
+// Flat records (section 7): 20 doubles a particle, without a determinant.
+pub const FLAT_FLOATS: usize = 20;
+pub const FLAT_F: usize = 0;
+pub const FLAT_U: usize = 4;
+pub const FLAT_SIGMA: usize = 8;
+pub const FLAT_VT: usize = 10;
+pub const FLAT_PHASE: usize = 14;
 // Reports (section 7): three columns of six entries. Least, greatest and total are whole numbers of 2^-30, as int64_t.
 pub const REPORT_MOST: usize = 4096;
 pub const REPORT: usize = 18;
@@ -201,6 +208,8 @@ extern "C" {
     pub fn pasoletu_pass_factored(model: u64, parameters: *const f64, parameters_length: usize, records: *mut f64, records_length: usize, answers: *mut u64, answers_length: usize, counts: *mut u64, counts_length: usize) -> u8;
     pub fn pasoletu_pass_factored_with_failure(model: u64, parameters: *const f64, parameters_length: usize, limits: *const f64, limits_length: usize, corotated: *const f64, corotated_length: usize, records: *mut f64, records_length: usize, answers: *mut u64, answers_length: usize, counts: *mut u64, counts_length: usize) -> u8;
     pub fn pasoletu_fill_determinants(records: *mut f64, records_length: usize) -> u8;
+    pub fn pasoletu_flat_update(model: u64, parameters: *const f64, parameters_length: usize, record: *mut f64, record_length: usize, answer: *mut u64, answer_length: usize) -> u8;
+    pub fn pasoletu_flat_pass(model: u64, parameters: *const f64, parameters_length: usize, records: *mut f64, records_length: usize, answers: *mut u64, answers_length: usize, counts: *mut u64, counts_length: usize) -> u8;
     pub fn pasoletu_clear_tallies(particles: u64, zones: *const u64, zones_length: usize, tallies: *mut u64, tallies_length: usize) -> u8;
     pub fn pasoletu_move_particle(particles: u64, particle: u64, zone: u64, zones: *mut u64, zones_length: usize, tallies: *mut u64, tallies_length: usize) -> u8;
     pub fn pasoletu_pass_by_zone(model: u64, parameters: *const f64, parameters_length: usize, zones: *const u64, zones_length: usize, records: *mut f64, records_length: usize, answers: *mut u64, answers_length: usize, tallies: *mut u64, tallies_length: usize) -> u8;

@@ -5,6 +5,7 @@ pub mod OfRecord
 pub mod Passes
 pub mod Reports
 pub mod Sheets
+pub mod Slices
 pub mod Update
 pub mod Zones
 pub mod Causes

@@ -26,7 +26,7 @@ pub extern "C" fn pasoletu_why(model: u64, parameters: &[u64], r: &[u64], reason
     ensures { λ n. ⌜ now (reason .exit) ≡ whyWritten model (now (parameters .entry)) (now (r .entry)) (now (reason .entry)) ⌝ }
 {
     if reason.len() != 11 {
-        return 8;
+        return answers::LENGTH;
     }
     let w = record_why::why(model, parameters, r);
     put_cause(model, w, reason)

@@ -13,6 +13,7 @@ pub mod physics_calls;
 pub mod reports;
 pub mod returns;
 pub mod sheets;
+pub mod slices;
 pub mod update;
 pub mod zones;
 

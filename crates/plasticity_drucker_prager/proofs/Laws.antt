@@ -8,11 +8,12 @@ use Rattle.answers.specs.declared.Answer.{Answer}
 use Rattle.answers.specs.declared.Answer.the-variants as answers
 use Rattle.tensor.specs.Axes.{allOf}
 use Rattle.tensor.specs.Finite.{rowFinite, matFinite}
-use Rattle.tensor.specs.Matrix.{one, recomposeOf}
+use Rattle.tensor.specs.Matrix.{one, productOf, recomposeOf}
 use Rattle.physics.specs.Norm.{normOf}
 use Rattle.plasticity.specs.State as law
 use Rattle.plasticity.specs.State.{inputsFinite}
 use Rattle.plasticity.specs.declared.Outcome.the-variants.{Stored}
+use Rattle.plasticity.specs.declared.Scalars.{Scalars}
 use Rattle.plasticity.specs.declared.State.{State}
 use Rattle.plasticity.specs.declared.Updated.{Updated}
 use Rattle.walk.specs.Expr.{Expr, value}
@@ -24,7 +25,7 @@ use Rattle.reason.specs.Traced.{Traced, reached, stopped, askedAt, traced, untr
 use Rattle.reason.proofs.Laws.{traced-then, result-traced}
 use Rattle.walk.specs.Every.{all-append}
 use Rattle.walk.specs.Update.{Change, stored, updatedOf, inputs-finite}
-use Rattle.walk.specs.Matrix.{value-dot, value-entry, values-nums}
+use Rattle.walk.specs.Matrix.{product, value-product, value-dot, value-entry, values-nums}
 use Rattle.plasticity_drucker_prager.specs.declared.DruckerPragerPlasticity.{DruckerPragerPlasticity}
 use Rattle.plasticity_drucker_prager.specs.declared.Measured.{Measured}
 use Rattle.plasticity_drucker_prager.specs.declared.Measured.the-variants as measured
@@ -79,6 +80,10 @@ handed-out (stopped n step) = refl
 pub results-law : (w : Walk Returned) → resultsOf (projectedOf (result w)) ≡ resultsOf (walkedOf (traced w))
 results-law w = ap (λ x. resultsOf (projectedOf x)) (result-traced w) ∙ handed-out (traced w)
 
+-- what follows a walk doesn't see its step
+pub then-traced : {A B : Type 0} (w : Walk A) (g : A → Walk B) → result (w then g) ≡ andThen (untraced (traced w)) (λ a. result (g a))
+then-traced w g = result-then w g ∙ ap (λ x. andThen x (λ a. result (g a))) (result-traced w)
+
 -- alpha is followed by the projection
 module _ {B : Type 0} (g : Float → Ended B) where
   abbrev pub numbered : Number → Ended B
@@ -90,7 +95,7 @@ module _ {B : Type 0} (g : Float → Ended B) where
   stepped (stopped n step) = refl
 
 pub alpha-then : {B : Type 0} (w : Walk Float) (g : Float → Walk B) → result (w then g) ≡ numbered (λ a. result (g a)) (numberAs (traced w))
-alpha-then w g = result-then w g ∙ ap (λ x. andThen x (λ a. result (g a))) (result-traced w) ∙ stepped (λ a. result (g a)) (traced w)
+alpha-then w g = then-traced w g ∙ stepped (λ a. result (g a)) (traced w)
 
 -- the projection is followed by its branch
 module _ (p : DruckerPragerPlasticity) (u vt : List (List Float)) (s : State) where
@@ -111,8 +116,7 @@ module _ (p : DruckerPragerPlasticity) (u vt : List (List Float)) (s : State) wh
   pub way-then : (w : Walk Returned)
       → updatedOf s (result (w then (λ q. wayWalk p (q .way) (q .sigma) (q .dq) u vt s)))
       ≡ followedOf (walkedOf (traced w) .branch) p (walkedOf (traced w) .sigma) (walkedOf (traced w) .dq) u vt s
-  way-then w =
-      ap (updatedOf s) (result-then w (λ q. wayWalk p (q .way) (q .sigma) (q .dq) u vt s)) ∙ ap (λ x. updatedOf s (andThen x afterWay)) (result-traced w) ∙ follows (traced w)
+  way-then w = ap (updatedOf s) (then-traced w (λ q. wayWalk p (q .way) (q .sigma) (q .dq) u vt s)) ∙ follows (traced w)
 
 -- the results as the code tests them
 kept : (s new : State) (dq : Float) (b : Bool) → updatedOf s (cond b (given (stored new dq)) (refused 3)) ≡ cond b (record { state = new; outcome = Stored dq }) (law.refused 3 s)
@@ -129,6 +133,12 @@ store-law u sigma vt d h gain dq s =
     simp (value-entry, values-nums)
     (kept s (stateOf f sigma (value d) (value h) (value gain) s) dq ((matFinite f && rowFinite sigma) && ((finite (value d) && finite (value h)) && finite (value gain))))
 
+-- what is stored beside F and sigma is told of the products' values
+pub measured-law : (p : DruckerPragerPlasticity) (old sigma : List Float) (dq : Float) (x : Scalars)
+    → measuredAs (traced (measureWalk p (product old) (product sigma) dq x)) ≡ measuredOf p (productOf old) (productOf sigma) dq x
+unfolding measuredOf
+measured-law p old sigma dq x = rw (← value-product old, ← value-product sigma) refl
+
 -- what is stored beside F and sigma, and then the results
 module _ (p : DruckerPragerPlasticity) (sigma : List Float) (dq : Float) (u vt : List (List Float)) (s : State) where
   abbrev pub storedBy : Measured → Updated
@@ -143,8 +153,8 @@ module _ (p : DruckerPragerPlasticity) (sigma : List Float) (dq : Float) (u vt :
   measures (reached m) = store-law u sigma vt (m .determinant) (m .hardening) (m .gain) dq s
   measures (stopped n step) = refl
 
-  pub moved-law : updatedOf s (result (movedWalk p sigma dq u vt s)) ≡ storedBy (measuredOf p sigma dq s)
-  unfolding movedWalk measuredOf
+  pub moved-law : updatedOf s (result (movedWalk p sigma dq u vt s)) ≡ storedBy (measuredOf p (productOf (s .sigma)) (productOf sigma) dq (s .scalars))
+  unfolding movedWalk
   moved-law =
-      let w = measureWalk p sigma dq s in
-      ap (updatedOf s) (result-then w afterMeasures) ∙ ap (λ x. updatedOf s (andThen x (λ m. result (afterMeasures m)))) (result-traced w) ∙ measures (traced w)
+      let w = measureWalk p (product (s .sigma)) (product sigma) dq (s .scalars) in
+      ap (updatedOf s) (then-traced w afterMeasures) ∙ measures (traced w) ∙ ap storedBy (measured-law p (s .sigma) sigma dq (s .scalars))

@@ -8,11 +8,11 @@ use Prim.Native.Nat.{ℕ}
 use lib.ListN.{length}
 use lib.Ieee.{Float}
 use Rattle.exact.specs.RootOf.{sqrtOf}
-use Rattle.tensor.specs.Matrix.{zero, recomposeOf}
+use Rattle.tensor.specs.Matrix.{zero, productOf, recomposeOf}
 use Rattle.plasticity.specs.State.{inputsFinite}
 use Rattle.plasticity.specs.declared.State.{State}
 use Rattle.walk.specs.Expr.{Expr, num, _+_, _/_, value, values}
-use Rattle.walk.specs.Matrix.{sum, dot, value-entry, values-nums}
+use Rattle.walk.specs.Matrix.{sum, product, dot, value-entry, values-nums}
 use Rattle.walk.specs.Walk.{Walk, Function, at, exp, ln, zeros, less, at-most, holds, works, asks, branch, end, _then_}
 use Rattle.walk.specs.Exact.{path, final, last}
 use Rattle.walk.specs.Update.{Change, untouched, stored}
@@ -32,7 +32,7 @@ use Rattle.plasticity_drucker_prager.specs.Alpha.{dim, alphaWalk}
 use Rattle.plasticity_drucker_prager.specs.Projection.{Way, isotropic, expanding, inside, surface, Returned, deviatoric, gamma, back, tipWalk, surfaceWalk, yieldWalk, strainedWalk, projectWalk, branchOf, walkedOf}
 use Rattle.plasticity_drucker_prager.specs.DruckerPrager.{stateOf, storeWalk, Measures, measureWalk, measuredAs, measuredOf, finiteResults, movedWalk, wayWalk, staysOf, runWalk, floats, druckerWalk}
 use Rattle.plasticity_drucker_prager.specs.Told.{testOf, movedTold, branchTold, followWalk}
-use Rattle.plasticity_drucker_prager.proofs.Laws.{inputs-law}
+use Rattle.plasticity_drucker_prager.proofs.Laws.{inputs-law, measured-law}
 use Rattle.plasticity_drucker_prager.proofs.Reason as walk
 use Rattle.plasticity_drucker_prager.proofs.Reason.{follow-reason, drucker-reason, drucker-stays}
 
@@ -104,9 +104,11 @@ module _ (r : Reason) (p : DruckerPragerPlasticity) (sigma : List Float) (dq : F
   measures (reached m) = store-told (m .determinant) (m .hardening) (m .gain)
   measures (stopped n step) = refl
 
-  pub moved-told : movedTold r p sigma dq u vt s ≡ measuresTold (measuredOf p sigma dq s)
-  unfolding movedTold movedWalk measuredOf
-  moved-told = ap (λ x. reasonWith x (λ c. r)) (traced-then (measureWalk p sigma dq s) after) ∙ measures (traced (measureWalk p sigma dq s))
+  pub moved-told : movedTold r p sigma dq u vt s ≡ measuresTold (measuredOf p (productOf (s .sigma)) (productOf sigma) dq (s .scalars))
+  unfolding movedTold movedWalk
+  moved-told =
+      let w = measureWalk p (product (s .sigma)) (product sigma) dq (s .scalars) in
+      ap (λ x. reasonWith x (λ c. r)) (traced-then w after) ∙ measures (traced w) ∙ ap measuresTold (measured-law p (s .sigma) sigma dq (s .scalars))
 
 -- ---- the law
 module _ (p : DruckerPragerPlasticity) (u vt : List (List Float)) (s : State) where

@@ -9,6 +9,7 @@ use Rattle.tensor.specs.Matrix.{recomposeOf, rowsOf}
 use Rattle.tensor.specs.Finite.{rowFinite, matFinite}
 use Rattle.plasticity.specs.State.{refused}
 use Rattle.plasticity.specs.declared.Outcome.the-variants as outcome
+use Rattle.plasticity.specs.declared.Scalars.{Scalars}
 use Rattle.plasticity.specs.declared.State.{State}
 use Rattle.plasticity.specs.declared.Updated.{Updated}
 use Rattle.walk.specs.Expr.{Expr, num, _+_, _-_, _*_, _/_, value, nums}
@@ -23,22 +24,27 @@ use Rattle.plasticity_drucker_prager.specs.declared.Measured.{Measured}
 use Rattle.plasticity_drucker_prager.specs.declared.Measured.the-variants as measured
 use Rattle.plasticity_drucker_prager.specs.Law.{parametersOf}
 use Rattle.plasticity_drucker_prager.specs.Alpha.{dim, alphaWalk}
-use Rattle.plasticity_drucker_prager.specs.Projection.{zero, Way, isotropic, expanding, inside, surface, projectWalk}
+use Rattle.plasticity_drucker_prager.specs.Projection.{zero, Way, isotropic, expanding, inside, surface, Returned, projectWalk}
 
--- F, sigma, plastic determinant, plastic hardening and log gain are new
+-- plastic determinant, plastic hardening and log gain are new
+abbrev pub scalarsOf : Float → Float → Float → Scalars → Scalars
+scalarsOf d h gain x =
+    record {
+      phase = x .phase;
+      «plastic_determinant» = d;
+      «plastic_hardening» = h;
+      «elastic_hardening» = x .«elastic_hardening»;
+      «log_gain» = gain;
+      alpha = x .alpha;
+    }
+
+-- and F and sigma
 abbrev pub stateOf : List (List Float) → List Float → Float → Float → Float → State → State
 stateOf f sigma d h gain s =
     record {
       f = rowsOf f;
       sigma = sigma;
-      scalars = record {
-        phase = s .scalars .phase;
-        «plastic_determinant» = d;
-        «plastic_hardening» = h;
-        «elastic_hardening» = s .scalars .«elastic_hardening»;
-        «log_gain» = gain;
-        alpha = s .scalars .alpha;
-      };
+      scalars = scalarsOf d h gain (s .scalars);
     }
 
 -- stored where all results are finite; a finite hardening has a finite summand dq
@@ -56,21 +62,21 @@ pub record Measures : Type 0 where
   pub hardening : Expr
   pub gain : Expr
 
--- of new singular values. "With diff > 0 the new determinant stands; otherwise previous + diff * correction."
-abbrev pub measureWalk : DruckerPragerPlasticity → List Float → Float → State → Walk Measures
-measureWalk p sigma dq s =
-    let prev = product (s .sigma) in
-    let grown = product sigma in
+-- of new singular values, by the products of the old ones and of the new ones, over however many axes. "With diff > 0 the new determinant
+-- stands; otherwise previous + diff * correction."
+abbrev pub measureWalk : DruckerPragerPlasticity → Expr → Expr → Float → Scalars → Walk Measures
+measureWalk p prev grown dq s =
     work 16 (grown - prev) (λ diff.
     either 16 (less zero diff) grown (prev + diff * num (p .«volume_correction»)) (λ new.
-    work 16 (num (s .scalars .«plastic_determinant») * (prev / new)) (λ d.
+    work 16 (num (s .«plastic_determinant») * (prev / new)) (λ d.
     ask 17 ln prev (λ x.
     ask 18 ln new (λ y.
-    end (record { determinant = d; hardening = num (s .scalars .«plastic_hardening») + num dq; gain = num (s .scalars .«log_gain») + (x - y) }))))))
+    end (record { determinant = d; hardening = num (s .«plastic_hardening») + num dq; gain = num (s .«log_gain») + (x - y) }))))))
 
 unfoldable pub movedWalk : DruckerPragerPlasticity → List Float → Float → List (List Float) → List (List Float) → State → Walk Change
 movedWalk p sigma dq u vt s =
-    measureWalk p sigma dq s then (λ m. storeWalk u sigma vt (m .determinant) (m .hardening) (m .gain) dq s)
+    measureWalk p (product (s .sigma)) (product sigma) dq (s .scalars) then (λ m.
+    storeWalk u sigma vt (m .determinant) (m .hardening) (m .gain) dq s)
 
 -- after the projection
 unfoldable pub wayWalk : DruckerPragerPlasticity → Way → List Float → Float → List (List Float) → List (List Float) → State → Walk Change
@@ -83,12 +89,15 @@ wayWalk p (surface x norm) sigma dq u vt s = movedWalk p sigma dq u vt s
 abbrev pub staysOf : DruckerPragerPlasticity → Float → Bool
 staysOf p phase = p .«only_active_when_failed» && Ieee.ne phase tensor.zero
 
+-- phase, slope, projection, and what follows it, over however many axes
+abbrev pub lawWalk : {A : Type 0} → Expr → DruckerPragerPlasticity → List Float → Scalars → Walk A → (Returned → Walk A) → Walk A
+lawWalk axes p sigma x stays follows =
+    branch 1 (flag (staysOf p (x .phase))) stays
+    (alphaWalk p (x .«plastic_hardening») then (λ alpha.
+    projectWalk axes p sigma (x .«log_gain») alpha then follows))
+
 unfoldable pub runWalk : DruckerPragerPlasticity → List (List Float) → List (List Float) → State → Walk Change
-runWalk p u vt s =
-    branch 1 (flag (staysOf p (s .scalars .phase))) (end untouched)
-    (alphaWalk p (s .scalars .«plastic_hardening») then (λ alpha.
-    projectWalk dim p (s .sigma) (s .scalars .«log_gain») alpha then (λ q.
-    wayWalk p (q .way) (q .sigma) (q .dq) u vt s)))
+runWalk p u vt s = lawWalk dim p (s .sigma) (s .scalars) (end untouched) (λ q. wayWalk p (q .way) (q .sigma) (q .dq) u vt s)
 
 -- parameters first
 unfoldable pub floats : DruckerPragerPlasticity → List (List Float) → List (List Float) → State → List Float
@@ -102,8 +111,8 @@ abbrev pub measuredAs : Traced Measures → Measured
 measuredAs (reached m) = measured.Values (value (m .determinant)) (value (m .hardening)) (value (m .gain))
 measuredAs (stopped n step) = measured.Refused n step
 
-unfoldable pub measuredOf : DruckerPragerPlasticity → List Float → Float → State → Measured
-measuredOf p sigma dq s = measuredAs (traced (measureWalk p sigma dq s))
+unfoldable pub measuredOf : DruckerPragerPlasticity → Float → Float → Float → Scalars → Measured
+measuredOf p prev grown dq x = measuredAs (traced (measureWalk p (num prev) (num grown) dq x))
 
 abbrev pub finiteResults : List (List Float) → List Float → Float → Float → Float → Bool
 finiteResults f sigma d h gain = (matFinite f && rowFinite sigma) && ((finite d && finite h) && finite gain)

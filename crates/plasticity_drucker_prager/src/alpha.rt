@@ -9,7 +9,7 @@ ghost use Rattle.plasticity_drucker_prager.specs.Alpha.{alphaWalk, alpha
 
 impl DruckerPragerPlasticity {
     // The slope of the cone at the hardening q, as a step of the law: a NaN is 3.
-    pub(crate) fn alpha_on_path(self, q: f64) -> Number
+    pub fn alpha_on_path(self, q: f64) -> Number
         ensures { λ r. ⌜ r ≡ numberAs (traced (alphaWalk self q)) ⌝ }
     {
         match exponential::exp_on_path(-self.h2 * q) {

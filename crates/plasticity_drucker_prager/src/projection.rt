@@ -102,10 +102,11 @@ fn handed_out(q: Projected) -> Results
 }
 
 impl DruckerPragerPlasticity {
-    fn gamma(self, norm: f64, trace: f64, alpha: f64) -> f64
-        ensures { λ r. ⌜ r ≡ value (gamma dim self (num norm) (num trace) alpha) ⌝ }
+    // d is the number of axes.
+    pub fn gamma(self, d: f64, norm: f64, trace: f64, alpha: f64) -> f64
+        ensures { λ r. ⌜ r ≡ value (gamma (num d) self (num norm) (num trace) alpha) ⌝ }
     {
-        norm + (3.0 * self.lambda + 2.0 * self.mu) / (2.0 * self.mu) * trace * alpha
+        norm + (d * self.lambda + 2.0 * self.mu) / (2.0 * self.mu) * trace * alpha
     }
 
     // The test of gamma. A NaN would compare false: it is refused first.
@@ -114,7 +115,7 @@ impl DruckerPragerPlasticity {
     {
         match physics::norm_on_path(d) {
             Answer::Value(norm) => {
-                let g = self.gamma(norm, trace, alpha);
+                let g = self.gamma(3.0, norm, trace, alpha);
                 if numbers::is_number(g) {
                     if g <= 0.0 {
                         Projected {

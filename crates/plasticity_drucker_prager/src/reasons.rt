@@ -26,7 +26,8 @@ impl DruckerPragerPlasticity {
     ) -> Reason
         ensures { λ r. ⌜ r ≡ movedTold why self sigma dq u vt s ⌝ }
     {
-        match self.measured(sigma, dq, s) {
+        let old = s.sigma;
+        match self.measured(tensor::product(old), tensor::product(sigma), dq, s.scalars) {
             Measured::Values(d, hardening, gain) => {
                 let f = tensor::recompose(u, sigma, vt);
                 if update::finite_results(f, sigma, d, hardening, gain) {

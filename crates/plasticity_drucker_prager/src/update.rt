@@ -16,7 +16,7 @@ ghost use Rattle.plasticity.specs.State.{inputsFinite};
 ghost use Rattle.walk.specs.Expr.{num};
 ghost use Rattle.walk.specs.Walk.{result};
 ghost use Rattle.walk.specs.Update.{updatedOf};
-ghost use Rattle.plasticity_drucker_prager.specs.DruckerPrager.{untouchedOf, stateOf, storeWalk, movedWalk, measuredOf, finiteResults, staysOf, runWalk, correctedOf, followedOf, druckerUpdate};
+ghost use Rattle.plasticity_drucker_prager.specs.DruckerPrager.{untouchedOf, scalarsOf, stateOf, storeWalk, movedWalk, measuredOf, finiteResults, staysOf, runWalk, correctedOf, followedOf, druckerUpdate};
 
 fn untouched(s: State) -> Updated
     ensures { λ r. ⌜ r ≡ untouchedOf s ⌝ }
@@ -27,21 +27,28 @@ fn untouched(s: State) -> Updated
     }
 }
 
-// F, sigma, plastic determinant, plastic hardening and log gain are new.
+// Plastic determinant, plastic hardening and log gain are new.
+pub fn scalars_of(d: f64, hardening: f64, gain: f64, x: Scalars) -> Scalars
+    ensures { λ r. ⌜ r ≡ scalarsOf d hardening gain x ⌝ }
+{
+    Scalars {
+        phase: x.phase,
+        plastic_determinant: d,
+        plastic_hardening: hardening,
+        elastic_hardening: x.elastic_hardening,
+        log_gain: gain,
+        alpha: x.alpha,
+    }
+}
+
+// And F and sigma.
 fn state_of(f: [[f64; 3]; 3], sigma: [f64; 3], d: f64, hardening: f64, gain: f64, s: State) -> State
     ensures { λ r. ⌜ r ≡ stateOf f sigma d hardening gain s ⌝ }
 {
     State {
         f: tensor::to_rows(f),
         sigma,
-        scalars: Scalars {
-            phase: s.scalars.phase,
-            plastic_determinant: d,
-            plastic_hardening: hardening,
-            elastic_hardening: s.scalars.elastic_hardening,
-            log_gain: gain,
-            alpha: s.scalars.alpha,
-        },
+        scalars: scalars_of(d, hardening, gain, s.scalars),
     }
 }
 
@@ -90,24 +97,21 @@ impl DruckerPragerPlasticity {
         }
     }
 
-    // What is stored beside F and sigma.
-    pub(crate) fn measured(self, sigma: [f64; 3], dq: f64, s: State) -> Measured
-        ensures { λ r. ⌜ r ≡ measuredOf self sigma dq s ⌝ }
+    // What is stored beside F and sigma, by the products of the old and of the new singular values.
+    pub fn measured(self, prev: f64, grown: f64, dq: f64, x: Scalars) -> Measured
+        ensures { λ r. ⌜ r ≡ measuredOf self prev grown dq x ⌝ }
     {
-        let old = s.sigma;
-        let prev = tensor::product(old);
-        let grown = tensor::product(sigma);
         let diff = grown - prev;
         if numbers::is_number(diff) {
             let new = self.corrected(prev, grown, diff);
             if numbers::is_number(new) {
-                let d = s.scalars.plastic_determinant * (prev / new);
+                let d = x.plastic_determinant * (prev / new);
                 if numbers::is_number(d) {
                     match logarithm::ln_on_path(prev) {
-                        Answer::Value(x) => match logarithm::ln_on_path(new) {
-                            Answer::Value(y) => {
-                                let hardening = s.scalars.plastic_hardening + dq;
-                                let gain = s.scalars.log_gain + (x - y);
+                        Answer::Value(a) => match logarithm::ln_on_path(new) {
+                            Answer::Value(b) => {
+                                let hardening = x.plastic_hardening + dq;
+                                let gain = x.log_gain + (a - b);
                                 Measured::Values(d, hardening, gain)
                             }
                             Answer::Refused(n) => Measured::Refused(n, steps::LOG_AFTER),
@@ -136,7 +140,8 @@ impl DruckerPragerPlasticity {
     ) -> Updated
         ensures { λ r. ⌜ r ≡ updatedOf s (result (movedWalk self sigma dq u vt s)) ⌝ }
     {
-        match self.measured(sigma, dq, s) {
+        let old = s.sigma;
+        match self.measured(tensor::product(old), tensor::product(sigma), dq, s.scalars) {
             Measured::Values(d, hardening, gain) => {
                 store(u, sigma, vt, d, hardening, gain, dq, s)
             }
@@ -159,7 +164,7 @@ impl DruckerPragerPlasticity {
     }
 
     // Whether the law leaves a particle of this phase alone.
-    pub(crate) fn stays(self, phase: f64) -> bool
+    pub fn stays(self, phase: f64) -> bool
         ensures { λ r. ⌜ r ≡ staysOf self phase ⌝ }
     {
         self.only_active_when_failed & (phase != 0.0)

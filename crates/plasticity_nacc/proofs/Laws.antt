@@ -14,7 +14,7 @@ use Rattle.plasticity.specs.State as law
 use Rattle.plasticity.specs.State.{inputsFinite, stateFinite, scalarsFinite}
 use Rattle.plasticity.specs.declared.State.{State}
 use Rattle.plasticity.specs.declared.Updated.{Updated}
-use Rattle.walk.specs.Expr.{num, neg, value, zero-number}
+use Rattle.walk.specs.Expr.{Expr, num, neg, value, zero-number}
 use Rattle.walk.specs.Walk.{Walk, end, _then_, holds, Ended, given, refused, result}
 use Rattle.walk.specs.Number.{finite-number, neg-number, add-number, sub-number, finite-sub, picked-number, zero-finite}
 use Rattle.walk.specs.Exact.{andThen, result-then}
@@ -32,6 +32,7 @@ use Rattle.plasticity_nacc.specs.declared.Projected.{Projected}
 use Rattle.plasticity_nacc.specs.declared.Stepped.{Stepped}
 use Rattle.plasticity_nacc.specs.declared.Trial.{Trial}
 use Rattle.plasticity_nacc.specs.Law.{small, lawOf, parametersOf, argumentsFloats, elasticFinite, argumentsFinite, parametersFinite}
+use Rattle.plasticity_nacc.specs.Axes.{Axes, three-axes}
 use Rattle.plasticity_nacc.specs.Formulas as of
 use Rattle.plasticity_nacc.specs.Nacc.{Way, upper, lower, inside, surface, Shape, Landed, Result, sizeOf, tipWalk, hardenWalk, conditions, hardenedWalk, settled, ends, pressWalk, stepsWalk, recomposedWalk, wayWalk, projectWalk, moduli, projectInputs, projectFloats, changeOf, runWalk, floats, naccWalk, argumentsWalk, branchOf, asBranch, steppedOf, refusedProjection, walkedOf, projectedOf, resultsOf, recomposedOf, byBranch, storedBy, naccUpdate}
 
@@ -47,23 +48,23 @@ pub size-number : (v : Float) → isNumber v ≡ true → isNumber (sizeOf v) �
 size-number v h = picked-number (Ieee.le v tensor.zero) (tensor.sub tensor.zero v) v (finite-sub tensor.zero v zero-finite h) h
 
 -- the maximum of a finite alpha meets no NaN
-pub steps-law : (p : NaccPlasticity) (sigma : List Float) (alpha : Float) → finite alpha ≡ true
-    → traced (stepsWalk p sigma alpha) ≡ traced (pressWalk p (num (maxOf (Ieee.neg alpha) tensor.zero)) sigma alpha)
+pub steps-law : (axes : Axes) (p : NaccPlasticity) (sigma : List Float) (alpha : Float) → finite alpha ≡ true
+    → traced (stepsWalk axes p sigma alpha) ≡ traced (pressWalk axes p (num (maxOf (Ieee.neg alpha) tensor.zero)) sigma alpha)
 unfolding stepsWalk
-steps-law p sigma alpha h =
-    most-traced 2 (neg (num alpha)) of.zero (λ m. pressWalk p m sigma alpha) (neg-number alpha ∙ finite-number alpha h) zero-number
+steps-law axes p sigma alpha h =
+    most-traced 2 (neg (num alpha)) of.zero (λ m. pressWalk axes p m sigma alpha) (neg-number alpha ∙ finite-number alpha h) zero-number
 
 -- nor do the four conditions, once the branches are tested
-pub harden-law : (p : NaccPlasticity) (t : Trial) (alpha : Float) → settled p t ≡ true
-    → traced (hardenedWalk p t alpha) ≡ cond (allOf holds (conditions p t)) (traced (hardenWalk p t alpha)) (reached alpha)
+pub harden-law : (d : Expr) (p : NaccPlasticity) (t : Trial) (alpha : Float) → settled p t ≡ true
+    → traced (hardenedWalk d p t alpha) ≡ cond (allOf holds (conditions p t)) (traced (hardenWalk d p t alpha)) (reached alpha)
 unfolding hardenedWalk
-harden-law p t alpha h =
+harden-law d p t alpha h =
     let low = value (of.low p (num (t .p0))) in
     let two = and-left (isNumber (t .p0) && isNumber (t .p)) (isNumber low) h in
     let a = and-left (isNumber (t .p0)) (isNumber (t .p)) two in
     let b = and-right (isNumber (t .p0)) (isNumber (t .p)) two in
     let c = and-right (isNumber (t .p0) && isNumber (t .p)) (isNumber low) h in
-    when-traced 13 (conditions p t) (hardenWalk p t alpha) (end alpha)
+    when-traced 13 (conditions p t) (hardenWalk d p t alpha) (end alpha)
     (simp (a, b, small-number, sub-number (t .p0) small a small-finite, add-number low small c small-finite))
 
 pub pressures : (t : Trial) → isNumber (t .p0) && (isNumber (t .squares) && isNumber (t .p)) ≡ true → isNumber (t .p0) && isNumber (t .p) ≡ true
@@ -79,7 +80,7 @@ ended w (stopped n step) = refl
 pub shape-then : (w : Way) (v : Walk Shape) → steppedOf (traced (v then ends w)) ≡ asBranch (branchOf w) (traced v)
 shape-then w v = ap steppedOf (traced-then v (ends w)) ∙ ended w (traced v)
 
--- the new alpha is followed by the surface
+-- the new alpha is handed on to what follows it
 module _ {B : Type 0} (g : Float → Traced B) where
   abbrev pub numbered : Number → Traced B
   numbered (number.Value x) = g x
@@ -89,14 +90,14 @@ module _ {B : Type 0} (g : Float → Traced B) where
   handed-on (reached v) = refl
   handed-on (stopped n step) = refl
 
-pub harden-then : {B : Type 0} (w : Walk Float) (g : Float → Walk B) → traced (w then g) ≡ numbered (λ a. traced (g a)) (numberAs (traced w))
-harden-then w g = traced-then w g ∙ handed-on (λ a. traced (g a)) (traced w)
+pub alpha-then : {B : Type 0} (w : Walk Float) (g : Float → Walk B) → traced (w then g) ≡ numbered (λ a. traced (g a)) (numberAs (traced w))
+alpha-then w g = traced-then w g ∙ handed-on (λ a. traced (g a)) (traced w)
 
 -- at the lower tip
 pub lower-law : (p : NaccPlasticity) (t : Trial) (alpha x : Float)
-    → steppedOf (traced (tipWalk p (num x) (t .j) alpha then ends (lower (t .p) (value (of.low p (num (t .p0)))))))
-    ≡ asBranch (Lower (t .p) (value (of.low p (num (t .p0))))) (traced (tipWalk p (num x) (t .j) alpha))
-lower-law p t alpha x = shape-then (lower (t .p) (value (of.low p (num (t .p0))))) (tipWalk p (num x) (t .j) alpha)
+    → steppedOf (traced (tipWalk three-axes p (num x) (t .j) alpha then ends (lower (t .p) (value (of.low p (num (t .p0)))))))
+    ≡ asBranch (Lower (t .p) (value (of.low p (num (t .p0))))) (traced (tipWalk three-axes p (num x) (t .j) alpha))
+lower-law p t alpha x = shape-then (lower (t .p) (value (of.low p (num (t .p0))))) (tipWalk three-axes p (num x) (t .j) alpha)
 
 kept : (q : Result) (b : Bool) → walkedOf (cond b (reached q) (stopped 3 30)) ≡ cond b (walkedOf (reached q)) (refusedProjection 3 30)
 kept q true = refl
@@ -124,10 +125,10 @@ module _ (f : Rows) (u vt : List (List Float)) where
   followed (reached q) = way-law (q .way) (q .shape)
   followed (stopped n step) = refl
 
-  pub project-law : (p : NaccPlasticity) (sigma : List Float) (alpha : Float) → walkedOf (traced (projectWalk p f u sigma vt alpha)) ≡ byStep (steppedOf (traced (stepsWalk p sigma alpha)))
+  pub project-law : (p : NaccPlasticity) (sigma : List Float) (alpha : Float) → walkedOf (traced (projectWalk p f u sigma vt alpha)) ≡ byStep (steppedOf (traced (stepsWalk three-axes p sigma alpha)))
   unfolding projectWalk
   project-law p sigma alpha =
-      ap walkedOf (traced-then (stepsWalk p sigma alpha) (λ q. wayWalk (q .way) (q .shape) f u vt)) ∙ followed (traced (stepsWalk p sigma alpha))
+      ap walkedOf (traced-then (stepsWalk three-axes p sigma alpha) (λ q. wayWalk (q .way) (q .shape) f u vt)) ∙ followed (traced (stepsWalk three-axes p sigma alpha))
 
 -- it is handed out without its step
 handed-out : (x : Traced Result) → resultsOf (projectedOf (untraced x)) ≡ resultsOf (walkedOf x)

@@ -23,6 +23,7 @@ use Rattle.plasticity_nacc.specs.declared.NaccArguments.{NaccArguments}
 use Rattle.plasticity_nacc.specs.declared.NaccPlasticity.{NaccPlasticity}
 use Rattle.plasticity_nacc.specs.declared.Projected.{Projected}
 use Rattle.plasticity_nacc.specs.Law.{lawOf, argumentsFloats, argumentsFinite, moduliFinite}
+use Rattle.plasticity_nacc.specs.Axes.{three-axes}
 use Rattle.plasticity_nacc.specs.Nacc.{Way, upper, lower, inside, surface, Shape, Landed, Result, stepsWalk, recomposedWalk, wayWalk, projectWalk, moduli, changeOf, runWalk, floats, naccWalk, argumentsWalk, branchOf, steppedOf, refusedProjection, recomposedOf, byBranch}
 use Rattle.plasticity_nacc.specs.Told.{testOf}
 use Rattle.plasticity_nacc.proofs.Laws.{byStep, inputs-law}
@@ -38,7 +39,7 @@ same (surface x y) = refl
 
 module _ (p : NaccPlasticity) (u vt : List (List Float)) (s : State) where
   abbrev W : Walk Landed
-  W = stepsWalk p (s .sigma) (s .scalars .alpha)
+  W = stepsWalk three-axes p (s .sigma) (s .scalars .alpha)
 
   abbrev G : Landed → Walk Result
   G q = wayWalk (q .way) (q .shape) (s .f) u vt

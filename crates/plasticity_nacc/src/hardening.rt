@@ -10,7 +10,7 @@ ghost use Rattle.tensor.specs.Axes.{allOf};
 ghost use Rattle.walk.specs.Expr.{num, value};
 ghost use Rattle.walk.specs.Walk.{holds};
 ghost use Rattle.reason.specs.Traced.{traced, numberAs};
-ghost use Rattle.plasticity_nacc.specs.Formulas.{volumeSquare, quadratic, linear, constant};
+ghost use Rattle.plasticity_nacc.specs.Formulas.{quadratic, linear, constant};
 ghost use Rattle.plasticity_nacc.specs.Nacc.{sizeOf, growWalk, crossWalk, hardenWalk, conditions, hardenedWalk, settled};
 
 // The size of x; of either zero 0.0.
@@ -21,13 +21,6 @@ fn size(x: f64) -> f64
 }
 
 impl NaccPlasticity {
-    // The square of the volume at the pressure x.
-    pub(crate) fn volume_square(self, x: f64) -> f64
-        ensures { λ r. ⌜ r ≡ value (volumeSquare self (num x)) ⌝ }
-    {
-        -2.0 * x / self.kappa + 1.0
-    }
-
     // At the crossing's pressure x: the new alpha.
     fn grown(self, x: f64, j: f64, alpha: f64) -> Number
         ensures { λ r. ⌜ r ≡ numberAs (traced (growWalk self (num x) j alpha)) ⌝ }
@@ -102,12 +95,12 @@ impl NaccPlasticity {
     }
 
     // From the centre, the pressure midway between the tips, to the trial state.
-    fn hardening_step(self, t: Trial, alpha: f64) -> Number
-        ensures { λ r. ⌜ r ≡ numberAs (traced (hardenWalk self t alpha)) ⌝ }
+    fn hardening_step(self, d: f64, t: Trial, alpha: f64) -> Number
+        ensures { λ r. ⌜ r ≡ numberAs (traced (hardenWalk (num d) self t alpha)) ⌝ }
     {
         let c = (1.0 - self.cohesion) * t.p0 / 2.0;
         if numbers::is_number(c) {
-            match square_root::sqrt_on_path((6.0 - 3.0) / 2.0) {
+            match square_root::sqrt_on_path((6.0 - d) / 2.0) {
                 Answer::Value(a) => match square_root::sqrt_on_path(t.squares) {
                     Answer::Value(b) => {
                         let x = c - t.p;
@@ -144,13 +137,13 @@ impl NaccPlasticity {
             & (t.p > -self.cohesion * t.p0 + 0.0001)
     }
 
-    // The new alpha. The numbers compared are known to be no NaN.
-    pub(crate) fn hardened(self, t: Trial, alpha: f64) -> Number
+    // The new alpha; d is the number of axes. The numbers compared are known to be no NaN.
+    pub fn hardened(self, d: f64, t: Trial, alpha: f64) -> Number
         requires { ⌜ settled self t ≡ true ⌝ }
-        ensures { λ r. ⌜ r ≡ numberAs (traced (hardenedWalk self t alpha)) ⌝ }
+        ensures { λ r. ⌜ r ≡ numberAs (traced (hardenedWalk (num d) self t alpha)) ⌝ }
     {
         if self.hardens(t) {
-            self.hardening_step(t, alpha)
+            self.hardening_step(d, t, alpha)
         } else {
             Number::Value(alpha)
         }

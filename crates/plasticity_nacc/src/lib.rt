@@ -1,6 +1,7 @@
 // Non-associated Cam clay (plasticity_nacc.rs; RULES, section 5).
 mod arguments;
 mod branches;
+mod formulas;
 mod hardening;
 mod reasons;
 mod steps;
@@ -9,6 +10,7 @@ mod update;
 
 use plasticity::Outcome;
 use tensor::Rows;
+pub use update::scalars_of;
 
 // The law with its moduli; made by `new` or `with_m`.
 pub struct NaccPlasticity {
@@ -36,15 +38,20 @@ pub enum Made {
     Refused(u8),
 }
 
-// The trial state: p0, the product of sigma, a third of the sum of squares, the deviatoric stress with its sum of
-// squares, and the pressure.
+// The trial state: p0, the product of sigma, the mean of its squares, the sum of squares of the deviatoric stress, and
+// the pressure.
 pub struct Trial {
     pub p0: f64,
     pub j: f64,
     pub mean: f64,
-    pub s: [f64; 3],
     pub squares: f64,
     pub p: f64,
+}
+
+// With the deviatoric stress.
+pub struct Stressed {
+    pub trial: Trial,
+    pub s: [f64; 3],
 }
 
 // The branch taken, with the two numbers last compared; or the refusal's number and its step.

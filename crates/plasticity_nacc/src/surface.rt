@@ -8,9 +8,10 @@ use answers::Answer;
 use reason::Number;
 ghost use mathlib.Core.Path.{_≡_};
 ghost use mathlib.Core.Bool.{true};
-ghost use Rattle.walk.specs.Expr.{num, value, values};
+ghost use Rattle.walk.specs.Expr.{num, values};
 ghost use Rattle.reason.specs.Traced.{traced};
-ghost use Rattle.plasticity_nacc.specs.Formulas.{y0, y1, spread};
+ghost use Rattle.plasticity_nacc.specs.Axes.{three-axes};
+ghost use Rattle.plasticity_nacc.specs.Formulas.{spread};
 ghost use Rattle.plasticity_nacc.specs.Nacc.{refusedStep, asBranch, tipWalk, rootsWalk, landWalk, surfaceWalk, settled};
 
 pub fn refused_step(n: u8, step: u8) -> Stepped
@@ -61,56 +62,35 @@ fn roots(b: Branch, e: [f64; 3], alpha: f64) -> Stepped
 impl NaccPlasticity {
     // All singular values alike, at the tip whose volume is x.
     pub(crate) fn tip(self, b: Branch, x: f64, j: f64, alpha: f64) -> Stepped
-        ensures { λ r. ⌜ r ≡ asBranch b (traced (tipWalk self (num x) j alpha)) ⌝ }
+        ensures { λ r. ⌜ r ≡ asBranch b (traced (tipWalk three-axes self (num x) j alpha)) ⌝ }
     {
         match thirds::cbrt_on_path(x) {
-            Answer::Value(e) => {
-                let sigma = [e, e, e];
-                if self.hardening_enabled {
-                    match logarithm::ln_on_path(j / x) {
-                        Answer::Value(l) => Stepped {
-                            branch: b,
-                            sigma,
-                            alpha: alpha + l,
-                        },
-                        Answer::Refused(n) => refused_step(n, steps::TIP_LOG),
-                    }
-                } else {
+            Answer::Value(e) => match self.raised(x, j, alpha) {
+                Number::Value(a) => {
+                    let sigma = [e, e, e];
                     Stepped {
                         branch: b,
                         sigma,
-                        alpha,
+                        alpha: a,
                     }
                 }
-            }
+                Number::Refused(n, step) => refused_step(n, step),
+            },
             Answer::Refused(n) => refused_step(n, steps::TIP_SIZE),
         }
     }
 
-    pub(crate) fn y0(self) -> f64
-        ensures { λ r. ⌜ r ≡ value (y0 self) ⌝ }
-    {
-        (1.0 + 2.0 * self.cohesion) * ((6.0 - 3.0) / 2.0)
-    }
-
-    pub(crate) fn y1(self, t: Trial) -> f64
-        ensures { λ r. ⌜ r ≡ value (y1 self t) ⌝ }
-    {
-        self.friction * self.friction * (t.p + self.cohesion * t.p0) * (t.p - t.p0)
-    }
-
     // Onto the surface, once the new alpha is known.
-    fn land(self, b: Branch, t: Trial, alpha: f64) -> Stepped
-        ensures { λ r. ⌜ r ≡ asBranch b (traced (landWalk self t alpha)) ⌝ }
+    fn land(self, b: Branch, t: Trial, s: [f64; 3], alpha: f64) -> Stepped
+        ensures { λ r. ⌜ r ≡ asBranch b (traced (landWalk three-axes self t s alpha)) ⌝ }
     {
-        match square_root::sqrt_on_path(-self.y1(t) / self.y0()) {
+        match square_root::sqrt_on_path(-self.y1(t) / self.y0(3.0)) {
             Answer::Value(r) => match thirds::cbrt_squared_on_path(t.j) {
                 Answer::Value(w) => {
-                    let k = r * (w / self.mu);
+                    let k = self.scale(r, w);
                     if numbers::is_number(k) {
                         match square_root::sqrt_on_path(t.squares) {
                             Answer::Value(norm) => {
-                                let s = t.s;
                                 let e = spread(k, s, norm, t.mean);
                                 if tensor::row_number(e) {
                                     roots(b, e, alpha)
@@ -131,12 +111,12 @@ impl NaccPlasticity {
     }
 
     // The hardening step comes first.
-    pub(crate) fn surface(self, b: Branch, t: Trial, alpha: f64) -> Stepped
+    pub(crate) fn surface(self, b: Branch, t: Trial, s: [f64; 3], alpha: f64) -> Stepped
         requires { ⌜ settled self t ≡ true ⌝ }
-        ensures { λ r. ⌜ r ≡ asBranch b (traced (surfaceWalk self t alpha)) ⌝ }
+        ensures { λ r. ⌜ r ≡ asBranch b (traced (surfaceWalk three-axes self t s alpha)) ⌝ }
     {
-        match self.hardened(t, alpha) {
-            Number::Value(a) => self.land(b, t, a),
+        match self.hardened(3.0, t, alpha) {
+            Number::Value(a) => self.land(b, t, s, a),
             Number::Refused(n, step) => refused_step(n, step),
         }
     }

@@ -17,7 +17,7 @@ ghost use Rattle.plasticity.specs.State.{inputsFinite};
 ghost use Rattle.walk.specs.Walk.{result};
 ghost use Rattle.walk.specs.Update.{updatedOf};
 ghost use Rattle.reason.specs.Traced.{traced};
-ghost use Rattle.plasticity_nacc.specs.Nacc.{outcomeOf, resultsOf, refusedProjection, recomposedOf, byBranch, walkedOf, projectedOf, projectInputs, projectCall, stateOf, storedBy, runWalk, naccUpdate};
+ghost use Rattle.plasticity_nacc.specs.Nacc.{outcomeOf, resultsOf, refusedProjection, recomposedOf, byBranch, walkedOf, projectedOf, projectInputs, projectCall, scalarsOf, stateOf, storedBy, runWalk, naccUpdate};
 
 fn refused_projection(n: u8, step: u8) -> Projected
     ensures { λ r. ⌜ r ≡ refusedProjection n step ⌝ }
@@ -80,20 +80,27 @@ pub(crate) fn projected(q: Stepped, f: Rows, u: [[f64; 3]; 3], vt: [[f64; 3]; 3]
     }
 }
 
+// Alpha is new.
+pub fn scalars_of(alpha: f64, x: Scalars) -> Scalars
+    ensures { λ r. ⌜ r ≡ scalarsOf alpha x ⌝ }
+{
+    Scalars {
+        phase: x.phase,
+        plastic_determinant: x.plastic_determinant,
+        plastic_hardening: x.plastic_hardening,
+        elastic_hardening: x.elastic_hardening,
+        log_gain: x.log_gain,
+        alpha,
+    }
+}
+
 fn state_of(f: Rows, sigma: [f64; 3], alpha: f64, s: State) -> State
     ensures { λ r. ⌜ r ≡ stateOf f sigma alpha s ⌝ }
 {
     State {
         f,
         sigma,
-        scalars: Scalars {
-            phase: s.scalars.phase,
-            plastic_determinant: s.scalars.plastic_determinant,
-            plastic_hardening: s.scalars.plastic_hardening,
-            elastic_hardening: s.scalars.elastic_hardening,
-            log_gain: s.scalars.log_gain,
-            alpha,
-        },
+        scalars: scalars_of(alpha, s.scalars),
     }
 }
 

@@ -14,7 +14,7 @@ ghost use Rattle.plasticity_rankine.specs.Rankine.{argumentsUpdate};
 
 impl RankineArguments {
     // The law with the Lamé parameters of these arguments.
-    pub(crate) fn law(self) -> RankinePlasticity
+    pub fn law(self) -> RankinePlasticity
         ensures { λ r. ⌜ r ≡ lawOf self ⌝ }
     {
         let l = physics::plain::lame_lambda_mu(self.young_modulus, self.poisson_ratio);

@@ -7,10 +7,10 @@ mod update;
 
 // The law with its moduli, which come from `new`.
 pub struct RankinePlasticity {
-    mu: f64,
-    lambda: f64,
-    tensile_strength: f64,
-    softening_rate: f64,
+    pub mu: f64,
+    pub lambda: f64,
+    pub tensile_strength: f64,
+    pub softening_rate: f64,
 }
 
 // The arguments of `new`.

@@ -143,7 +143,7 @@ impl RankinePlasticity {
     }
 
     // The hardening starts from 1.
-    pub(crate) fn soft_strength(self, h: f64) -> f64
+    pub fn soft_strength(self, h: f64) -> f64
         ensures { λ r. ⌜ r ≡ value (softStrength self h) ⌝ }
     {
         self.tensile_strength - (h - 1.0)

@@ -26,12 +26,12 @@ unfolding floats
 inputs-law p u vt s = inputs-finite (parametersOf p) u vt s
 
 -- ---- the clamp
-one-number : isNumber one ≡ true
+pub one-number : isNumber one ≡ true
 unfolding isNumber ofBits
 one-number = refl
 
 module _ {A : Type 0} (p : SnowPlasticity) (low : isNumber (sub one (p .«min_epsilon»)) ≡ true) (high : isNumber (add one (p .«max_epsilon»)) ≡ true) where
-  clamps-answer : (l : List Float) (k : List Float → Walk A) → every finite l ≡ true → result (clamps p l k) ≡ result (k (clampedOf p l))
+  pub clamps-answer : (l : List Float) (k : List Float → Walk A) → every finite l ≡ true → result (clamps p l k) ≡ result (k (clampedOf p l))
   clamps-answer [] k h = refl
   clamps-answer (x ∷ l) k h =
       let bottom = num one - num (p .«min_epsilon») in

@@ -41,7 +41,7 @@ impl SnowPlasticity {
     }
 
     // The maximum with the lower bound first: of a NaN this is the lower bound.
-    fn clamp(self, e: f64) -> f64
+    pub fn clamp(self, e: f64) -> f64
         ensures { λ r. ⌜ r ≡ clampOf self e ⌝ }
     {
         numbers::min(
