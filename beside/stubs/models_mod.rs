@@ -1,16 +1,24 @@
-//! The eight models, and the flag set that their files name.
+//! The eight models, in two dimensions the four plastic ones, and the flag set that their files name.
+#[cfg(feature = "dim3")]
 mod elasticity_corotated_linear;
+#[cfg(feature = "dim3")]
 mod elasticity_neo_hookean;
+#[cfg(feature = "dim3")]
 mod eos_monaghan_sph;
+#[cfg(feature = "dim3")]
 mod failure_maximum_stress;
 mod plasticity_drucker_prager;
 mod plasticity_nacc;
 mod plasticity_rankine;
 mod plasticity_snow;
 
+#[cfg(feature = "dim3")]
 pub use elasticity_corotated_linear::*;
+#[cfg(feature = "dim3")]
 pub use elasticity_neo_hookean::*;
+#[cfg(feature = "dim3")]
 pub use eos_monaghan_sph::*;
+#[cfg(feature = "dim3")]
 pub use failure_maximum_stress::*;
 pub use plasticity_drucker_prager::*;
 pub use plasticity_nacc::*;

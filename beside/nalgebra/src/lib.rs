@@ -11,7 +11,7 @@ use core::panic::Location;
 /// What the harness answers. `Location` names the file and line of the Rust that made the call.
 pub mod hooks {
     use core::panic::Location;
-    /// In the order of the first nine calls.
+    /// In the order of the first nine calls; then the powers -1, 1/2 and 1 of two axes.
     #[derive(Copy, Clone, Debug, PartialEq)]
     pub enum Function {
         Exp,
@@ -23,6 +23,9 @@ pub mod hooks {
         InvCbrt,
         CbrtSquared,
         InvCbrtSquared,
+        PowerMinusOne,
+        PowerHalf,
+        PowerOne,
     }
 
     #[derive(Copy, Clone, Debug, PartialEq, Eq, PartialOrd, Ord, Hash)]
@@ -46,6 +49,7 @@ pub mod hooks {
     extern "Rust" {
         pub fn beside_elementary(which: Function, x: f64, at: &'static Location<'static>) -> f64;
         pub fn beside_site(op: Op, at: &'static Location<'static>, input: &[f64], output: &[f64]);
+        /// U, sigma and V^T; of two axes the first ten floats.
         pub fn beside_factors() -> &'static [f64; 21];
         pub fn beside_principal(lower: [f64; 6]) -> [f64; 3];
     }
@@ -72,11 +76,17 @@ pub type Vector6<T> = SMatrix<T, 6, 1>;
 #[allow(dead_code)]
 mod names {
     pub struct Unused<T>(T);
+    pub type Isometry2<T> = Unused<T>;
     pub type Isometry3<T> = Unused<T>;
+    pub type Point2<T> = Unused<T>;
     pub type Point3<T> = Unused<T>;
+    pub type Translation2<T> = Unused<T>;
     pub type Translation3<T> = Unused<T>;
+    pub type UnitComplex<T> = Unused<T>;
     pub type UnitQuaternion<T> = Unused<T>;
+    pub type UnitVector2<T> = Unused<T>;
     pub type UnitVector3<T> = Unused<T>;
+    pub struct U2;
     pub struct U3;
     pub struct U6;
 }
@@ -228,6 +238,18 @@ impl<const R: usize, const C: usize> SMatrix<f64, R, C> {
     }
 }
 
+impl<T: Copy> SMatrix<T, 2, 2> {
+    pub fn new(a: T, b: T, c: T, d: T) -> Self {
+        SMatrix([[a, b], [c, d]])
+    }
+}
+
+impl<T: Copy> SMatrix<T, 2, 1> {
+    pub fn new(a: T, b: T) -> Self {
+        SMatrix([[a], [b]])
+    }
+}
+
 impl<T: Copy> SMatrix<T, 3, 3> {
     #[allow(clippy::too_many_arguments)]
     pub fn new(a: T, b: T, c: T, d: T, e: T, f: T, g: T, h: T, i: T) -> Self {
@@ -241,19 +263,34 @@ impl<T: Copy> SMatrix<T, 3, 1> {
     }
 }
 
-impl Matrix3<f64> {
+impl<const N: usize> SMatrix<f64, N, N> {
     pub fn transpose(&self) -> Self {
         self.each(|i, j| self.0[j][i])
     }
 
     #[track_caller]
     pub fn trace(&self) -> f64 {
-        let m = &self.0;
-        let r = m[0][0] + m[1][1] + m[2][2];
-        site(Op::Trace, Location::caller(), &[m[0][0], m[1][1], m[2][2]], &[r]);
+        let mut d = [0.0; N];
+        for i in 0..N {
+            d[i] = self.0[i][i];
+        }
+        let r = Self::from_left(&d, |x, y| x + y);
+        site(Op::Trace, Location::caller(), &d, &[r]);
         r
     }
 
+    pub fn svd_unordered(&self, _: bool, _: bool) -> Factors<N> {
+        let f = unsafe { hooks::beside_factors() };
+        let square = |k: usize| Self::zeros().each(|i, j| f[k + i * N + j]);
+        let mut singular_values = SMatrix::zeros();
+        for i in 0..N {
+            singular_values[i] = f[N * N + i];
+        }
+        Factors { u: square(0), singular_values, v_t: square(N * N + N) }
+    }
+}
+
+impl Matrix3<f64> {
     fn minor(m: &[[f64; 3]; 3], r: [usize; 2], c: [usize; 2]) -> f64 {
         m[r[0]][c[0]] * m[r[1]][c[1]] - m[r[1]][c[0]] * m[r[0]][c[1]]
     }
@@ -288,13 +325,6 @@ impl Matrix3<f64> {
         Some(r)
     }
 
-    pub fn svd_unordered(&self, _: bool, _: bool) -> Factors {
-        let f = unsafe { hooks::beside_factors() };
-        let nine =
-            |k: usize| SMatrix([[f[k], f[k + 1], f[k + 2]], [f[k + 3], f[k + 4], f[k + 5]], [f[k + 6], f[k + 7], f[k + 8]]]);
-        Factors { u: nine(0), singular_values: Vector3::new(f[9], f[10], f[11]), v_t: nine(12) }
-    }
-
     pub fn try_symmetric_eigen(&self, _: f64, _: usize) -> Option<Principal> {
         let m = &self.0;
         let e = unsafe { hooks::beside_principal([m[0][0], m[1][1], m[2][2], m[1][0], m[2][0], m[2][1]]) };
@@ -303,23 +333,24 @@ impl Matrix3<f64> {
 }
 
 #[derive(Copy, Clone, Debug)]
-pub struct Factors {
-    pub u: Matrix3<f64>,
-    pub singular_values: Vector3<f64>,
-    pub v_t: Matrix3<f64>,
+pub struct Factors<const N: usize> {
+    pub u: SMatrix<f64, N, N>,
+    pub singular_values: SMatrix<f64, N, 1>,
+    pub v_t: SMatrix<f64, N, N>,
 }
 
-impl Factors {
+impl<const N: usize> Factors<N> {
     #[track_caller]
-    pub fn recompose(self) -> Result<Matrix3<f64>, &'static str> {
-        let s = self.singular_values.0;
-        let scaled = self.u.each(|i, j| self.u.0[i][j] * s[j][0]);
+    pub fn recompose(self) -> Result<SMatrix<f64, N, N>, &'static str> {
+        let s = self.singular_values;
+        let scaled = self.u.each(|i, j| self.u.0[i][j] * s[j]);
         let r = multiply(&scaled, &self.v_t);
+        let (n, all) = (N * N, 2 * N * N + N);
         let mut input = [0.0; 21];
-        input[..9].copy_from_slice(&self.u.flat());
-        input[9..12].copy_from_slice(&[s[0][0], s[1][0], s[2][0]]);
-        input[12..].copy_from_slice(&self.v_t.flat());
-        site(Op::Recompose, Location::caller(), &input, &r.flat());
+        input[..n].copy_from_slice(&self.u.flat()[..n]);
+        input[n..n + N].copy_from_slice(&s.flat()[..N]);
+        input[n + N..all].copy_from_slice(&self.v_t.flat()[..n]);
+        site(Op::Recompose, Location::caller(), &input[..all], &r.flat()[..n]);
         Ok(r)
     }
 }
@@ -328,27 +359,34 @@ pub struct Principal {
     pub eigenvalues: Vector3<f64>,
 }
 
-fn multiply<const C: usize>(a: &Matrix3<f64>, b: &SMatrix<f64, 3, C>) -> SMatrix<f64, 3, C> {
-    b.each(|i, j| a.0[i][0] * b.0[0][j] + a.0[i][1] * b.0[1][j] + a.0[i][2] * b.0[2][j])
+fn multiply<const N: usize, const C: usize>(a: &SMatrix<f64, N, N>, b: &SMatrix<f64, N, C>) -> SMatrix<f64, N, C> {
+    b.each(|i, j| {
+        let mut t = a.0[i][0] * b.0[0][j];
+        for k in 1..N {
+            t = t + a.0[i][k] * b.0[k][j];
+        }
+        t
+    })
 }
 
-impl<const C: usize> Mul<SMatrix<f64, 3, C>> for Matrix3<f64> {
-    type Output = SMatrix<f64, 3, C>;
+impl<const N: usize, const C: usize> Mul<SMatrix<f64, N, C>> for SMatrix<f64, N, N> {
+    type Output = SMatrix<f64, N, C>;
     #[track_caller]
-    fn mul(self, b: SMatrix<f64, 3, C>) -> SMatrix<f64, 3, C> {
+    fn mul(self, b: SMatrix<f64, N, C>) -> SMatrix<f64, N, C> {
         let r = multiply(&self, &b);
+        let (n, m) = (N * N, N * C);
         let mut input = [0.0; 18];
-        input[..9].copy_from_slice(&self.flat());
-        input[9..9 + 3 * C].copy_from_slice(&b.flat()[..3 * C]);
-        site(Op::MatrixProduct, Location::caller(), &input[..9 + 3 * C], &r.flat()[..3 * C]);
+        input[..n].copy_from_slice(&self.flat()[..n]);
+        input[n..n + m].copy_from_slice(&b.flat()[..m]);
+        site(Op::MatrixProduct, Location::caller(), &input[..n + m], &r.flat()[..m]);
         r
     }
 }
 
-impl Mul<Matrix3<f64>> for &Matrix3<f64> {
-    type Output = Matrix3<f64>;
+impl<const N: usize> Mul<SMatrix<f64, N, N>> for &SMatrix<f64, N, N> {
+    type Output = SMatrix<f64, N, N>;
     #[track_caller]
-    fn mul(self, b: Matrix3<f64>) -> Matrix3<f64> {
+    fn mul(self, b: SMatrix<f64, N, N>) -> SMatrix<f64, N, N> {
         *self * b
     }
 }
@@ -474,7 +512,7 @@ impl ComplexField for f64 {
     asked!(sin, Sin);
     asked!(sqrt, Sqrt);
 
-    /// The four powers of the text; ours means the exact third.
+    /// The four powers of the text in three axes, ours meaning the exact third, and the three in two.
     #[track_caller]
     fn powf(self, e: f64) -> f64 {
         let which = if e == 1.0 / 3.0 {
@@ -485,6 +523,12 @@ impl ComplexField for f64 {
             Function::CbrtSquared
         } else if e == -2.0 / 3.0 {
             Function::InvCbrtSquared
+        } else if e == -1.0 {
+            Function::PowerMinusOne
+        } else if e == 0.5 {
+            Function::PowerHalf
+        } else if e == 1.0 {
+            Function::PowerOne
         } else {
             panic!("a power that the text does not have")
         };
