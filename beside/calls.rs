@@ -17,6 +17,8 @@ pub struct Call {
     pub name: &'static str,
     pub arguments: &'static [usize],
     pub inputs: usize,
+    /// The lengths of the lists that come out, and their words in all.
+    pub lists: &'static [usize],
     pub outputs: usize,
     pub flag: Option<usize>,
 }
@@ -34,13 +36,23 @@ pub const fn words(argument: usize) -> usize {
     }
 }
 
-const fn c(name: &'static str, arguments: &'static [usize], outputs: usize, flag: Option<usize>) -> Call {
+const fn c(name: &'static str, arguments: &'static [usize], lists: &'static [usize], flag: Option<usize>) -> Call {
     let (mut inputs, mut k) = (0, 0);
     while k < arguments.len() {
         inputs += words(arguments[k]);
         k += 1;
     }
-    Call { name, arguments, inputs, outputs, flag }
+    let (mut outputs, mut k) = (0, 0);
+    while k < lists.len() {
+        outputs += lists[k];
+        k += 1;
+    }
+    Call { name, arguments, inputs, lists, outputs, flag }
+}
+
+/// Whether a number's call has left the library.
+pub fn is_retired(n: usize) -> bool {
+    CALLS[n].name.is_empty()
 }
 
 /// The first of the updates: the others follow in the order of the models.
@@ -48,6 +60,20 @@ pub const UPDATE: usize = UPDATE_SNOW;
 
 pub fn is_update(n: usize) -> bool {
     (UPDATE..UPDATE + PARAMETERS.len()).contains(&n)
+}
+
+/// Whether a call gives a record's stress with its verdict.
+pub fn is_judged(n: usize) -> bool {
+    n == NEO_HOOKEAN_STRESS_AND_VERDICT || n == COROTATED_STRESS_AND_VERDICT
+}
+
+/// Where a record stands in a call's inputs: after an update's parameters, after a law and its limits.
+pub fn record_at(n: usize) -> Option<usize> {
+    if is_update(n) || is_judged(n) {
+        Some(CALLS[n].inputs - FLOATS)
+    } else {
+        None
+    }
 }
 
 /// Whether a call is one of the elementary functions, which no text of the Rust has.
@@ -93,6 +119,12 @@ fn put_matrix(o: &mut [u64], m: Matrix<f64>) {
             o[3 * r + k] = m[(r, k)].to_bits();
         }
     }
+}
+
+/// A stress in the first nine places and the verdict on it in the next.
+fn put_judged(o: &mut [u64], max_principal_stress: f64, max_shear_stress: f64, stress: Matrix<f64>) {
+    put_matrix(o, stress);
+    o[9] = MaximumStressFailure::new(max_principal_stress, max_shear_stress).particle_failed(&stress) as u64;
 }
 
 pub fn parameters(model: usize) -> usize {
@@ -221,12 +253,10 @@ pub fn call(n: usize, i: &[u64], o: &mut [u64]) {
             update(n - UPDATE, i, o);
         }
         NEO_HOOKEAN_FPK_STRESS => put_matrix(o, neo().fpk_stress(&matrix(i, 4), f(i, 3))),
-        NEO_HOOKEAN_KIRCHHOFF_STRESS => put_matrix(o, neo().kirchhoff_stress(f(i, 3), f(i, 4), &matrix(i, 5))),
         NEO_HOOKEAN_ELASTIC_ENERGY_DENSITY => put(o, neo().elastic_energy_density(f(i, 3), f(i, 4), &matrix(i, 5))),
         NEO_HOOKEAN_POS_ENERGY => put(o, neo().pos_energy(f(i, 3), f(i, 4), &matrix(i, 5))),
         PHASE_COEFF => put(o, NeoHookeanElasticity::phase_coeff(f(i, 0))),
-        COROTATED_KIRCHHOFF_STRESS => put_matrix(o, corotated().kirchhoff_stress(f(i, 4), f(i, 5), &matrix(i, 6))),
-        // The energy takes F only for its factors, the verdict a stress only for its principal values.
+        // The energy takes F only for its factors.
         COROTATED_ELASTIC_ENERGY_DENSITY => put(o, corotated().elastic_energy_density(diagonal(i, 5), f(i, 4))),
         COROTATED_POS_ENERGY => put(o, corotated().pos_energy(matrix(i, 5), f(i, 4))),
         MONAGHAN_PRESSURE => put(o, monaghan(i).pressure(f(i, 4), f(i, 5), f(i, 6))),
@@ -236,7 +266,13 @@ pub fn call(n: usize, i: &[u64], o: &mut [u64]) {
         MONAGHAN_TIMESTEP_BOUND => {
             put(o, monaghan(i).timestep_bound(f(i, 4), f(i, 5), f(i, 6), f(i, 7), &vector(i, 8), f(i, 11)))
         }
-        FAILED => o[0] = MaximumStressFailure::new(f(i, 0), f(i, 1)).particle_failed(&diagonal(i, 2)) as u64,
+        // The stress, and then the verdict on it: two calls of the text.
+        NEO_HOOKEAN_STRESS_AND_VERDICT => {
+            put_judged(o, f(i, 3), f(i, 4), neo().kirchhoff_stress(f(i, 5 + 30), f(i, 5 + 33), &matrix(i, 5)))
+        }
+        COROTATED_STRESS_AND_VERDICT => {
+            put_judged(o, f(i, 4), f(i, 5), corotated().kirchhoff_stress(f(i, 6 + 30), f(i, 6 + 33), &matrix(i, 6)))
+        }
         SNOW_CLAMP => {
             let law = SnowPlasticity { min_epsilon: f(i, 0), max_epsilon: f(i, 1), hardening_coeff: f(i, 2) };
             put_vector(o, law.project_deformation_gradient(vector(i, 3)));

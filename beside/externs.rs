@@ -23,26 +23,23 @@ extern "C" {
     pub fn pasoletu_spherical_part(m: *const u64, m_length: usize, out: *mut u64, out_length: usize) -> u8;
     pub fn pasoletu_decomposed_times(spherical: f64, deviatoric: *const u64, deviatoric_length: usize, v: *const u64, v_length: usize, out: *mut u64, out_length: usize) -> u8;
     pub fn pasoletu_neo_hookean_fpk_stress(law: *const u64, law_length: usize, hardening: f64, f: *const u64, f_length: usize, out: *mut u64, out_length: usize) -> u8;
-    pub fn pasoletu_neo_hookean_kirchhoff_stress(law: *const u64, law_length: usize, phase: f64, hardening: f64, f: *const u64, f_length: usize, out: *mut u64, out_length: usize) -> u8;
     pub fn pasoletu_neo_hookean_elastic_energy_density(law: *const u64, law_length: usize, phase: f64, hardening: f64, f: *const u64, f_length: usize, out: *mut u64, out_length: usize) -> u8;
     pub fn pasoletu_neo_hookean_elastic_energy_density_in(law: *const u64, law_length: usize, one_split: f64, phase: f64, hardening: f64, f: *const u64, f_length: usize, out: *mut u64, out_length: usize) -> u8;
     pub fn pasoletu_neo_hookean_pos_energy(law: *const u64, law_length: usize, phase: f64, hardening: f64, f: *const u64, f_length: usize, out: *mut u64, out_length: usize) -> u8;
     pub fn pasoletu_phase_coeff(phase: f64, out: *mut u64, out_length: usize) -> u8;
-    pub fn pasoletu_corotated_kirchhoff_stress(law: *const u64, law_length: usize, phase: f64, hardening: f64, f: *const u64, f_length: usize, u: *const u64, u_length: usize, sigma: *const u64, sigma_length: usize, vt: *const u64, vt_length: usize, out: *mut u64, out_length: usize) -> u8;
     pub fn pasoletu_corotated_elastic_energy_density(law: *const u64, law_length: usize, hardening: f64, sigma: *const u64, sigma_length: usize, out: *mut u64, out_length: usize) -> u8;
     pub fn pasoletu_corotated_pos_energy(law: *const u64, law_length: usize, hardening: f64, f: *const u64, f_length: usize, sigma: *const u64, sigma_length: usize, out: *mut u64, out_length: usize) -> u8;
+    pub fn pasoletu_neo_hookean_stress_and_verdict(law: *const u64, law_length: usize, limits: *const u64, limits_length: usize, record: *const u64, record_length: usize, stress: *mut u64, stress_length: usize, verdict: *mut u64, verdict_length: usize) -> u8;
+    pub fn pasoletu_corotated_stress_and_verdict(law: *const u64, law_length: usize, limits: *const u64, limits_length: usize, record: *const u64, record_length: usize, stress: *mut u64, stress_length: usize, verdict: *mut u64, verdict_length: usize) -> u8;
     pub fn pasoletu_record_neo_hookean_fpk_stress(law: *const u64, law_length: usize, record: *const u64, record_length: usize, out: *mut u64, out_length: usize) -> u8;
-    pub fn pasoletu_record_neo_hookean_kirchhoff_stress(law: *const u64, law_length: usize, record: *const u64, record_length: usize, out: *mut u64, out_length: usize) -> u8;
     pub fn pasoletu_record_neo_hookean_elastic_energy_density(law: *const u64, law_length: usize, record: *const u64, record_length: usize, out: *mut u64, out_length: usize) -> u8;
     pub fn pasoletu_record_neo_hookean_elastic_energy_density_in(law: *const u64, law_length: usize, one_split: f64, record: *const u64, record_length: usize, out: *mut u64, out_length: usize) -> u8;
     pub fn pasoletu_record_neo_hookean_pos_energy(law: *const u64, law_length: usize, record: *const u64, record_length: usize, out: *mut u64, out_length: usize) -> u8;
-    pub fn pasoletu_record_corotated_kirchhoff_stress(law: *const u64, law_length: usize, record: *const u64, record_length: usize, out: *mut u64, out_length: usize) -> u8;
     pub fn pasoletu_record_corotated_elastic_energy_density(law: *const u64, law_length: usize, record: *const u64, record_length: usize, out: *mut u64, out_length: usize) -> u8;
     pub fn pasoletu_record_corotated_pos_energy(law: *const u64, law_length: usize, record: *const u64, record_length: usize, out: *mut u64, out_length: usize) -> u8;
     pub fn pasoletu_monaghan_pressure(pressure0: f64, gamma: u32, viscosity: f64, max_neg_pressure: f64, mass: f64, volume0: f64, density: f64, out: *mut u64, out_length: usize) -> u8;
     pub fn pasoletu_monaghan_kirchhoff_stress(pressure0: f64, gamma: u32, viscosity: f64, max_neg_pressure: f64, mass: f64, volume0: f64, density: f64, determinant: f64, velocity_gradient: *const u64, velocity_gradient_length: usize, out: *mut u64, out_length: usize) -> u8;
     pub fn pasoletu_monaghan_timestep_bound(pressure0: f64, gamma: u32, viscosity: f64, max_neg_pressure: f64, determinant: f64, mass: f64, volume0: f64, density: f64, velocity: *const u64, velocity_length: usize, cell_width: f64, out: *mut u64, out_length: usize) -> u8;
-    pub fn pasoletu_failed(max_principal_stress: f64, max_shear_stress: f64, stresses: *const u64, stresses_length: usize, out: *mut u64, out_length: usize) -> u8;
     pub fn pasoletu_snow_clamp(min_epsilon: f64, max_epsilon: f64, hardening_coeff: f64, sigma: *const u64, sigma_length: usize, out: *mut u64, out_length: usize) -> u8;
     pub fn pasoletu_rankine_project(arguments: *const u64, arguments_length: usize, s: f64, strains: *const u64, strains_length: usize, out: *mut u64, out_length: usize) -> u8;
     pub fn pasoletu_drucker_prager_alpha(fields: *const u64, fields_length: usize, q: f64, out: *mut u64, out_length: usize) -> u8;
@@ -54,6 +51,8 @@ extern "C" {
     pub fn pasoletu_pass_factored(model: u64, parameters: *const u64, parameters_length: usize, records: *mut u64, records_length: usize, answers: *mut u64, answers_length: usize, counts: *mut u64, counts_length: usize) -> u8;
     pub fn pasoletu_pass_factored_with_failure(model: u64, parameters: *const u64, parameters_length: usize, limits: *const u64, limits_length: usize, corotated: *const u64, corotated_length: usize, records: *mut u64, records_length: usize, answers: *mut u64, answers_length: usize, counts: *mut u64, counts_length: usize) -> u8;
     pub fn pasoletu_fill_determinants(records: *mut u64, records_length: usize) -> u8;
+    pub fn pasoletu_flat_update(model: u64, parameters: *const u64, parameters_length: usize, record: *mut u64, record_length: usize, answer: *mut u64, answer_length: usize) -> u8;
+    pub fn pasoletu_flat_pass(model: u64, parameters: *const u64, parameters_length: usize, records: *mut u64, records_length: usize, answers: *mut u64, answers_length: usize, counts: *mut u64, counts_length: usize) -> u8;
     pub fn pasoletu_clear_tallies(particles: u64, zones: *const u64, zones_length: usize, tallies: *mut u64, tallies_length: usize) -> u8;
     pub fn pasoletu_move_particle(particles: u64, particle: u64, zone: u64, zones: *mut u64, zones_length: usize, tallies: *mut u64, tallies_length: usize) -> u8;
     pub fn pasoletu_pass_by_zone(model: u64, parameters: *const u64, parameters_length: usize, zones: *const u64, zones_length: usize, records: *mut u64, records_length: usize, answers: *mut u64, answers_length: usize, tallies: *mut u64, tallies_length: usize) -> u8;
@@ -61,6 +60,10 @@ extern "C" {
     pub fn pasoletu_read_sheet(bytes: *const u8, bytes_length: usize, header: *mut u64, header_length: usize, records: *mut u64, records_length: usize) -> u8;
     pub fn pasoletu_run_sheet(bytes: *const u8, bytes_length: usize, records: *mut u64, records_length: usize, answers: *mut u64, answers_length: usize, counts: *mut u64, counts_length: usize) -> u8;
     pub fn pasoletu_write_sheet(model: u64, parameters: *const u64, parameters_length: usize, records: *const u64, records_length: usize, bytes: *mut u8, bytes_length: usize, written: *mut u64, written_length: usize) -> u8;
+    pub fn pasoletu_begin_parts(state: *mut u64, state_length: usize) -> u8;
+    pub fn pasoletu_part(bytes: *const u8, bytes_length: usize, state: *mut u64, state_length: usize, records: *mut u64, records_length: usize, answers: *mut u64, answers_length: usize, progress: *mut u64, progress_length: usize) -> u8;
+    pub fn pasoletu_end_parts(records: *const u64, records_length: usize, answers: *const u64, answers_length: usize, state: *mut u64, state_length: usize, progress: *mut u64, progress_length: usize) -> u8;
     pub fn pasoletu_report(records: *const u64, records_length: usize, report: *mut u64, report_length: usize) -> u8;
     pub fn pasoletu_join_reports(first: *const u64, first_length: usize, second: *const u64, second_length: usize, joined: *mut u64, joined_length: usize) -> u8;
+    pub fn pasoletu_why(model: u64, parameters: *const u64, parameters_length: usize, record: *const u64, record_length: usize, reason: *mut u64, reason_length: usize) -> u8;
 }

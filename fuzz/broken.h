@@ -13,6 +13,12 @@ enum {
     PAST_SHEET,   // the byte of the room past the sheet's end cleared
     ELEVEN_MISSED, // a wrong determinant that is not refused by 11
     OLD_ONE,      // the determinant that came, kept beside a new F
+    EARLY,        // a shortage told before the end
+    FORGOTTEN,    // a fault that is not told again
+    HELD_BYTE,    // a held byte changed in the state
+    FULL_MISSED,  // 13 told as 12
+    NEIGHBOUR,    // the numbers stored of two zones exchanged
+    OTHER_FIELD,  // an outcome counted as refused, not as stored
 };
 
 static int fault_is(int kind) {
@@ -125,6 +131,65 @@ static uint8_t broken_write_sheet(uint64_t model, const uint64_t *p, size_t np, 
     return n;
 }
 
+static uint8_t broken_part(const uint8_t *s, size_t ns, uint64_t *state, size_t nt, uint64_t *r, size_t nr, uint64_t *a, size_t na, uint64_t *p, size_t np) {
+    uint64_t before = nt ? state[0] : 0;
+    uint8_t n = pasoletu_part(s, ns, state, nt, r, nr, a, na, p, np);
+    peeked(s, ns);
+    if (fault_is(EARLY) && n == 0 && ns && p[0] < p[1])
+        return 4;
+    if (fault_is(FORGOTTEN) && n && n != 8 && before)
+        return 0;
+    if (fault_is(HELD_BYTE) && n == 0 && state[6] > 8)
+        state[15] ^= 1;
+    return spoiled(n, r, nr, p, np);
+}
+
+static uint8_t broken_end_parts(const uint64_t *r, size_t nr, const uint64_t *a, size_t na, uint64_t *state, size_t nt, uint64_t *p, size_t np) {
+    uint8_t n = pasoletu_end_parts(r, nr, a, na, state, nt, p, np);
+    peeked(r, 8 * nr);
+    return spoiled(n, p, np, p, np);
+}
+
+// What a call with tallies can do wrong: `t` is the tallies as five words a zone.
+static uint8_t spoiled_tallies(uint8_t n, const uint64_t *zones, size_t nz, uint64_t *t, size_t nt) {
+    peeked(zones, 8 * nz);
+    if (fault_is(FULL_MISSED) && n == 13)
+        return 12;
+    if (fault_is(NEIGHBOUR) && n == 0 && nt >= 10) {
+        uint64_t stored = t[2];
+        t[2] = t[7];
+        t[7] = stored;
+    }
+    if (fault_is(OTHER_FIELD) && n == 0 && nt && t[2]) {
+        t[2] -= 1;
+        t[3] += 1;
+    }
+    return spoiled(n, t, nt, t, nt);
+}
+
+static uint8_t broken_clear_tallies(uint64_t particles, const uint64_t *zones, size_t nz, uint64_t *t, size_t nt) {
+    return spoiled_tallies(pasoletu_clear_tallies(particles, zones, nz, t, nt), zones, nz, t, nt);
+}
+
+static uint8_t broken_move_particle(uint64_t particles, uint64_t particle, uint64_t zone, uint64_t *zones, size_t nz, uint64_t *t, size_t nt) {
+    return spoiled(pasoletu_move_particle(particles, particle, zone, zones, nz, t, nt), t, nt, t, nt);
+}
+
+static uint8_t broken_pass_by_zone(uint64_t model, const uint64_t *p, size_t np, const uint64_t *zones, size_t nz, uint64_t *r, size_t nr, uint64_t *a, size_t na, uint64_t *t, size_t nt) {
+    uint8_t n = pasoletu_pass_by_zone(model, p, np, zones, nz, r, nr, a, na, t, nt);
+    if (n == 0 && na && a[0] == 2)
+        a[1] = turned(a[1]);
+    return spoiled_tallies(n, zones, nz, t, nt);
+}
+
+static uint8_t broken_pass_with_failure_by_zone(uint64_t model, const uint64_t *p, size_t np, const uint64_t *l, size_t nl, const uint64_t *law, size_t nw,
+                                                const uint64_t *zones, size_t nz, uint64_t *r, size_t nr, uint64_t *a, size_t na, uint64_t *t, size_t nt) {
+    uint8_t n = pasoletu_pass_with_failure_by_zone(model, p, np, l, nl, law, nw, zones, nz, r, nr, a, na, t, nt);
+    if (n == 0 && na && a[0] == 2)
+        a[1] = turned(a[1]);
+    return spoiled_tallies(n, zones, nz, t, nt);
+}
+
 #if TARGET == 2 // elsewhere it is what a pass is compared with
 #define pasoletu_update broken_update
 #endif
@@ -132,5 +197,13 @@ static uint8_t broken_write_sheet(uint64_t model, const uint64_t *p, size_t np, 
 #define pasoletu_pass_with_failure broken_pass_with_failure
 #define pasoletu_fill_determinants broken_fill_determinants
 #define pasoletu_read_sheet broken_read_sheet
+#if TARGET != 6 // there it is what the parts are compared with
 #define pasoletu_run_sheet broken_run_sheet
+#endif
 #define pasoletu_write_sheet broken_write_sheet
+#define pasoletu_part broken_part
+#define pasoletu_end_parts broken_end_parts
+#define pasoletu_clear_tallies broken_clear_tallies
+#define pasoletu_move_particle broken_move_particle
+#define pasoletu_pass_by_zone broken_pass_by_zone
+#define pasoletu_pass_with_failure_by_zone broken_pass_with_failure_by_zone

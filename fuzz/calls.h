@@ -13,10 +13,16 @@
 static const size_t FIELDS[MODELS] = {3, 4, 8, 6, 3, 4, 8, 6};
 static const int FLAG[MODELS] = {-1, -1, 6, 3, -1, -1, 6, 3};
 
+uint8_t pasoletu_neo_hookean_stress_and_verdict(const uint64_t *law, size_t law_length, const uint64_t *limits,
+                                                size_t limits_length, const uint64_t *record, size_t record_length,
+                                                uint64_t *stress, size_t stress_length, uint64_t *verdict,
+                                                size_t verdict_length);
+uint8_t pasoletu_corotated_stress_and_verdict(const uint64_t *law, size_t law_length, const uint64_t *limits,
+                                              size_t limits_length, const uint64_t *record, size_t record_length,
+                                              uint64_t *stress, size_t stress_length, uint64_t *verdict,
+                                              size_t verdict_length);
 uint8_t pasoletu_record_neo_hookean_fpk_stress(const uint64_t *law, size_t law_length, const uint64_t *record,
                                                size_t record_length, uint64_t *out, size_t out_length);
-uint8_t pasoletu_record_neo_hookean_kirchhoff_stress(const uint64_t *law, size_t law_length, const uint64_t *record,
-                                                     size_t record_length, uint64_t *out, size_t out_length);
 uint8_t pasoletu_record_neo_hookean_elastic_energy_density(const uint64_t *law, size_t law_length,
                                                            const uint64_t *record, size_t record_length, uint64_t *out,
                                                            size_t out_length);
@@ -25,8 +31,6 @@ uint8_t pasoletu_record_neo_hookean_elastic_energy_density_in(const uint64_t *la
                                                               size_t record_length, uint64_t *out, size_t out_length);
 uint8_t pasoletu_record_neo_hookean_pos_energy(const uint64_t *law, size_t law_length, const uint64_t *record,
                                                size_t record_length, uint64_t *out, size_t out_length);
-uint8_t pasoletu_record_corotated_kirchhoff_stress(const uint64_t *law, size_t law_length, const uint64_t *record,
-                                                   size_t record_length, uint64_t *out, size_t out_length);
 uint8_t pasoletu_record_corotated_elastic_energy_density(const uint64_t *law, size_t law_length, const uint64_t *record,
                                                          size_t record_length, uint64_t *out, size_t out_length);
 uint8_t pasoletu_record_corotated_pos_energy(const uint64_t *law, size_t law_length, const uint64_t *record,
@@ -52,6 +56,15 @@ uint8_t pasoletu_pass_factored_with_failure(uint64_t model, const uint64_t *para
                                             uint64_t *answers, size_t answers_length, uint64_t *counts,
                                             size_t counts_length);
 uint8_t pasoletu_fill_determinants(uint64_t *records, size_t records_length);
+uint8_t pasoletu_flat_update(uint64_t model, const uint64_t *parameters, size_t parameters_length, uint64_t *record,
+                             size_t record_length, uint64_t *answer, size_t answer_length);
+uint8_t pasoletu_flat_pass(uint64_t model, const uint64_t *parameters, size_t parameters_length, uint64_t *records,
+                           size_t records_length, uint64_t *answers, size_t answers_length, uint64_t *counts,
+                           size_t counts_length);
+uint8_t pasoletu_clear_tallies(uint64_t particles, const uint64_t *zones, size_t zones_length, uint64_t *tallies,
+                               size_t tallies_length);
+uint8_t pasoletu_move_particle(uint64_t particles, uint64_t particle, uint64_t zone, uint64_t *zones,
+                               size_t zones_length, uint64_t *tallies, size_t tallies_length);
 uint8_t pasoletu_pass_by_zone(uint64_t model, const uint64_t *parameters, size_t parameters_length,
                               const uint64_t *zones, size_t zones_length, uint64_t *records, size_t records_length,
                               uint64_t *answers, size_t answers_length, uint64_t *tallies, size_t tallies_length);
@@ -67,4 +80,13 @@ uint8_t pasoletu_run_sheet(const uint8_t *bytes, size_t bytes_length, uint64_t *
 uint8_t pasoletu_write_sheet(uint64_t model, const uint64_t *parameters, size_t parameters_length,
                              const uint64_t *records, size_t records_length, uint8_t *bytes, size_t bytes_length,
                              uint64_t *written, size_t written_length);
+uint8_t pasoletu_begin_parts(uint64_t *state, size_t state_length);
+uint8_t pasoletu_part(const uint8_t *bytes, size_t bytes_length, uint64_t *state, size_t state_length,
+                      uint64_t *records, size_t records_length, uint64_t *answers, size_t answers_length,
+                      uint64_t *progress, size_t progress_length);
+uint8_t pasoletu_end_parts(const uint64_t *records, size_t records_length, const uint64_t *answers,
+                           size_t answers_length, uint64_t *state, size_t state_length, uint64_t *progress,
+                           size_t progress_length);
 uint8_t pasoletu_report(const uint64_t *records, size_t records_length, uint64_t *report, size_t report_length);
+uint8_t pasoletu_why(uint64_t model, const uint64_t *parameters, size_t parameters_length, const uint64_t *record,
+                     size_t record_length, uint64_t *reason, size_t reason_length);

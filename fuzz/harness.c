@@ -1,5 +1,5 @@
 // One fuzz target a build, chosen by TARGET: 0 read_sheet, 1 run_sheet, 2 update, 3 pass, 4 pass_with_failure,
-// 5 write_sheet.
+// 5 write_sheet, 6 parts, 7 tallies.
 // README.md says what is checked. The first thing that does not hold is printed, and the run stops there.
 #include "rooms.h"
 #include "calls.h"
@@ -9,14 +9,15 @@
 #endif
 #include <math.h>
 #include <stdarg.h>
-#define SHEETS (TARGET < 2 || TARGET == 5) // an input is a sheet's bytes
+#define SHEETS (TARGET < 2 || TARGET == 5 || TARGET == 6) // an input is a sheet's bytes
+#define JUDGED (TARGET == 4 || TARGET == 7) // limits and a corotated law stand in it
 #include "mutate.h"
 
 #define ROOM (MOST * FLOATS)
 #define LONGEST (1 + 8 * 8 + 2 + 8 * ROOM) // bytes of a sheet
 #define PASSED 8 // records in an input for the passes
 
-static struct room sheet_room, parameters_room, limits_room, law_room, records_room, answers_room, out_room, one_room, two_room, bytes_room, few_room;
+static struct room sheet_room, parameters_room, limits_room, law_room, records_room, answers_room, out_room, one_room, two_room, bytes_room, few_room, state_room, progress_room, zones_room, tallies_room;
 
 // What was met is told to the fuzzer as coverage, since the library itself is not instrumented.
 __attribute__((section("__libfuzzer_extra_counters"))) static uint8_t met[1024];
@@ -110,7 +111,7 @@ static void check_stored(uint64_t model, const uint64_t *p, const uint64_t *was,
 
 // What a run has met in all, printed at its end: a target that never reaches a law's outcome has not tried it.
 // An outcome is untouched, stored, or refused by 1, 2, 3, 10 or 11.
-static unsigned long outcomes[LAWS][7], verdicts[2], refusals[9], writes[10], fills[9];
+static unsigned long outcomes[LAWS][7], verdicts[2], refusals[9], writes[10], fills[9], parts_told[16], ends_told[16], judgements[2][16], tallied[CALLS][14];
 
 static void print_met(void) {
     static const char *names[LAWS] = {"snow", "rankine", "drucker_prager", "nacc"};
@@ -118,12 +119,20 @@ static void print_met(void) {
         fprintf(stderr, "met: sheets read %lu, refused 4: %lu, 5: %lu, 6: %lu, 7: %lu\n", refusals[0], refusals[4], refusals[5], refusals[6], refusals[7]);
     if (TARGET == 5)
         fprintf(stderr, "met: sheets written %lu, refused 6: %lu, 7: %lu, 8: %lu, 9: %lu\n", writes[0], writes[6], writes[7], writes[8], writes[9]);
-    for (int k = 0; k < (TARGET % 5 ? LAWS : 0); k++)
+    if (TARGET == 6) {
+        fprintf(stderr, "met: parts taken %lu, refused 5: %lu, 6: %lu, 7: %lu, 4 again: %lu, 15: %lu, 8: %lu\n", parts_told[0], parts_told[5], parts_told[6], parts_told[7], parts_told[4], parts_told[15], parts_told[8]);
+        fprintf(stderr, "met: ends taken %lu, refused 4: %lu, 5: %lu, 6: %lu, 7: %lu, 15: %lu, 8: %lu\n", ends_told[0], ends_told[4], ends_told[5], ends_told[6], ends_told[7], ends_told[15], ends_told[8]);
+    }
+    for (int k = 0; k < (TARGET % 5 && TARGET != 6 ? LAWS : 0); k++)
         fprintf(stderr, "met: %s untouched %lu, stored %lu, refused 1: %lu, 2: %lu, 3: %lu, 10: %lu, 11: %lu\n", names[k], outcomes[k][0], outcomes[k][1], outcomes[k][2], outcomes[k][3], outcomes[k][4], outcomes[k][5], outcomes[k][6]);
     if (TARGET == 3)
         fprintf(stderr, "met: lists filled %lu, refused 8: %lu\n", fills[0], fills[8]);
-    if (TARGET == 4)
+    for (int k = 0; k < (TARGET == 7 ? CALLS : 0); k++)
+        fprintf(stderr, "met: %s done %lu, refused 6: %lu, 8: %lu, 12: %lu, 13: %lu\n", CALL_NAMES[k], tallied[k][0], tallied[k][6], tallied[k][8], tallied[k][12], tallied[k][13]);
+    if (JUDGED)
         fprintf(stderr, "met: failed %lu, not failed %lu\n", verdicts[1], verdicts[0]);
+    for (int k = 0; k < (TARGET == 4 ? 2 : 0); k++)
+        fprintf(stderr, "met: %s stress and verdict %lu, refused 1: %lu, 2: %lu, 3: %lu, 6: %lu, 8: %lu, 10: %lu, 11: %lu, 14: %lu\n", k ? "corotated" : "neo-Hookean", judgements[k][0], judgements[k][1], judgements[k][2], judgements[k][3], judgements[k][6], judgements[k][8], judgements[k][10], judgements[k][11], judgements[k][14]);
 }
 
 static void tell(uint64_t model, const uint64_t *was, const struct done *d) {
@@ -189,6 +198,7 @@ struct judge {
 };
 
 static uint64_t want_records[ROOM], want_answers[2 * MOST], want_counts[4];
+static int want_failed[MOST];
 
 static void want_pass(uint64_t model, const uint64_t *p, const struct judge *j, const uint64_t *records, size_t count) {
     memset(want_counts, 0, sizeof want_counts);
@@ -212,6 +222,7 @@ static void want_pass(uint64_t model, const uint64_t *p, const struct judge *j, 
         want_answers[2 * k + 1] = d.status ? d.status : d.answer[1];
         want_counts[d.status ? 2 : d.answer[0]]++;
         want_counts[3] += fails;
+        want_failed[k] = fails;
         verdicts[fails] += !d.status;
     }
 }
@@ -251,6 +262,44 @@ static void one_fill(const uint64_t *records, size_t nr) {
             w[BARE] = determinant(w);
     check_room(&records_room, want ? "a refused fill_determinants wrote its records" : "fill_determinants's records");
     fills[want]++;
+}
+
+// Stress and verdict of a record by either solid law, in lists of the lengths given: 8, 6, 1 and 11 exactly where RULES says and in this order; what is
+// refused writes neither; the stress is finite, and the verdict that on its principal values as worked in second.h, where no limit is near one.
+static void one_judged(int corotated, const struct judge *j, const uint64_t *record, size_t nr, size_t ns, size_t nv) {
+    const uint64_t *law = j->law + !corotated;
+    size_t nw = j->nw - !corotated, fields = 3 + corotated;
+    uint64_t *s = lend(&out_room, NULL, ns), *v = lend(&two_room, NULL, nv);
+    const uint64_t *l = show(&limits_room, j->limits, j->nl), *w = show(&law_room, law, nw), *r = show(&records_room, record, nr);
+    uint8_t got = corotated ? pasoletu_corotated_stress_and_verdict(w, nw, l, j->nl, r, nr, s, ns, v, nv)
+                            : pasoletu_neo_hookean_stress_and_verdict(w, nw, l, j->nl, r, nr, s, ns, v, nv);
+    uint8_t want = 0;
+    if (nw != fields || j->nl != 2 || nr != FLOATS || ns != 9 || nv != 1)
+        want = 8;
+    else if (corotated && !is_flag(law[0]))
+        want = 6;
+    else if (!finite_words(law, fields) || !finite_words(j->limits, 2) || !finite_words(record, FLOATS))
+        want = 1;
+    else if (record[BARE] != determinant(record))
+        want = 11;
+    if (want)
+        check(got == want, "stress and verdict: answer, should be", got, want);
+    else
+        check(got == 0 || got == 3 || got == 14 || (!corotated && (got == 2 || got == 10)), "stress and verdict: answer", got, 0);
+    if (got == 0) {
+        double ends[2], m;
+        check(finite_words(s, 9) && v[0] <= 1, "a stress is not finite, or its verdict neither yes nor no", s[0], v[0]);
+        principal_ends(s, ends, &m);
+        double shear = ends[1] / 2 - ends[0] / 2, a = value(j->limits[0]), b = value(j->limits[1]), part = m * 0x1p-36;
+        int told = ends[1] > a || shear > b, near = fabs(ends[1] - a) <= part || fabs(shear - b) <= part;
+        check(near || m > 0x1p1000 || m < 0x1p-900 || v[0] == (uint64_t)told, "a stress's verdict, should be", v[0], told);
+        memcpy(wanted(&out_room, 9), s, 72);
+        memcpy(wanted(&two_room, 1), v, 8);
+    }
+    check_room(&out_room, got ? "a refused stress and verdict wrote the stress" : "a stress");
+    check_room(&two_room, got ? "a refused stress and verdict wrote the verdict" : "a verdict");
+    judgements[corotated][got < 15 ? got : 15]++;
+    met[960 + corotated * 32 + (got ? got : 16 + v[0])] = 1;
 }
 
 // ---- sheets
@@ -399,6 +448,138 @@ static void write_sheet_target(const uint8_t *b, size_t n) {
     any_sheet(b, n);
 }
 
+// ---- a sheet in parts, cut anywhere, beside the run of the whole
+
+#define STATE 52
+static uint64_t whole_records[ROOM], whole_answers[2 * MOST];
+
+// How many records are whole in the first n bytes, how many the sheet says it has (0 where that is not known), and its refusal.
+static size_t whole_in(const uint8_t *b, size_t n, size_t *count, uint8_t *refusal) {
+    struct sheet x = head_second(b, n);
+    *refusal = read_second(b, n).refusal;
+    *count = x.refusal ? 0 : x.count;
+    size_t k = x.refusal ? 0 : (n - x.at) / (8 * sheet_floats(x.model));
+    return k < *count ? k : *count;
+}
+
+struct came {
+    uint8_t fault; // the number that is told again, or 0
+    size_t complete, count;
+};
+
+// What the lists are to hold: the complete records of the whole run, then marks; state and progress as they are, inside their ends.
+static void want_lists(const struct came *c) {
+    memcpy(wanted(&records_room, ROOM), whole_records, 8 * FLOATS * c->complete);
+    memcpy(wanted(&answers_room, 2 * MOST), whole_answers, 16 * c->complete);
+    check_room(&records_room, "the records of a sheet in parts");
+    check_room(&answers_room, "the answers of a sheet in parts");
+    check_room(&state_room, "around the state of a sheet in parts");
+    check_room(&progress_room, "the progress of a sheet in parts");
+}
+
+static uint64_t *lent_state(void) {
+    return (uint64_t *)(state_room.write + state_room.bytes) - STATE;
+}
+
+static void want_told(const struct came *c, uint8_t got, uint8_t want, const char *what) {
+    check(got == want, what, got, want);
+    uint64_t *p = wanted(&progress_room, 2);
+    p[0] = c->complete;
+    p[1] = c->count;
+    uint64_t *state = lent_state(), *held = wanted(&state_room, STATE);
+    if (c->fault)
+        check(memcmp(state, held, 8 * STATE) == 0, "a call after a fault or the end changed the state: number", want, 0);
+    memcpy(held, state, 8 * STATE);
+    want_lists(c);
+}
+
+// A list of another length: 8, before all else, with nothing written.
+static void wrong_lengths(const struct came *c, const uint8_t *b, size_t n) {
+    uint64_t *state = lent_state(), *r = (uint64_t *)(records_room.write + records_room.bytes) - ROOM;
+    uint64_t *a = (uint64_t *)(answers_room.write + answers_room.bytes) - 2 * MOST, *p = (uint64_t *)(progress_room.write + progress_room.bytes) - 2;
+    int which = below(5);
+    size_t ns = STATE - (which == 0), nr = ROOM - (which == 1 ? FLOATS : 0), na = 2 * MOST - (which == 2), np = 2 - (which == 3);
+    if (which == 4)
+        ns = 0, nr = 0, na = 0;
+    uint8_t got = pasoletu_part(show_bytes(&sheet_room, b, n, 0), n, state, ns, r, nr, a, na, p, np);
+    check(got == 8, "a part with a list of the wrong length: answer", got, 8);
+    parts_told[got]++;
+    got = pasoletu_end_parts(r, nr, a, na, state, ns, p, np);
+    check(got == 8, "an end with a list of the wrong length: answer", got, 8);
+    ends_told[got]++;
+    want_lists(c);
+}
+
+static uint8_t handed(struct came *c, const uint8_t *b, size_t from, size_t n, uint64_t *state, uint64_t *r, uint64_t *a, uint64_t *p) {
+    uint8_t refusal = 0;
+    if (!c->fault)
+        c->complete = whole_in(b, from + n, &c->count, &refusal);
+    uint8_t want = c->fault ? c->fault : refusal == 4 ? 0 : refusal;
+    uint8_t got = pasoletu_part(show_bytes(&sheet_room, b + from, n, n % 2), n, state, STATE, r, ROOM, a, 2 * MOST, p, 2);
+    want_told(c, got, want, "a part: answer, should be");
+    c->fault = want;
+    parts_told[got]++;
+    return want;
+}
+
+static void ended(struct came *c, const uint8_t *b, size_t n, uint64_t *state, uint64_t *r, uint64_t *a, uint64_t *p) {
+    uint8_t want = c->fault, refusal = 0;
+    if (!want) {
+        whole_in(b, n, &c->count, &refusal);
+        want = refusal;
+    }
+    uint8_t got = pasoletu_end_parts(r, ROOM, a, 2 * MOST, state, STATE, p, 2);
+    want_told(c, got, want, "an end: answer, should be");
+    c->fault = want ? want : 15;
+    ends_told[got]++;
+}
+
+// The longest part of a style, so that some sheets come byte by byte, some whole.
+static void one_cutting(const uint8_t *b, size_t n, size_t longest) {
+    struct came c = {0, 0, 0};
+    uint64_t *state = lend(&state_room, NULL, STATE), *r = lend(&records_room, NULL, ROOM), *a = lend(&answers_room, NULL, 2 * MOST), *p = lend(&progress_room, NULL, 2);
+    uint8_t got = pasoletu_begin_parts(state, STATE);
+    check(got == 0, "begin_parts: answer", got, 0);
+    memcpy(wanted(&state_room, STATE), state, 8 * STATE);
+    for (size_t at = 0; at < n;) {
+        size_t k = below(8) ? 1 + below(longest) : 0;
+        k = k > n - at ? n - at : k;
+        handed(&c, b, at, k, state, r, a, p);
+        at += k;
+        if (!below(16))
+            wrong_lengths(&c, b, k);
+    }
+    ended(&c, b, n, state, r, a, p);
+    handed(&c, b, 0, n ? below(n) : 0, state, r, a, p);
+    handed(&c, b, 0, 0, state, r, a, p);
+    ended(&c, b, n, state, r, a, p);
+}
+
+// The run of the whole: of a sheet that is refused for its length, of its whole records alone.
+static void want_whole(const uint8_t *b, size_t n, const struct sheet *x) {
+    static uint8_t shorter[LONGEST];
+    uint64_t counts[4];
+    size_t count = 0, from = n;
+    uint8_t refusal, got = 0;
+    size_t k = whole_in(b, n, &count, &refusal);
+    if (!refusal) {
+        got = pasoletu_run_sheet(b, n, whole_records, ROOM, whole_answers, 2 * MOST, counts, 4);
+    } else if (k) {
+        records_second(b, &(struct sheet){0, x->model, {0}, k, x->at}, sheet_records);
+        from = spell_second(shorter, x->model, x->p, sheet_records, k);
+        got = pasoletu_run_sheet(shorter, from, whole_records, ROOM, whole_answers, 2 * MOST, counts, 4);
+    }
+    check(got == 0, "run_sheet of the whole records: answer", got, 0);
+}
+
+static void parts_target(const uint8_t *b, size_t n) {
+    struct sheet x = sheet_told(b, n);
+    want_whole(b, n, &x);
+    one_cutting(b, n, n < 1500 ? 1 + below(6) : 1 + n / 100);
+    one_cutting(b, n, 400);
+    one_cutting(b, n, n + 1);
+}
+
 // ---- the passes and one update: an input is a byte for the model, a byte for lengths, then the words; past the input's end all are 0
 
 static struct place from;
@@ -439,10 +620,146 @@ static void law_target(const uint8_t *b, size_t n) {
     }
     if (TARGET == 3)
         one_fill(records, nr);
+    if (TARGET == 4) {
+        size_t ns = 9 + (nc == 5) - (nc == 3), nv = na % 2 ? 2 : 1, held = nr < FLOATS ? nr : nr % FLOATS ? FLOATS + 1 : FLOATS;
+        one_judged(0, &j, records, held, ns, nv);
+        one_judged(1, &j, records, held, ns, nv);
+    }
     if (TARGET == 2)
         updated(model, p, np, records, nr, na);
     else
         one_pass(model, p, np, TARGET == 4 ? &j : NULL, records, nr, na, nc);
+}
+
+// ---- tallies: a sequence of calls on one list of records, drawn from the input's bytes; the host may change tallies and zones between them
+
+static uint64_t zones_now[PASSED + 2], tallies_now[TALLY * (MOST_ZONES + 3)], records_now[(PASSED + 1) * FLOATS];
+
+// What a call is lent beside the tallies: lists of the lengths below.
+struct lent {
+    uint64_t model, p[9], particles, particle, zone;
+    size_t np, nr, na, nz, nt;
+    struct judge j;
+};
+
+static uint8_t want_of(int call, const struct lent *c) {
+    size_t count = c->nr / FLOATS;
+    int passes = call >= PASS_BY_ZONE, judges = call == PASS_WITH_FAILURE_BY_ZONE;
+    if (c->nt % TALLY || (passes && (!lengths_fit(c->model, c->np) || c->nr % FLOATS || c->na != 2 * count || (judges && (c->j.nl != 2 || c->j.nw != 4)))))
+        return 8;
+    if (passes && (c->model >= MODELS || !flag_fits(c->model, c->p) || (judges && !is_flag(c->j.law[0]))))
+        return 6;
+    if (!zones_second(passes ? count : c->particles, zones_now, c->nz, c->nt / TALLY))
+        return 12;
+    if (call == MOVE && (c->particle >= c->nz || c->zone >= c->nt / TALLY))
+        return 12;
+    return passes && full_second(tallies_now, c->nt / TALLY, zones_now, c->nz) ? 13 : 0;
+}
+
+// What the call leaves, from the lists as they were: particles now afresh, and a pass's outcomes in the zone of each record.
+static void leave_second(int call, const struct lent *c) {
+    if (call == CLEAR)
+        memset(tallies_now, 0, 8 * c->nt);
+    if (call == MOVE)
+        zones_now[c->particle] = c->zone;
+    afresh_second(tallies_now, c->nt / TALLY, zones_now, c->nz);
+    if (call < PASS_BY_ZONE)
+        return;
+    want_pass(c->model, c->p, call == PASS_BY_ZONE ? NULL : &c->j, records_now, c->nz);
+    memcpy(records_now, want_records, 8 * c->nr);
+    for (size_t k = 0; k < c->nz; k++)
+        outcome_second(tallies_now, zones_now[k], want_answers[2 * k], want_failed[k]);
+}
+
+static uint8_t call_lent(int call, const struct lent *c, const uint64_t *shown, uint64_t *zones, uint64_t *r, uint64_t *a, uint64_t *t) {
+    const uint64_t *p = show(&parameters_room, c->p, c->np);
+    switch (call) {
+    case CLEAR: return pasoletu_clear_tallies(c->particles, shown, c->nz, t, c->nt);
+    case MOVE: return pasoletu_move_particle(c->particles, c->particle, c->zone, zones, c->nz, t, c->nt);
+    case PASS_BY_ZONE: return pasoletu_pass_by_zone(c->model, p, c->np, shown, c->nz, r, c->nr, a, c->na, t, c->nt);
+    default:
+        return pasoletu_pass_with_failure_by_zone(c->model, p, c->np, show(&limits_room, c->j.limits, c->j.nl), c->j.nl, show(&law_room, c->j.law, c->j.nw), c->j.nw,
+                                                  shown, c->nz, r, c->nr, a, c->na, t, c->nt);
+    }
+}
+
+static void one_tallied(int call, const struct lent *c) {
+    uint8_t want = want_of(call, c);
+    uint64_t *zones = lend(&zones_room, zones_now, c->nz), *t = lend(&tallies_room, tallies_now, c->nt);
+    uint64_t *r = lend(&records_room, records_now, c->nr), *a = lend(&answers_room, NULL, c->na);
+    const uint64_t *shown = (const uint64_t *)(zones_room.read + ((uint8_t *)zones - zones_room.write));
+    uint8_t got = call_lent(call, c, shown, zones, r, a, t);
+    check(got == want, CALL_NAMES[call], got, want);
+    if (!want) {
+        leave_second(call, c);
+        memcpy(wanted(&zones_room, c->nz), zones_now, 8 * c->nz);
+        memcpy(wanted(&tallies_room, c->nt), tallies_now, 8 * c->nt);
+        if (call >= PASS_BY_ZONE) {
+            memcpy(wanted(&records_room, c->nr), want_records, 8 * c->nr);
+            memcpy(wanted(&answers_room, c->na), want_answers, 8 * c->na);
+        }
+    }
+    check_room(&zones_room, want ? "a refused call wrote its zones" : "zones after a call");
+    check_room(&tallies_room, want ? "a refused call wrote its tallies" : "tallies after a call");
+    check_room(&records_room, want ? "a refused call wrote its records" : "records after a call with tallies");
+    check_room(&answers_room, want ? "a refused call wrote its answers" : "answers after a call with tallies");
+    tallied[call][want]++;
+    met[900 + call * 16 + want] = 1;
+}
+
+// Now and then one of the call's lengths is another.
+static void twist(struct lent *c) {
+    switch (below(64)) {
+    case 0: c->nt += 1 + below(4); break;
+    case 1: c->nz += 1; break;
+    case 2: c->nz -= c->nz ? 1 : 0; break;
+    case 3: c->na += 1; break;
+    case 4: c->nr += 1; break;
+    case 5: c->np += below(2) ? 1 : -1; break;
+    case 6: c->j.nl += below(2) ? 1 : -1; break;
+    case 7: c->j.nw += below(2) ? 1 : -1; break;
+    case 8: c->particles = draw() >> below(64); break;
+    }
+}
+
+static void tallies_target(const uint8_t *b, size_t n) {
+    struct lent c = {.j = {.nl = 2, .nw = 4}};
+    from = (struct place){b, n, 0, 0};
+    uint8_t first = take_byte(&from), lengths = take_byte(&from);
+    c.model = first < 0xf0 ? first % MODELS : first;
+    c.np = FIELDS[c.model % MODELS];
+    words_taken(c.p, c.np);
+    words_taken(c.j.limits, 2);
+    words_taken(c.j.law, 4);
+    size_t left = (n - from.at) / 8;
+    c.nr = left < PASSED * FLOATS ? left / FLOATS * FLOATS : PASSED * FLOATS;
+    words_taken(records_now, c.nr);
+    drawing = lengths;
+    for (size_t k = 0; k < n; k++)
+        drawing = (drawing ^ b[k]) * 0x100000001b3ULL;
+    size_t zones = below(16) ? 1 + below(6) : below(4) ? MOST_ZONES - 1 + below(3) : 0;
+    c.nt = TALLY * zones;
+    c.nz = c.particles = c.nr / FLOATS;
+    c.na = 2 * c.nz;
+    memset(tallies_now, 0, sizeof tallies_now);
+    for (size_t k = 0; k < PASSED + 2; k++)
+        zones_now[k] = zones ? below(zones) : 0;
+    for (size_t k = 3 + below(6); k; k--) {
+        struct lent this = c;
+        this.particle = c.nz && below(8) ? below(c.nz) : draw() >> below(64);
+        this.zone = zones && below(8) ? below(zones) : zones + (draw() >> below(64));
+        twist(&this);
+        if (!below(8) && zones)
+            tallies_now[TALLY * below(zones) + 1 + below(4)] = below(4) ? LAST_TALLY - below(5) : draw() >> below(64);
+        size_t stray = below(24) ? PASSED + 1 : below(PASSED);
+        uint64_t was = zones_now[stray];
+        if (stray < PASSED)
+            zones_now[stray] = zones + (draw() >> below(64));
+        int call = below(CALLS + 2);
+        one_tallied(call < CALLS ? call : call - 2, &this);
+        if (stray < PASSED && zones_now[stray] >= zones)
+            zones_now[stray] = was;
+    }
 }
 
 int LLVMFuzzerInitialize(int *argc, char ***argv) {
@@ -452,8 +769,10 @@ int LLVMFuzzerInitialize(int *argc, char ***argv) {
     answers_room = room_of(8 * (2 * MOST + 2));
     bytes_room = room_of(LONGEST + 64);
     few_room = room_of(2 * PAGE);
-    struct room *small[] = {&parameters_room, &limits_room, &law_room, &out_room, &one_room, &two_room};
-    for (int k = 0; k < 6; k++)
+    zones_room = room_of(PAGE);
+    tallies_room = room_of(8 * TALLY * (MOST_ZONES + 3));
+    struct room *small[] = {&parameters_room, &limits_room, &law_room, &out_room, &one_room, &two_room, &state_room, &progress_room};
+    for (int k = 0; k < 8; k++)
         *small[k] = room_of(PAGE);
     atexit(print_met);
     return 0;
@@ -468,6 +787,10 @@ int LLVMFuzzerTestOneInput(const uint8_t *b, size_t n) {
         run_sheet_target(b, n);
     else if (TARGET == 5)
         write_sheet_target(b, n);
+    else if (TARGET == 6)
+        parts_target(b, n);
+    else if (TARGET == 7)
+        tallies_target(b, n);
     else
         law_target(b, n);
     return 0;

@@ -41,7 +41,7 @@ static struct layout layout(const uint8_t *b, size_t n) {
     l.floats = floats_of(l.model);
     l.bytes = 8 * l.floats;
     l.words = head;
-    size_t words = FIELDS[l.model] + (TARGET == 4 ? 6 : 0);
+    size_t words = FIELDS[l.model] + (JUDGED ? 6 : 0);
     size_t count = SHEETS ? (n > head + 8 * words && b[head + 8 * words] & 0x80 ? 2 : 1) : 0;
     l.first = head + 8 * words + count;
     l.records = n > l.first ? (n - l.first) / l.bytes : 0;
@@ -141,7 +141,7 @@ static size_t fresh(uint8_t *b, size_t most) {
         b[at++] = 0;
     put_parameters(b + at, model);
     at += 8 * FIELDS[model];
-    if (TARGET == 4) {
+    if (JUDGED) {
         double size = pow(10.0, between(1.0, 7.0)), w[6] = {size * between(0.0, 1.0), size * between(0.0, 1.0), below(2), 0.9, size * between(0.0, 2.0), size};
         for (int k = 0; k < 6; k++, at += 8)
             put_word(b + at, w[k]);

@@ -1,4 +1,7 @@
-// RULES' sections 4, 6 and 7 a second time: the determinant, the sheet, the finite test, the principal stresses of a pass with failure.
+// RULES' sections 4, 6 and 7 a second time: the determinant, the sheet, the finite test, the principal stresses of a pass with failure, tallies by zone, and
+// the principal values of a stress by Jacobi's turns.
+#include <math.h>
+
 #define ONE 0x3ff0000000000000ULL
 
 static double value(uint64_t w) {
@@ -82,7 +85,7 @@ static uint64_t take_word(struct place *s) {
     return w;
 }
 
-static struct sheet read_second(const uint8_t *b, size_t n) {
+static struct sheet head_second(const uint8_t *b, size_t n) {
     struct place s = {b, n, 0, 0};
     struct sheet x = {0};
     x.model = take_number(&s);
@@ -97,11 +100,16 @@ static struct sheet read_second(const uint8_t *b, size_t n) {
     if (!s.refusal && x.count > MOST)
         s.refusal = 7;
     x.at = s.at;
-    for (size_t k = 0; !s.refusal && k < x.count * sheet_floats(x.model); k++)
-        take_word(&s);
-    if (!s.refusal && s.at < n)
-        s.refusal = 7;
     x.refusal = s.refusal;
+    return x;
+}
+
+// The records are to end the sheet.
+static struct sheet read_second(const uint8_t *b, size_t n) {
+    struct sheet x = head_second(b, n);
+    size_t wanted = x.refusal ? 0 : 8 * sheet_floats(x.model) * x.count;
+    if (!x.refusal && n - x.at != wanted)
+        x.refusal = n - x.at < wanted ? 4 : 7;
     return x;
 }
 
@@ -176,4 +184,88 @@ static int judged(const uint64_t *limits, const uint64_t *law, const uint64_t *r
     }
     *fails = most > value(limits[0]) || (most - least) / 2.0 > value(limits[1]);
     return 1;
+}
+
+// Clears the entry between two axes of a symmetric matrix.
+static void cleared(double a[3][3], int p, int q) {
+    if (a[p][q] == 0)
+        return;
+    double h = (a[q][q] - a[p][p]) / (2 * a[p][q]), t = (h < 0 ? -1 : 1) / (fabs(h) + sqrt(1 + h * h)), c = 1 / sqrt(1 + t * t), s = t * c;
+    for (int k = 0; k < 3; k++) {
+        double u = a[k][p], v = a[k][q];
+        a[k][p] = c * u - s * v;
+        a[k][q] = s * u + c * v;
+    }
+    for (int k = 0; k < 3; k++) {
+        double u = a[p][k], v = a[q][k];
+        a[p][k] = c * u - s * v;
+        a[q][k] = s * u + c * v;
+    }
+}
+
+// Least and greatest principal value of a stress's lower triangle with its diagonal, and the largest size there.
+static void principal_ends(const uint64_t *stress, double ends[2], double *m) {
+    double a[3][3];
+    *m = 0;
+    for (int i = 0; i < 3; i++)
+        for (int j = 0; j <= i; j++)
+            *m = fabs(value(stress[3 * i + j])) > *m ? fabs(value(stress[3 * i + j])) : *m;
+    for (int i = 0; i < 3; i++)
+        for (int j = 0; j <= i; j++)
+            a[i][j] = a[j][i] = *m > 0 ? value(stress[3 * i + j]) / *m : 0;
+    for (int sweep = 0; sweep < 12; sweep++) {
+        cleared(a, 0, 1);
+        cleared(a, 0, 2);
+        cleared(a, 1, 2);
+    }
+    ends[0] = ends[1] = a[0][0];
+    for (int i = 1; i < 3; i++) {
+        ends[0] = a[i][i] < ends[0] ? a[i][i] : ends[0];
+        ends[1] = a[i][i] > ends[1] ? a[i][i] : ends[1];
+    }
+    ends[0] *= *m;
+    ends[1] *= *m;
+}
+
+// ---- tallies by zone: five words a zone, particles now, untouched, stored, refused and failed
+#define TALLY 5
+#define MOST_ZONES 256
+#define LAST_TALLY 0xffffffffULL
+
+enum { CLEAR, MOVE, PASS_BY_ZONE, PASS_WITH_FAILURE_BY_ZONE, CALLS };
+static const char *const CALL_NAMES[CALLS] = {"clear_tallies", "move_particle", "pass_by_zone", "pass_with_failure_by_zone"};
+
+// Whether a zone list of so many particles and so many tallies are in range: else 12.
+static int zones_second(uint64_t particles, const uint64_t *zones, size_t nz, size_t tallies) {
+    int fit = nz == particles && tallies <= MOST_ZONES;
+    for (size_t k = 0; k < nz; k++)
+        fit = fit && zones[k] < tallies;
+    return fit;
+}
+
+// Particles now, counted zone by zone.
+static uint64_t there_second(const uint64_t *zones, size_t nz, uint64_t zone) {
+    uint64_t n = 0;
+    for (size_t k = 0; k < nz; k++)
+        n += zones[k] == zone;
+    return n;
+}
+
+static void afresh_second(uint64_t *t, size_t tallies, const uint64_t *zones, size_t nz) {
+    for (size_t z = 0; z < tallies; z++)
+        t[TALLY * z] = there_second(zones, nz, z);
+}
+
+// Whether some so-far number and the particles listed in its zone would pass the last: then 13.
+static int full_second(const uint64_t *t, size_t tallies, const uint64_t *zones, size_t nz) {
+    for (size_t z = 0; z < tallies; z++)
+        for (int k = 1; k < TALLY; k++)
+            if (t[TALLY * z + k] > LAST_TALLY - there_second(zones, nz, z))
+                return 1;
+    return 0;
+}
+
+static void outcome_second(uint64_t *t, uint64_t zone, uint64_t outcome, int failed) {
+    t[TALLY * zone + 1 + outcome] += 1;
+    t[TALLY * zone + 4] += failed;
 }

@@ -78,7 +78,8 @@ enum {
     PASOLETU_WRONG_DETERMINANT = 11, /* the record's stored determinant is not that of its F */
     PASOLETU_OUT_OF_RANGE = 12,      /* a zone or a particle is out of range, there are over 256 tallies, or list lengths are unlike */
     PASOLETU_TALLY_FULL = 13,        /* a tally would pass its end, 4294967295 */
-    PASOLETU_NOT_ACCEPTED = 14,      /* the factors worked out miss their check */
+    PASOLETU_NOT_ACCEPTED = 14,      /* the factors or the principal values worked out miss their check */
+    PASOLETU_AFTER_END = 15,         /* a part or an end of a sheet in parts comes after its end */
     PASOLETU_TOO_LONG = 16           /* a report has over 4096 particles */
 };
 
@@ -120,8 +121,10 @@ static inline const char *pasoletu_refusal_text(uint64_t refusal)
     case PASOLETU_TALLY_FULL:
         return "a tally would pass its end, 4294967295: read the tallies, then clear them";
     case PASOLETU_NOT_ACCEPTED:
-        return "the factors worked out miss their check: look at the sizes of F's entries, or give factors of your "
-               "own";
+        return "the factors or the principal values worked out miss their check: look at the sizes of F's or the "
+               "stress's entries, or give factors of your own";
+    case PASOLETU_AFTER_END:
+        return "a part or an end of a sheet in parts comes after its end: begin the next sheet";
     case PASOLETU_TOO_LONG:
         return "a report has over 4096 particles: report them in lists of at most 4096";
     default:
@@ -196,6 +199,23 @@ static inline const char *pasoletu_refusal_text(uint64_t refusal)
 #define PASOLETU_HEADER_COUNT 9       /* particles */
 #define PASOLETU_HEADER_PLACE 10      /* of the first record's first byte in the sheet */
 
+/* Sheets in parts (section 7): the state's words are the calls' own; these places of it may be read. */
+#define PASOLETU_PARTS_STATE 52            /* entries of a state */
+#define PASOLETU_PARTS_STATE_WANTS 1       /* 4 while what stands before the records is not complete, 0 once it is */
+#define PASOLETU_PARTS_STATE_MODEL 2
+#define PASOLETU_PARTS_STATE_PARAMETERS 7  /* 8: bits of the parameters, 0 past the model's last */
+#define PASOLETU_PARTS_PROGRESS 2          /* entries of a call's progress */
+#define PASOLETU_PARTS_COMPLETE 0          /* in it: how many particles are complete and worked */
+#define PASOLETU_PARTS_COUNT 1             /* how many the sheet says it has; 0 before that is known */
+
+/* Flat records (section 7): 20 doubles a particle, without a determinant. */
+#define PASOLETU_FLAT_FLOATS 20  /* a flat record */
+#define PASOLETU_FLAT_F 0        /* deformation gradient, two rows of two */
+#define PASOLETU_FLAT_U 4        /* U of F = U diag(sigma) V^T, two rows of two */
+#define PASOLETU_FLAT_SIGMA 8    /* two singular values */
+#define PASOLETU_FLAT_VT 10      /* V^T, two rows of two */
+#define PASOLETU_FLAT_PHASE 14   /* the six scalars, in the order of PASOLETU_PHASE to PASOLETU_ALPHA */
+
 /* Reports (section 7): three columns of six entries. Least, greatest and total are whole numbers of 2^-30, as
  * int64_t. */
 #define PASOLETU_REPORT_MOST 4096               /* particles of a report */
@@ -210,6 +230,18 @@ static inline const char *pasoletu_refusal_text(uint64_t refusal)
 #define PASOLETU_REPORT_TOTAL 3                 /* their sum */
 #define PASOLETU_REPORT_OUTSIDE 4               /* how many lie not within 2^20 of zero */
 #define PASOLETU_REPORT_NOT_FINITE 5            /* how many are NaN or infinite */
+
+/* Why (section 7): the entries of a reason. Tests, steps and branches are numbered in docs/STEPS.md. */
+#define PASOLETU_REASON 11         /* entries of a reason */
+#define PASOLETU_REASON_KIND 0     /* 0 a test of two numbers, 1 of three zeros, 2 a flag, 3 Snow's bounds, 4 a refusal */
+#define PASOLETU_REASON_REFUSAL 1  /* its number, else 0 */
+#define PASOLETU_REASON_STEP 2     /* the step that refused, else 0 */
+#define PASOLETU_REASON_OF 3       /* for 1 whose place: 1 a parameter's, 2 the record's; else 0 */
+#define PASOLETU_REASON_PLACE 4    /* that place, from 0 */
+#define PASOLETU_REASON_TEST 5     /* the last test that chose the branch, else 0 */
+#define PASOLETU_REASON_HELD 6     /* whether it held */
+#define PASOLETU_REASON_BRANCH 7   /* the branch; 0 is untouched */
+#define PASOLETU_REASON_NUMBERS 8  /* 3: bits of the numbers compared; of Snow the bounds, 0 neither, 1 lower, 2 upper */
 
 /* ---- Elementary functions (section 3) ---------------------------------------------------------------------------- */
 /* Each writes one double. The answer lies within the distance told of the exact value.
@@ -294,11 +326,6 @@ uint8_t pasoletu_decomposed_times(double spherical, const double *deviatoric, si
 uint8_t pasoletu_neo_hookean_fpk_stress(const double *law, size_t law_length, double hardening, const double *f,
                                         size_t f_length, double *out, size_t out_length);
 
-/* law: 3; f: 9; out: 9. The Kirchhoff stress, its tensile part times phase_coeff: from determinant 1 up all of it,
- * below 1 the deviatoric part. */
-uint8_t pasoletu_neo_hookean_kirchhoff_stress(const double *law, size_t law_length, double phase, double hardening,
-                                              const double *f, size_t f_length, double *out, size_t out_length);
-
 /* law: 3; f: 9; out: 1. The energy. Below determinant 1 the volumetric part is the tensile one, as the Rust has it. */
 uint8_t pasoletu_neo_hookean_elastic_energy_density(const double *law, size_t law_length, double phase,
                                                     double hardening, const double *f, size_t f_length, double *out,
@@ -319,18 +346,11 @@ uint8_t pasoletu_neo_hookean_pos_energy(const double *law, size_t law_length, do
 /* out: 1. (1 - 0.001) phase phase + 0.001. Refusals: 8; 1; 3 for a result that is not finite. */
 uint8_t pasoletu_phase_coeff(double phase, double *out, size_t out_length);
 
-/* ---- Corotated stress and energy (elasticity_corotated_linear.rs; section 5) ------------------------------------- */
-/* law is (split_stress_on_failure (flag), cfl_coeff, lambda, mu); f the deformation gradient; u, sigma and vt its
- * factors.
+/* ---- Corotated energy (elasticity_corotated_linear.rs; section 5) ------------------------------------------------ */
+/* law is (split_stress_on_failure (flag), cfl_coeff, lambda, mu); f the deformation gradient, sigma its singular
+ * values.
  * Refusals of each: 8 for a wrong length; 6 for a flag that is neither 0.0 nor 1.0; 1 for an input that is not
  * finite; 3 for a NaN on the way or a result that is not finite. */
-
-/* law: 4; f: 9; u: 9; sigma: 3; vt: 9; out: 9. The Kirchhoff stress. At phase exactly 1.0 whole; the tensile part is
- * dropped only at phase 0.0 with the flag. */
-uint8_t pasoletu_corotated_kirchhoff_stress(const double *law, size_t law_length, double phase, double hardening,
-                                            const double *f, size_t f_length, const double *u, size_t u_length,
-                                            const double *sigma, size_t sigma_length, const double *vt,
-                                            size_t vt_length, double *out, size_t out_length);
 
 /* law: 4; sigma: 3; out: 1. The energy. Takes the product of sigma for the determinant. */
 uint8_t pasoletu_corotated_elastic_energy_density(const double *law, size_t law_length, double hardening,
@@ -342,9 +362,38 @@ uint8_t pasoletu_corotated_pos_energy(const double *law, size_t law_length, doub
                                       size_t f_length, const double *sigma, size_t sigma_length, double *out,
                                       size_t out_length);
 
+/* ---- Stress and verdict of a record (sections 5 and 6) ----------------------------------------------------------- */
+/* The Kirchhoff stress of a record, by its F, phase, elastic hardening and stored determinant, and the failure rule
+ * on the principal values of that very stress, as one answer: no call judges a stress that is handed in.
+ * law is that of the calls above; limits is (max_principal_stress, max_shear_stress); stress is by rows; verdict is
+ * 1 (failed) exactly when the greatest principal value is over max_principal_stress or (greatest - least) / 2 over
+ * max_shear_stress, else 0.
+ * The principal values are worked by this library from the stress's diagonal and what stands below it
+ * (docs/FACTORS.md) and pass a check that is exact: with m the largest size there, turned back they lie within m /
+ * 2^40 of these entries. A diagonal stress is judged by its entries.
+ * Refusals of each, nothing written: 8 for a wrong length; 6 for a flag that is neither 0.0 nor 1.0; 1 for a float
+ * of the law, of the limits or one of the record's 37 that is not finite; 11 for a stored determinant that is not
+ * that of F in every bit; the stress's own, 3 for a NaN on the way or a result that is not finite and of the
+ * neo-Hookean law 2 and 10 for the determinant's range; then 14 where the principal values miss their check, as
+ * found at the ends of the doubles alone. */
+
+/* law: 3; limits: 2; record: 37; stress: 9; verdict: 1. The neo-Hookean stress, its tensile part times phase_coeff:
+ * from determinant 1 up all of it, below 1 the deviatoric part. */
+uint8_t pasoletu_neo_hookean_stress_and_verdict(const double *law, size_t law_length, const double *limits,
+                                                size_t limits_length, const double *record, size_t record_length,
+                                                double *stress, size_t stress_length, uint64_t *verdict,
+                                                size_t verdict_length);
+
+/* law: 4; limits: 2; record: 37; stress: 9; verdict: 1. The corotated stress, by the factors that stand in the
+ * record. At phase exactly 1.0 whole; the tensile part is dropped only at phase 0.0 with the flag. */
+uint8_t pasoletu_corotated_stress_and_verdict(const double *law, size_t law_length, const double *limits,
+                                              size_t limits_length, const double *record, size_t record_length,
+                                              double *stress, size_t stress_length, uint64_t *verdict,
+                                              size_t verdict_length);
+
 /* ---- Stress and energy of a record (sections 5 and 7) ------------------------------------------------------------ */
-/* The same stresses and energies of a record's F, phase, elastic hardening and factors, with its stored determinant.
- * law is that of the calls above.
+/* The same stresses and energies of a record's F, phase, elastic hardening and singular values, with its stored
+ * determinant. law is that of the calls above.
  * Refusals of each: 8 for a wrong length; 6 for a flag that is neither 0.0 nor 1.0; 1 for a float of the law or one
  * of the record's 37 that is not finite; 11 for a stored determinant that is not that of F in every bit; then those
  * of the call above. */
@@ -352,10 +401,6 @@ uint8_t pasoletu_corotated_pos_energy(const double *law, size_t law_length, doub
 /* law: 3; record: 37; out: 9. pasoletu_neo_hookean_fpk_stress of the record. */
 uint8_t pasoletu_record_neo_hookean_fpk_stress(const double *law, size_t law_length, const double *record,
                                                size_t record_length, double *out, size_t out_length);
-
-/* law: 3; record: 37; out: 9. pasoletu_neo_hookean_kirchhoff_stress of the record. */
-uint8_t pasoletu_record_neo_hookean_kirchhoff_stress(const double *law, size_t law_length, const double *record,
-                                                     size_t record_length, double *out, size_t out_length);
 
 /* law: 3; record: 37; out: 1. pasoletu_neo_hookean_elastic_energy_density of the record. */
 uint8_t pasoletu_record_neo_hookean_elastic_energy_density(const double *law, size_t law_length, const double *record,
@@ -369,10 +414,6 @@ uint8_t pasoletu_record_neo_hookean_elastic_energy_density_in(const double *law,
 /* law: 3; record: 37; out: 1. pasoletu_neo_hookean_pos_energy of the record. */
 uint8_t pasoletu_record_neo_hookean_pos_energy(const double *law, size_t law_length, const double *record,
                                                size_t record_length, double *out, size_t out_length);
-
-/* law: 4; record: 37; out: 9. pasoletu_corotated_kirchhoff_stress of the record and its factors. */
-uint8_t pasoletu_record_corotated_kirchhoff_stress(const double *law, size_t law_length, const double *record,
-                                                   size_t record_length, double *out, size_t out_length);
 
 /* law: 4; record: 37; out: 1. pasoletu_corotated_elastic_energy_density of the record: of sigma's product, not of
  * the determinant, which is tested all the same. */
@@ -405,13 +446,7 @@ uint8_t pasoletu_monaghan_timestep_bound(double pressure0, uint32_t gamma, doubl
                                          const double *velocity, size_t velocity_length, double cell_width, double *out,
                                          size_t out_length);
 
-/* ---- Verdict, and parts of the plastic laws (section 5) ---------------------------------------------------------- */
-
-/* stresses: 3; out: 1. The failure rule (failure_maximum_stress.rs) on the principal stresses: 1 (failed) exactly
- * when the greatest is over max_principal_stress or (greatest - least) / 2 over max_shear_stress, else 0.
- * Refusals: 8; 1 for an input that is not finite. */
-uint8_t pasoletu_failed(double max_principal_stress, double max_shear_stress, const double *stresses,
-                        size_t stresses_length, uint64_t *out, size_t out_length);
+/* ---- Parts of the plastic laws (section 5) ----------------------------------------------------------------------- */
 
 /* sigma: 3; out: 3. Snow's bare clamp (plasticity_snow.rs): the maximum with 1 - min_epsilon, then the minimum with
  * 1 + max_epsilon. A NaN answers the lower bound. Refusals: 8 only. */
@@ -514,6 +549,30 @@ uint8_t pasoletu_pass_factored_with_failure(uint64_t model, const double *parame
  * Refusals, nothing written: 8 for a list that is no whole number of records of 37, as a list of 36 a record is. */
 uint8_t pasoletu_fill_determinants(double *records, size_t records_length);
 
+/* ---- Slices of a slope (section 7) ------------------------------------------------------------------------------- */
+/* The four plastic laws in two axes, on flat records: 20 doubles, F, U, sigma and V^T of 4, 4, 2 and 4, then the six
+ * scalars, and no determinant. Snow, Drucker-Prager and NACC are the Rust's with DIM = 2; Rankine tests the smaller
+ * strain in its second branch and else divides by 2 mu + 2 lambda (docs/DIFFERENCES.md). */
+
+/* record: 20; answer: 2. The plastic law on one flat record. parameters: as many as the model has.
+ * Returns 0: answer is (PASOLETU_UNTOUCHED, 0) and the record keeps its bits, or (PASOLETU_STORED, the amount's
+ * bits) and F, sigma and those scalars that the law names are new; U and V^T stay.
+ * Refusals, nothing written: 8; 6 for a model over 7 or a flag; 1 for a parameter or one of the 20 that is not
+ * finite; 1, 2, 3 and 10 by the law. */
+uint8_t pasoletu_flat_update(uint64_t model, const double *parameters, size_t parameters_length, double *record,
+                             size_t record_length, uint64_t *answer, size_t answer_length);
+
+/* counts: 3. The plastic law on every flat record, each by its index; the pass goes on after a refused one.
+ * records: 20 doubles a particle, any number of particles; answers: exactly 2 numbers a particle; counts: how many
+ * are untouched, stored, refused.
+ * Returns 0: all answers and counts are written. A refused record keeps its bits, and its answer is
+ * (PASOLETU_REFUSED, 1, 2, 3 or 10), as pasoletu_flat_update would refuse it.
+ * Refusals, before any record and with nothing written: 8, also for a list that is no whole number of records of 20;
+ * 6 for a model over 7 or a flag. */
+uint8_t pasoletu_flat_pass(uint64_t model, const double *parameters, size_t parameters_length, double *records,
+                           size_t records_length, uint64_t *answers, size_t answers_length, uint64_t *counts,
+                           size_t counts_length);
+
 /* ---- Tallies by zone (section 7) --------------------------------------------------------------------------------- */
 
 /* Clears the tallies and counts the particles now in each zone. zones: the zone number of each of so many particles;
@@ -580,6 +639,33 @@ uint8_t pasoletu_write_sheet(uint64_t model, const double *parameters, size_t pa
                              size_t records_length, uint8_t *bytes, size_t bytes_length, uint64_t *written,
                              size_t written_length);
 
+/* ---- Sheets in parts (section 7) --------------------------------------------------------------------------------- */
+
+/* state: 52. Begins a sheet that comes in parts, cut anywhere. The caller keeps the state between the calls and
+ * changes nothing in it; it holds at most one unfinished record. Words that no call wrote are answered too, as some
+ * state.
+ * Refusals, nothing written: 8 for a state not of 52. */
+uint8_t pasoletu_begin_parts(uint64_t *state, size_t state_length);
+
+/* state: 52; progress: 2. The next bytes of the sheet, as many as came, or none. Each record is read into its place
+ * of records and worked by the law when its last byte comes, with its two answers in answers; all that stands behind
+ * the complete records keeps its bits. records and answers: room for exactly PASOLETU_SHEET_MOST particles, the same
+ * room in every call of a sheet. progress: PASOLETU_PARTS_COMPLETE and the other. A sheet that is short so far is
+ * not refused. For every cutting, parts and end give what pasoletu_run_sheet gives of the whole.
+ * Refusals: 8 for a list of another length, before all else, with nothing written, and no fault; 5, 6 and 7 as soon
+ * as the fault is there; a fault's own number again after it, and 15 after the end, with nothing changed. Here a
+ * refused call does write: the records complete before the fault stand worked, state and progress tell them. */
+uint8_t pasoletu_part(const uint8_t *bytes, size_t bytes_length, uint64_t *state, size_t state_length, double *records,
+                      size_t records_length, uint64_t *answers, size_t answers_length, uint64_t *progress,
+                      size_t progress_length);
+
+/* state: 52; progress: 2. The sheet has ended. The lists are lent as to pasoletu_part, and records and answers are
+ * only looked at for their lengths.
+ * Refusals: 8 as pasoletu_part; a fault's own number; 15 after an end; 4 where something is missing, told only here
+ * and again by every later call. progress is written beside all but 8. */
+uint8_t pasoletu_end_parts(const double *records, size_t records_length, const uint64_t *answers, size_t answers_length,
+                           uint64_t *state, size_t state_length, uint64_t *progress, size_t progress_length);
+
 /* ---- Reports (section 7) ----------------------------------------------------------------------------------------- */
 
 /* report: 18. The report over a list of records: of plastic hardening, elastic hardening and plastic determinant how
@@ -598,6 +684,18 @@ uint8_t pasoletu_report(const double *records, size_t records_length, uint64_t *
  * like together pass 4096. */
 uint8_t pasoletu_join_reports(const uint64_t *first, size_t first_length, const uint64_t *second, size_t second_length,
                               uint64_t *joined, size_t joined_length);
+
+/* ---- Why (section 7) --------------------------------------------------------------------------------------------- */
+
+/* record: 37; reason: 11. Why the plastic law moves one record, leaves it or refuses it: the last test that chose
+ * among the law's branches, the numbers that it compared, as bits since they may be infinite, and the branch; of
+ * Snow the bound whose step last changed each sigma; of a refusal the number, the step and, for 1, the place of the
+ * first such float, parameters first. See PASOLETU_REASON_KIND and the others; an entry that a kind has not is 0. It
+ * refuses the record exactly where pasoletu_update does, by the same number. The record keeps its bits.
+ * Refusals, nothing written: 8 for a record not of 37, parameters not as many as the model has, or a reason not of
+ * 11; then 6 for a model over 7 or a flag. */
+uint8_t pasoletu_why(uint64_t model, const double *parameters, size_t parameters_length, const double *record,
+                     size_t record_length, uint64_t *reason, size_t reason_length);
 
 /* ==== End of what tools/table makes ==== */
 

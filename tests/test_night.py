@@ -22,9 +22,20 @@ import unittest
 
 from test_command import TOP, InFolder, proved_program, script
 
+sys.path.insert(0, str(TOP / "tools"))
+import shell  # noqa: E402
+
 NIGHT = TOP / "tools" / "night"
 WELL = "particles 2\n0 untouched\n1 stored 3ff0000000000000\nend\n"
 CHROMIUM = shutil.which("chromium")
+
+
+def library_here():
+    try:
+        return shell.package()
+    except shell.NoLibrary:
+        return None
+
 
 # Appended to a copy of the page: what a browser makes of it.
 REPORT = """
@@ -145,6 +156,36 @@ class Answers(Night):
         self.assertEqual([some[k] for k in ("model", "particles", "untouched", "stored", "refused_1", "refused_2", "refused_3", "refused_10", "sheet_refused")],
                          ["snow", "5", "1", "1", "1", "1", "0", "1", ""])
         self.assertEqual([cut[k] for k in ("particles", "refused_4", "sheet_refused")], ["0", "0", "4"])
+
+    def zones_told(self):
+        return (self.out / "zones.csv").read_text().splitlines()
+
+    def test_nobody_is_judged_by_itself(self):
+        self.sheet("a.sheet")
+        (self.folder / "zones").write_text("7 a.sheet\n")
+        self.ended(self.night("--zones", self.folder / "zones"), 0)
+        self.assertEqual(self.zones_told(), ["zone,sheets,particles,untouched,stored,refused,failed,not_worked", "7,1,2,1,1,0,not judged,0"])
+
+    def test_limits_that_are_no_two_numbers(self):
+        self.sheet("a.sheet")
+        (self.folder / "zones").write_text("7 a.sheet\n")
+        zones = ["--zones", self.folder / "zones"]
+        for words in (["--limits", "1,2"], ["--corotated", "1000,0.25", *zones], [*zones, "--limits", "1", "--corotated", "1000,0.25"], [*zones, "--limits", "1,nan", "--corotated", "1000,0.25"]):
+            self.ended(self.night(*words), 2, says="--limits")
+
+    @unittest.skipUnless(library_here(), "there is no proved library: name it by PASOLETU_LIB, or run install.sh")
+    def test_who_let_go_by_zone(self):
+        """A sheet of three stretched particles, one of which bears nothing, and one at rest; another sheet at rest."""
+        pasoletu = shell.package()
+        stretched, rest = pasoletu.Particle.stretched([1.3, 1.0, 1.0]), pasoletu.Particle()
+        law = pasoletu.RankinePlasticity.new(1000.0, 0.25, 1.0e9, 1.0)
+        (self.sheets / "ridge.sheet").write_bytes(pasoletu.write_sheet(law, [stretched, stretched, rest, pasoletu.Particle.stretched([float("nan"), 1.0, 1.0])]))
+        (self.sheets / "valley.sheet").write_bytes(pasoletu.write_sheet(law, [rest]))
+        self.sheet("cut.sheet", "sheet refused 4\n")
+        (self.folder / "zones").write_text("7 ridge.sheet\n300 valley.sheet\n7 cut.sheet\n")
+        self.program = script(self.folder / "fixed", "#!/bin/sh\ncat >/dev/null\nprintf 'particles 1\\n0 untouched\\nend\\n'\n")
+        self.ended(self.night("--zones", self.folder / "zones", "--limits", "10,1e9", "--corotated", "1000,0.25"), 0)
+        self.assertEqual([line.split(",")[6] for line in self.zones_told()], ["failed", "2", "0"])
 
     def test_what_is_done_is_skipped(self):
         self.numbered(5)

@@ -360,13 +360,18 @@ def recompose(u, sigma, vt):
     return [u[3 * i] * sigma[0] * vt[j] + u[3 * i + 1] * sigma[1] * vt[3 + j] + u[3 * i + 2] * sigma[2] * vt[6 + j] for i in range(3) for j in range(3)]
 
 
-def worked(model, p, r):
-    """The amount, nothing where the law leaves the record untouched; and the record after it. 1 over the parameters and all 37, then 11
-    where the stored determinant has other bits than that of F, then the law, then whether the new F's determinant is finite."""
+def taken(p, r):
+    """1 over the parameters and all 37 floats of a record, then 11 where the stored determinant has other bits than that of F."""
     if not all(map(math.isfinite, p + r)):
         raise Refused(1)
     if floats(r[BARE:]) != floats([determinant(r[:9])]):
         raise Refused(11)
+
+
+def worked(model, p, r):
+    """The amount, nothing where the law leaves the record untouched; and the record after it. 1, then 11, then the law, then whether the new
+    F's determinant is finite."""
+    taken(p, r)
     told = LAWS[model % len(LAWS)](p, r)
     if told is None:
         return None, r

@@ -10,7 +10,7 @@ tests that it is:
   Rankine         sum and largest of the log strains, with the tensile cut-off
   Drucker-Prager  sum of the strains and norm of their deviatoric part, with the cone
   NACC            pressure p and shear q, with the ellipse
-Where the surface moves with a particle's hardening, some of the surfaces are drawn and the legend says for which. A particle that is refused
+A letter beside a stored particle says which branch of its law it took. Where the surface moves with a particle's hardening, some of the surfaces are drawn and the legend says for which. A particle that is refused
 by 1, since a float of it or of the law is no number or infinite, has no place in a plane: it is listed, as every refused one, with its
 number and why.
 
@@ -33,6 +33,7 @@ import xml.sax.saxutils
 
 sys.path.insert(0, str(pathlib.Path(__file__).resolve().parent))
 import cases  # noqa: E402
+import reasons  # noqa: E402
 import sheet  # noqa: E402
 import shell  # noqa: E402
 from shell import Wrong  # noqa: E402
@@ -52,6 +53,8 @@ PROVED, SECOND = "the proved library", "the second implementation in tools/cases
 
 class Plane:
     """`key` is what the surface of a record depends on, `surface` its points for a key, `key_name` how the legend calls it."""
+
+    branches = ()  # what the law does to a stored particle, from 1 on, where it is one of several (docs/STEPS.md)
 
     def __init__(self, p):
         self.p = p
@@ -81,6 +84,7 @@ class Snow(Plane):
 
 
 class Rankine(Plane):
+    branches = "one strain returned", "two strains returned", "all strains returned"
     title, x_name, y_name = "Rankine", "sum of the log strains (no unit)", "largest log strain (no unit)"
     key_name = "s"
 
@@ -101,6 +105,7 @@ class Rankine(Plane):
 
 
 class DruckerPrager(Plane):
+    branches = "sigma all ones", "returned to the cone"
     title, x_name, y_name = "Drucker-Prager", "sum of the strains (no unit)", "norm of the deviatoric strain (no unit)"
     key_name = "plastic hardening"
 
@@ -124,6 +129,7 @@ class DruckerPrager(Plane):
 
 
 class Nacc(Plane):
+    branches = "upper tip", "lower tip", "returned to the ellipse"
     title, x_name, y_name = "NACC", "pressure p (in the unit of Young's modulus)", "shear q (in the unit of Young's modulus)"
     key_name = "p0"
 
@@ -160,10 +166,10 @@ PLANES = {"snow": Snow, "rankine": Rankine, "drucker_prager": DruckerPrager, "na
 
 class Particle:
     """A record before and after its law. `code` is 0 where it is untouched, 1 where it is stored, 2 where it is refused; `value` the amount
-    that was stored, or the refusal's number."""
+    that was stored, or the refusal's number; `branch` the branch that the law took, 0 untouched."""
 
-    def __init__(self, before, after, code, value, failed):
-        self.before, self.after, self.code, self.value, self.failed = before, after, code, value, failed
+    def __init__(self, before, after, code, value, failed, branch=None):
+        self.before, self.after, self.code, self.value, self.failed, self.branch = before, after, code, value, failed, branch
 
     def not_finite(self):
         return (self.code, self.value) == (2, NOT_FINITE)
@@ -188,11 +194,18 @@ def by_library(pasoletu, data, failure):
         ran = pasoletu.run(data)
         worked = [(particle, outcome, False) for particle, outcome in zip(ran.particles, ran.passed.outcomes)]
 
+    read = pasoletu.read_sheet(data)
+
+    def branch(particle):
+        told = read.model.reason(particle)
+        return told.branch if isinstance(told, pasoletu.Tested) else 1 if isinstance(told, pasoletu.Clamped) else None
+
     def numbers(outcome):
         if isinstance(outcome, pasoletu.Stored):
             return 1, outcome.amount
         return (2, outcome.number) if isinstance(outcome, pasoletu.Refused) else (0, 0)
-    return [Particle(before, after.floats(), *numbers(outcome), failed) for before, (after, outcome, failed) in zip(records, worked)]
+    came = [branch(particle) for particle in pasoletu.read_sheet(data).particles]
+    return [Particle(before, after.floats(), *numbers(outcome), failed, k) for before, (after, outcome, failed), k in zip(records, worked, came)]
 
 
 def by_second(data, failure):
@@ -202,7 +215,7 @@ def by_second(data, failure):
             failed, amount, after = cases.worked_with_failure(model, p, *failure, r) if failure else (False, *cases.worked(model, p, r))
         except cases.Refused as e:
             return Particle(r, r, 2, e.args[0], False)
-        return Particle(r, after, 0, 0, failed) if amount is None else Particle(r, after, 1, amount, failed)
+        return Particle(r, after, 0, 0, failed, 0) if amount is None else Particle(r, after, 1, amount, failed, reasons.branch(model, p, r))
     model, p, records = cases.read(data)
     return [one(model, p, r) for r in records]
 
@@ -439,6 +452,9 @@ def particles_drawn(c, plane, particles):
     for k, q, a, b in spots:
         if q.code == 2:
             c.label(*a, "%d" % k, REFUSED)
+    for k, q, a, b in spots:
+        if q.code == 1 and b and q.branch and plane.branches:
+            c.label(*b, "ABC"[q.branch - 1], STORED)
     if particles and not spots:
         c.text(LEFT + WIDE / 2, TOP + HIGH / 2, "No particle of this sheet has a place in the plane.", 14, REFUSED, "middle")
     return outside
@@ -473,6 +489,10 @@ def legend(c, plane, found, shown, failure):
         c.ring(x - 9, y, 4.2, STORED, "white")
         c.ring(x + 9, y, 2.6, STORED, STORED, 0.5)
     entry(moved, "stored: before, after")
+    for letter, words in zip("ABC", plane.branches):
+        c.text(x + 30, y, "%s: %s" % (letter, words), 11, STORED)
+        y += 16
+    y += 5 if plane.branches else 0
     entry(lambda x, y: c.cross(x, y, REFUSED), "refused (index beside it)")
     if failure:
         entry(lambda x, y: c.square(x, y, FAILED), "failed")

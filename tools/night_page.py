@@ -168,20 +168,25 @@ def zones_of(text):
     return held
 
 
-def by_zone(results, zones):
+NOT_JUDGED = "not judged"
+
+
+def by_zone(results, zones, failed=None):
     """The table for the phone: a line a zone, with what its sheets came to. A sheet that is in no zone stands under an empty one;
-    `not_worked` are sheets refused whole or without an answer."""
+    `not_worked` are sheets refused whole or without an answer; `failed`: how many of each sheet let go, where they were judged."""
     out = io.StringIO()
     lines = csv.writer(out, lineterminator="\n")
-    lines.writerow(["zone", "sheets", "particles", "untouched", "stored", "refused", "not_worked"])
+    lines.writerow(["zone", "sheets", "particles", "untouched", "stored", "refused", "failed", "not_worked"])
     rows = {}
     for r in results:
-        row = rows.setdefault(zones.get(r.sheet.name, ""), [0] * 6)
+        row = rows.setdefault(zones.get(r.sheet.name, ""), [0] * 7)
         worked = r.answered and r.sheet_refused is None
-        for k, n in enumerate([1, r.particles, r.untouched, r.stored, r.refused_particles, 0] if worked else [1, 0, 0, 0, 0, 1]):
+        gone = (failed or {}).get(r.sheet.name, 0)
+        for k, n in enumerate([1, r.particles, r.untouched, r.stored, r.refused_particles, gone, 0] if worked else [1, 0, 0, 0, 0, 0, 1]):
             row[k] += n
     for zone in sorted(rows, key=lambda z: (z == "", z)):
-        lines.writerow([zone, *rows[zone]])
+        *counts, gone, not_worked = rows[zone]
+        lines.writerow([zone, *counts, NOT_JUDGED if failed is None else gone, not_worked])
     return out.getvalue()
 
 

@@ -133,9 +133,11 @@ remedy = "turn it"
 
     def test_a_reserved_refusal_needs_no_row_and_may_have_none(self):
         line = next(line for line in (self.top / "calls.toml").read_text().splitlines() if line.startswith("reserved = ["))
-        self.edit("calls.toml", line, "reserved = []")
-        self.told("crates/answers: AFTER_END is not in calls.toml: add its row")
-        self.edit("calls.toml", "reserved = []", line.replace("[", "[11, "))
+        self.edit("crates/answers/src/lib.rt", "pub const AFTER_END: u8 = 15;", "pub const AFTER_END: u8 = 15;\n\npub const LATER: u8 = 99;")
+        self.told("crates/answers: LATER is not in calls.toml: add its row")
+        self.edit("calls.toml", line, "reserved = [99]")
+        self.assertEqual(self.run_table("--check").returncode, 0)
+        self.edit("calls.toml", "reserved = [99]", "reserved = [11, 99]")
         self.told("crates/answers: 11 has its row in calls.toml now: take it off `reserved`")
 
     def test_another_refusal_in_the_proved_crate_is_told(self):
@@ -163,7 +165,8 @@ name = "ln\"""")
             ('name = "ln"', 'name = "exp"', "a call's name stands twice: exp"),
             ("beside = 1\n", "beside = 0\n", "the numbers of beside/ are not 0 and on"),
             ('writes = "out[1]"', 'writes = "out"', "call exp: only lists can be written"),
-            ('writes = "out[1]"', 'writes = "out[1], more[2]"', "call exp: a call with a number writes one list"),
+            ('writes = "out[1]"', 'writes = "out[]"', "call exp: a call with a number tells the lengths of all its lists"),
+            ("retired = [25, 29, 35]", "retired = [29, 35]", "the numbers of beside/"),
             ('beside = "lists"', 'beside = "list"', "call pass: beside is 'list', which is neither"),
         )
         was = (self.top / "calls.toml").read_text()

@@ -35,7 +35,7 @@ import shell  # noqa: E402
 SHEETS = cases.SHEETS
 SAMPLES = sorted((HERE.parent / "samples").glob("*.sheet"))
 LINES = (HERE.parent / "crates" / "slope_cases" / "stdout").read_text()
-TOOLS = [HERE / name for name in ("sheet.py", "draw.py", "samples.py", "cases.py", "faults.py", "no_division.py", "report.py", "measure/accuracy.py", "measure/surface.py", "measure/replayed.py")]
+TOOLS = [HERE / name for name in ("sheet.py", "draw.py", "samples.py", "cases.py", "faults.py", "no_division.py", "report.py", "arrive.py", "measure/accuracy.py", "measure/surface.py", "measure/replayed.py")]
 NUMPY = importlib.util.find_spec("numpy")
 NOT_FINITE = (math.nan, math.inf, -math.inf)
 
@@ -190,7 +190,7 @@ class Tables(InFolder):
             self.assertEqual(self.only_f(), "")
             self.refused("particle 0: the factors of F are refused by 1 (F's determinant is not finite): give U, sigma and V^T too", "a.json",
                          json.dumps({"model": "snow", "particles": [{"F": [1e200, 0, 0, 0, 1e200, 0, 0, 0, 1]}]}))
-            self.refused("particle 0: the factors of F are refused by 14 (the factors worked out miss their check)", "a.json",
+            self.refused("particle 0: the factors of F are refused by 14 (the factors or the principal values worked out miss their check)", "a.json",
                          json.dumps({"model": "snow", "particles": [{"F": [1.7e308, 1.7e308, 0, 0, 0, 0, 0, 0, 0]}]}))
 
     @unittest.skipUnless(NUMPY, "numpy is not here")
@@ -925,6 +925,75 @@ plastic hardening
         self.assertIn("--updated: the records after the laws are those of the proved library", err)
 
 
+@unittest.skipUnless(LIBRARY, "the library is not here")
+class Arriving(InFolder):
+    """A sheet over a slow pipe."""
+
+    SHEET = HERE.parent / "samples" / "snow_slope.sheet"
+
+    def expected(self, number):
+        return LINES.split("-- %02d\n" % number)[1].split("-- ")[0]
+
+    def test_every_sheet_of_the_gate(self):
+        for number, path in enumerate(SHEETS):
+            came, want = ran("arrive.py", "--quiet", path), self.expected(number)
+            self.assertEqual(came.stdout.decode().splitlines()[-1], want.splitlines()[-1], path)
+            if not want.startswith("sheet refused"):
+                self.assertEqual(came.stdout.decode(), want, path)
+            self.assertEqual(came.returncode, 3 if " refused " in want else 0, path)
+
+    def line_by_line(self, data, parts):
+        """Hands in the parts, and after each reads the lines that must have come by then."""
+        with subprocess.Popen([sys.executable, HERE / "arrive.py"], stdin=subprocess.PIPE, stdout=subprocess.PIPE, stderr=subprocess.PIPE) as tool:
+            got = []
+            for part, lines in parts:
+                tool.stdin.write(part)
+                tool.stdin.flush()
+                got += [tool.stdout.readline() for _ in range(lines)]
+            tool.stdin.close()
+            return b"".join(got) + tool.stdout.read(), tool.stderr.read().decode(), tool.wait()
+
+    def test_a_slow_pipe(self):
+        data = self.SHEET.read_bytes()
+        head = 1 + 3 * 8 + 1
+        cuts = [0, 1, head - 1, head, head + 100, head + 288, head + 288 * 3 + 5, len(data)]
+        lines = [0, 0, 1, 0, 1, 2, 37]
+        out, err, status = self.line_by_line(data, [(data[a:b], n) for a, b, n in zip(cuts, cuts[1:], lines)])
+        self.assertEqual(out, ran("arrive.py", "--quiet", self.SHEET).stdout)
+        self.assertEqual((status, out.splitlines()[-1]), (3, b"end"))
+        self.assertTrue(err.startswith("arrive.py: standard input: 1 of 40\narrive.py: standard input: 3 of 40\n") and err.endswith(": 40 of 40\n"), err)
+
+    def test_a_line_that_is_cut_off(self):
+        data = self.SHEET.read_bytes()
+        out, err, status = self.line_by_line(data, [(data[:26 + 288 * 2 + 7], 3)])
+        whole = ran("arrive.py", "--quiet", self.SHEET).stdout.splitlines()
+        self.assertEqual(out.splitlines(), whole[:3] + [b"sheet refused 4"])
+        self.assertEqual(status, 3)
+        self.assertIn("2 of 40 particles were complete before the fault", err)
+
+    def test_a_fault_ends_the_reading(self):
+        data = self.SHEET.read_bytes()
+        out, err, status = self.line_by_line(data, [(data + b"\0", 42)])
+        self.assertEqual((out.splitlines()[-1], status), (b"sheet refused 7", 3))
+        self.assertEqual(ran("arrive.py", input=b"\x09").stdout, b"sheet refused 6\n")
+
+    def test_a_fifo(self):
+        line = self.folder / "line"
+        os.mkfifo(line)
+        with subprocess.Popen([sys.executable, HERE / "arrive.py", "--quiet", line], stdout=subprocess.PIPE, stderr=subprocess.PIPE) as tool:
+            with open(line, "wb", 0) as end:
+                for b in self.SHEET.read_bytes()[:1000]:
+                    end.write(bytes([b]))
+            out, err = tool.communicate()
+        self.assertEqual((out.count(b"\n"), out.splitlines()[-1], tool.returncode), (5, b"sheet refused 4", 3))
+
+    def test_explained_and_no_sheet(self):
+        told = ran("arrive.py", "--quiet", "--explain", self.SHEET).stderr.decode()
+        self.assertIn("refused by 1: an input is NaN or infinite", told)
+        self.assertEqual(ran("arrive.py", self.folder / "none").returncode, 2)
+        self.assertEqual(ran("arrive.py", self.folder).returncode, 2)
+
+
 COMPILER = shutil.which("cc" if os.uname().machine == "x86_64" else "x86_64-linux-gnu-gcc")
 
 
@@ -942,7 +1011,9 @@ class ByZone(unittest.TestCase):
             self.result("far/c.sheet", True, 4),
             self.result("lost.sheet", False),
         ]
-        self.assertEqual(night_page.by_zone(results, zones).splitlines()[1:], ["0,1,0,0,0,0,1", "7,2,6,1,4,1,0", ",1,0,0,0,0,1"])
+        self.assertEqual(night_page.by_zone(results, zones).splitlines()[1:], ["0,1,0,0,0,0,not judged,1", "7,2,6,1,4,1,not judged,0", ",1,0,0,0,0,not judged,1"])
+        judged = night_page.by_zone(results, zones, {"a.sheet": 2, "b.sheet": 1})
+        self.assertEqual(judged.splitlines(), ["zone,sheets,particles,untouched,stored,refused,failed,not_worked", "0,1,0,0,0,0,0,1", "7,2,6,1,4,1,3,0", ",1,0,0,0,0,0,1"])
 
     def test_wrong_line(self):
         for text in ("seven a.sheet", "7", "-1 a.sheet"):
@@ -1058,7 +1129,7 @@ class Tools(InFolder):
     def test_replayed(self):
         process = ran("measure/replayed.py", env=self.env)
         self.assertEqual((process.returncode, process.stderr), (0, b""))
-        self.assertEqual(process.stdout, b"1224 passed, 0 failed\n")
+        self.assertEqual(process.stdout, b"1400 passed, 0 failed\n")
 
     def test_another_side_in_the_replayed_list(self):
         b = bytearray((HERE.parent / "crates" / "replay" / "data" / "list").read_bytes())

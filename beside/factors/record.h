@@ -21,7 +21,7 @@ static int factor(matrix f, double x[37]) {
 static long double size(long double x) { return x < 0 ? -x : x; }
 
 // The largest size of F's entries.
-static double largest(const double *f) {
+static inline double largest(const double *f) {
     double m = 0;
     for (int i = 0; i < 9; i++)
         m = size(f[i]) > m ? size(f[i]) : m;

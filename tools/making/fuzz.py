@@ -1,4 +1,4 @@
-"""fuzz/calls.h: the calls on records and sheets, their floats as words."""
+"""fuzz/calls.h: the calls on records, sheets and tallies, their floats as words."""
 from .header import TYPES
 from .text import filled
 
@@ -8,7 +8,7 @@ HEAD = """\
 #include <stddef.h>
 #include <stdint.h>
 """
-RECORDS = ("record", "records")
+FUZZED = ("record", "records", "state", "tallies")
 
 
 def words(kind):
@@ -32,6 +32,6 @@ def made(table):
     lines += ["static const size_t FIELDS[MODELS] = {%s};" % ", ".join(str(len(m.parameters)) for m in laws)]
     lines += ["static const int FLAG[MODELS] = {%s};" % ", ".join(str(-1 if m.flag_at is None else m.flag_at) for m in laws), ""]
     for c in table.calls:
-        if any(a.name in RECORDS for a in c.arguments):
+        if any(a.name in FUZZED for a in c.arguments):
             lines += filled([part for a in c.arguments for part in declared(a)], f"uint8_t pasoletu_{c.name}(", ");")
     return HEAD + "\n" + "\n".join(lines) + "\n"

@@ -84,11 +84,14 @@ def words_in(c, m):
 
 
 def replay(top, table):
-    """What crates/replay has may be fewer calls than the table numbers, its first ones."""
+    """What crates/replay has may be fewer calls than the table numbers, its first ones; of a retired number it has no call, and no words."""
     inputs, outputs = replay_lengths(top, "INPUTS"), replay_lengths(top, "OUTPUTS")
     yield "crates/replay: INPUTS and OUTPUTS", None if inputs and len(inputs) == len(outputs) else "cannot be read off"
     there = dict(replayed(top, "update"))
-    for number, c, m in table.numbered[:len(inputs)]:
+    for number in (number for number in table.retired if number < len(inputs)):
+        found = there.get(number), inputs[number], outputs[number]
+        yield f"crates/replay: call {number}", None if found == (None, 0, 0) else f"is {found}, in the table retired"
+    for number, c, m in (row for row in table.numbered if row[0] < len(inputs)):
         name = c.name if m is None else f"{c.name} {m.number}"
         lengths = words_in(c, m), beside_row(c, m)[1]
         found = there.get(number), inputs[number], outputs[number] if number < len(outputs) else None

@@ -161,8 +161,8 @@ def call(row):
     made = Call(row["name"], row["text"], tuple(taken + written), row.get("beside"), row.get("flag"))
     if made.beside not in (None, "lists") and not made.numbered:
         raise BadTable(f"{where}: beside is {made.beside!r}, which is neither a number nor \"lists\"")
-    if made.numbered and not made.for_every_model and (len(written) > 1 or 0 in (a.length for a in made.arguments)):
-        raise BadTable(f"{where}: a call with a number writes one list and tells all its lengths; leave `beside` out")
+    if made.numbered and not made.for_every_model and 0 in (a.length for a in made.arguments):
+        raise BadTable(f"{where}: a call with a number tells the lengths of all its lists; leave `beside` out")
     return made
 
 
@@ -206,6 +206,7 @@ class Table:
         self.version = (top / "VERSION").read_text().strip()
         self.refusals = [Refusal(**row) for row in rows["refusal"]]
         self.reserved = rows.get("reserved", [])
+        self.retired = rows.get("retired", [])
         self.models = [model(row) for row in rows["model"]]
         self.record = list(record(rows["record"]))
         self.constants = [
@@ -250,6 +251,6 @@ class Table:
         rising("the refusals' numbers", [r.number for r in self.refusals], 1)
         consecutive("the models' numbers", [m.number for m in self.models], 0)
         unique("a call's name", (c.name for c in self.calls))
-        consecutive("the numbers of beside/", [number for number, _, _ in self.numbered], 0)
+        consecutive("the numbers of beside/", sorted([number for number, _, _ in self.numbered] + self.retired), 0)
         for c in self.calls:
             unique(f"an argument of {c.name}", (a.name for a in c.arguments))

@@ -128,6 +128,12 @@ def some(place):
     return "None" if place is None else f"Some({place})"
 
 
+def beside_line(c, m):
+    inputs, _, flag = beside_row(c, m)
+    lists = [str(a.length) for a in c.written]
+    return f"    c({quoted(beside_name(c, m))}, &[{', '.join(inputs)}], &[{', '.join(lists)}], {some(flag)}),"
+
+
 def beside(table):
     """The whole of beside/table.rs."""
     rows = table.numbered
@@ -139,11 +145,10 @@ def beside(table):
     lines += [f"pub const LAWS: usize = {told['WITH_DETERMINANT']};"]
     lines += ["", "// How many parameters each model has."]
     lines += [f"pub const PARAMETERS: [usize; {len(table.models)}] = {[len(m.parameters) for m in table.models]};"]
-    lines += ["", "// By number: name, arguments, words that come out, the place of a flag."]
-    lines += [f"pub const CALLS: [Call; {len(rows)}] = ["]
-    for _, c, m in rows:
-        inputs, outputs, flag = beside_row(c, m)
-        lines += [f"    c({quoted(beside_name(c, m))}, &[{', '.join(inputs)}], {outputs}, {some(flag)}),"]
+    lines += ["", "// By number: name, arguments, the lengths of the lists that come out, the place of a flag. A number whose call is retired has no name."]
+    lines += [f"pub const CALLS: [Call; {len(rows) + len(table.retired)}] = ["]
+    written = {n: beside_line(c, m) for n, c, m in rows} | {n: '    c("", &[], &[], None),' for n in table.retired}
+    lines += [written[n] for n in sorted(written)]
     lists = [c.name for c in table.calls if c.beside == "lists"]
     lines += ["];", "", "// The calls on lists of particles and on sheets, which have no number."]
     lines += [f"pub const LISTS: [&str; {len(lists)}] = [{', '.join(map(quoted, lists))}];"]

@@ -62,6 +62,16 @@ def neo_hookean(name):
     return reading
 
 
+def judged(name):
+    """A record's determinant, and then, of the neo-Hookean law, what its stress asks: after 1 over law, limits and record."""
+    def reading(*words):
+        record = list(words[-37:])
+        cases.taken(list(words[:-37]), record)
+        if name.startswith("neo_hookean_"):
+            neo_hookean("neo_hookean_kirchhoff_stress")(*words[:3], record[30], record[33], *record[:9])
+    return reading
+
+
 def timestep(pressure0, gamma, _, largest, j, mass, volume, density, x, y, z, __):
     """The exponent is a u32 read as i32, halved; a negative argument of the first root, or a NaN, is let through."""
     exponent = struct.unpack("<Q", struct.pack("<d", gamma))[0]
@@ -92,6 +102,8 @@ def readings(table):
     for number, c, model in table.numbered:
         if model is not None:
             yield number, update(model)
+        elif c.name.endswith("_stress_and_verdict"):
+            yield number, judged(c.name)
         elif c.name.startswith("neo_hookean_"):
             yield number, neo_hookean(c.name)
         elif c.name in by_name:

@@ -46,17 +46,10 @@ pub const ALL: &[(usize, &str, &str)] = &[
     (UPDATE_NACC, "surface, alpha stepped", ""),
     (NEO_HOOKEAN_FPK_STRESS, "determinant 0", "its power is refused by 2: refused calls reach it"),
     (NEO_HOOKEAN_FPK_STRESS, "inverse", ""),
-    (NEO_HOOKEAN_KIRCHHOFF_STRESS, "j at least 1", ""),
-    (NEO_HOOKEAN_KIRCHHOFF_STRESS, "j below 1", ""),
     (NEO_HOOKEAN_ELASTIC_ENERGY_DENSITY, "j at least 1", ""),
     (NEO_HOOKEAN_ELASTIC_ENERGY_DENSITY, "j below 1", ""),
     (NEO_HOOKEAN_POS_ENERGY, "j at least 1", ""),
     (NEO_HOOKEAN_POS_ENERGY, "j below 1", ""),
-    (COROTATED_KIRCHHOFF_STRESS, "phase 1", ""),
-    (COROTATED_KIRCHHOFF_STRESS, "split, j below 1", ""),
-    (COROTATED_KIRCHHOFF_STRESS, "split, j at least 1", ""),
-    (COROTATED_KIRCHHOFF_STRESS, "tensile part dropped", ""),
-    (COROTATED_KIRCHHOFF_STRESS, "tensile part kept", ""),
     (COROTATED_POS_ENERGY, "j below 1", ""),
     (COROTATED_POS_ENERGY, "j at least 1", ""),
     (MONAGHAN_PRESSURE, "from the density", ""),
@@ -66,9 +59,19 @@ pub const ALL: &[(usize, &str, &str)] = &[
     (MONAGHAN_TIMESTEP_BOUND, "single-particle step", ""),
     (MONAGHAN_TIMESTEP_BOUND, "the other step", ""),
     (MONAGHAN_TIMESTEP_BOUND, "root let through", ""),
-    (FAILED, "principal limit", ""),
-    (FAILED, "shear limit only", ""),
-    (FAILED, "no", ""),
+    (NEO_HOOKEAN_STRESS_AND_VERDICT, "j at least 1", ""),
+    (NEO_HOOKEAN_STRESS_AND_VERDICT, "j below 1", ""),
+    (NEO_HOOKEAN_STRESS_AND_VERDICT, "principal limit", ""),
+    (NEO_HOOKEAN_STRESS_AND_VERDICT, "shear limit only", ""),
+    (NEO_HOOKEAN_STRESS_AND_VERDICT, "not failed", ""),
+    (COROTATED_STRESS_AND_VERDICT, "phase 1", ""),
+    (COROTATED_STRESS_AND_VERDICT, "split, j below 1", ""),
+    (COROTATED_STRESS_AND_VERDICT, "split, j at least 1", ""),
+    (COROTATED_STRESS_AND_VERDICT, "tensile part dropped", ""),
+    (COROTATED_STRESS_AND_VERDICT, "tensile part kept", ""),
+    (COROTATED_STRESS_AND_VERDICT, "principal limit", ""),
+    (COROTATED_STRESS_AND_VERDICT, "shear limit only", ""),
+    (COROTATED_STRESS_AND_VERDICT, "not failed", ""),
 ];
 
 fn f(i: &[u64], k: usize) -> f64 {
@@ -99,10 +102,15 @@ pub fn taken(n: usize, i: &[u64], a: &Answer, out: &mut Vec<&'static str>) {
         UPDATE_DRUCKER_PRAGER => drucker_prager(a, out),
         UPDATE_NACC => nacc(i, a, out),
         NEO_HOOKEAN_FPK_STRESS => out.push("inverse"),
-        NEO_HOOKEAN_KIRCHHOFF_STRESS..=NEO_HOOKEAN_POS_ENERGY => {
-            out.push(if determinant() >= 1.0 { "j at least 1" } else { "j below 1" })
+        NEO_HOOKEAN_ELASTIC_ENERGY_DENSITY..=NEO_HOOKEAN_POS_ENERGY => split_at_one(out),
+        NEO_HOOKEAN_STRESS_AND_VERDICT => {
+            split_at_one(out);
+            verdict(n, i, a, out);
         }
-        COROTATED_KIRCHHOFF_STRESS => corotated(i, out),
+        COROTATED_STRESS_AND_VERDICT => {
+            corotated(i, out);
+            verdict(n, i, a, out);
+        }
         COROTATED_POS_ENERGY => out.push(if determinant() < 1.0 { "j below 1" } else { "j at least 1" }),
         MONAGHAN_PRESSURE => out.push(if o(0) == -f(i, 3) { "largest negative" } else { "from the density" }),
         MONAGHAN_KIRCHHOFF_STRESS => out.push(if f(i, 2) != 0.0 { "viscosity" } else { "no viscosity" }),
@@ -115,16 +123,22 @@ pub fn taken(n: usize, i: &[u64], a: &Answer, out: &mut Vec<&'static str>) {
                 _ => "single-particle step",
             });
         }
-        FAILED => {
-            let greatest = (2..5).map(|k| f(i, k)).fold(f64::MIN, f64::max);
-            out.push(match (a.out[0], greatest > f(i, 0)) {
-                (0, _) => "no",
-                (_, true) => "principal limit",
-                _ => "shear limit only",
-            });
-        }
         _ => {}
     }
+}
+
+fn split_at_one(out: &mut Vec<&'static str>) {
+    out.push(if determinant() >= 1.0 { "j at least 1" } else { "j below 1" })
+}
+
+/// By the limit, which stands before the record.
+fn verdict(n: usize, i: &[u64], a: &Answer, out: &mut Vec<&'static str>) {
+    let greatest = watch().principal.iter().copied().fold(f64::MIN, f64::max);
+    out.push(match (a.out[9], greatest > f(i, CALLS[n].inputs - FLOATS - 2)) {
+        (0, _) => "not failed",
+        (_, true) => "principal limit",
+        _ => "shear limit only",
+    });
 }
 
 fn determinant() -> f64 {
@@ -234,7 +248,7 @@ fn calls_quietly(run: impl FnOnce()) {
 }
 
 fn corotated(i: &[u64], out: &mut Vec<&'static str>) {
-    let phase = f(i, 4);
+    let phase = f(i, 6 + 30);
     if phase == 1.0 {
         out.push("phase 1");
         return;

@@ -244,9 +244,9 @@ impl Draw {
         p
     }
 
-    /// An update's determinant put right, but now and then; and rarely one bit of it wrong.
-    fn determinant(&mut self, n: usize, w: &mut [u64]) {
-        let r = &mut w[calls::parameters(n - UPDATE)..];
+    /// A record's determinant put right, but now and then; and rarely one bit of it wrong.
+    fn determinant(&mut self, at: usize, w: &mut [u64]) {
+        let r = &mut w[at..];
         if !self.one_in(8) {
             inside::complete(r);
         }
@@ -354,24 +354,21 @@ impl Draw {
                 v.extend(self.strained());
                 v
             }
-            NEO_HOOKEAN_KIRCHHOFF_STRESS..=NEO_HOOKEAN_POS_ENERGY => {
+            NEO_HOOKEAN_ELASTIC_ENERGY_DENSITY..=NEO_HOOKEAN_POS_ENERGY => {
                 let mut v = self.solid();
                 v.push(self.phase());
                 v.push(self.hardening());
                 v.extend(self.strained());
                 v
             }
-            COROTATED_KIRCHHOFF_STRESS..=COROTATED_POS_ENERGY => {
+            NEO_HOOKEAN_STRESS_AND_VERDICT | COROTATED_STRESS_AND_VERDICT => self.judged(n),
+            COROTATED_ELASTIC_ENERGY_DENSITY..=COROTATED_POS_ENERGY => {
                 let mut v = self.solid();
                 v[0] = 0.9;
                 v.insert(0, self.below(2) as f64);
-                if n == COROTATED_KIRCHHOFF_STRESS {
-                    v.push(self.phase());
-                }
                 v.push(self.hardening());
                 let f = self.factored();
                 match n {
-                    COROTATED_KIRCHHOFF_STRESS => v.extend(&f),
                     COROTATED_ELASTIC_ENERGY_DENSITY => v.extend(&f[18..21]),
                     _ => {
                         v.extend(&f[..9]);
@@ -398,10 +395,6 @@ impl Draw {
                     v.push(self.scale(-3.0, 1.0));
                 }
                 v
-            }
-            FAILED => {
-                let v: Vec<f64> = (0..3).map(|_| 10.0 * self.normal()).collect();
-                vec![self.between(0.0, 30.0), self.between(0.0, 30.0), v[0], v[1], v[2]]
             }
             SNOW_CLAMP => {
                 let mut v = vec![0.025, 0.0045, 10.0];
@@ -432,6 +425,27 @@ impl Draw {
                 v
             }
         }
+    }
+
+    /// A solid law, limits of the sizes that its stresses have, and a record.
+    fn judged(&mut self, n: usize) -> Vec<f64> {
+        let mut v = self.solid();
+        let mu = v[2];
+        if n == COROTATED_STRESS_AND_VERDICT {
+            v[0] = 0.9;
+            v.insert(0, self.below(2) as f64);
+        }
+        v.extend([mu * self.scale(-4.0, 2.0), mu * self.scale(-4.0, 2.0)]);
+        let mut r = self.record();
+        if n == NEO_HOOKEAN_STRESS_AND_VERDICT {
+            r.splice(..9, self.strained());
+        }
+        r[30] = self.phase();
+        r[33] = self.hardening();
+        let f: Vec<u64> = r[..9].iter().map(|x| x.to_bits()).collect();
+        r.push(f64::from_bits(inside::determinant(&f)));
+        v.extend(r);
+        v
     }
 
     /// F near the identity or in wider spreads, now and then with no volume or turned inside out.
@@ -477,8 +491,8 @@ impl Draw {
                 for x in [f64::NAN, f64::INFINITY, f64::NEG_INFINITY, 0.0, -0.0, f64::from_bits(1), f64::MAX, -f64::MAX] {
                     let mut i = w.clone();
                     i[k] = x.to_bits();
-                    if calls::is_update(n) && k + 1 < i.len() {
-                        inside::complete(&mut i[calls::parameters(n - UPDATE)..]);
+                    if let Some(at) = calls::record_at(n).filter(|_| k + 1 < i.len()) {
+                        inside::complete(&mut i[at..]);
                     }
                     all.push(i);
                 }
@@ -512,8 +526,8 @@ impl Draw {
                     w[k] = wild.to_bits();
                 }
             }
-            if calls::is_update(n) {
-                self.determinant(n, &mut w);
+            if let Some(at) = calls::record_at(n) {
+                self.determinant(at, &mut w);
             }
         }
         w

@@ -155,6 +155,10 @@ fn all() -> Vec<Example> {
     add(23, "update snow", "F (1e200, 1e200, 1) beside sigma all 1: the same three", &far, snow_places, Two);
     let long = snow(&[(9, 1e150), (13, 1e150), (17, 1e150)]);
     add(23, "update snow", "U 1e150 times the identity: the same three", &long, snow_places, Two);
+    let turned = [(0, 1.2), (1, -0.8), (3, 1.6), (4, 0.6), (9, 0.6), (10, -0.8), (12, 0.8), (13, 0.6), (18, 2.0)];
+    let huge = [vec![1.0, 0.9, 0.0, 5e307, 1.0, 1.0], record(&turned)].concat();
+    let what = "lambda 0, mu 5e307, limits 1, sigma (2, 1, 1), U a turn by the cosine 0.6, so that the greatest value is 2e308: first of the stress";
+    add(25, "corotated_stress_and_verdict", what, &huge, &[0], Two);
     all
 }
 

@@ -2,6 +2,7 @@
 //! and the outcome that RULES section 6 gives for it.
 use crate::calls::{self, *};
 use crate::ours;
+use crate::principal;
 use nalgebra::hooks::{Function, Op};
 use std::cell::UnsafeCell;
 use std::panic::Location;
@@ -37,7 +38,9 @@ pub struct Asked {
 pub struct Watch {
     pub mode: Mode,
     pub factors: [f64; 21],
+    /// The principal values that the verdict was on, and the largest size in the stress's lower triangle.
     pub principal: [f64; 3],
+    pub largest: f64,
     pub strains: Vec<f64>,
     /// The first refusal met: 0, an elementary function's, or 3 for a NaN that had arisen.
     pub event: u8,
@@ -62,6 +65,7 @@ pub fn watch() -> &'static mut Watch {
         mode: Mode::Ours,
         factors: [0.0; 21],
         principal: [0.0; 3],
+        largest: 0.0,
         strains: Vec::new(),
         event: 0,
         lenient: false,
@@ -90,7 +94,11 @@ fn on_path(status: u8, x: f64) -> u8 {
     if x.is_nan() {
         3
     } else if x.is_infinite() {
-        if x > 0.0 { 10 } else { 2 }
+        if x > 0.0 {
+            10
+        } else {
+            2
+        }
     } else {
         status
     }
@@ -164,8 +172,26 @@ pub fn beside_factors() -> &'static [f64; 21] {
 }
 
 #[no_mangle]
-pub fn beside_principal() -> [f64; 3] {
-    watch().principal
+pub fn beside_principal(lower: [f64; 6]) -> [f64; 3] {
+    let was = flags();
+    let w = watch();
+    if w.event == 0 && was & NAN_AROSE != 0 {
+        w.event = 3;
+    }
+    // What follows is the verdict's.
+    w.ended = true;
+    (w.principal, w.largest) = principal::values(lower);
+    set_flags(was);
+    w.principal
+}
+
+/// Whether a judged call's greatest value or shear lies so near a limit that values within a part of the stress's size may tell otherwise.
+pub fn near_a_limit(n: usize, i: &[u64], part: f64) -> bool {
+    let at = CALLS[n].inputs - FLOATS - 2;
+    let w = watch();
+    let (least, greatest) = w.principal.iter().fold((f64::MAX, f64::MIN), |(a, b), x| (a.min(*x), b.max(*x)));
+    let near = |x: f64, limit: u64| (x - f64::from_bits(limit)).abs() <= part * w.largest;
+    near(greatest, i[at]) || near(greatest / 2.0 - least / 2.0, i[at + 1])
 }
 
 fn floats(i: &[u64]) -> Vec<f64> {
@@ -181,10 +207,9 @@ fn place_factors(n: usize, i: &[u64]) {
             let k = calls::parameters(n - UPDATE);
             w.factors.copy_from_slice(&f[k + 9..k + 30]);
         }
-        COROTATED_KIRCHHOFF_STRESS => w.factors.copy_from_slice(&f[15..36]),
+        COROTATED_STRESS_AND_VERDICT => w.factors.copy_from_slice(&f[15..36]),
         COROTATED_ELASTIC_ENERGY_DENSITY => w.factors[9..12].copy_from_slice(&f[5..8]),
         COROTATED_POS_ENERGY => w.factors[9..12].copy_from_slice(&f[14..17]),
-        FAILED => w.principal.copy_from_slice(&f[2..5]),
         _ => {}
     }
 }
@@ -260,8 +285,8 @@ fn before(n: usize, i: &[u64]) -> u8 {
     if (0..i.len()).any(|k| float_at(n, k) && !finite(i[k])) {
         return 1;
     }
-    if calls::is_update(n) {
-        let r = &i[calls::parameters(n - UPDATE)..];
+    if let Some(k) = calls::record_at(n) {
+        let r = &i[k..];
         if r[BARE] != determinant(r) {
             return 11;
         }
@@ -379,7 +404,7 @@ pub fn expected(n: usize, i: &[u64]) -> Answer {
     if calls::is_update(n) {
         return updated(n, i, o);
     }
-    if n != FAILED && !o.iter().all(|x| finite(*x)) {
+    if !o.iter().all(|x| finite(*x)) {
         return refused(3);
     }
     Answer { status: 0, out: o }
@@ -452,9 +477,6 @@ pub fn instead(n: usize, i: &[u64]) -> &'static str {
     } else {
         o
     };
-    if n == FAILED {
-        return "gave a verdict";
-    }
     let f = floats(&words);
     if f.iter().any(|x| x.is_nan()) {
         "gave a NaN"

@@ -4,6 +4,14 @@ use crate::inside::{self, Answer};
 
 pub const ZEROS: &str = "minimum or maximum of two zeros: ours takes the second, the Rust as built here the first";
 
+pub const NOT_ACCEPTED: &str = "principal values at the ends of the doubles miss our check: 14, where the Rust gives a verdict";
+
+/// Ours refuses by 14 a stress that build 2 judges, and a size in it is near an end of the doubles.
+pub fn not_accepted(n: usize, ours: &Answer, rust: &Answer) -> bool {
+    let far = |x: &u64| f64::from_bits(*x) != 0.0 && !(1e-280..1e300).contains(&f64::from_bits(*x).abs());
+    is_judged(n) && ours.status == 14 && rust.status == 0 && rust.out[..9].iter().any(far)
+}
+
 fn f(i: &[u64], k: usize) -> f64 {
     f64::from_bits(i[k])
 }

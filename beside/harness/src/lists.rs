@@ -255,7 +255,7 @@ fn drawn(d: &mut Draw, model: usize, most: u64) -> (Vec<u64>, Vec<u64>) {
 
 /// Limits about as large as the stresses of the first record, as it came or as the law leaves it.
 fn judge(d: &mut Draw, model: usize, p: &[u64], records: &[u64]) -> Judge {
-    let law = d.inputs(29)[..4].to_vec();
+    let law = d.inputs(calls::COROTATED_POS_ENERGY)[..4].to_vec();
     let r = d.inputs(calls::UPDATE + model % LAWS)[p.len()..].to_vec();
     let mut r = if records.is_empty() { r } else { records[..FLOATS].to_vec() };
     if d.one_in(2) {

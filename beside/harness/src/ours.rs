@@ -22,7 +22,7 @@ pub fn open(path: &str) -> Vec<&'static str> {
         eprintln!("beside: {path} cannot be opened");
         std::process::exit(2)
     };
-    let mut names: Vec<&str> = (0..CALLS.len()).map(symbol).chain(LISTS).collect();
+    let mut names: Vec<&str> = (0..CALLS.len()).filter(|n| !calls::is_retired(*n)).map(symbol).chain(LISTS).collect();
     names.dedup();
     let there = |name: &&'static str| lib.find(&format!("pasoletu_{name}")).map(|p| (*name, p));
     let found: BTreeMap<_, _> = names.iter().filter_map(there).collect();
@@ -103,8 +103,8 @@ pub type Bent = Option<(usize, usize)>;
 
 /// Calls ours on inputs i: the refusal's number, the inputs after it (an update's record is lent) and the outputs.
 fn raw(n: usize, i: &[u64], bent: Bent) -> (u8, Vec<u64>, Vec<u64>) {
-    let room = if calls::is_update(n) { 2 } else { CALLS[n].outputs };
-    let (mut w, mut out) = ([i, &[0]].concat(), vec![MARK; room + 1]);
+    let mut w = [i, &[0]].concat();
+    let mut rooms: Vec<Vec<u64>> = written(n).iter().map(|l| vec![MARK; l + 1]).collect();
     let mut lists = 0;
     let mut length = |l: usize| {
         lists += 1;
@@ -123,10 +123,24 @@ fn raw(n: usize, i: &[u64], bent: Bent) -> (u8, Vec<u64>, Vec<u64>) {
         };
         at += calls::words(*argument);
     }
-    let status = a.lent(&mut out[..length(room)]).run(symbol(n));
+    for (room, l) in rooms.iter_mut().zip(written(n)) {
+        a = a.lent(&mut room[..length(*l)]);
+    }
+    let status = a.run(symbol(n));
     w.pop();
-    out.pop();
-    (status, w, out)
+    for room in &mut rooms {
+        room.pop();
+    }
+    (status, w, rooms.concat())
+}
+
+/// The lengths of the lists that are lent for a call's outputs. An update's record is lent as an input.
+fn written(n: usize) -> &'static [usize] {
+    if calls::is_update(n) {
+        &CALLS[n].lists[1..]
+    } else {
+        CALLS[n].lists
+    }
 }
 
 /// Calls ours. A refusal must leave every lent word as it was; one that does not is told as 254.
@@ -146,11 +160,10 @@ pub fn bent_call(n: usize, i: &[u64], bent: Bent) -> Answer {
     Answer { status, out }
 }
 
-/// The lengths of a call's lists, the lent one for its outputs last.
+/// The lengths of a call's lists, those lent for its outputs last.
 pub fn lists(n: usize) -> Vec<usize> {
-    let last = if calls::is_update(n) { 2 } else { CALLS[n].outputs };
     let given = CALLS[n].arguments.iter().filter(|a| **a != NUMBER && **a != GAMMA);
-    given.copied().chain([last]).collect()
+    given.chain(written(n)).copied().collect()
 }
 
 pub fn pass(model: u64, p: &[u64], records: &mut [u64], answers: &mut [u64], counts: &mut [u64]) -> u8 {

@@ -12,16 +12,17 @@ pub fn write(file: &str, seed: u64) {
     let mut bytes = Vec::new();
     let mut total = 0;
     let mut classes = 0;
-    // The program has the calls up to alpha.
-    for n in 0..=calls::DRUCKER_PRAGER_ALPHA {
+    for n in (0..calls::CALLS.len()).filter(|n| !calls::is_retired(*n)) {
         // A few of each kind: the refusal, or the branches taken together.
         let mut kinds: BTreeMap<(u8, Vec<&'static str>), u64> = BTreeMap::new();
         let mut d = Draw(seed.wrapping_mul(0x4000).wrapping_add(n as u64));
         for _ in 0..40_000 {
             let i = d.inputs(n);
             let a = if calls::is_elementary(n) { crate::ours::call(n, &i) } else { inside::expected(n, &i) };
-            let nan = a.status == 0 && !a.out.iter().all(|x| inside::finite(*x) || n == calls::FAILED);
-            if nan || listed::by_document(n, &i, &a).is_some() {
+            let nan = a.status == 0 && !a.out.iter().all(|x| inside::finite(*x));
+            // A verdict that hangs on a value's last digits is not the Rust's to say.
+            let near = calls::is_judged(n) && a.status == 0 && inside::near_a_limit(n, &i, 1e-6);
+            if nan || near || listed::by_document(n, &i, &a).is_some() {
                 continue;
             }
             let a = if calls::is_elementary(n) { a } else { inside::expected(n, &i) };

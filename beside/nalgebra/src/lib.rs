@@ -1,6 +1,6 @@
 //! The part of nalgebra's surface that the ten files use, with RULES section 4's orders: sums by rising index from the left,
 //! the determinant along the first row, `recompose` scaling U's columns first, the inverse as cofactors over the determinant.
-//! Factors and principal stresses are those that the caller brings. Elementary functions are asked of the harness.
+//! Factors are those that the caller brings, principal stresses those that the harness works of the lower triangle. Elementary functions are asked of the harness.
 //! No std here: with it, the inherent `f64::ln` and its like would win over `ComplexField`, silently.
 //! With the feature `machine` there is std, its functions win, and nothing is told to the harness: build 3, for times.
 #![cfg_attr(not(feature = "machine"), no_std)]
@@ -47,7 +47,7 @@ pub mod hooks {
         pub fn beside_elementary(which: Function, x: f64, at: &'static Location<'static>) -> f64;
         pub fn beside_site(op: Op, at: &'static Location<'static>, input: &[f64], output: &[f64]);
         pub fn beside_factors() -> &'static [f64; 21];
-        pub fn beside_principal() -> [f64; 3];
+        pub fn beside_principal(lower: [f64; 6]) -> [f64; 3];
     }
 }
 use hooks::{Function, Op};
@@ -296,7 +296,8 @@ impl Matrix3<f64> {
     }
 
     pub fn try_symmetric_eigen(&self, _: f64, _: usize) -> Option<Principal> {
-        let e = unsafe { hooks::beside_principal() };
+        let m = &self.0;
+        let e = unsafe { hooks::beside_principal([m[0][0], m[1][1], m[2][2], m[1][0], m[2][0], m[2][1]]) };
         Some(Principal { eigenvalues: Vector3::new(e[0], e[1], e[2]) })
     }
 }

@@ -16,6 +16,7 @@ from . import elementary, raw, refusal, utils
 from ._find import NoLibrary
 from ._table import FLOATS, MODELS, SHEET_MOST
 from ._table import VERSION as __version__
+from .arrival import Arrival
 from .laws import (
     CorotatedLinearElasticity,
     DruckerPragerPlasticity,
@@ -26,6 +27,7 @@ from .laws import (
     Plasticity,
     RankinePlasticity,
     SnowPlasticity,
+    StressVerdict,
 )
 from .lists import (
     Ran,
@@ -45,14 +47,19 @@ from .lists import (
 from .outcome import Outcomes, Passed, Stored, Untouched
 from .particle import Particle
 from .refusal import REFUSALS, Refused
+from .reasons import Clamped, Stopped, Tested
 from .reports import Column, Report, report
+from .slices import FlatParticle, flat_pass
 from .zones import Tally, Zones
 
 __all__ = [
+    "Arrival",
+    "Clamped",
     "Column",
     "CorotatedLinearElasticity",
     "DruckerPragerPlasticity",
     "FLOATS",
+    "FlatParticle",
     "MODELS",
     "MaximumStressFailure",
     "MonaghanSphEos",
@@ -71,8 +78,11 @@ __all__ = [
     "SHEET_MOST",
     "Sheet",
     "SnowPlasticity",
+    "Stopped",
     "Stored",
+    "StressVerdict",
     "Tally",
+    "Tested",
     "Untouched",
     "Zones",
     "__version__",
@@ -81,6 +91,7 @@ __all__ = [
     "factor_particles",
     "factor_records",
     "fill_determinants",
+    "flat_pass",
     "law",
     "pass_particles",
     "pass_records",

@@ -14,15 +14,20 @@ from .refusal import LENGTH, NOT_FINITE, Refused
 MATRIX = 9
 
 
-def floats(call: str, told: str, **given: Any) -> list[float]:
-    """What pasoletu_CALL writes. A refusal is told of the call `told`."""
-    *takes, out = CALLS[call]
+def lists(call: str, told: str, **given: Any) -> list[list[Any]]:
+    """The lists that pasoletu_CALL writes, which come last. A refusal is told of the call `told`."""
+    takes, written = CALLS[call][: len(given)], CALLS[call][len(given) :]
     lent = [_lent(told, name, argument, value) for argument, (name, value) in zip(takes, given.items())]
-    room = array_type(out.kind, out.length or 0)()
-    status = ask(call, *lent, room)
+    rooms = [array_type(out.kind, out.length or 0)() for out in written]
+    status = ask(call, *lent, *rooms)
     if status:
-        raise Refused(status, told, place=_place(status, takes, given, lent))
-    return list(room)
+        raise Refused(status, told, place=_place(status, list(takes), given, lent))
+    return [list(room) for room in rooms]
+
+
+def floats(call: str, told: str, **given: Any) -> list[float]:
+    """What a call writes that writes one list."""
+    return lists(call, told, **given)[0]
 
 
 def one(call: str, told: str, **given: Any) -> float:
@@ -63,7 +68,7 @@ def _names(argument: Argument, name: str, value: Any) -> list[str]:
     if argument.length is None:
         return [name]
     if isinstance(value, Law):
-        return ["the law's " + field for field in value.names()]
+        return [("the law's " if name == "law" else name + ".") + field for field in value.names()]
     if isinstance(value, Particle):
         return list(PLACES)
     if argument.length == MATRIX:

@@ -66,6 +66,7 @@ WRONG_DETERMINANT = 11
 OUT_OF_RANGE = 12
 TALLY_FULL = 13
 NOT_ACCEPTED = 14
+AFTER_END = 15
 TOO_LONG = 16
 REFUSALS: dict[int, Refusal] = {
     1: Refusal(
@@ -135,8 +136,13 @@ REFUSALS: dict[int, Refusal] = {
     ),
     14: Refusal(
         "NOT_ACCEPTED",
-        "the factors worked out miss their check",
-        "look at the sizes of F's entries, or give factors of your own",
+        "the factors or the principal values worked out miss their check",
+        "look at the sizes of F's or the stress's entries, or give factors of your own",
+    ),
+    15: Refusal(
+        "AFTER_END",
+        "a part or an end of a sheet in parts comes after its end",
+        "begin the next sheet",
     ),
     16: Refusal(
         "TOO_LONG",
@@ -219,6 +225,21 @@ HEADER_MODEL = 0
 HEADER_PARAMETERS = 1  # 8: bits of the parameters, 0 past the model's last
 HEADER_COUNT = 9  # particles
 HEADER_PLACE = 10  # of the first record's first byte in the sheet
+# Sheets in parts (section 7): the state's words are the calls' own; these places of it may be read.
+PARTS_STATE = 52  # entries of a state
+PARTS_STATE_WANTS = 1  # 4 while what stands before the records is not complete, 0 once it is
+PARTS_STATE_MODEL = 2
+PARTS_STATE_PARAMETERS = 7  # 8: bits of the parameters, 0 past the model's last
+PARTS_PROGRESS = 2  # entries of a call's progress
+PARTS_COMPLETE = 0  # in it: how many particles are complete and worked
+PARTS_COUNT = 1  # how many the sheet says it has; 0 before that is known
+# Flat records (section 7): 20 doubles a particle, without a determinant.
+FLAT_FLOATS = 20  # a flat record
+FLAT_F = 0  # deformation gradient, two rows of two
+FLAT_U = 4  # U of F = U diag(sigma) V^T, two rows of two
+FLAT_SIGMA = 8  # two singular values
+FLAT_VT = 10  # V^T, two rows of two
+FLAT_PHASE = 14  # the six scalars, in the order of PASOLETU_PHASE to PASOLETU_ALPHA
 # Reports (section 7): three columns of six entries. Least, greatest and total are whole numbers of 2^-30, as int64_t.
 REPORT_MOST = 4096  # particles of a report
 REPORT = 18  # entries of a report
@@ -232,6 +253,17 @@ REPORT_GREATEST = 2  # the greatest; 0 of none
 REPORT_TOTAL = 3  # their sum
 REPORT_OUTSIDE = 4  # how many lie not within 2^20 of zero
 REPORT_NOT_FINITE = 5  # how many are NaN or infinite
+# Why (section 7): the entries of a reason. Tests, steps and branches are numbered in docs/STEPS.md.
+REASON = 11  # entries of a reason
+REASON_KIND = 0  # 0 a test of two numbers, 1 of three zeros, 2 a flag, 3 Snow's bounds, 4 a refusal
+REASON_REFUSAL = 1  # its number, else 0
+REASON_STEP = 2  # the step that refused, else 0
+REASON_OF = 3  # for 1 whose place: 1 a parameter's, 2 the record's; else 0
+REASON_PLACE = 4  # that place, from 0
+REASON_TEST = 5  # the last test that chose the branch, else 0
+REASON_HELD = 6  # whether it held
+REASON_BRANCH = 7  # the branch; 0 is untouched
+REASON_NUMBERS = 8  # 3: bits of the numbers compared; of Snow the bounds, 0 neither, 1 lower, 2 upper
 
 # The calls by name, without pasoletu_; each answers a ctypes.c_uint8, 0 or the refusal's number.
 CALLS: dict[str, tuple[Argument, ...]] = {
@@ -334,13 +366,6 @@ CALLS: dict[str, tuple[Argument, ...]] = {
         Argument("f", "f64", 9, False),
         Argument("out", "f64", 9, True),
     ),
-    "neo_hookean_kirchhoff_stress": (
-        Argument("law", "f64", 3, False),
-        Argument("phase", "f64", None, False),
-        Argument("hardening", "f64", None, False),
-        Argument("f", "f64", 9, False),
-        Argument("out", "f64", 9, True),
-    ),
     "neo_hookean_elastic_energy_density": (
         Argument("law", "f64", 3, False),
         Argument("phase", "f64", None, False),
@@ -367,16 +392,6 @@ CALLS: dict[str, tuple[Argument, ...]] = {
         Argument("phase", "f64", None, False),
         Argument("out", "f64", 1, True),
     ),
-    "corotated_kirchhoff_stress": (
-        Argument("law", "f64", 4, False),
-        Argument("phase", "f64", None, False),
-        Argument("hardening", "f64", None, False),
-        Argument("f", "f64", 9, False),
-        Argument("u", "f64", 9, False),
-        Argument("sigma", "f64", 3, False),
-        Argument("vt", "f64", 9, False),
-        Argument("out", "f64", 9, True),
-    ),
     "corotated_elastic_energy_density": (
         Argument("law", "f64", 4, False),
         Argument("hardening", "f64", None, False),
@@ -390,12 +405,21 @@ CALLS: dict[str, tuple[Argument, ...]] = {
         Argument("sigma", "f64", 3, False),
         Argument("out", "f64", 1, True),
     ),
-    "record_neo_hookean_fpk_stress": (
+    "neo_hookean_stress_and_verdict": (
         Argument("law", "f64", 3, False),
+        Argument("limits", "f64", 2, False),
         Argument("record", "f64", 37, False),
-        Argument("out", "f64", 9, True),
+        Argument("stress", "f64", 9, True),
+        Argument("verdict", "u64", 1, True),
     ),
-    "record_neo_hookean_kirchhoff_stress": (
+    "corotated_stress_and_verdict": (
+        Argument("law", "f64", 4, False),
+        Argument("limits", "f64", 2, False),
+        Argument("record", "f64", 37, False),
+        Argument("stress", "f64", 9, True),
+        Argument("verdict", "u64", 1, True),
+    ),
+    "record_neo_hookean_fpk_stress": (
         Argument("law", "f64", 3, False),
         Argument("record", "f64", 37, False),
         Argument("out", "f64", 9, True),
@@ -415,11 +439,6 @@ CALLS: dict[str, tuple[Argument, ...]] = {
         Argument("law", "f64", 3, False),
         Argument("record", "f64", 37, False),
         Argument("out", "f64", 1, True),
-    ),
-    "record_corotated_kirchhoff_stress": (
-        Argument("law", "f64", 4, False),
-        Argument("record", "f64", 37, False),
-        Argument("out", "f64", 9, True),
     ),
     "record_corotated_elastic_energy_density": (
         Argument("law", "f64", 4, False),
@@ -465,12 +484,6 @@ CALLS: dict[str, tuple[Argument, ...]] = {
         Argument("velocity", "f64", 3, False),
         Argument("cell_width", "f64", None, False),
         Argument("out", "f64", 1, True),
-    ),
-    "failed": (
-        Argument("max_principal_stress", "f64", None, False),
-        Argument("max_shear_stress", "f64", None, False),
-        Argument("stresses", "f64", 3, False),
-        Argument("out", "u64", 1, True),
     ),
     "snow_clamp": (
         Argument("min_epsilon", "f64", None, False),
@@ -539,6 +552,19 @@ CALLS: dict[str, tuple[Argument, ...]] = {
     "fill_determinants": (
         Argument("records", "f64", 0, True),
     ),
+    "flat_update": (
+        Argument("model", "u64", None, False),
+        Argument("parameters", "f64", 0, False),
+        Argument("record", "f64", 20, True),
+        Argument("answer", "u64", 2, True),
+    ),
+    "flat_pass": (
+        Argument("model", "u64", None, False),
+        Argument("parameters", "f64", 0, False),
+        Argument("records", "f64", 0, True),
+        Argument("answers", "u64", 0, True),
+        Argument("counts", "u64", 3, True),
+    ),
     "clear_tallies": (
         Argument("particles", "u64", None, False),
         Argument("zones", "u64", 0, False),
@@ -587,6 +613,22 @@ CALLS: dict[str, tuple[Argument, ...]] = {
         Argument("bytes", "u8", 0, True),
         Argument("written", "u64", 1, True),
     ),
+    "begin_parts": (
+        Argument("state", "u64", 52, True),
+    ),
+    "part": (
+        Argument("bytes", "u8", 0, False),
+        Argument("state", "u64", 52, True),
+        Argument("records", "f64", 0, True),
+        Argument("answers", "u64", 0, True),
+        Argument("progress", "u64", 2, True),
+    ),
+    "end_parts": (
+        Argument("records", "f64", 0, False),
+        Argument("answers", "u64", 0, False),
+        Argument("state", "u64", 52, True),
+        Argument("progress", "u64", 2, True),
+    ),
     "report": (
         Argument("records", "f64", 0, False),
         Argument("report", "u64", 18, True),
@@ -595,6 +637,12 @@ CALLS: dict[str, tuple[Argument, ...]] = {
         Argument("first", "u64", 18, False),
         Argument("second", "u64", 18, False),
         Argument("joined", "u64", 18, True),
+    ),
+    "why": (
+        Argument("model", "u64", None, False),
+        Argument("parameters", "f64", 0, False),
+        Argument("record", "f64", 37, False),
+        Argument("reason", "u64", 11, True),
     ),
 }
 ARGTYPES: dict[str, tuple[type, ...]] = {

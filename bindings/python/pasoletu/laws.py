@@ -4,11 +4,11 @@ from __future__ import annotations
 import itertools
 import numbers
 from dataclasses import dataclass
-from typing import Any, Callable, ClassVar, Iterable, Optional, TypeVar, Union
+from typing import Any, Callable, ClassVar, Iterable, NamedTuple, Optional, TypeVar, Union
 
 from . import elementary, utils
-from ._arguments import Law, Matrix, Rows, Vector, doubles, first_not_finite, number
-from ._calls import floats, matrix, one
+from ._arguments import Law, Matrix, Rows, Vector, doubles, first_not_finite, number, rows
+from ._calls import floats, lists, matrix, one
 from ._library import ask, words
 from ._table import (
     ANSWERS,
@@ -19,10 +19,13 @@ from ._table import (
     NACC,
     NEO_HOOKEAN_CFL_COEFF,
     RANKINE,
+    REASON,
     SNOW,
 )
 from .outcome import Stored, Untouched, worked
 from .particle import PLACES, Particle
+from .reasons import Reason
+from .reasons import told as told_by
 from .refusal import NOT_FINITE, Refused
 
 _Answer = TypeVar("_Answer")
@@ -58,6 +61,15 @@ def _matrix_of(call: str, name: str, law: Law, particle: Particle) -> Rows:
     return matrix(call, told, law=law, particle=_particle(told, particle))
 
 
+def _judged(call: str, law: Law, limits: MaximumStressFailure, particle: Particle) -> StressVerdict:
+    """A solid law's stress of a particle, with its verdict."""
+    told = "%s.stress_and_verdict" % type(law).__name__
+    if not isinstance(limits, MaximumStressFailure):
+        raise TypeError("%s: limits is a %s and must be a MaximumStressFailure" % (told, type(limits).__name__))
+    stress, verdict = lists(call, told, law=law, limits=limits, particle=_particle(told, particle))
+    return StressVerdict(rows(stress), verdict[0] != 0)
+
+
 def _one_of(call: str, name: str, law: Law, particle: Particle) -> float:
     """A solid law's energy of a particle."""
     told = "%s.%s" % (type(law).__name__, name)
@@ -84,6 +96,16 @@ class Plasticity(Law):
             raise Refused(status, told, place=self.first_not_finite(list(record)) if status == NOT_FINITE else None)
         particle._take(record)
         return worked(answer[0], answer[1])
+
+    def reason(self, particle: Particle) -> Reason:
+        """Why the law moves this particle, leaves it or refuses it."""
+        asked = "reason"
+        given, record = doubles(asked, "the law", self.parameters()), doubles(asked, "particle", particle.floats())
+        entries = words(REASON)
+        status = ask("why", self.model, given, record, entries)
+        if status:
+            raise Refused(status, asked)
+        return told_by(list(entries))
 
 
 @dataclass(frozen=True)
@@ -219,12 +241,19 @@ PLASTICITIES: tuple[type[Plasticity], ...] = (
 )
 
 
+class StressVerdict(NamedTuple):
+    """A stress and the verdict on it, which is always of this very stress."""
+
+    stress: Rows
+    failed: bool
+
+
 @dataclass(frozen=True)
 class NeoHookeanElasticity(Law):
     """Neo-Hookean stress and energy. Each call is refused by 1 for an input that is not finite, by 2 where F's determinant
     lies below the range of the powers and the logarithm, by 10 where above it, by 3 for a NaN or a result that is not finite. The
-    calls that end in _of take a particle with its determinant: they answer what the others answer of its F, phase and hardening, and
-    are refused by 1 for any of its floats, then by 11 for a determinant that isn't F's."""
+    calls that end in _of take a particle with its determinant: they answer what the others answer of its F, phase and hardening, and,
+    as `stress_and_verdict`, are refused by 1 for any of its floats, then by 11 for a determinant that isn't F's."""
 
     cfl_coeff: float
     lam: float
@@ -242,15 +271,11 @@ class NeoHookeanElasticity(Law):
             "neo_hookean_fpk_stress", told, law=self, hardening=hardening, deformation_gradient=deformation_gradient
         )
 
-    def kirchhoff_stress(self, phase: float, hardening: float, deformation_gradient: Matrix) -> Rows:
-        given = self._arguments(phase, hardening, deformation_gradient)
-        return matrix("neo_hookean_kirchhoff_stress", "NeoHookeanElasticity.kirchhoff_stress", **given)
-
     def elastic_energy_density(
         self, phase: float, hardening: float, deformation_gradient: Matrix, *, one_split: bool = False
     ) -> float:
         """Below determinant 1 the volumetric part is the tensile one, as the Rust has it; with `one_split` the deviatoric part,
-        as in `kirchhoff_stress`. From determinant 1 up the two are the same."""
+        as in the stress. From determinant 1 up the two are the same."""
         told = "NeoHookeanElasticity.elastic_energy_density"
         given = self._arguments(phase, hardening, deformation_gradient)
         if not one_split:
@@ -267,8 +292,11 @@ class NeoHookeanElasticity(Law):
     def fpk_stress_of(self, particle: Particle) -> Rows:
         return _matrix_of("record_neo_hookean_fpk_stress", "fpk_stress_of", self, particle)
 
-    def kirchhoff_stress_of(self, particle: Particle) -> Rows:
-        return _matrix_of("record_neo_hookean_kirchhoff_stress", "kirchhoff_stress_of", self, particle)
+    def stress_and_verdict(self, limits: MaximumStressFailure, particle: Particle) -> StressVerdict:
+        """The Kirchhoff stress of a particle, its tensile part times phase_coeff (from determinant 1 up all of it, below 1 the
+        deviatoric part), and the verdict on the principal values of that very stress. The library works these out itself; refused by 14,
+        after all else, where they miss their check."""
+        return _judged("neo_hookean_stress_and_verdict", self, limits, particle)
 
     def elastic_energy_density_of(self, particle: Particle, *, one_split: bool = False) -> float:
         if not one_split:
@@ -291,8 +319,8 @@ class NeoHookeanElasticity(Law):
 @dataclass(frozen=True)
 class CorotatedLinearElasticity(Law):
     """Corotated linear stress and energy; the factors of F are given. Each call is refused by 1 for an input that is not
-    finite and by 3 for a NaN or a result that is not finite. The calls that end in _of take a particle with its factors and its
-    determinant, and are refused by 11, after 1, for a determinant that isn't F's."""
+    finite and by 3 for a NaN or a result that is not finite. `stress_and_verdict` and the calls that end in _of take a particle
+    with its factors and its determinant, and are refused by 11, after 1, for a determinant that isn't F's."""
 
     split_stress_on_failure: bool
     cfl_coeff: float
@@ -304,27 +332,6 @@ class CorotatedLinearElasticity(Law):
         lam, mu = _moduli("CorotatedLinearElasticity.new", utils.lame_lambda_mu, young_modulus, poisson_ratio)
         return cls(True, COROTATED_CFL_COEFF, lam, mu)
 
-    def kirchhoff_stress(
-        self,
-        phase: float,
-        hardening: float,
-        deformation_gradient: Matrix,
-        u: Matrix,
-        singular_values: Vector,
-        v_t: Matrix,
-    ) -> Rows:
-        return matrix(
-            "corotated_kirchhoff_stress",
-            "CorotatedLinearElasticity.kirchhoff_stress",
-            law=self,
-            phase=phase,
-            hardening=hardening,
-            deformation_gradient=deformation_gradient,
-            u=u,
-            singular_values=singular_values,
-            v_t=v_t,
-        )
-
     def elastic_energy_density(self, singular_values: Vector, hardening: float) -> float:
         """Takes the product of the singular values for the determinant."""
         told = "CorotatedLinearElasticity.elastic_energy_density"
@@ -332,8 +339,11 @@ class CorotatedLinearElasticity(Law):
             "corotated_elastic_energy_density", told, law=self, hardening=hardening, singular_values=singular_values
         )
 
-    def kirchhoff_stress_of(self, particle: Particle) -> Rows:
-        return _matrix_of("record_corotated_kirchhoff_stress", "kirchhoff_stress_of", self, particle)
+    def stress_and_verdict(self, limits: MaximumStressFailure, particle: Particle) -> StressVerdict:
+        """The Kirchhoff stress of a particle, by the factors that stand in it, and the verdict on the principal values of that very
+        stress. At phase exactly 1.0 the stress is whole; its tensile part is dropped only at phase 0.0 with split_stress_on_failure.
+        Refused by 14, after all else, where the principal values, which the library works out itself, miss their check."""
+        return _judged("corotated_stress_and_verdict", self, limits, particle)
 
     def elastic_energy_density_of(self, particle: Particle) -> float:
         return _one_of("record_corotated_elastic_energy_density", "elastic_energy_density_of", self, particle)
@@ -417,7 +427,8 @@ class MonaghanSphEos:
 
 @dataclass(frozen=True)
 class MaximumStressFailure(Law):
-    """The failure rule, on given principal stresses."""
+    """The limits of the failure rule, by which `stress_and_verdict` of the two solid laws and the passes with failure judge. No call
+    judges a stress that is handed in."""
 
     max_principal_stress: float
     max_shear_stress: float
@@ -427,8 +438,3 @@ class MaximumStressFailure(Law):
         made = cls(max_principal_stress, max_shear_stress)
         _given("MaximumStressFailure.new", **vars(made))
         return made
-
-    def particle_failed(self, principal_stresses: Vector) -> bool:
-        """True exactly when the greatest is over its limit, or half the distance of greatest and least over the other."""
-        told = "MaximumStressFailure.particle_failed"
-        return one("failed", told, **vars(self), principal_stresses=principal_stresses) != 0

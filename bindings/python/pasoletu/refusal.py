@@ -5,6 +5,7 @@ from typing import Optional
 
 from ._table import (
     ABOVE_RANGE,
+    AFTER_END,
     BELOW_RANGE,
     ENDS_EARLY,
     LENGTH,
@@ -23,6 +24,7 @@ from ._table import (
 
 __all__ = [
     "ABOVE_RANGE",
+    "AFTER_END",
     "BELOW_RANGE",
     "ENDS_EARLY",
     "LENGTH",

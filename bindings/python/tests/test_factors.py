@@ -110,7 +110,7 @@ class Particles(unittest.TestCase):
             self.assertEqual((caught.exception.number, caught.exception.place), (number, place))
             self.assertEqual(bits(particle.floats()), bits(came))
         with self.assertRaisesRegex(
-            Refused, "^Particle.factor refused by 14: the factors worked out miss their check; look at the sizes of F's entries"
+            Refused, "^Particle.factor refused by 14: the factors or the principal values worked out miss their check; look at the sizes of F's or the stress's entries"
         ):
             too_large().factor()
 

@@ -21,14 +21,12 @@ def answer(call, *given, **named):
 
 def pairs(neo, corotated, p):
     """Each call of a particle, and the one of its parts."""
-    f, u, s, vt = p.deformation_gradient, p.u, p.singular_values, p.v_t
+    f, s = p.deformation_gradient, p.singular_values
     phase, h = p.phase, p.elastic_hardening
     yield (neo.fpk_stress_of, p), (neo.fpk_stress, f, h), {}
-    yield (neo.kirchhoff_stress_of, p), (neo.kirchhoff_stress, phase, h, f), {}
     yield (neo.elastic_energy_density_of, p), (neo.elastic_energy_density, phase, h, f), {}
     yield (neo.elastic_energy_density_of, p), (neo.elastic_energy_density, phase, h, f), {"one_split": True}
     yield (neo.pos_energy_of, p), (neo.pos_energy, phase, h, f), {}
-    yield (corotated.kirchhoff_stress_of, p), (corotated.kirchhoff_stress, phase, h, f, u, s, vt), {}
     yield (corotated.elastic_energy_density_of, p), (corotated.elastic_energy_density, s, h), {}
     yield (corotated.pos_energy_of, p), (corotated.pos_energy, f, s, h), {}
 
@@ -51,9 +49,9 @@ class OfRecord(unittest.TestCase):
                 told = answer(*of, **named)
                 self.assertEqual(told, answer(*bare, **named), (of, named))
                 seen.add((place, told if isinstance(told, int) else 0))
-        for place in range(8):
+        for place in range(6):
             self.assertIn((place, 0), seen)
-        self.assertLessEqual({2, 10}, {number for place, number in seen if place < 5})
+        self.assertLessEqual({2, 10}, {number for place, number in seen if place < 4})
 
     def test_1_then_11(self):
         for k in range(37):
@@ -70,8 +68,8 @@ class OfRecord(unittest.TestCase):
     def test_the_place_is_told(self):
         with self.assertRaisesRegex(Refused, "NeoHookeanElasticity.pos_energy_of refused by 1: .*, first nacc_alpha"):
             NEO.pos_energy_of(Particle(nacc_alpha=math.nan))
-        with self.assertRaisesRegex(Refused, "CorotatedLinearElasticity.kirchhoff_stress_of refused by 1: .*, first the law's mu"):
-            CorotatedLinearElasticity(True, 0.9, 1.0, math.nan).kirchhoff_stress_of(Particle())
+        with self.assertRaisesRegex(Refused, "CorotatedLinearElasticity.pos_energy_of refused by 1: .*, first the law's mu"):
+            CorotatedLinearElasticity(True, 0.9, 1.0, math.nan).pos_energy_of(Particle())
         with self.assertRaisesRegex(TypeError, "NeoHookeanElasticity.fpk_stress_of: particle is a list and must be a Particle"):
             NEO.fpk_stress_of([1.0] * 37)
 

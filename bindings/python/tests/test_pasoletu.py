@@ -36,6 +36,7 @@ CASES = TOP / "crates" / "slope_cases"
 NAN, INF = float("nan"), float("inf")
 I = [[1.0, 0.0, 0.0], [0.0, 1.0, 0.0], [0.0, 0.0, 1.0]]
 ZERO = [[0.0] * 3] * 3
+WIDE = MaximumStressFailure(1e300, 1e300)
 PAYLOAD = struct.unpack("<d", struct.pack("<Q", 0xFFF8000000C0FFEE))[0]
 
 
@@ -92,8 +93,13 @@ class Document(Tests):
         self.assertEqual([pressure(2, 2.0), pressure(2, 0.0), pressure(0, 2.0), pressure(4294967295, 0.5)], [30.0, -1.0, 0.0, 10.0])
 
     def test_p10_p11(self):
-        self.assertIs(MaximumStressFailure.new(5.0, 9.0).particle_failed([5.0, 0.0, 0.0]), False)
-        self.assertIs(MaximumStressFailure.new(5.0, 2.0).particle_failed([4.0, 0.0, -1.0]), True)
+        # lambda 0: each stress is 2 mu (sigma - 1) sigma, so these are (5, 0, 0) and, near, (4, 0, -1)
+        def failed(principal, shear, mu, sigma):
+            law, limits = CorotatedLinearElasticity(True, 0.9, 0.0, mu), MaximumStressFailure.new(principal, shear)
+            return law.stress_and_verdict(limits, Particle.stretched(sigma)).failed
+
+        self.assertIs(failed(5.0, 9.0, 1.25, [2.0, 1.0, 1.0]), False)
+        self.assertIs(failed(5.0, 2.0, 8.0 / 3.0, [1.5, 1.0, 0.25]), True)
 
     def test_p12(self):
         self.assertEqual(DruckerPragerPlasticity.new(1e5, 0.3).update_particle(Particle()), Stored(0.0))
@@ -154,8 +160,9 @@ class Laws(Tests):
     def test_neo_hookean(self):
         # phase_coeff(0.5) is 0.25075; lambda 1, mu 3 and hardening 2 make the bulk modulus 6; F's determinant is 8
         law, f = NeoHookeanElasticity(0.5, 1.0, 3.0), diagonal(2.0, 2.0, 2.0)
+        twice = Particle(deformation_gradient=f, phase=0.5, elastic_hardening=2.0)
         for k in range(3):
-            self.assertAlmostEqual(law.kirchhoff_stress(0.5, 2.0, f)[k][k], 189.0 * 0.25075)
+            self.assertAlmostEqual(law.stress_and_verdict(WIDE, twice).stress[k][k], 189.0 * 0.25075)
             self.assertAlmostEqual(law.fpk_stress(f, 2.0)[k][k], 94.5)
         volumetric = 3.0 * (31.5 - math.log(8.0))
         self.assertAlmostEqual(law.elastic_energy_density(0.5, 2.0, f), volumetric * 0.25075)
@@ -174,10 +181,12 @@ class Laws(Tests):
         # F is diag(2, 1, 1) turned: U a quarter turn, V^T the identity
         law, sigma = CorotatedLinearElasticity(True, 0.9, 3.0, 1.0), [2.0, 1.0, 1.0]
         f, u = [[0.0, -1.0, 0.0], [2.0, 0.0, 0.0], [0.0, 0.0, 1.0]], [[0.0, -1.0, 0.0], [1.0, 0.0, 0.0], [0.0, 0.0, 1.0]]
-        self.assertEqual(law.kirchhoff_stress(1.0, 2.0, f, u, sigma, I), diagonal(12.0, 20.0, 12.0))
-        self.assertEqual(law.kirchhoff_stress(0.0, 2.0, f, u, sigma, I), ZERO)
+        whole = Particle(deformation_gradient=f, u=u, singular_values=sigma, elastic_hardening=2.0)
+        lost = Particle(deformation_gradient=f, u=u, singular_values=sigma, elastic_hardening=2.0, phase=0.0)
+        self.assertEqual(law.stress_and_verdict(WIDE, whole), (diagonal(12.0, 20.0, 12.0), False))
+        self.assertEqual(law.stress_and_verdict(WIDE, lost), (ZERO, False))
         unsplit = CorotatedLinearElasticity(False, 0.9, 3.0, 1.0)
-        self.assertEqual(unsplit.kirchhoff_stress(0.0, 2.0, f, u, sigma, I), diagonal(12.0, 20.0, 12.0))
+        self.assertEqual(unsplit.stress_and_verdict(WIDE, lost), (diagonal(12.0, 20.0, 12.0), False))
         self.assertEqual(law.elastic_energy_density(sigma, 2.0), 5.0)
         self.assertEqual(law.pos_energy(f, sigma, 2.0), 5.0)
         self.assertEqual(law.pos_energy(I, sigma, 2.0), 2.0)
@@ -198,8 +207,13 @@ class Laws(Tests):
             self.assertRaises(ValueError, MonaghanSphEos, 10.0, gamma, 0.0)
 
     def test_verdict(self):
-        self.assertTrue(MaximumStressFailure(1.0, 100.0).particle_failed([2.0, 0.0, 0.0]))
-        self.assertFalse(MaximumStressFailure(100.0, 1.0).particle_failed([2.0, 0.0, 0.0]))
+        # lambda 0 and mu 1.25: the stress of the stretch (2, 1, 1) is diag(5, 0, 0), its shear 2.5 (P10: at the limit is not over it)
+        law, stretched = CorotatedLinearElasticity(True, 0.9, 0.0, 1.25), Particle.stretched([2.0, 1.0, 1.0])
+        for limits, failed in ((5.0, 2.5), False), ((4.75, 9.0), True), ((5.0, 2.25), True), ((9.0, 9.0), False):
+            self.assertEqual(law.stress_and_verdict(MaximumStressFailure(*limits), stretched), (diagonal(5.0, 0.0, 0.0), failed))
+        # 16/3 of (1.5, 1, 0.25): the stresses are near 4, 0 and -1 (P11: the shear is 2.5)
+        torn = Particle.stretched([1.5, 1.0, 0.25])
+        self.assertTrue(CorotatedLinearElasticity(True, 0.9, 0.0, 8.0 / 3.0).stress_and_verdict(MaximumStressFailure(5.0, 2.0), torn).failed)
 
     def test_rankine(self):
         # lambda 0 and 2 mu 1: the stresses are the strains, and s is the strength 10 at first
@@ -357,8 +371,8 @@ class Refusals(Tests):
         self.refused(2, utils.solve_quadratic, 1.0, 0.0, 1.0)
         self.refused(10, utils.solve_quadratic, 1.0, 1e200, 1.0)
         self.refused(3, utils.inv_exact, 1e-310)
-        self.refused(2, NeoHookeanElasticity(0.5, 1.0, 1.0).kirchhoff_stress, 1.0, 1.0, ZERO)
-        self.refused(1, MaximumStressFailure(NAN, 1.0).particle_failed, [0.0] * 3)
+        self.refused(2, NeoHookeanElasticity(0.5, 1.0, 1.0).stress_and_verdict, WIDE, Particle(deformation_gradient=ZERO))
+        self.refused(1, NeoHookeanElasticity(0.5, 1.0, 1.0).stress_and_verdict, MaximumStressFailure(NAN, 1.0), Particle())
 
     def test_new(self):
         self.refused(1, RankinePlasticity.new, 1e5, 0.3, NAN, 1.0)

@@ -107,7 +107,7 @@ class Names(unittest.TestCase):
             ("v[2]", utils.decomposed_times, (1.0, I, [0.0, 0.0, NAN])),
             ("the law's mu", law.fpk_stress, (I, 1.0)),
             ("density", eos.pressure, (1.0, 1.0, NAN)),
-            ("principal_stresses[0]", MaximumStressFailure(1.0, 1.0).particle_failed, ([NAN, 0.0, 0.0],)),
+            ("limits.max_shear_stress", NeoHookeanElasticity(0.5, 1.0, 1.0).stress_and_verdict, (MaximumStressFailure(1.0, NAN), Particle())),
             ("tensile_strength", RankinePlasticity.new, (1e5, 0.3, NAN, 1.0)),
             ("friction_angle", NaccPlasticity.new, (1e5, 0.3, 0.0, True, 1.0, NAN)),
             ("young_modulus", DruckerPragerPlasticity.new, (NAN, 0.3)),

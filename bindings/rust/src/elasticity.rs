@@ -2,7 +2,7 @@
 use crate::calls::*;
 use crate::math::{Matrix, Real, Vector};
 use crate::table::*;
-use crate::{utils, Particle, Refusal};
+use crate::{utils, MaximumStressFailure, Particle, Refusal};
 
 /// Which part of the neo-Hookean energy `phase_coeff` weakens below determinant 1. From there up it weakens both.
 #[derive(Copy, Clone, Debug, Default, PartialEq, Eq)]
@@ -10,7 +10,7 @@ pub enum EnergySplit {
     /// The volumetric part, as the Rust has it.
     #[default]
     Rust,
-    /// The deviatoric part, as `kirchhoff_stress` has it: one split for both.
+    /// The deviatoric part, as the stress has it: one split for both.
     AsStress,
 }
 
@@ -18,8 +18,9 @@ pub enum EnergySplit {
 /// where F's determinant lies below the range of the powers and the logarithm, by 10 where above it, by 3 for a NaN or a
 /// result not finite.
 ///
-/// The calls that end in `_of` take a particle with the determinant that it holds: what they answer is what the others answer of its
-/// F, phase and hardening, in every bit. They are refused by 1 for any of its floats, then by 11 for a determinant that isn't F's.
+/// `stress_and_verdict` and the calls that end in `_of` take a particle with the determinant that it holds: what the latter answer is what
+/// the others answer of its F, phase and hardening, in every bit. They are refused by 1 for any of its floats, then by 11 for a determinant
+/// that isn't F's.
 #[derive(Copy, Clone, Debug, PartialEq)]
 pub struct NeoHookeanElasticity {
     /// The Rust's coefficient for its time step. No call of this crate looks at its size.
@@ -45,20 +46,6 @@ impl NeoHookeanElasticity {
     pub fn fpk_stress(&self, deformation_gradient: &Matrix<Real>, hardening: Real) -> Result<Matrix<Real>, Refusal> {
         matrix("NeoHookeanElasticity::fpk_stress", |out, n| unsafe {
             pasoletu_neo_hookean_fpk_stress(self.law().as_ptr(), 3, hardening, entries(deformation_gradient), 9, out, n)
-        })
-    }
-
-    /// The Kirchhoff stress, its tensile part times `phase_coeff`: from determinant 1 up all of it, below 1 the deviatoric part.
-    pub fn kirchhoff_stress(
-        &self,
-        particle_phase: Real,
-        particle_elastic_hardening: Real,
-        particle_deformation_gradient: &Matrix<Real>,
-    ) -> Result<Matrix<Real>, Refusal> {
-        let (law, f) = (self.law(), entries(particle_deformation_gradient));
-        matrix("NeoHookeanElasticity::kirchhoff_stress", |out, n| unsafe {
-            let (phase, hardening) = (particle_phase, particle_elastic_hardening);
-            pasoletu_neo_hookean_kirchhoff_stress(law.as_ptr(), 3, phase, hardening, f, 9, out, n)
         })
     }
 
@@ -110,13 +97,27 @@ impl NeoHookeanElasticity {
         told.map_err(|r| placed(r, &law, particle))
     }
 
-    /// [`kirchhoff_stress`](Self::kirchhoff_stress) of a particle.
-    pub fn kirchhoff_stress_of(&self, particle: &Particle) -> Result<Matrix<Real>, Refusal> {
-        let (law, record) = (self.law(), particle.floats().as_ptr());
-        let told = matrix("NeoHookeanElasticity::kirchhoff_stress_of", |out, n| unsafe {
-            pasoletu_record_neo_hookean_kirchhoff_stress(law.as_ptr(), 3, record, Particle::FLOATS, out, n)
+    /// The Kirchhoff stress of a particle, its tensile part times `phase_coeff` (from determinant 1 up all of it, below 1 the deviatoric
+    /// part), and the verdict on the principal values of that very stress. The library works these out itself; refused by 14, after all
+    /// else, where they miss their check. 1 is also for a limit.
+    pub fn stress_and_verdict(&self, limits: &MaximumStressFailure, particle: &Particle) -> Result<StressVerdict, Refusal> {
+        let (law, two, record) = (self.law(), limits.limits(), particle.floats().as_ptr());
+        let told = judged("NeoHookeanElasticity::stress_and_verdict", |stress, verdict| unsafe {
+            let out = stress.as_mut_ptr().cast();
+            pasoletu_neo_hookean_stress_and_verdict(
+                law.as_ptr(),
+                3,
+                two.as_ptr(),
+                2,
+                record,
+                Particle::FLOATS,
+                out,
+                9,
+                verdict,
+                1,
+            )
         });
-        told.map_err(|r| placed(r, &law, particle))
+        told.map_err(|r| placed(r, &[law[0], law[1], law[2], two[0], two[1]], particle))
     }
 
     /// [`elastic_energy_density`](Self::elastic_energy_density) of a particle.
@@ -162,6 +163,24 @@ impl NeoHookeanElasticity {
     }
 }
 
+/// A stress and the verdict on it, which is always of this very stress.
+#[derive(Copy, Clone, Debug, PartialEq)]
+pub struct StressVerdict {
+    /// The Kirchhoff stress.
+    pub stress: Matrix<Real>,
+    /// Whether the greatest principal value is over its limit, or half the distance of greatest and least over the other.
+    pub failed: bool,
+}
+
+/// What a call that judges a particle writes, or its refusal.
+fn judged(name: &'static str, call: impl FnOnce(&mut Matrix<Real>, *mut u64) -> u8) -> Result<StressVerdict, Refusal> {
+    let (mut stress, mut verdict) = ([[0.0; 3]; 3], [0u64]);
+    match call(&mut stress, verdict.as_mut_ptr()) {
+        0 => Ok(StressVerdict { stress, failed: verdict[0] != 0 }),
+        number => Err(Refusal::new(number, name)),
+    }
+}
+
 /// A refusal of a particle, with the first float of it that is not finite; one of the law comes before it and has no name here.
 fn placed(refusal: Refusal, law: &[Real], particle: &Particle) -> Refusal {
     let named = refusal.number == Refusal::NOT_FINITE && all_finite(law);
@@ -171,7 +190,7 @@ fn placed(refusal: Refusal, law: &[Real], particle: &Particle) -> Refusal {
 /// Corotated linear stress and energy (elasticity_corotated_linear.rs). The factors of F are given. Each call is refused by 1
 /// for an input that is not finite and by 3 for a NaN or a result that is not finite.
 ///
-/// The calls that end in `_of` take a particle with its factors and the determinant that it holds, and answer what the others do; they
+/// `stress_and_verdict` and the calls that end in `_of` take a particle with its factors and the determinant that it holds, and answer what the others do; they
 /// are refused by 1 for any of its floats, then by 11 for a determinant that isn't F's.
 #[derive(Copy, Clone, Debug, PartialEq)]
 pub struct CorotatedLinearElasticity {
@@ -197,23 +216,6 @@ impl CorotatedLinearElasticity {
         [flag(self.split_stress_on_failure), self.cfl_coeff, self.lambda, self.mu]
     }
 
-    /// The Kirchhoff stress. At phase exactly 1.0 whole; the tensile part is dropped only at phase 0.0 with
-    /// `split_stress_on_failure`.
-    pub fn kirchhoff_stress(
-        &self,
-        phase: Real,
-        hardening: Real,
-        deformation_gradient: &Matrix<Real>,
-        u: &Matrix<Real>,
-        singular_values: &Vector<Real>,
-        v_t: &Matrix<Real>,
-    ) -> Result<Matrix<Real>, Refusal> {
-        let (law, f, u, s, v_t) = (self.law(), entries(deformation_gradient), entries(u), singular_values.as_ptr(), entries(v_t));
-        matrix("CorotatedLinearElasticity::kirchhoff_stress", |out, n| unsafe {
-            pasoletu_corotated_kirchhoff_stress(law.as_ptr(), 4, phase, hardening, f, 9, u, 9, s, 3, v_t, 9, out, n)
-        })
-    }
-
     /// Takes the product of the singular values for the determinant.
     pub fn elastic_energy_density(&self, singular_values: &Vector<Real>, elastic_hardening: Real) -> Result<Real, Refusal> {
         let (law, s) = (self.law(), singular_values.as_ptr());
@@ -222,13 +224,16 @@ impl CorotatedLinearElasticity {
         })
     }
 
-    /// [`kirchhoff_stress`](Self::kirchhoff_stress) of a particle.
-    pub fn kirchhoff_stress_of(&self, particle: &Particle) -> Result<Matrix<Real>, Refusal> {
-        let (law, record) = (self.law(), particle.floats().as_ptr());
-        let told = matrix("CorotatedLinearElasticity::kirchhoff_stress_of", |out, n| unsafe {
-            pasoletu_record_corotated_kirchhoff_stress(law.as_ptr(), 4, record, Particle::FLOATS, out, n)
+    /// The Kirchhoff stress of a particle, by the factors that stand in it, and the verdict on the principal values of that very stress.
+    /// At phase exactly 1.0 the stress is whole; its tensile part is dropped only at phase 0.0 with `split_stress_on_failure`. Refused by
+    /// 14, after all else, where the principal values, which the library works out itself, miss their check. 1 is also for a limit.
+    pub fn stress_and_verdict(&self, limits: &MaximumStressFailure, particle: &Particle) -> Result<StressVerdict, Refusal> {
+        let (law, two, record) = (self.law(), limits.limits(), particle.floats().as_ptr());
+        let told = judged("CorotatedLinearElasticity::stress_and_verdict", |stress, verdict| unsafe {
+            let out = stress.as_mut_ptr().cast();
+            pasoletu_corotated_stress_and_verdict(law.as_ptr(), 4, two.as_ptr(), 2, record, Particle::FLOATS, out, 9, verdict, 1)
         });
-        told.map_err(|r| placed(r, &law, particle))
+        told.map_err(|r| placed(r, &[law[1], law[2], law[3], two[0], two[1]], particle))
     }
 
     /// [`elastic_energy_density`](Self::elastic_energy_density) of a particle, by the product of its singular values.

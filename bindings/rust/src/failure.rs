@@ -1,9 +1,9 @@
 use crate::calls::all_finite;
-use crate::math::{Real, Vector};
-use crate::table::pasoletu_failed;
+use crate::math::Real;
 use crate::Refusal;
 
-/// The failure rule (failure_maximum_stress.rs), on given principal stresses.
+/// The limits of the failure rule (failure_maximum_stress.rs). `stress_and_verdict` of the two solid laws and the passes with failure judge by
+/// them; no call judges a stress that is handed in.
 #[derive(Copy, Clone, Debug, PartialEq)]
 pub struct MaximumStressFailure {
     /// The limit of the greatest principal stress.
@@ -21,17 +21,7 @@ impl MaximumStressFailure {
         Ok(Self { max_principal_stress, max_shear_stress })
     }
 
-    /// Yes exactly when the greatest stress is over its limit, or half the distance of greatest and least over the other.
-    /// Refused by 1 for an input that is not finite.
-    pub fn particle_failed(&self, principal_stresses: &Vector<Real>) -> Result<bool, Refusal> {
-        let mut out = [0u64];
-        let status = unsafe {
-            let (principal, shear) = (self.max_principal_stress, self.max_shear_stress);
-            pasoletu_failed(principal, shear, principal_stresses.as_ptr(), 3, out.as_mut_ptr(), 1)
-        };
-        match status {
-            0 => Ok(out[0] != 0),
-            number => Err(Refusal::new(number, "MaximumStressFailure::particle_failed")),
-        }
+    pub(crate) fn limits(&self) -> [Real; 2] {
+        [self.max_principal_stress, self.max_shear_stress]
     }
 }

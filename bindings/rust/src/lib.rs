@@ -35,6 +35,8 @@ extern crate alloc;
 #[cfg(feature = "std")]
 extern crate std;
 
+#[cfg(feature = "alloc")]
+mod arrival;
 mod calls;
 mod elasticity;
 pub mod elementary;
@@ -47,9 +49,11 @@ pub mod parallel;
 mod particle;
 mod plasticity;
 mod refusal;
+mod reasons;
 mod reports;
 #[cfg(feature = "alloc")]
 mod sheets;
+mod slices;
 #[allow(dead_code, missing_docs)]
 #[rustfmt::skip]
 mod table;
@@ -58,7 +62,9 @@ pub mod utils;
 mod vectors;
 mod zones;
 
-pub use elasticity::{CorotatedLinearElasticity, EnergySplit, NeoHookeanElasticity};
+#[cfg(feature = "alloc")]
+pub use arrival::Arrival;
+pub use elasticity::{CorotatedLinearElasticity, EnergySplit, NeoHookeanElasticity, StressVerdict};
 pub use failure::MaximumStressFailure;
 pub use fluid::MonaghanSphEos;
 pub use lists::{
@@ -68,9 +74,11 @@ pub use lists::{
 pub use particle::Particle;
 pub use plasticity::{DruckerPragerPlasticity, Model, NaccPlasticity, Outcome, RankinePlasticity, SnowPlasticity};
 pub use refusal::Refusal;
+pub use reasons::{Bound, Place, Reason};
 pub use reports::{report, Column, Report};
 #[cfg(feature = "alloc")]
 pub use sheets::{read_sheet, run_sheet, write_sheet, write_sheet_with_determinants, Ran, Sheet};
+pub use slices::{flat_pass_into, FlatParticle};
 pub use table::{REPORT_MOST, SHEET_BYTES, SHEET_MOST};
 #[cfg(feature = "alloc")]
 pub use vectors::{factor_list, pass, pass_factored, pass_factored_with_failure, pass_with_failure, Passed};

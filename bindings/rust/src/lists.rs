@@ -115,7 +115,7 @@ impl Pass {
 }
 
 /// The counts that a call wrote, or its refusal.
-fn counted(status: u8, counts: [u64; 4], call: &'static str) -> Result<Counts, Refusal> {
+pub(crate) fn counted(status: u8, counts: [u64; 4], call: &'static str) -> Result<Counts, Refusal> {
     let [untouched, stored, refused, failed] = counts;
     match status {
         0 => Ok(Counts { untouched, stored, refused, failed }),

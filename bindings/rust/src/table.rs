@@ -34,8 +34,10 @@ impl Refusal {
     pub const OUT_OF_RANGE: u8 = 12;
     /// A tally would pass its end, 4294967295.
     pub const TALLY_FULL: u8 = 13;
-    /// The factors worked out miss their check.
+    /// The factors or the principal values worked out miss their check.
     pub const NOT_ACCEPTED: u8 = 14;
+    /// A part or an end of a sheet in parts comes after its end.
+    pub const AFTER_END: u8 = 15;
     /// A report has over 4096 particles.
     pub const TOO_LONG: u8 = 16;
 }
@@ -56,7 +58,8 @@ pub fn words(number: u8) -> Option<(&'static str, &'static str)> {
         11 => ("the record's stored determinant is not that of its F", "fill it in where you write F (fill_determinants)"),
         12 => ("a zone or a particle is out of range, there are over 256 tallies, or list lengths are unlike", "hold the zone list to the particles and the tallies"),
         13 => ("a tally would pass its end, 4294967295", "read the tallies, then clear them"),
-        14 => ("the factors worked out miss their check", "look at the sizes of F's entries, or give factors of your own"),
+        14 => ("the factors or the principal values worked out miss their check", "look at the sizes of F's or the stress's entries, or give factors of your own"),
+        15 => ("a part or an end of a sheet in parts comes after its end", "begin the next sheet"),
         16 => ("a report has over 4096 particles", "report them in lists of at most 4096"),
         _ => return None,
     })
@@ -114,6 +117,21 @@ pub const HEADER_MODEL: usize = 0;
 pub const HEADER_PARAMETERS: usize = 1;
 pub const HEADER_COUNT: usize = 9;
 pub const HEADER_PLACE: usize = 10;
+// Sheets in parts (section 7): the state's words are the calls' own; these places of it may be read.
+pub const PARTS_STATE: usize = 52;
+pub const PARTS_STATE_WANTS: usize = 1;
+pub const PARTS_STATE_MODEL: usize = 2;
+pub const PARTS_STATE_PARAMETERS: usize = 7;
+pub const PARTS_PROGRESS: usize = 2;
+pub const PARTS_COMPLETE: usize = 0;
+pub const PARTS_COUNT: usize = 1;
+// Flat records (section 7): 20 doubles a particle, without a determinant.
+pub const FLAT_FLOATS: usize = 20;
+pub const FLAT_F: usize = 0;
+pub const FLAT_U: usize = 4;
+pub const FLAT_SIGMA: usize = 8;
+pub const FLAT_VT: usize = 10;
+pub const FLAT_PHASE: usize = 14;
 // Reports (section 7): three columns of six entries. Least, greatest and total are whole numbers of 2^-30, as int64_t.
 pub const REPORT_MOST: usize = 4096;
 pub const REPORT: usize = 18;
@@ -127,6 +145,17 @@ pub const REPORT_GREATEST: usize = 2;
 pub const REPORT_TOTAL: usize = 3;
 pub const REPORT_OUTSIDE: usize = 4;
 pub const REPORT_NOT_FINITE: usize = 5;
+// Why (section 7): the entries of a reason. Tests, steps and branches are numbered in docs/STEPS.md.
+pub const REASON: usize = 11;
+pub const REASON_KIND: usize = 0;
+pub const REASON_REFUSAL: usize = 1;
+pub const REASON_STEP: usize = 2;
+pub const REASON_OF: usize = 3;
+pub const REASON_PLACE: usize = 4;
+pub const REASON_TEST: usize = 5;
+pub const REASON_HELD: usize = 6;
+pub const REASON_BRANCH: usize = 7;
+pub const REASON_NUMBERS: usize = 8;
 
 extern "C" {
     pub fn pasoletu_exp(x: f64, out: *mut f64, out_length: usize) -> u8;
@@ -151,26 +180,23 @@ extern "C" {
     pub fn pasoletu_spherical_part(m: *const f64, m_length: usize, out: *mut f64, out_length: usize) -> u8;
     pub fn pasoletu_decomposed_times(spherical: f64, deviatoric: *const f64, deviatoric_length: usize, v: *const f64, v_length: usize, out: *mut f64, out_length: usize) -> u8;
     pub fn pasoletu_neo_hookean_fpk_stress(law: *const f64, law_length: usize, hardening: f64, f: *const f64, f_length: usize, out: *mut f64, out_length: usize) -> u8;
-    pub fn pasoletu_neo_hookean_kirchhoff_stress(law: *const f64, law_length: usize, phase: f64, hardening: f64, f: *const f64, f_length: usize, out: *mut f64, out_length: usize) -> u8;
     pub fn pasoletu_neo_hookean_elastic_energy_density(law: *const f64, law_length: usize, phase: f64, hardening: f64, f: *const f64, f_length: usize, out: *mut f64, out_length: usize) -> u8;
     pub fn pasoletu_neo_hookean_elastic_energy_density_in(law: *const f64, law_length: usize, one_split: f64, phase: f64, hardening: f64, f: *const f64, f_length: usize, out: *mut f64, out_length: usize) -> u8;
     pub fn pasoletu_neo_hookean_pos_energy(law: *const f64, law_length: usize, phase: f64, hardening: f64, f: *const f64, f_length: usize, out: *mut f64, out_length: usize) -> u8;
     pub fn pasoletu_phase_coeff(phase: f64, out: *mut f64, out_length: usize) -> u8;
-    pub fn pasoletu_corotated_kirchhoff_stress(law: *const f64, law_length: usize, phase: f64, hardening: f64, f: *const f64, f_length: usize, u: *const f64, u_length: usize, sigma: *const f64, sigma_length: usize, vt: *const f64, vt_length: usize, out: *mut f64, out_length: usize) -> u8;
     pub fn pasoletu_corotated_elastic_energy_density(law: *const f64, law_length: usize, hardening: f64, sigma: *const f64, sigma_length: usize, out: *mut f64, out_length: usize) -> u8;
     pub fn pasoletu_corotated_pos_energy(law: *const f64, law_length: usize, hardening: f64, f: *const f64, f_length: usize, sigma: *const f64, sigma_length: usize, out: *mut f64, out_length: usize) -> u8;
+    pub fn pasoletu_neo_hookean_stress_and_verdict(law: *const f64, law_length: usize, limits: *const f64, limits_length: usize, record: *const f64, record_length: usize, stress: *mut f64, stress_length: usize, verdict: *mut u64, verdict_length: usize) -> u8;
+    pub fn pasoletu_corotated_stress_and_verdict(law: *const f64, law_length: usize, limits: *const f64, limits_length: usize, record: *const f64, record_length: usize, stress: *mut f64, stress_length: usize, verdict: *mut u64, verdict_length: usize) -> u8;
     pub fn pasoletu_record_neo_hookean_fpk_stress(law: *const f64, law_length: usize, record: *const f64, record_length: usize, out: *mut f64, out_length: usize) -> u8;
-    pub fn pasoletu_record_neo_hookean_kirchhoff_stress(law: *const f64, law_length: usize, record: *const f64, record_length: usize, out: *mut f64, out_length: usize) -> u8;
     pub fn pasoletu_record_neo_hookean_elastic_energy_density(law: *const f64, law_length: usize, record: *const f64, record_length: usize, out: *mut f64, out_length: usize) -> u8;
     pub fn pasoletu_record_neo_hookean_elastic_energy_density_in(law: *const f64, law_length: usize, one_split: f64, record: *const f64, record_length: usize, out: *mut f64, out_length: usize) -> u8;
     pub fn pasoletu_record_neo_hookean_pos_energy(law: *const f64, law_length: usize, record: *const f64, record_length: usize, out: *mut f64, out_length: usize) -> u8;
-    pub fn pasoletu_record_corotated_kirchhoff_stress(law: *const f64, law_length: usize, record: *const f64, record_length: usize, out: *mut f64, out_length: usize) -> u8;
     pub fn pasoletu_record_corotated_elastic_energy_density(law: *const f64, law_length: usize, record: *const f64, record_length: usize, out: *mut f64, out_length: usize) -> u8;
     pub fn pasoletu_record_corotated_pos_energy(law: *const f64, law_length: usize, record: *const f64, record_length: usize, out: *mut f64, out_length: usize) -> u8;
     pub fn pasoletu_monaghan_pressure(pressure0: f64, gamma: u32, viscosity: f64, max_neg_pressure: f64, mass: f64, volume0: f64, density: f64, out: *mut f64, out_length: usize) -> u8;
     pub fn pasoletu_monaghan_kirchhoff_stress(pressure0: f64, gamma: u32, viscosity: f64, max_neg_pressure: f64, mass: f64, volume0: f64, density: f64, determinant: f64, velocity_gradient: *const f64, velocity_gradient_length: usize, out: *mut f64, out_length: usize) -> u8;
     pub fn pasoletu_monaghan_timestep_bound(pressure0: f64, gamma: u32, viscosity: f64, max_neg_pressure: f64, determinant: f64, mass: f64, volume0: f64, density: f64, velocity: *const f64, velocity_length: usize, cell_width: f64, out: *mut f64, out_length: usize) -> u8;
-    pub fn pasoletu_failed(max_principal_stress: f64, max_shear_stress: f64, stresses: *const f64, stresses_length: usize, out: *mut u64, out_length: usize) -> u8;
     pub fn pasoletu_snow_clamp(min_epsilon: f64, max_epsilon: f64, hardening_coeff: f64, sigma: *const f64, sigma_length: usize, out: *mut f64, out_length: usize) -> u8;
     pub fn pasoletu_rankine_project(arguments: *const f64, arguments_length: usize, s: f64, strains: *const f64, strains_length: usize, out: *mut f64, out_length: usize) -> u8;
     pub fn pasoletu_drucker_prager_alpha(fields: *const f64, fields_length: usize, q: f64, out: *mut f64, out_length: usize) -> u8;
@@ -182,6 +208,8 @@ extern "C" {
     pub fn pasoletu_pass_factored(model: u64, parameters: *const f64, parameters_length: usize, records: *mut f64, records_length: usize, answers: *mut u64, answers_length: usize, counts: *mut u64, counts_length: usize) -> u8;
     pub fn pasoletu_pass_factored_with_failure(model: u64, parameters: *const f64, parameters_length: usize, limits: *const f64, limits_length: usize, corotated: *const f64, corotated_length: usize, records: *mut f64, records_length: usize, answers: *mut u64, answers_length: usize, counts: *mut u64, counts_length: usize) -> u8;
     pub fn pasoletu_fill_determinants(records: *mut f64, records_length: usize) -> u8;
+    pub fn pasoletu_flat_update(model: u64, parameters: *const f64, parameters_length: usize, record: *mut f64, record_length: usize, answer: *mut u64, answer_length: usize) -> u8;
+    pub fn pasoletu_flat_pass(model: u64, parameters: *const f64, parameters_length: usize, records: *mut f64, records_length: usize, answers: *mut u64, answers_length: usize, counts: *mut u64, counts_length: usize) -> u8;
     pub fn pasoletu_clear_tallies(particles: u64, zones: *const u64, zones_length: usize, tallies: *mut u64, tallies_length: usize) -> u8;
     pub fn pasoletu_move_particle(particles: u64, particle: u64, zone: u64, zones: *mut u64, zones_length: usize, tallies: *mut u64, tallies_length: usize) -> u8;
     pub fn pasoletu_pass_by_zone(model: u64, parameters: *const f64, parameters_length: usize, zones: *const u64, zones_length: usize, records: *mut f64, records_length: usize, answers: *mut u64, answers_length: usize, tallies: *mut u64, tallies_length: usize) -> u8;
@@ -189,6 +217,10 @@ extern "C" {
     pub fn pasoletu_read_sheet(bytes: *const u8, bytes_length: usize, header: *mut u64, header_length: usize, records: *mut f64, records_length: usize) -> u8;
     pub fn pasoletu_run_sheet(bytes: *const u8, bytes_length: usize, records: *mut f64, records_length: usize, answers: *mut u64, answers_length: usize, counts: *mut u64, counts_length: usize) -> u8;
     pub fn pasoletu_write_sheet(model: u64, parameters: *const f64, parameters_length: usize, records: *const f64, records_length: usize, bytes: *mut u8, bytes_length: usize, written: *mut u64, written_length: usize) -> u8;
+    pub fn pasoletu_begin_parts(state: *mut u64, state_length: usize) -> u8;
+    pub fn pasoletu_part(bytes: *const u8, bytes_length: usize, state: *mut u64, state_length: usize, records: *mut f64, records_length: usize, answers: *mut u64, answers_length: usize, progress: *mut u64, progress_length: usize) -> u8;
+    pub fn pasoletu_end_parts(records: *const f64, records_length: usize, answers: *const u64, answers_length: usize, state: *mut u64, state_length: usize, progress: *mut u64, progress_length: usize) -> u8;
     pub fn pasoletu_report(records: *const f64, records_length: usize, report: *mut u64, report_length: usize) -> u8;
     pub fn pasoletu_join_reports(first: *const u64, first_length: usize, second: *const u64, second_length: usize, joined: *mut u64, joined_length: usize) -> u8;
+    pub fn pasoletu_why(model: u64, parameters: *const f64, parameters_length: usize, record: *const f64, record_length: usize, reason: *mut u64, reason_length: usize) -> u8;
 }

@@ -51,6 +51,11 @@ impl<'a> Zones<'a> {
         Ok(made)
     }
 
+    /// Zones and tallies as earlier calls left them: nothing is cleared, and each call looks at their range by itself.
+    pub fn resumed(zones: &'a mut [u64], tallies: &'a mut [Tally]) -> Zones<'a> {
+        Zones { zones, tallies }
+    }
+
     /// The zone of each particle.
     pub fn zones(&self) -> &[u64] {
         self.zones

@@ -1,7 +1,7 @@
 //! The values of docs/RULES.md: section 8's twelve cases and section 7's example.
 use pasoletu::{
-    elementary, pass, read_sheet, run_sheet, utils, DruckerPragerPlasticity, MaximumStressFailure, Model, MonaghanSphEos,
-    NeoHookeanElasticity, Outcome, Particle, SnowPlasticity,
+    elementary, pass, read_sheet, run_sheet, utils, CorotatedLinearElasticity, DruckerPragerPlasticity, MaximumStressFailure,
+    Model, MonaghanSphEos, NeoHookeanElasticity, Outcome, Particle, SnowPlasticity,
 };
 
 fn clamp(sigma: f64) -> f64 {
@@ -36,9 +36,14 @@ fn p6_to_p9_monaghan() {
 
 #[test]
 fn p10_p11_failure() {
-    let failed = |principal, shear, s| MaximumStressFailure::new(principal, shear).unwrap().particle_failed(&s);
-    assert_eq!(failed(5.0, 9.0, [5.0, 0.0, 0.0]), Ok(false));
-    assert_eq!(failed(5.0, 2.0, [4.0, 0.0, -1.0]), Ok(true));
+    // lambda 0: each stress is 2 mu (sigma - 1) sigma, so these are (5, 0, 0) and, near, (4, 0, -1).
+    let failed = |principal, shear, mu, sigma| {
+        let law = CorotatedLinearElasticity { split_stress_on_failure: true, cfl_coeff: 0.9, lambda: 0.0, mu };
+        let limits = MaximumStressFailure::new(principal, shear).unwrap();
+        law.stress_and_verdict(&limits, &Particle::stretched(sigma)).map(|told| told.failed)
+    };
+    assert_eq!(failed(5.0, 9.0, 1.25, [2.0, 1.0, 1.0]), Ok(false));
+    assert_eq!(failed(5.0, 2.0, 8.0 / 3.0, [1.5, 1.0, 0.25]), Ok(true));
 }
 
 #[test]

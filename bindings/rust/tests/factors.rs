@@ -108,7 +108,7 @@ fn the_refusals_in_their_order() {
     assert_eq!(told(particle), (1, Some("v_t[2][0]")));
     assert_eq!(
         too_large().factor().unwrap_err().to_string(),
-        "Particle::factor refused by 14: the factors worked out miss their check; look at the sizes of F's entries, or give factors of \
+        "Particle::factor refused by 14: the factors or the principal values worked out miss their check; look at the sizes of F's or the stress's entries, or give factors of \
          your own"
     );
 }

@@ -2,13 +2,18 @@
 use pasoletu::math::{DecomposedTensor, Matrix};
 use pasoletu::{
     pass, pass_with_failure, utils, CorotatedLinearElasticity, DruckerPragerPlasticity, EnergySplit, MaximumStressFailure, Model,
-    MonaghanSphEos, NaccPlasticity, NeoHookeanElasticity, Outcome, Particle, RankinePlasticity, SnowPlasticity,
+    MonaghanSphEos, NaccPlasticity, NeoHookeanElasticity, Outcome, Particle, RankinePlasticity, SnowPlasticity, StressVerdict,
 };
 
 const I: Matrix<f64> = [[1.0, 0.0, 0.0], [0.0, 1.0, 0.0], [0.0, 0.0, 1.0]];
+const WIDE: MaximumStressFailure = MaximumStressFailure { max_principal_stress: f64::MAX, max_shear_stress: f64::MAX };
 
 fn diagonal(a: f64, b: f64, c: f64) -> Matrix<f64> {
     [[a, 0.0, 0.0], [0.0, b, 0.0], [0.0, 0.0, c]]
+}
+
+fn in_phase(particle: Particle, phase: f64) -> Particle {
+    Particle { phase, ..particle }
 }
 
 fn near(x: f64, wanted: f64) -> bool {
@@ -47,7 +52,8 @@ fn tensors() {
 fn neo_hookean() {
     let law = NeoHookeanElasticity { cfl_coeff: 0.5, lambda: 1.0, mu: 3.0 };
     let f = diagonal(2.0, 2.0, 2.0);
-    let (fpk, kirchhoff) = (law.fpk_stress(&f, 2.0).unwrap(), law.kirchhoff_stress(0.5, 2.0, &f).unwrap());
+    let twice = Particle { deformation_gradient: f, phase: 0.5, elastic_hardening: 2.0, ..Particle::REST }.with_determinant();
+    let (fpk, kirchhoff) = (law.fpk_stress(&f, 2.0).unwrap(), law.stress_and_verdict(&WIDE, &twice).unwrap().stress);
     for r in 0..3 {
         for c in 0..3 {
             assert!(near(kirchhoff[r][c], 189.0 * 0.25075 * I[r][c]) && near(fpk[r][c], 94.5 * I[r][c]));
@@ -77,7 +83,10 @@ fn corotated() {
     let u = [[0.0, -1.0, 0.0], [1.0, 0.0, 0.0], [0.0, 0.0, 1.0]];
     let f = [[0.0, -1.0, 0.0], [2.0, 0.0, 0.0], [0.0, 0.0, 1.0]];
     let sigma = [2.0, 1.0, 1.0];
-    let stress = |law: CorotatedLinearElasticity, phase| law.kirchhoff_stress(phase, 2.0, &f, &u, &sigma, &I);
+    let p = Particle { deformation_gradient: f, u, singular_values: sigma, elastic_hardening: 2.0, ..Particle::REST }
+        .with_determinant();
+    let stress =
+        |law: CorotatedLinearElasticity, phase| law.stress_and_verdict(&WIDE, &in_phase(p, phase)).map(|told| told.stress);
     assert_eq!(stress(law, 1.0), Ok(diagonal(12.0, 20.0, 12.0)));
     assert_eq!(stress(law, 0.5), Ok(diagonal(12.0, 20.0, 12.0)));
     assert_eq!(stress(law, 0.0), Ok(diagonal(0.0, 0.0, 0.0)));
@@ -102,13 +111,11 @@ fn solids_of_a_particle() {
         let p = Particle { deformation_gradient: f, u, singular_values: sigma, phase, elastic_hardening: 2.0, ..Particle::REST };
         let p = p.with_determinant();
         assert_eq!(neo.fpk_stress_of(&p), neo.fpk_stress(&f, 2.0));
-        assert_eq!(neo.kirchhoff_stress_of(&p), neo.kirchhoff_stress(phase, 2.0, &f));
         assert_eq!(neo.elastic_energy_density_of(&p), neo.elastic_energy_density(phase, 2.0, &f));
         for split in [EnergySplit::Rust, EnergySplit::AsStress] {
             assert_eq!(neo.elastic_energy_density_in_of(split, &p), neo.elastic_energy_density_in(split, phase, 2.0, &f));
         }
         assert_eq!(neo.pos_energy_of(&p), neo.pos_energy(phase, 2.0, &f));
-        assert_eq!(corotated.kirchhoff_stress_of(&p), corotated.kirchhoff_stress(phase, 2.0, &f, &u, &sigma, &I));
         assert_eq!(corotated.elastic_energy_density_of(&p), corotated.elastic_energy_density(&sigma, 2.0));
         assert_eq!(corotated.pos_energy_of(&p), corotated.pos_energy(&f, &sigma, 2.0));
         let wrong = Particle { determinant: 7.0, ..p };
@@ -119,7 +126,10 @@ fn solids_of_a_particle() {
         let refusal = corotated.pos_energy_of(&lost).unwrap_err();
         assert_eq!((refusal.number, refusal.place), (1, Some("nacc_alpha")));
         let soft = NeoHookeanElasticity { mu: f64::NAN, ..neo };
-        assert_eq!(soft.kirchhoff_stress_of(&wrong).unwrap_err().number, 1);
+        assert_eq!(soft.fpk_stress_of(&wrong).unwrap_err().number, 1);
+        assert_eq!(soft.stress_and_verdict(&WIDE, &wrong).unwrap_err().number, 1);
+        assert_eq!(neo.stress_and_verdict(&WIDE, &wrong).unwrap_err().number, 11);
+        assert_eq!(corotated.stress_and_verdict(&WIDE, &wrong).unwrap_err().number, 11);
     }
 }
 
@@ -140,12 +150,33 @@ fn monaghan() {
     assert!(law.is_fluid());
 }
 
+/// lambda 0 and mu 1.25: the stress of the stretch (2, 1, 1) is diag(5, 0, 0), its shear 2.5.
 #[test]
 fn verdict() {
-    let failed = |principal, shear| MaximumStressFailure::new(principal, shear).unwrap().particle_failed(&[2.0, 0.0, 0.0]);
-    assert_eq!(failed(1.0, 100.0), Ok(true));
-    assert_eq!(failed(100.0, 1.0), Ok(false));
-    assert_eq!(failed(100.0, 0.99), Ok(true));
+    let law = CorotatedLinearElasticity { split_stress_on_failure: true, cfl_coeff: 0.9, lambda: 0.0, mu: 1.25 };
+    let stretched = Particle::stretched([2.0, 1.0, 1.0]);
+    for ([principal, shear], failed) in [([5.0, 2.5], false), ([4.75, 9.0], true), ([5.0, 2.25], true), ([9.0, 9.0], false)] {
+        let limits = MaximumStressFailure::new(principal, shear).unwrap();
+        let told = StressVerdict { stress: diagonal(5.0, 0.0, 0.0), failed };
+        assert_eq!(law.stress_and_verdict(&limits, &stretched), Ok(told));
+    }
+    let limits = MaximumStressFailure { max_principal_stress: 1.0, max_shear_stress: f64::NAN };
+    let refusal = law.stress_and_verdict(&limits, &stretched).unwrap_err();
+    assert_eq!((refusal.number, refusal.place), (1, None));
+}
+
+/// A turned stretch: the diagonal alone would say another verdict than the principal values do.
+#[test]
+fn verdict_on_principal_values() {
+    let law = CorotatedLinearElasticity { split_stress_on_failure: true, cfl_coeff: 0.9, lambda: 0.0, mu: 1.25 };
+    let (c, s) = (0.8, 0.6);
+    let u = [[c, -s, 0.0], [s, c, 0.0], [0.0, 0.0, 1.0]];
+    let f = [[2.0 * c, -s, 0.0], [2.0 * s, c, 0.0], [0.0, 0.0, 1.0]];
+    let p = Particle { deformation_gradient: f, u, singular_values: [2.0, 1.0, 1.0], ..Particle::REST }.with_determinant();
+    let told = |principal, shear| law.stress_and_verdict(&MaximumStressFailure::new(principal, shear).unwrap(), &p).unwrap();
+    let stress = told(4.9, 9.0).stress;
+    assert!(near(stress[0][0], 3.2) && near(stress[1][0], 2.4) && near(stress[1][1], 1.8));
+    assert!(told(4.9, 9.0).failed && told(9.0, 2.4).failed && !told(5.1, 2.6).failed);
 }
 
 #[test]

@@ -118,12 +118,14 @@ fn single_calls_refuse() {
     assert_eq!(number(utils::solve_quadratic(1.0, 0.0, 1.0)), 2);
     assert_eq!(number(utils::inv_exact(1e-310)), 3);
     let law = NeoHookeanElasticity { cfl_coeff: 0.5, lambda: 1.0, mu: 1.0 };
-    assert_eq!(number(law.kirchhoff_stress(1.0, 1.0, &[[0.0; 3]; 3])), 2);
+    let wide = MaximumStressFailure { max_principal_stress: f64::MAX, max_shear_stress: f64::MAX };
+    let flat = Particle { deformation_gradient: [[0.0; 3]; 3], determinant: 0.0, ..Particle::REST };
+    assert_eq!(number(law.stress_and_verdict(&wide, &flat)), 2);
     assert_eq!(number(law.elastic_energy_density(1.0, f64::NAN, &Particle::REST.u)), 1);
     let fluid = MonaghanSphEos { pressure0: 10.0, gamma: 0, viscosity: 0.0, max_neg_pressure: 1.0 };
     assert_eq!(number(fluid.pressure(0.0, 0.0, 1.0)), 3);
     let limits = MaximumStressFailure { max_principal_stress: f64::NAN, max_shear_stress: 1.0 };
-    assert_eq!(number(limits.particle_failed(&[0.0; 3])), 1);
+    assert_eq!(number(law.stress_and_verdict(&limits, &Particle::REST)), 1);
 }
 
 #[test]

@@ -15,19 +15,16 @@ use Rattle.tensor.specs.declared.MatrixAnswer.{MatrixAnswer}
 use Rattle.physics.specs.Physics.{spinTensorOf, strainRateOf}
 use Rattle.elasticity_neo_hookean.specs.Stress as neo
 use Rattle.elasticity_neo_hookean.specs.Energy as neoEnergy
-use Rattle.elasticity_corotated_linear.specs.Stress as corotated
 use Rattle.elasticity_corotated_linear.specs.Energy as corotatedEnergy
 use Rattle.eos_monaghan_sph.specs.Stress as monaghan
 use Rattle.eos_monaghan_sph.specs.Timestep as timestep
 use Rattle.eos_monaghan_sph.specs.declared.MonaghanSphEos.{MonaghanSphEos}
-use Rattle.failure_maximum_stress.specs.Failure.{verdictOf}
-use Rattle.failure_maximum_stress.specs.declared.Verdict.{Verdict}
 use Rattle.plasticity_snow.specs.Snow.{clampedOf}
 use Rattle.plasticity_snow.specs.declared.SnowPlasticity.{SnowPlasticity}
 use Rattle.plasticity_rankine.specs.Projection.{argumentsProject}
 use Rattle.plasticity_drucker_prager.specs.Alpha.{alphaOf}
 use Rattle.record.specs.Layout.{rowAt, matAt}
-use Rattle.host_lists.specs.Refused.{has, sizedNumber, sizedVector, sizedMatrix, sizedVerdict, flaggedNumber, flaggedMatrix}
+use Rattle.host_lists.specs.Refused.{has, sizedNumber, sizedVector, sizedMatrix, flaggedNumber}
 use Rattle.host_lists.specs.Read.{decomposedOf}
 use Rattle.model.specs.Fields.{neoHookeanOf, corotatedOf, rankineOf, druckerPragerOf}
 
@@ -48,9 +45,6 @@ sphericalPart m = sizedNumber (has 9 m) (given (matFinite (matAt m 0)) (answered
 unfoldable pub neoHookeanFpkStress : List ℕ → Float → List ℕ → MatrixAnswer
 neoHookeanFpkStress p h f = sizedMatrix (has 3 p && has 9 f) (neo.fpkStress (neoHookeanOf p) (matAt f 0) h)
 
-unfoldable pub neoHookeanKirchhoffStress : List ℕ → Float → Float → List ℕ → MatrixAnswer
-neoHookeanKirchhoffStress p phase h f = sizedMatrix (has 3 p && has 9 f) (neo.kirchhoffStress (neoHookeanOf p) phase h (matAt f 0))
-
 unfoldable pub neoHookeanElasticEnergyDensity : List ℕ → Float → Float → List ℕ → Answer
 neoHookeanElasticEnergyDensity p phase h f = sizedNumber (has 3 p && has 9 f) (neoEnergy.elasticEnergyDensity (neoHookeanOf p) phase h (matAt f 0))
 
@@ -64,11 +58,6 @@ unfoldable pub neoHookeanPosEnergy : List ℕ → Float → Float → List ℕ �
 neoHookeanPosEnergy p phase h f = sizedNumber (has 3 p && has 9 f) (neoEnergy.posEnergy (neoHookeanOf p) phase h (matAt f 0))
 
 -- ---- corotated
-unfoldable pub corotatedKirchhoffStress : List ℕ → Float → Float → List ℕ → List ℕ → List ℕ → List ℕ → MatrixAnswer
-corotatedKirchhoffStress p phase h f u sigma vt =
-    sizedMatrix (has 4 p && has 9 f && has 9 u && has 3 sigma && has 9 vt)
-    (flaggedMatrix (getD p 0 0) (corotated.kirchhoffStress (corotatedOf p) phase h (matAt f 0) (matAt u 0) (rowAt sigma 0) (matAt vt 0)))
-
 unfoldable pub corotatedElasticEnergyDensity : List ℕ → Float → List ℕ → Answer
 corotatedElasticEnergyDensity p h sigma =
     sizedNumber (has 4 p && has 3 sigma)
@@ -92,11 +81,7 @@ unfoldable pub monaghanTimestepBound : MonaghanSphEos → Float → Float → Fl
 monaghanTimestepBound law j mass volume density velocity width =
     sizedNumber (has 3 velocity) (timestep.timestepBoundOf law j mass volume density (rowAt velocity 0) width)
 
--- ---- the verdict, and the bare clamp, which has no refusal of its own
-unfoldable pub failed : Float → Float → List ℕ → Verdict
-failed principal shear s =
-    sizedVerdict (has 3 s) (verdictOf (record { «max_principal_stress» = principal; «max_shear_stress» = shear }) (rowAt s 0))
-
+-- ---- the bare clamp, which has no refusal of its own
 abbrev pub vectorOf : List Float → VectorAnswer
 vectorOf v = record { refusal = 0; vector = v }
 

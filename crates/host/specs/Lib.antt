@@ -1,8 +1,11 @@
 pub mod Calls
 pub mod Factored
+pub mod Judged
 pub mod OfRecord
 pub mod Passes
 pub mod Reports
 pub mod Sheets
+pub mod Slices
 pub mod Update
 pub mod Zones
+pub mod Causes

@@ -11,12 +11,9 @@ use Rattle.record.specs.Layout.{floats}
 use Rattle.model.specs.Fields.{neoHookeanOf, corotatedOf}
 use Rattle.solid.specs.NeoHookean as neo
 use Rattle.solid.specs.Corotated as corotated
-use Rattle.host_lists.specs.Refused.{has, sizedNumber, sizedMatrix, flaggedNumber, flaggedMatrix}
+use Rattle.host_lists.specs.Refused.{has, sizedNumber, sizedMatrix, flaggedNumber}
 
 -- ---- neo-Hookean
-unfoldable pub recordNeoHookeanKirchhoffStress : List ℕ → List ℕ → MatrixAnswer
-recordNeoHookeanKirchhoffStress p r = sizedMatrix (has 3 p && has floats r) (neo.kirchhoffStress (neoHookeanOf p) r)
-
 unfoldable pub recordNeoHookeanFpkStress : List ℕ → List ℕ → MatrixAnswer
 recordNeoHookeanFpkStress p r = sizedMatrix (has 3 p && has floats r) (neo.fpkStress (neoHookeanOf p) r)
 
@@ -33,10 +30,6 @@ unfoldable pub recordNeoHookeanPosEnergy : List ℕ → List ℕ → Answer
 recordNeoHookeanPosEnergy p r = sizedNumber (has 3 p && has floats r) (neo.posEnergy (neoHookeanOf p) r)
 
 -- ---- corotated
-unfoldable pub recordCorotatedKirchhoffStress : List ℕ → List ℕ → MatrixAnswer
-recordCorotatedKirchhoffStress p r =
-    sizedMatrix (has 4 p && has floats r) (flaggedMatrix (getD p 0 0) (corotated.kirchhoffStress (corotatedOf p) r))
-
 unfoldable pub recordCorotatedElasticEnergyDensity : List ℕ → List ℕ → Answer
 recordCorotatedElasticEnergyDensity p r =
     sizedNumber (has 4 p && has floats r) (flaggedNumber (getD p 0 0) (corotated.elasticEnergyDensity (corotatedOf p) r))

@@ -3,7 +3,7 @@ use elasticity_neo_hookean::NeoHookeanElasticity;
 ghost use mathlib.Core.Path.{_≡_};
 ghost use Rattle.elasticity_neo_hookean.specs.Law.{phaseCoeff};
 ghost use Rattle.host_lists.specs.Out.{numberCode, numberOut, matrixCode, matrixOut};
-ghost use Rattle.host.specs.Calls.{neoHookeanFpkStress, neoHookeanKirchhoffStress, neoHookeanElasticEnergyDensity, neoHookeanElasticEnergyDensityIn, neoHookeanPosEnergy, corotatedKirchhoffStress, corotatedElasticEnergyDensity, corotatedPosEnergy};
+ghost use Rattle.host.specs.Calls.{neoHookeanFpkStress, neoHookeanElasticEnergyDensity, neoHookeanElasticEnergyDensityIn, neoHookeanPosEnergy, corotatedElasticEnergyDensity, corotatedPosEnergy};
 
 #[no_mangle]
 pub extern "C" fn pasoletu_neo_hookean_fpk_stress(
@@ -19,28 +19,6 @@ pub extern "C" fn pasoletu_neo_hookean_fpk_stress(
     let p = model::neo_hookean(law);
     host_lists::put_matrix(
         host_lists::sized_matrix(ok, p.fpk_stress(host_lists::matrix(f), hardening)),
-        out,
-    )
-}
-
-#[no_mangle]
-pub extern "C" fn pasoletu_neo_hookean_kirchhoff_stress(
-    law: &[u64],
-    phase: f64,
-    hardening: f64,
-    f: &[u64],
-    out: &mut [u64],
-) -> u8
-    ensures { λ r. ⌜ r ≡ matrixCode (neoHookeanKirchhoffStress (now (law .entry)) phase hardening (now (f .entry))) (now (out .entry)) ⌝ }
-    ensures { λ r. ⌜ now (out .exit) ≡ matrixOut (neoHookeanKirchhoffStress (now (law .entry)) phase hardening (now (f .entry))) (now (out .entry)) ⌝ }
-{
-    let ok = (law.len() == 3) & (f.len() == 9);
-    let p = model::neo_hookean(law);
-    host_lists::put_matrix(
-        host_lists::sized_matrix(
-            ok,
-            p.kirchhoff_stress(phase, hardening, host_lists::matrix(f)),
-        ),
         out,
     )
 }
@@ -112,40 +90,6 @@ pub extern "C" fn pasoletu_phase_coeff(phase: f64, out: &mut [u64]) -> u8
     ensures { λ r. ⌜ now (out .exit) ≡ numberOut (phaseCoeff phase) (now (out .entry)) ⌝ }
 {
     host_lists::put(NeoHookeanElasticity::phase_coeff(phase), out)
-}
-
-#[no_mangle]
-pub extern "C" fn pasoletu_corotated_kirchhoff_stress(
-    law: &[u64],
-    phase: f64,
-    hardening: f64,
-    f: &[u64],
-    u: &[u64],
-    sigma: &[u64],
-    vt: &[u64],
-    out: &mut [u64],
-) -> u8
-    ensures { λ r. ⌜ r ≡ matrixCode (corotatedKirchhoffStress (now (law .entry)) phase hardening (now (f .entry)) (now (u .entry)) (now (sigma .entry)) (now (vt .entry))) (now (out .entry)) ⌝ }
-    ensures { λ r. ⌜ now (out .exit) ≡ matrixOut (corotatedKirchhoffStress (now (law .entry)) phase hardening (now (f .entry)) (now (u .entry)) (now (sigma .entry)) (now (vt .entry))) (now (out .entry)) ⌝ }
-{
-    let ok = (law.len() == 4)
-        & (f.len() == 9)
-        & (u.len() == 9)
-        & (sigma.len() == 3)
-        & (vt.len() == 9);
-    let p = model::corotated(law);
-    let a = p.kirchhoff_stress(
-        phase,
-        hardening,
-        host_lists::matrix(f),
-        host_lists::matrix(u),
-        host_lists::row(sigma),
-        host_lists::matrix(vt),
-    );
-    host_lists::put_matrix(
-        host_lists::sized_matrix(ok, host_lists::flagged_matrix(record::word(law, 0), a)),
-        out,
-    )
 }
 
 #[no_mangle]

@@ -1,8 +1,11 @@
 // The calls for C, Rust and Python hosts: each answers 0 or RULES' refusal number, and writes nothing where it refuses.
+pub mod causes;
 mod counts_out;
 pub mod determinants;
 pub mod elasticity;
 pub mod factored;
+pub mod in_parts;
+pub mod judged;
 pub mod monaghan;
 pub mod of_record;
 pub mod passes;
@@ -10,6 +13,7 @@ pub mod physics_calls;
 pub mod reports;
 pub mod returns;
 pub mod sheets;
+pub mod slices;
 pub mod update;
 pub mod zones;
 

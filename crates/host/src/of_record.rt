@@ -1,24 +1,7 @@
 // Stresses and energies of a record by the solid laws, with its stored determinant. The laws' lists are those of `elasticity`.
 ghost use mathlib.Core.Path.{_≡_};
 ghost use Rattle.host_lists.specs.Out.{numberCode, numberOut, matrixCode, matrixOut};
-ghost use Rattle.host.specs.OfRecord.{recordNeoHookeanKirchhoffStress, recordNeoHookeanFpkStress, recordNeoHookeanElasticEnergyDensity, recordNeoHookeanElasticEnergyDensityIn, recordNeoHookeanPosEnergy, recordCorotatedKirchhoffStress, recordCorotatedElasticEnergyDensity, recordCorotatedPosEnergy};
-
-#[no_mangle]
-pub extern "C" fn pasoletu_record_neo_hookean_kirchhoff_stress(
-    law: &[u64],
-    r: &[u64],
-    out: &mut [u64],
-) -> u8
-    ensures { λ n. ⌜ n ≡ matrixCode (recordNeoHookeanKirchhoffStress (now (law .entry)) (now (r .entry))) (now (out .entry)) ⌝ }
-    ensures { λ n. ⌜ now (out .exit) ≡ matrixOut (recordNeoHookeanKirchhoffStress (now (law .entry)) (now (r .entry))) (now (out .entry)) ⌝ }
-{
-    let ok = (law.len() == 3) & (r.len() == record::FLOATS);
-    let p = model::neo_hookean(law);
-    host_lists::put_matrix(
-        host_lists::sized_matrix(ok, solid::neo_hookean::kirchhoff_stress(p, r)),
-        out,
-    )
-}
+ghost use Rattle.host.specs.OfRecord.{recordNeoHookeanFpkStress, recordNeoHookeanElasticEnergyDensity, recordNeoHookeanElasticEnergyDensityIn, recordNeoHookeanPosEnergy, recordCorotatedElasticEnergyDensity, recordCorotatedPosEnergy};
 
 #[no_mangle]
 pub extern "C" fn pasoletu_record_neo_hookean_fpk_stress(
@@ -85,23 +68,6 @@ pub extern "C" fn pasoletu_record_neo_hookean_pos_energy(
     let p = model::neo_hookean(law);
     host_lists::put(
         host_lists::sized(ok, solid::neo_hookean::pos_energy(p, r)),
-        out,
-    )
-}
-
-#[no_mangle]
-pub extern "C" fn pasoletu_record_corotated_kirchhoff_stress(
-    law: &[u64],
-    r: &[u64],
-    out: &mut [u64],
-) -> u8
-    ensures { λ n. ⌜ n ≡ matrixCode (recordCorotatedKirchhoffStress (now (law .entry)) (now (r .entry))) (now (out .entry)) ⌝ }
-    ensures { λ n. ⌜ now (out .exit) ≡ matrixOut (recordCorotatedKirchhoffStress (now (law .entry)) (now (r .entry))) (now (out .entry)) ⌝ }
-{
-    let ok = (law.len() == 4) & (r.len() == record::FLOATS);
-    let a = solid::corotated_linear::kirchhoff_stress(model::corotated(law), r);
-    host_lists::put_matrix(
-        host_lists::sized_matrix(ok, host_lists::flagged_matrix(record::word(law, 0), a)),
         out,
     )
 }

@@ -1,31 +1,9 @@
-// The verdict, the bare clamp, Rankine's projection, Drucker-Prager's slope and DecomposedTensor's product for hosts.
-use failure_maximum_stress::MaximumStressFailure;
+// The bare clamp, Rankine's projection, Drucker-Prager's slope and DecomposedTensor's product for hosts.
 use plasticity_snow::SnowPlasticity;
 use tensor::VectorAnswer;
 ghost use mathlib.Core.Path.{_≡_};
-ghost use Rattle.host_lists.specs.Out.{numberCode, numberOut, vectorCode, vectorOut, verdictCode, verdictOut};
-ghost use Rattle.host.specs.Calls.{failed, snowOf, snowClamp, vectorOf, rankineProject, druckerPragerAlpha, decomposedTimes};
-
-#[no_mangle]
-pub extern "C" fn pasoletu_failed(
-    max_principal: f64,
-    max_shear: f64,
-    stresses: &[u64],
-    out: &mut [u64],
-) -> u8
-    ensures { λ r. ⌜ r ≡ verdictCode (failed «max_principal» «max_shear» (now (stresses .entry))) (now (out .entry)) ⌝ }
-    ensures { λ r. ⌜ now (out .exit) ≡ verdictOut (failed «max_principal» «max_shear» (now (stresses .entry))) (now (out .entry)) ⌝ }
-{
-    let ok = stresses.len() == 3;
-    let limits = MaximumStressFailure {
-        max_principal_stress: max_principal,
-        max_shear_stress: max_shear,
-    };
-    host_lists::put_verdict(
-        host_lists::sized_verdict(ok, limits.particle_failed(host_lists::row(stresses))),
-        out,
-    )
-}
+ghost use Rattle.host_lists.specs.Out.{numberCode, numberOut, vectorCode, vectorOut};
+ghost use Rattle.host.specs.Calls.{snowOf, snowClamp, vectorOf, rankineProject, druckerPragerAlpha, decomposedTimes};
 
 #[no_mangle]
 pub extern "C" fn pasoletu_snow_clamp(

@@ -1,5 +1,5 @@
 -- What a host's call answers and writes (RULES, section 6): 8 where the room has the wrong length, the refusal's number, or 0.
-use mathlib.Core.Bool.{cond}
+use mathlib.Core.Bool.{Bool, cond, _&&_}
 use mathlib.Core.List.{List}
 use Prim.Native.Nat.{ℕ}
 use lib.Dec.{eqb}
@@ -12,8 +12,7 @@ use Rattle.answers.specs.declared.Pair.{Pair}
 use Rattle.answers.specs.declared.Pair.the-variants as Pair
 use Rattle.tensor.specs.declared.VectorAnswer.{VectorAnswer}
 use Rattle.tensor.specs.declared.MatrixAnswer.{MatrixAnswer}
-use Rattle.failure_maximum_stress.specs.declared.Verdict.{Verdict}
-use Rattle.failure_maximum_stress.specs.declared.Verdict.the-variants as Verdict
+use Rattle.solid.specs.declared.StressVerdict.{StressVerdict}
 use Rattle.record.specs.Layout.{bits, putRow, putRows}
 
 abbrev pub codeOf : Answer → ℕ
@@ -60,19 +59,19 @@ matrixCode a out = cond (eqb (length out) 9) (a .refusal) 8
 unfoldable pub matrixOut : MatrixAnswer → List ℕ → List ℕ
 matrixOut a out = cond (eqb (length out) 9) (cond (eqb (a .refusal) 0) (putRows out 0 (a .matrix)) out) out
 
-abbrev pub verdictCodeOf : Verdict → ℕ
-verdictCodeOf Verdict.No = 0
-verdictCodeOf Verdict.Yes = 0
-verdictCodeOf (Verdict.Refused n) = n
+-- 1 for yes and 0 for no
+abbrev pub verdictWord : Bool → ℕ
+verdictWord failed = cond failed 1 0
 
-abbrev pub verdictWritten : Verdict → List ℕ → List ℕ
-verdictWritten Verdict.No out = set out 0 0
-verdictWritten Verdict.Yes out = set out 0 1
-verdictWritten (Verdict.Refused n) out = out
+-- a stress's nine numbers and its verdict, each into a room of its own: 8 where either has another length
+abbrev pub judgedRooms : List ℕ → List ℕ → Bool
+judgedRooms stress verdict = eqb (length stress) 9 && eqb (length verdict) 1
 
--- a verdict, 1 for yes and 0 for no
-unfoldable pub verdictCode : Verdict → List ℕ → ℕ
-verdictCode v out = cond (eqb (length out) 1) (verdictCodeOf v) 8
+unfoldable pub judgedCode : StressVerdict → List ℕ → List ℕ → ℕ
+judgedCode a stress verdict = cond (judgedRooms stress verdict) (a .refusal) 8
 
-unfoldable pub verdictOut : Verdict → List ℕ → List ℕ
-verdictOut v out = cond (eqb (length out) 1) (verdictWritten v out) out
+unfoldable pub stressOut : StressVerdict → List ℕ → List ℕ → List ℕ
+stressOut a stress verdict = cond (judgedRooms stress verdict && eqb (a .refusal) 0) (putRows stress 0 (a .stress)) stress
+
+unfoldable pub verdictOut : StressVerdict → List ℕ → List ℕ → List ℕ
+verdictOut a stress verdict = cond (judgedRooms stress verdict && eqb (a .refusal) 0) (set verdict 0 (verdictWord (a .failed))) verdict

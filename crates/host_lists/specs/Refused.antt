@@ -10,8 +10,8 @@ use Rattle.answers.specs.declared.Answer.the-variants.{Refused}
 use Rattle.tensor.specs.Answer.{refusedVector, refusedMatrix}
 use Rattle.tensor.specs.declared.VectorAnswer.{VectorAnswer}
 use Rattle.tensor.specs.declared.MatrixAnswer.{MatrixAnswer}
-use Rattle.failure_maximum_stress.specs.declared.Verdict.{Verdict}
-use Rattle.failure_maximum_stress.specs.declared.Verdict.the-variants as Verdict
+use Rattle.solid.specs.Judged.{refusedJudged}
+use Rattle.solid.specs.declared.StressVerdict.{StressVerdict}
 use Rattle.model.specs.Kinds.{allowed}
 
 -- the answer where the lists have their lengths, else 8
@@ -24,8 +24,8 @@ sizedVector ok a = cond ok a (refusedVector wrongLength)
 abbrev pub sizedMatrix : Bool → MatrixAnswer → MatrixAnswer
 sizedMatrix ok a = cond ok a (refusedMatrix wrongLength)
 
-abbrev pub sizedVerdict : Bool → Verdict → Verdict
-sizedVerdict ok v = cond ok v (Verdict.Refused wrongLength)
+abbrev pub sizedJudged : Bool → StressVerdict → StressVerdict
+sizedJudged ok a = cond ok a (refusedJudged wrongLength)
 
 -- whether a list has the length n
 abbrev pub has : ℕ → List ℕ → Bool
@@ -35,5 +35,5 @@ has n l = eqb (length l) n
 abbrev pub flaggedNumber : ℕ → Answer → Answer
 flaggedNumber w a = cond (allowed true w) a (Refused unknown)
 
-abbrev pub flaggedMatrix : ℕ → MatrixAnswer → MatrixAnswer
-flaggedMatrix w a = cond (allowed true w) a (refusedMatrix unknown)
+abbrev pub flaggedJudged : ℕ → StressVerdict → StressVerdict
+flaggedJudged w a = cond (allowed true w) a (refusedJudged unknown)

@@ -1,9 +1,9 @@
 use answers::Answer;
-use failure_maximum_stress::Verdict;
+use solid::StressVerdict;
 use tensor::MatrixAnswer;
 use tensor::VectorAnswer;
 ghost use mathlib.Core.Path.{_≡_};
-ghost use Rattle.host_lists.specs.Refused.{sizedNumber, sizedVector, sizedMatrix, sizedVerdict, flaggedNumber, flaggedMatrix};
+ghost use Rattle.host_lists.specs.Refused.{sizedNumber, sizedVector, sizedMatrix, sizedJudged, flaggedNumber, flaggedJudged};
 
 // The answer where the lists have their lengths, else 8.
 pub fn sized(ok: bool, a: Answer) -> Answer
@@ -36,13 +36,13 @@ pub fn sized_matrix(ok: bool, a: MatrixAnswer) -> MatrixAnswer
     }
 }
 
-pub fn sized_verdict(ok: bool, v: Verdict) -> Verdict
-    ensures { λ r. ⌜ r ≡ sizedVerdict ok v ⌝ }
+pub fn sized_judged(ok: bool, a: StressVerdict) -> StressVerdict
+    ensures { λ r. ⌜ r ≡ sizedJudged ok a ⌝ }
 {
     if ok {
-        v
+        a
     } else {
-        Verdict::Refused(answers::LENGTH)
+        solid::judged::refused_judged(answers::LENGTH)
     }
 }
 
@@ -57,12 +57,12 @@ pub fn flagged(w: u64, a: Answer) -> Answer
     }
 }
 
-pub fn flagged_matrix(w: u64, a: MatrixAnswer) -> MatrixAnswer
-    ensures { λ r. ⌜ r ≡ flaggedMatrix w a ⌝ }
+pub fn flagged_judged(w: u64, a: StressVerdict) -> StressVerdict
+    ensures { λ r. ⌜ r ≡ flaggedJudged w a ⌝ }
 {
     if model::is_flag(w) {
         a
     } else {
-        tensor::refused_matrix(answers::UNKNOWN)
+        solid::judged::refused_judged(answers::UNKNOWN)
     }
 }

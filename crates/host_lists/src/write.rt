@@ -1,11 +1,11 @@
 // Answers into a host's room: 8 where the room has another length, else the refusal's number, and nothing is written; else 0.
 use answers::Answer;
 use answers::Pair;
-use failure_maximum_stress::Verdict;
+use solid::StressVerdict;
 use tensor::MatrixAnswer;
 use tensor::VectorAnswer;
 ghost use mathlib.Core.Path.{_≡_};
-ghost use Rattle.host_lists.specs.Out.{numberCode, numberOut, pairCode, pairOut, vectorCode, vectorOut, matrixCode, matrixOut, verdictCode, verdictOut};
+ghost use Rattle.host_lists.specs.Out.{numberCode, numberOut, pairCode, pairOut, vectorCode, vectorOut, matrixCode, matrixOut, verdictWord, judgedCode, stressOut, verdictOut};
 
 pub fn put(a: Answer, out: &mut [u64]) -> u8
     ensures { λ r. ⌜ r ≡ numberCode a (now (out .entry)) ⌝ }
@@ -73,22 +73,30 @@ pub fn put_matrix(a: MatrixAnswer, out: &mut [u64]) -> u8
 }
 
 // 1 for yes and 0 for no, as whole numbers.
-pub fn put_verdict(v: Verdict, out: &mut [u64]) -> u8
-    ensures { λ r. ⌜ r ≡ verdictCode v (now (out .entry)) ⌝ }
-    ensures { λ r. ⌜ now (out .exit) ≡ verdictOut v (now (out .entry)) ⌝ }
+fn verdict_word(failed: bool) -> u64
+    ensures { λ r. ⌜ r ≡ verdictWord failed ⌝ }
 {
-    if out.len() != 1 {
+    if failed { 1 } else { 0 }
+}
+
+// A stress into one room and its verdict into another: both are written or neither.
+pub fn put_judged(a: StressVerdict, stress: &mut [u64], verdict: &mut [u64]) -> u8
+    ensures { λ r. ⌜ r ≡ judgedCode a (now (stress .entry)) (now (verdict .entry)) ⌝ }
+    ensures { λ r. ⌜ now (stress .exit) ≡ stressOut a (now (stress .entry)) (now (verdict .entry)) ⌝ }
+    ensures { λ r. ⌜ now (verdict .exit) ≡ verdictOut a (now (stress .entry)) (now (verdict .entry)) ⌝ }
+{
+    if stress.len() != 9 {
         return answers::LENGTH;
     }
-    match v {
-        Verdict::No => {
-            out[0] = 0;
-            0
-        }
-        Verdict::Yes => {
-            out[0] = 1;
-            0
-        }
-        Verdict::Refused(n) => n,
+    if verdict.len() != 1 {
+        return answers::LENGTH;
     }
+    let refusal = a.refusal;
+    if refusal != 0 {
+        return refusal;
+    }
+    let m = a.stress;
+    record::write_rows(stress, 0, m);
+    verdict[0] = verdict_word(a.failed);
+    0
 }

@@ -2,10 +2,11 @@
 use crate::Model;
 use plasticity::State;
 use plasticity::Updated;
+use reason::Reason;
 ghost use mathlib.Core.Path.{_≡_};
 ghost use mathlib.Core.Bool.{true};
 ghost use Rattle.plasticity.specs.State.{inputsFinite};
-ghost use Rattle.model.specs.Model.{modelFinite, modelUpdate};
+ghost use Rattle.model.specs.Model.{modelFinite, modelUpdate, modelReason};
 
 // Whether every float of the parameters is finite.
 pub fn model_finite(m: Model) -> bool
@@ -41,5 +42,17 @@ pub fn update_tested(m: Model, u: [[f64; 3]; 3], vt: [[f64; 3]; 3], s: State) ->
         Model::Rankine(a) => a.update_tested(u, vt, s),
         Model::DruckerPrager(p) => p.update_tested(u, vt, s),
         Model::Nacc(a) => a.update_tested(u, vt, s),
+    }
+}
+
+// Why the update by the model's law answers as it does.
+pub fn reason_of(m: Model, u: [[f64; 3]; 3], vt: [[f64; 3]; 3], s: State) -> Reason
+    ensures { λ r. ⌜ r ≡ modelReason m u vt s ⌝ }
+{
+    match m {
+        Model::Snow(p) => p.reason(u, vt, s),
+        Model::Rankine(a) => a.reason(u, vt, s),
+        Model::DruckerPrager(p) => p.reason(u, vt, s),
+        Model::Nacc(a) => a.reason(u, vt, s),
     }
 }

@@ -5,6 +5,7 @@ mod fields;
 mod kinds;
 
 pub use choice::model_finite;
+pub use choice::reason_of;
 pub use choice::update;
 pub use choice::update_tested;
 pub use fields::corotated;

@@ -7,3 +7,4 @@ pub mod Growing
 pub mod Standing
 pub mod Ran
 pub mod Ending
+pub mod Counts

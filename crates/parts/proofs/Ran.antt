@@ -1,4 +1,4 @@
--- The run of a whole sheet with lists for 200 particles: its refusal, and of a good sheet its records and answers. Assumes nothing.
+-- The run of a whole sheet with lists for 200 particles: its refusal, and of a good sheet its records, answers and counts. Assumes nothing.
 use mathlib.Core.Path.{_≡_, refl, sym, ap, _∙_}
 use mathlib.Core.Bool.{Bool, true, false, cond}
 use mathlib.Core.List.{List, _++_}
@@ -9,7 +9,7 @@ use lib.Seq.{take-at, drop-at}
 use lib.Dec.{ltb, eqb}
 use borrow.Author.Tests.{le-ltb, eqb-true, eq-eqb, ne-eqb}
 use Rattle.record.specs.Layout.{floats}
-use Rattle.particles.specs.Pass.{wellSized, worked, answers}
+use Rattle.particles.specs.Pass.{wellSized, worked, answers, counts, threeOf}
 use Rattle.sheet.specs.Sheet.{most, refusedBy, headerOf, readOf, recordsOf, roomOf}
 use Rattle.sheet.specs.declared.Header.{Header}
 use Rattle.sheet.proofs.Taken.{few}
@@ -75,3 +75,7 @@ module _ (s xs out : List ℕ) (lent : Lent xs out) where
     pub answers-are : ranAnswers s xs out ≡ answers (lawOf h) (recordsOf s h) (h .count) ++ drop (h .count * 2) out
     unfolding frontAnswers
     answers-are = rw (sized, read-is, z, part-is, parts-sized, count-is)
+
+    pub counts-are : ranOf s xs out .counts ≡ threeOf (counts (lawOf h) (recordsOf s h) (h .count))
+    unfolding frontOf
+    counts-are = rw (sized, read-is, z, part-is, parts-sized, count-is)

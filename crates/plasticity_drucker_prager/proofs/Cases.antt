@@ -1,7 +1,7 @@
 -- P12 of RULES, section 8, from the logarithm at 1 and the root at 0; and the defaults' angles.
 use mathlib.Core.Bool.{true}
 use mathlib.Core.List.{List, [], _∷_}
-use mathlib.Core.Path.{_≡_, refl}
+use mathlib.Core.Path.{_≡_, refl, ap, _∙_}
 use lib.Ieee as Ieee
 use lib.Ieee.{Float, binary64, ofBits}
 use Rattle.numbers.specs.Floats.{finite, isNumber}
@@ -12,6 +12,8 @@ use Rattle.tensor.specs.Matrix.{mul, div, zero, one, three, sumOf, productOf, d
 use Rattle.plasticity.specs.declared.Outcome.the-variants.{Stored}
 use Rattle.plasticity.specs.declared.State.{State}
 use Rattle.walk.specs.Walk.{result, answerAs, given}
+use Rattle.reason.specs.Traced.{reached, traced, untraced}
+use Rattle.reason.proofs.Laws.{result-traced}
 use Rattle.walk.specs.Exact.{number-then}
 use Rattle.walk.specs.Update.{updatedOf}
 use Rattle.walk.specs.Matrix.{value-sum, value-product, value-dot}
@@ -40,9 +42,12 @@ abbrev tip : Returned
 tip = record { way = isotropic (three zero zero zero); sigma = ones; dq = zero }
 
 -- the projection: sigma all ones and dq 0, whatever alpha is
-pub projection : (p : DruckerPragerPlasticity) (a : Float) → lnOf one ≡ zero → sqrtOf zero ≡ zero → result (projectWalk dim p ones zero a) ≡ given tip
+projects : (p : DruckerPragerPlasticity) (a : Float) → lnOf one ≡ zero → sqrtOf zero ≡ zero → traced (projectWalk dim p ones zero a) ≡ reached tip
 unfolding projectWalk strainedWalk tipWalk sumOf dotOf isNumber Ieee.add Ieee.sub Ieee.mul Ieee.div Ieee.le Ieee.lt Ieee.eq ofBits
-projection p a h k = simp (h, k, value-sum, value-dot)
+projects p a h k = simp (h, k, value-sum, value-dot)
+
+pub projection : (p : DruckerPragerPlasticity) (a : Float) → lnOf one ≡ zero → sqrtOf zero ≡ zero → result (projectWalk dim p ones zero a) ≡ given tip
+projection p a h k = result-traced (projectWalk dim p ones zero a) ∙ ap untraced (projects p a h k)
 
 abbrev identity : List (List Float)
 identity = three (three one zero zero) (three zero one zero) (three zero zero one)
@@ -71,7 +76,7 @@ run :
     (l m a : Float) → lnOf one ≡ zero → sqrtOf zero ≡ zero → answerAs (result (alphaWalk (defaultsOf l m) one)) ≡ Value a →
     updatedOf rested (result (runWalk (defaultsOf l m) identity identity rested)) .outcome ≡ Stored zero
 unfolding runWalk
-run l m a h k e = simp (number-then, e, way-then, projection (defaultsOf l m) a h k, moved l m h)
+run l m a h k e = simp (number-then, e, way-then, projects (defaultsOf l m) a h k, moved l m h)
 
 -- P12: the default law with finite moduli stores, and dq is 0
 pub p12 :

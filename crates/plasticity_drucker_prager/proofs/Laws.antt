@@ -8,22 +8,30 @@ use Rattle.answers.specs.declared.Answer.{Answer}
 use Rattle.answers.specs.declared.Answer.the-variants as answers
 use Rattle.tensor.specs.Axes.{allOf}
 use Rattle.tensor.specs.Finite.{rowFinite, matFinite}
-use Rattle.tensor.specs.Matrix.{one, recomposeOf}
+use Rattle.tensor.specs.Matrix.{one, productOf, recomposeOf}
 use Rattle.physics.specs.Norm.{normOf}
 use Rattle.plasticity.specs.State as law
 use Rattle.plasticity.specs.State.{inputsFinite}
 use Rattle.plasticity.specs.declared.Outcome.the-variants.{Stored}
+use Rattle.plasticity.specs.declared.Scalars.{Scalars}
 use Rattle.plasticity.specs.declared.State.{State}
+use Rattle.plasticity.specs.declared.Updated.{Updated}
 use Rattle.walk.specs.Expr.{Expr, value}
-use Rattle.walk.specs.Walk.{Walk, _then_, Ended, given, refused, asked, result}
+use Rattle.walk.specs.Walk.{Walk, _then_, Ended, given, refused, result}
 use Rattle.walk.specs.Exact.{andThen, result-then}
+use Rattle.reason.specs.declared.Number.{Number}
+use Rattle.reason.specs.declared.Number.the-variants as number
+use Rattle.reason.specs.Traced.{Traced, reached, stopped, askedAt, traced, untraced, onwards, numberAs}
+use Rattle.reason.proofs.Laws.{traced-then, result-traced}
 use Rattle.walk.specs.Every.{all-append}
-use Rattle.walk.specs.Update.{stored, updatedOf, inputs-finite}
-use Rattle.walk.specs.Matrix.{value-dot, value-entry, values-nums}
+use Rattle.walk.specs.Update.{Change, stored, updatedOf, inputs-finite}
+use Rattle.walk.specs.Matrix.{product, value-product, value-dot, value-entry, values-nums}
 use Rattle.plasticity_drucker_prager.specs.declared.DruckerPragerPlasticity.{DruckerPragerPlasticity}
+use Rattle.plasticity_drucker_prager.specs.declared.Measured.{Measured}
+use Rattle.plasticity_drucker_prager.specs.declared.Measured.the-variants as measured
 use Rattle.plasticity_drucker_prager.specs.Law.{parametersOf, parametersFinite}
-use Rattle.plasticity_drucker_prager.specs.Projection.{projectFloats, Way, isotropic, expanding, inside, surface, Returned, returnedWalk, tipWalk, branchOf, refusedProjection, projectedOf, tipOf, returnedOf}
-use Rattle.plasticity_drucker_prager.specs.DruckerPrager.{stateOf, storeWalk, wayWalk, followedOf, floats}
+use Rattle.plasticity_drucker_prager.specs.Projection.{projectFloats, Way, isotropic, expanding, inside, surface, Returned, returnedWalk, tipWalk, branchOf, refusedProjection, walkedOf, projectedOf, tipOf, returnedOf, outcomeOf, resultsOf}
+use Rattle.plasticity_drucker_prager.specs.DruckerPrager.{stateOf, storeWalk, Measures, measureWalk, measuredAs, measuredOf, finiteResults, movedWalk, wayWalk, followedOf, floats}
 
 -- the inputs
 pub inputs-law : (p : DruckerPragerPlasticity) (u vt : List (List Float)) (s : State) → allOf finite (floats p u vt s) ≡ parametersFinite p && inputsFinite u vt s
@@ -43,26 +51,51 @@ project-inputs p sigma gain alpha =
     ∙ rw (all-append finite sigma (gain ∷ alpha ∷ [])) (leftwards (parametersFinite p) (rowFinite sigma) (finite gain) (finite alpha))
 
 -- the tip, once the norm is known
-tipped : (w : Way) (ones : List Float) (a : Answer) → projectedOf (asked a (λ v. given (record { way = w; sigma = ones; dq = v }))) ≡ tipOf (branchOf w) ones a
+tipped : (w : Way) (ones : List Float) (a : Answer) → walkedOf (askedAt 10 a (λ v. reached (record { way = w; sigma = ones; dq = v }))) ≡ tipOf (branchOf w) ones a
 tipped w ones (answers.Value v) = refl
 tipped w ones (answers.Refused n) = refl
 
-pub tip-law : (w : Way) (e : List Float) → projectedOf (result (tipWalk w e)) ≡ tipOf (branchOf w) (map (λ x. one) e) (normOf e)
+pub tip-law : (w : Way) (e : List Float) → walkedOf (traced (tipWalk w e)) ≡ tipOf (branchOf w) (map (λ x. one) e) (normOf e)
 unfolding tipWalk
 tip-law w e = rw (value-dot e e) (tipped w (map (λ x. one) e) (normOf e))
 
 -- the projection is returned
-handed : (b : Bool) (q : Returned) → projectedOf (cond b (given q) (refused 3)) ≡ cond b (projectedOf (given q)) (refusedProjection 3)
+handed : (b : Bool) (q : Returned) → walkedOf (cond b (reached q) (stopped 3 19)) ≡ cond b (walkedOf (reached q)) (refusedProjection 3 19)
 handed true q = refl
 handed false q = refl
 
-returns : (x : Ended Returned) → projectedOf (andThen x (λ q. result (returnedWalk q))) ≡ returnedOf (projectedOf x)
+returns : (x : Traced Returned) → walkedOf (onwards x (λ q. traced (returnedWalk q))) ≡ returnedOf (walkedOf x)
 unfolding returnedWalk finite ofBits
-returns (given q) = simp values-nums (handed (rowFinite (q .sigma) && finite (q .dq)) q)
-returns (refused n) = refl
+returns (reached q) = simp values-nums (handed (rowFinite (q .sigma) && finite (q .dq)) q)
+returns (stopped n step) = refl
 
-pub returned-then : (w : Walk Returned) → projectedOf (result (w then returnedWalk)) ≡ returnedOf (projectedOf (result w))
-returned-then w = ap projectedOf (result-then w returnedWalk) ∙ returns (result w)
+pub returned-then : (w : Walk Returned) → walkedOf (traced (w then returnedWalk)) ≡ returnedOf (walkedOf (traced w))
+returned-then w = ap walkedOf (traced-then w returnedWalk) ∙ returns (traced w)
+
+-- it is handed out without its step
+handed-out : (x : Traced Returned) → resultsOf (projectedOf (untraced x)) ≡ resultsOf (walkedOf x)
+handed-out (reached q) = refl
+handed-out (stopped n step) = refl
+
+pub results-law : (w : Walk Returned) → resultsOf (projectedOf (result w)) ≡ resultsOf (walkedOf (traced w))
+results-law w = ap (λ x. resultsOf (projectedOf x)) (result-traced w) ∙ handed-out (traced w)
+
+-- what follows a walk doesn't see its step
+pub then-traced : {A B : Type 0} (w : Walk A) (g : A → Walk B) → result (w then g) ≡ andThen (untraced (traced w)) (λ a. result (g a))
+then-traced w g = result-then w g ∙ ap (λ x. andThen x (λ a. result (g a))) (result-traced w)
+
+-- alpha is followed by the projection
+module _ {B : Type 0} (g : Float → Ended B) where
+  abbrev pub numbered : Number → Ended B
+  numbered (number.Value x) = g x
+  numbered (number.Refused n step) = refused n
+
+  stepped : (x : Traced Float) → andThen (untraced x) g ≡ numbered (numberAs x)
+  stepped (reached v) = refl
+  stepped (stopped n step) = refl
+
+pub alpha-then : {B : Type 0} (w : Walk Float) (g : Float → Walk B) → result (w then g) ≡ numbered (λ a. result (g a)) (numberAs (traced w))
+alpha-then w g = then-traced w g ∙ stepped (λ a. result (g a)) (traced w)
 
 -- the projection is followed by its branch
 module _ (p : DruckerPragerPlasticity) (u vt : List (List Float)) (s : State) where
@@ -73,16 +106,17 @@ module _ (p : DruckerPragerPlasticity) (u vt : List (List Float)) (s : State) wh
   way-law (inside x) sigma dq = refl
   way-law (surface x norm) sigma dq = refl
 
-  follows : (x : Ended Returned)
-      → updatedOf s (andThen x (λ q. result (wayWalk p (q .way) (q .sigma) (q .dq) u vt s)))
-      ≡ followedOf (projectedOf x .branch) p (projectedOf x .sigma) (projectedOf x .dq) u vt s
-  follows (given q) = way-law (q .way) (q .sigma) (q .dq)
-  follows (refused n) = refl
+  abbrev afterWay : Returned → Ended Change
+  afterWay q = result (wayWalk p (q .way) (q .sigma) (q .dq) u vt s)
+
+  follows : (x : Traced Returned) → updatedOf s (andThen (untraced x) afterWay) ≡ followedOf (walkedOf x .branch) p (walkedOf x .sigma) (walkedOf x .dq) u vt s
+  follows (reached q) = way-law (q .way) (q .sigma) (q .dq)
+  follows (stopped n step) = refl
 
   pub way-then : (w : Walk Returned)
       → updatedOf s (result (w then (λ q. wayWalk p (q .way) (q .sigma) (q .dq) u vt s)))
-      ≡ followedOf (projectedOf (result w) .branch) p (projectedOf (result w) .sigma) (projectedOf (result w) .dq) u vt s
-  way-then w = ap (updatedOf s) (result-then w (λ q. wayWalk p (q .way) (q .sigma) (q .dq) u vt s)) ∙ follows (result w)
+      ≡ followedOf (walkedOf (traced w) .branch) p (walkedOf (traced w) .sigma) (walkedOf (traced w) .dq) u vt s
+  way-then w = ap (updatedOf s) (then-traced w (λ q. wayWalk p (q .way) (q .sigma) (q .dq) u vt s)) ∙ follows (traced w)
 
 -- the results as the code tests them
 kept : (s new : State) (dq : Float) (b : Bool) → updatedOf s (cond b (given (stored new dq)) (refused 3)) ≡ cond b (record { state = new; outcome = Stored dq }) (law.refused 3 s)
@@ -91,10 +125,36 @@ kept s new dq false = refl
 
 pub store-law : (u : List (List Float)) (sigma : List Float) (vt : List (List Float)) (d h gain : Expr) (dq : Float) (s : State)
     → updatedOf s (result (storeWalk u sigma vt d h gain dq s))
-    ≡ cond ((matFinite (recomposeOf u sigma vt) && rowFinite sigma) && ((finite (value d) && finite (value h)) && finite (value gain)))
+    ≡ cond (finiteResults (recomposeOf u sigma vt) sigma (value d) (value h) (value gain))
     (record { state = stateOf (recomposeOf u sigma vt) sigma (value d) (value h) (value gain) s; outcome = Stored dq }) (law.refused 3 s)
 unfolding storeWalk
 store-law u sigma vt d h gain dq s =
     let f = recomposeOf u sigma vt in
     simp (value-entry, values-nums)
     (kept s (stateOf f sigma (value d) (value h) (value gain) s) dq ((matFinite f && rowFinite sigma) && ((finite (value d) && finite (value h)) && finite (value gain))))
+
+-- what is stored beside F and sigma is told of the products' values
+pub measured-law : (p : DruckerPragerPlasticity) (old sigma : List Float) (dq : Float) (x : Scalars)
+    → measuredAs (traced (measureWalk p (product old) (product sigma) dq x)) ≡ measuredOf p (productOf old) (productOf sigma) dq x
+unfolding measuredOf
+measured-law p old sigma dq x = rw (← value-product old, ← value-product sigma) refl
+
+-- what is stored beside F and sigma, and then the results
+module _ (p : DruckerPragerPlasticity) (sigma : List Float) (dq : Float) (u vt : List (List Float)) (s : State) where
+  abbrev pub storedBy : Measured → Updated
+  storedBy (measured.Values d h gain) =
+      cond (finiteResults (recomposeOf u sigma vt) sigma d h gain) (record { state = stateOf (recomposeOf u sigma vt) sigma d h gain s; outcome = Stored dq }) (law.refused 3 s)
+  storedBy (measured.Refused n step) = law.refused n s
+
+  abbrev afterMeasures : Measures → Walk Change
+  afterMeasures m = storeWalk u sigma vt (m .determinant) (m .hardening) (m .gain) dq s
+
+  measures : (x : Traced Measures) → updatedOf s (andThen (untraced x) (λ m. result (afterMeasures m))) ≡ storedBy (measuredAs x)
+  measures (reached m) = store-law u sigma vt (m .determinant) (m .hardening) (m .gain) dq s
+  measures (stopped n step) = refl
+
+  pub moved-law : updatedOf s (result (movedWalk p sigma dq u vt s)) ≡ storedBy (measuredOf p (productOf (s .sigma)) (productOf sigma) dq (s .scalars))
+  unfolding movedWalk
+  moved-law =
+      let w = measureWalk p (product (s .sigma)) (product sigma) dq (s .scalars) in
+      ap (updatedOf s) (then-traced w afterMeasures) ∙ measures (traced w) ∙ ap storedBy (measured-law p (s .sigma) sigma dq (s .scalars))

@@ -41,11 +41,11 @@ pub alpha-refused : (p : DruckerPragerPlasticity) (q : Float) → elementaryRefu
 alpha-refused p q = ap (λ a. elementaryRefusal (answerAs a)) (exactly (alphaCall p q)) ∙ alpha-told (first (path (alphaCall p q))) (final (alphaCall p q))
 
 abbrev pub branchRefusal : Branch → Option ℕ
-branchRefusal (branches.Isotropic x y) = none
+branchRefusal (branches.Isotropic x y z) = none
 branchRefusal (branches.Expanding x y) = none
 branchRefusal (branches.Inside x y) = none
 branchRefusal (branches.Surface x y z) = none
-branchRefusal (branches.Refused n) = some n
+branchRefusal (branches.Refused n step) = some n
 
 way-none : (w : Way) → branchRefusal (branchOf w) ≡ none
 way-none (isotropic d) = refl
@@ -123,6 +123,14 @@ module _ (p : DruckerPragerPlasticity) (u vt : List (List Float)) (s : State) wh
   abbrev W : Returned → Walk Change
   W q = wayWalk p (q .way) (q .sigma) (q .dq) u vt s
 
+  -- after the projection no test counts, whatever singular values were projected
+  pub follow-reason : (sigma : List Float) (alpha : Float) (r : Option Reason)
+      → lastFrom r (path (projectWalk dim p sigma (s .scalars .«log_gain») alpha then W)) ≡ some (reasonOf (final (projectWalk dim p sigma (s .scalars .«log_gain») alpha) .way))
+  follow-reason sigma alpha r =
+      let g = projectWalk dim p sigma (s .scalars .«log_gain») alpha in
+      last-then g W r ∙ ap (λ x. lastFrom x (path (W (final g)))) (project-told dim p sigma (s .scalars .«log_gain») alpha r)
+      ∙ quiet p (final g .way) (final g .sigma) (final g .dq) u vt s (some (reasonOf (final g .way)))
+
   -- the last test and its numbers are the branch's, and that branch gives the stored record
   pub drucker-reason : staysOf p (s .scalars .phase) ≡ false
       → (last (path (druckerWalk p u vt s)) ≡ some (reasonOf (projectionOf p s .way))) × (final (druckerWalk p u vt s) ≡ final (W (projectionOf p s)))
@@ -130,13 +138,10 @@ module _ (p : DruckerPragerPlasticity) (u vt : List (List Float)) (s : State) wh
   drucker-reason h =
       let a = alphaWalk p (s .scalars .«plastic_hardening») in
       let g : Float → Walk Returned = λ alpha. projectWalk dim p (s .sigma) (s .scalars .«log_gain») alpha in
-      let q = projectionOf p s in
       let r : Option Reason = some (record { test = 1; compares = []; held = false }) in
       let before = lastFrom r (path a) in (
         simp h
-            (last-then a (λ alpha. g alpha then W) r ∙ last-then (g (final a)) W before
-            ∙ ap (λ x. lastFrom x (path (W q))) (project-told dim p (s .sigma) (s .scalars .«log_gain») (final a) before)
-            ∙ quiet p (q .way) (q .sigma) (q .dq) u vt s (some (reasonOf (q .way)))),
+            (last-then a (λ alpha. g alpha then W) r ∙ follow-reason (s .sigma) (final a) before),
         simp h (final-then a (λ alpha. g alpha then W) ∙ final-then (g (final a)) W),
       )
 

@@ -15,8 +15,9 @@ use Rattle.plasticity.specs.declared.Outcome.{Outcome}
 use Rattle.plasticity.specs.declared.Outcome.the-variants as outcome
 use Rattle.walk.specs.Expr.{Expr, num, _+_, _-_, _*_, _/_, value, nums}
 pub use Rattle.walk.specs.Constants.{zero}
-use Rattle.walk.specs.Walk.{Walk, exp, ln, root, less, at-most, zeros, inputs, ask, asks, work, works, branch, results, end, _then_, Ended, given, refused}
+use Rattle.walk.specs.Walk.{Walk, exp, ln, root, less, at-most, zeros, inputs, ask, asks, work, works, branch, results, end, _then_, Ended}
 use Rattle.walk.specs.Matrix.{sum, dot}
+use Rattle.reason.specs.Traced.{Traced, reached, stopped, stepless}
 use Rattle.plasticity_drucker_prager.specs.declared.Branch.{Branch}
 use Rattle.plasticity_drucker_prager.specs.declared.Branch.the-variants.{Isotropic, Expanding, Inside, Surface, Refused}
 use Rattle.plasticity_drucker_prager.specs.declared.DruckerPragerPlasticity.{DruckerPragerPlasticity}
@@ -107,33 +108,37 @@ module _ (dim : Expr) where
       inputs (projectFloats p sigma gain alpha) (projectWalk p sigma gain alpha then returnedWalk)
 
 -- ---- as the code hands it on: zeros stand beside a refusal
-abbrev pub refusedProjection : ℕ → Projected
-refusedProjection n = record { branch = Refused n; sigma = zeroRow; dq = tensor.zero }
+abbrev pub refusedProjection : ℕ → ℕ → Projected
+refusedProjection n step = record { branch = Refused n step; sigma = zeroRow; dq = tensor.zero }
 
 abbrev pub branchOf : Way → Branch
-branchOf (isotropic d) = Isotropic (getD d 2 nan) tensor.zero
+branchOf (isotropic d) = Isotropic (getD d 0 nan) (getD d 1 nan) (getD d 2 nan)
 branchOf (expanding x) = Expanding x tensor.zero
 branchOf (inside x) = Inside x tensor.zero
 branchOf (surface x norm) = Surface x tensor.zero norm
 
+abbrev pub walkedOf : Traced Returned → Projected
+walkedOf (reached q) = record { branch = branchOf (q .way); sigma = q .sigma; dq = q .dq }
+walkedOf (stopped n step) = refusedProjection n step
+
+-- where the step isn't told
 abbrev pub projectedOf : Ended Returned → Projected
-projectedOf (given q) = record { branch = branchOf (q .way); sigma = q .sigma; dq = q .dq }
-projectedOf (refused n) = refusedProjection n
+projectedOf x = walkedOf (stepless x)
 
 abbrev pub tipOf : Branch → List Float → Answer → Projected
 tipOf b ones (answers.Value norm) = record { branch = b; sigma = ones; dq = norm }
-tipOf b ones (answers.Refused n) = refusedProjection n
+tipOf b ones (answers.Refused n) = refusedProjection n 10
 
 abbrev pub returnedOf : Projected → Projected
-returnedOf q = cond (rowFinite (q .sigma) && finite (q .dq)) q (refusedProjection noNumber)
+returnedOf q = cond (rowFinite (q .sigma) && finite (q .dq)) q (refusedProjection noNumber 19)
 
 -- ---- as it is handed out: the branch and what it compared stay inside
 abbrev pub outcomeOf : Branch → Float → Outcome
-outcomeOf (Isotropic x y) dq = outcome.Stored dq
+outcomeOf (Isotropic x y z) dq = outcome.Stored dq
 outcomeOf (Expanding x y) dq = outcome.Stored dq
 outcomeOf (Inside x y) dq = outcome.Untouched
 outcomeOf (Surface x y norm) dq = outcome.Stored dq
-outcomeOf (Refused n) dq = outcome.Refused n
+outcomeOf (Refused n step) dq = outcome.Refused n
 
 abbrev pub resultsOf : Projected → Results
 resultsOf q = record { outcome = outcomeOf (q .branch) (q .dq); sigma = q .sigma }

@@ -1,13 +1,16 @@
 use crate::DruckerPragerPlasticity;
+use crate::steps;
 use answers::Answer;
+use reason::Number;
 ghost use mathlib.Core.Path.{_≡_};
 ghost use Rattle.walk.specs.Walk.{result, answerAs};
+ghost use Rattle.reason.specs.Traced.{traced, numberAs};
 ghost use Rattle.plasticity_drucker_prager.specs.Alpha.{alphaWalk, alphaCall};
 
 impl DruckerPragerPlasticity {
     // The slope of the cone at the hardening q, as a step of the law: a NaN is 3.
-    pub(crate) fn alpha_on_path(self, q: f64) -> Answer
-        ensures { λ r. ⌜ r ≡ answerAs (result (alphaWalk self q)) ⌝ }
+    pub fn alpha_on_path(self, q: f64) -> Number
+        ensures { λ r. ⌜ r ≡ numberAs (traced (alphaWalk self q)) ⌝ }
     {
         match exponential::exp_on_path(-self.h2 * q) {
             Answer::Value(e) => {
@@ -16,17 +19,17 @@ impl DruckerPragerPlasticity {
                         Answer::Value(r) => {
                             let a = r * (2.0 * s) / (3.0 - s);
                             if numbers::is_number(a) {
-                                Answer::Value(a)
+                                Number::Value(a)
                             } else {
-                                Answer::Refused(answers::NO_NUMBER)
+                                Number::Refused(answers::NO_NUMBER, steps::SLOPE)
                             }
                         }
-                        Answer::Refused(n) => Answer::Refused(n),
+                        Answer::Refused(n) => Number::Refused(n, steps::ROOT),
                     },
-                    Answer::Refused(n) => Answer::Refused(n),
+                    Answer::Refused(n) => Number::Refused(n, steps::SINE),
                 }
             }
-            Answer::Refused(n) => Answer::Refused(n),
+            Answer::Refused(n) => Number::Refused(n, steps::DECAY),
         }
     }
 
@@ -36,14 +39,14 @@ impl DruckerPragerPlasticity {
     {
         if self.parameters_finite() & numbers::is_finite(q) {
             match self.alpha_on_path(q) {
-                Answer::Value(a) => {
+                Number::Value(a) => {
                     if numbers::is_finite(a) {
                         Answer::Value(a)
                     } else {
                         Answer::Refused(answers::NO_NUMBER)
                     }
                 }
-                Answer::Refused(n) => Answer::Refused(n),
+                Number::Refused(n, _) => Answer::Refused(n),
             }
         } else {
             Answer::Refused(answers::NOT_FINITE)

@@ -2,10 +2,13 @@
 mod alpha;
 mod choice;
 mod projection;
+mod reasons;
+mod steps;
 mod update;
 
 use answers::Pair;
 use plasticity::Outcome;
+pub use update::scalars_of;
 ghost use mathlib.Core.Path.{_≡_};
 ghost use Rattle.plasticity_drucker_prager.specs.Law.{defaultsOf, madeOf, newOf, parametersFinite};
 
@@ -26,17 +29,17 @@ pub enum Made {
     Refused(u8),
 }
 
-// The branch taken, with the two numbers last compared; or the refusal's number.
+// The branch taken, with the numbers last compared; or the refusal's number and its step.
 pub enum Branch {
-    // The deviatoric part is all zero: its last entry and 0.
-    Isotropic(f64, f64),
+    // The deviatoric part's three entries, all zero.
+    Isotropic(f64, f64, f64),
     // The trace and 0.
     Expanding(f64, f64),
     // Gamma and 0: within the yield surface.
     Inside(f64, f64),
     // Gamma and 0, and the norm of the deviatoric part.
     Surface(f64, f64, f64),
-    Refused(u8),
+    Refused(u8, u8),
 }
 
 // The branch with the singular values after it and dq. Untouched: the singular values as they came and 0; zeros stand
@@ -45,6 +48,12 @@ pub struct Projected {
     pub branch: Branch,
     pub sigma: [f64; 3],
     pub dq: f64,
+}
+
+// The plastic determinant, plastic hardening and log gain of new singular values; or the refusal's number and its step.
+pub enum Measured {
+    Values(f64, f64, f64),
+    Refused(u8, u8),
 }
 
 // What the projection hands out: untouched, stored with dq or refused, and the singular values after it; zeros beside a refusal.

@@ -4,6 +4,7 @@ use crate::DruckerPragerPlasticity;
 use crate::Projected;
 use crate::Results;
 use crate::choice;
+use crate::steps;
 use answers::Answer;
 use plasticity::Outcome;
 ghost use mathlib.Core.Path.{_≡_};
@@ -11,15 +12,16 @@ ghost use Rattle.tensor.specs.Matrix.{three, one};
 ghost use Rattle.physics.specs.Norm.{normOf};
 ghost use Rattle.walk.specs.Expr.{num, value};
 ghost use Rattle.walk.specs.Walk.{result};
+ghost use Rattle.reason.specs.Traced.{traced};
 ghost use Rattle.plasticity_drucker_prager.specs.Alpha.{dim};
-ghost use Rattle.plasticity_drucker_prager.specs.Projection.{gamma, surfaceWalk, yieldWalk, strainedWalk, projectWalk, projectCall, refusedProjection, projectedOf, tipOf, returnedOf, outcomeOf, resultsOf};
+ghost use Rattle.plasticity_drucker_prager.specs.Projection.{gamma, surfaceWalk, yieldWalk, strainedWalk, projectWalk, projectCall, refusedProjection, walkedOf, projectedOf, tipOf, returnedOf, outcomeOf, resultsOf};
 
-fn refused_projection(n: u8) -> Projected
-    ensures { λ r. ⌜ r ≡ refusedProjection n ⌝ }
+fn refused_projection(n: u8, step: u8) -> Projected
+    ensures { λ r. ⌜ r ≡ refusedProjection n step ⌝ }
 {
     let z = [0.0, 0.0, 0.0];
     Projected {
-        branch: Branch::Refused(n),
+        branch: Branch::Refused(n, step),
         sigma: z,
         dq: 0.0,
     }
@@ -38,13 +40,13 @@ fn tip(b: Branch, e: [f64; 3]) -> Projected
                 dq: x,
             }
         }
-        Answer::Refused(n) => refused_projection(n),
+        Answer::Refused(n) => refused_projection(n, steps::TIP),
     }
 }
 
 // Back to the cone.
 fn surface(gamma: f64, norm: f64, b: [f64; 3]) -> Projected
-    ensures { λ r. ⌜ r ≡ projectedOf (result (surfaceWalk (num gamma) (num norm) b)) ⌝ }
+    ensures { λ r. ⌜ r ≡ walkedOf (traced (surfaceWalk (num gamma) (num norm) b)) ⌝ }
 {
     match exponential::exp_on_path(b[0]) {
         Answer::Value(x) => match exponential::exp_on_path(b[1]) {
@@ -57,11 +59,11 @@ fn surface(gamma: f64, norm: f64, b: [f64; 3]) -> Projected
                         dq: gamma,
                     }
                 }
-                Answer::Refused(n) => refused_projection(n),
+                Answer::Refused(n) => refused_projection(n, steps::EXPS),
             },
-            Answer::Refused(n) => refused_projection(n),
+            Answer::Refused(n) => refused_projection(n, steps::EXPS),
         },
-        Answer::Refused(n) => refused_projection(n),
+        Answer::Refused(n) => refused_projection(n, steps::EXPS),
     }
 }
 
@@ -73,7 +75,7 @@ fn returned_projection(q: Projected) -> Projected
     if tensor::row_finite(sigma) & numbers::is_finite(q.dq) {
         q
     } else {
-        refused_projection(3)
+        refused_projection(answers::NO_NUMBER, steps::RESULTS)
     }
 }
 
@@ -82,11 +84,11 @@ fn outcome_of(b: Branch, dq: f64) -> Outcome
     ensures { λ r. ⌜ r ≡ outcomeOf b dq ⌝ }
 {
     match b {
-        Branch::Isotropic(_, _) => Outcome::Stored(dq),
+        Branch::Isotropic(_, _, _) => Outcome::Stored(dq),
         Branch::Expanding(_, _) => Outcome::Stored(dq),
         Branch::Inside(_, _) => Outcome::Untouched,
         Branch::Surface(_, _, _) => Outcome::Stored(dq),
-        Branch::Refused(n) => Outcome::Refused(n),
+        Branch::Refused(n, _) => Outcome::Refused(n),
     }
 }
 
@@ -100,19 +102,20 @@ fn handed_out(q: Projected) -> Results
 }
 
 impl DruckerPragerPlasticity {
-    fn gamma(self, norm: f64, trace: f64, alpha: f64) -> f64
-        ensures { λ r. ⌜ r ≡ value (gamma dim self (num norm) (num trace) alpha) ⌝ }
+    // d is the number of axes.
+    pub fn gamma(self, d: f64, norm: f64, trace: f64, alpha: f64) -> f64
+        ensures { λ r. ⌜ r ≡ value (gamma (num d) self (num norm) (num trace) alpha) ⌝ }
     {
-        norm + (3.0 * self.lambda + 2.0 * self.mu) / (2.0 * self.mu) * trace * alpha
+        norm + (d * self.lambda + 2.0 * self.mu) / (2.0 * self.mu) * trace * alpha
     }
 
     // The test of gamma. A NaN would compare false: it is refused first.
     fn yielded(self, sigma: [f64; 3], e: [f64; 3], d: [f64; 3], trace: f64, alpha: f64) -> Projected
-        ensures { λ r. ⌜ r ≡ projectedOf (result (yieldWalk dim self sigma e d (num trace) alpha)) ⌝ }
+        ensures { λ r. ⌜ r ≡ walkedOf (traced (yieldWalk dim self sigma e d (num trace) alpha)) ⌝ }
     {
         match physics::norm_on_path(d) {
             Answer::Value(norm) => {
-                let g = self.gamma(norm, trace, alpha);
+                let g = self.gamma(3.0, norm, trace, alpha);
                 if numbers::is_number(g) {
                     if g <= 0.0 {
                         Projected {
@@ -125,43 +128,43 @@ impl DruckerPragerPlasticity {
                         if choice::all_numbers(b) {
                             surface(g, norm, b)
                         } else {
-                            refused_projection(3)
+                            refused_projection(answers::NO_NUMBER, steps::BACK)
                         }
                     }
                 } else {
-                    refused_projection(3)
+                    refused_projection(answers::NO_NUMBER, steps::GAMMA)
                 }
             }
-            Answer::Refused(n) => refused_projection(n),
+            Answer::Refused(n) => refused_projection(n, steps::NORM),
         }
     }
 
     // The steps after the strain.
     fn strained(self, sigma: [f64; 3], e: [f64; 3], alpha: f64) -> Projected
-        ensures { λ r. ⌜ r ≡ projectedOf (result (strainedWalk dim self sigma e alpha)) ⌝ }
+        ensures { λ r. ⌜ r ≡ walkedOf (traced (strainedWalk dim self sigma e alpha)) ⌝ }
     {
         let trace = tensor::sum(e);
         if numbers::is_number(trace) {
             let d = choice::deviatoric(e, trace);
             if choice::all_numbers(d) {
                 if choice::all_zero(d) {
-                    tip(Branch::Isotropic(d[2], 0.0), e)
+                    tip(Branch::Isotropic(d[0], d[1], d[2]), e)
                 } else if trace > 0.0 {
                     tip(Branch::Expanding(trace, 0.0), e)
                 } else {
                     self.yielded(sigma, e, d, trace, alpha)
                 }
             } else {
-                refused_projection(3)
+                refused_projection(answers::NO_NUMBER, steps::STRAIN)
             }
         } else {
-            refused_projection(3)
+            refused_projection(answers::NO_NUMBER, steps::STRAIN)
         }
     }
 
     // The projection as a step of the law.
     pub(crate) fn projected(self, sigma: [f64; 3], gain: f64, alpha: f64) -> Projected
-        ensures { λ r. ⌜ r ≡ projectedOf (result (projectWalk dim self sigma gain alpha)) ⌝ }
+        ensures { λ r. ⌜ r ≡ walkedOf (traced (projectWalk dim self sigma gain alpha)) ⌝ }
     {
         match logarithm::ln_on_path(sigma[0]) {
             Answer::Value(x) => match logarithm::ln_on_path(sigma[1]) {
@@ -172,14 +175,14 @@ impl DruckerPragerPlasticity {
                         if choice::all_numbers(e) {
                             self.strained(sigma, e, alpha)
                         } else {
-                            refused_projection(3)
+                            refused_projection(answers::NO_NUMBER, steps::STRAIN)
                         }
                     }
-                    Answer::Refused(n) => refused_projection(n),
+                    Answer::Refused(n) => refused_projection(n, steps::LOGS),
                 },
-                Answer::Refused(n) => refused_projection(n),
+                Answer::Refused(n) => refused_projection(n, steps::LOGS),
             },
-            Answer::Refused(n) => refused_projection(n),
+            Answer::Refused(n) => refused_projection(n, steps::LOGS),
         }
     }
 
@@ -190,7 +193,7 @@ impl DruckerPragerPlasticity {
         log_vol_gain: f64,
         alpha: f64,
     ) -> Projected
-        ensures { λ r. ⌜ r ≡ projectedOf (result (projectCall dim self «singular_values» «log_vol_gain» alpha)) ⌝ }
+        ensures { λ r. ⌜ r ≡ walkedOf (traced (projectCall dim self «singular_values» «log_vol_gain» alpha)) ⌝ }
     {
         if self.parameters_finite()
             & tensor::row_finite(singular_values)
@@ -199,7 +202,7 @@ impl DruckerPragerPlasticity {
         {
             returned_projection(self.projected(singular_values, log_vol_gain, alpha))
         } else {
-            refused_projection(1)
+            refused_projection(answers::NOT_FINITE, 0)
         }
     }
 

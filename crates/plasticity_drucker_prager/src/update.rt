@@ -1,19 +1,22 @@
 // The update of one particle.
 use crate::Branch;
 use crate::DruckerPragerPlasticity;
+use crate::Measured;
 use crate::Projected;
+use crate::steps;
 use answers::Answer;
 use plasticity::Outcome;
 use plasticity::Scalars;
 use plasticity::State;
 use plasticity::Updated;
+use reason::Number;
 ghost use mathlib.Core.Path.{_≡_};
 ghost use mathlib.Core.Bool.{true};
 ghost use Rattle.plasticity.specs.State.{inputsFinite};
 ghost use Rattle.walk.specs.Expr.{num};
 ghost use Rattle.walk.specs.Walk.{result};
 ghost use Rattle.walk.specs.Update.{updatedOf};
-ghost use Rattle.plasticity_drucker_prager.specs.DruckerPrager.{untouchedOf, stateOf, storeWalk, movedWalk, staysOf, runWalk, correctedOf, followedOf, druckerUpdate};
+ghost use Rattle.plasticity_drucker_prager.specs.DruckerPrager.{untouchedOf, scalarsOf, stateOf, storeWalk, movedWalk, measuredOf, finiteResults, staysOf, runWalk, correctedOf, followedOf, druckerUpdate};
 
 fn untouched(s: State) -> Updated
     ensures { λ r. ⌜ r ≡ untouchedOf s ⌝ }
@@ -24,22 +27,38 @@ fn untouched(s: State) -> Updated
     }
 }
 
-// F, sigma, plastic determinant, plastic hardening and log gain are new.
+// Plastic determinant, plastic hardening and log gain are new.
+pub fn scalars_of(d: f64, hardening: f64, gain: f64, x: Scalars) -> Scalars
+    ensures { λ r. ⌜ r ≡ scalarsOf d hardening gain x ⌝ }
+{
+    Scalars {
+        phase: x.phase,
+        plastic_determinant: d,
+        plastic_hardening: hardening,
+        elastic_hardening: x.elastic_hardening,
+        log_gain: gain,
+        alpha: x.alpha,
+    }
+}
+
+// And F and sigma.
 fn state_of(f: [[f64; 3]; 3], sigma: [f64; 3], d: f64, hardening: f64, gain: f64, s: State) -> State
     ensures { λ r. ⌜ r ≡ stateOf f sigma d hardening gain s ⌝ }
 {
     State {
         f: tensor::to_rows(f),
         sigma,
-        scalars: Scalars {
-            phase: s.scalars.phase,
-            plastic_determinant: d,
-            plastic_hardening: hardening,
-            elastic_hardening: s.scalars.elastic_hardening,
-            log_gain: gain,
-            alpha: s.scalars.alpha,
-        },
+        scalars: scalars_of(d, hardening, gain, s.scalars),
     }
+}
+
+// Whether all results are finite.
+pub fn finite_results(f: [[f64; 3]; 3], sigma: [f64; 3], d: f64, hardening: f64, gain: f64) -> bool
+    ensures { λ r. ⌜ r ≡ finiteResults f sigma d hardening gain ⌝ }
+{
+    tensor::mat_finite(f)
+        & tensor::row_finite(sigma)
+        & (numbers::is_finite(d) & numbers::is_finite(hardening) & numbers::is_finite(gain))
 }
 
 // The results are stored where all are finite; then dq, a summand of the hardening, is finite too.
@@ -56,10 +75,7 @@ fn store(
     ensures { λ r. ⌜ r ≡ updatedOf s (result (storeWalk u sigma vt (num d) (num hardening) (num gain) dq s)) ⌝ }
 {
     let f = tensor::recompose(u, sigma, vt);
-    if tensor::mat_finite(f)
-        & tensor::row_finite(sigma)
-        & (numbers::is_finite(d) & numbers::is_finite(hardening) & numbers::is_finite(gain))
-    {
+    if finite_results(f, sigma, d, hardening, gain) {
         Updated {
             state: state_of(f, sigma, d, hardening, gain, s),
             outcome: Outcome::Stored(dq),
@@ -81,6 +97,38 @@ impl DruckerPragerPlasticity {
         }
     }
 
+    // What is stored beside F and sigma, by the products of the old and of the new singular values.
+    pub fn measured(self, prev: f64, grown: f64, dq: f64, x: Scalars) -> Measured
+        ensures { λ r. ⌜ r ≡ measuredOf self prev grown dq x ⌝ }
+    {
+        let diff = grown - prev;
+        if numbers::is_number(diff) {
+            let new = self.corrected(prev, grown, diff);
+            if numbers::is_number(new) {
+                let d = x.plastic_determinant * (prev / new);
+                if numbers::is_number(d) {
+                    match logarithm::ln_on_path(prev) {
+                        Answer::Value(a) => match logarithm::ln_on_path(new) {
+                            Answer::Value(b) => {
+                                let hardening = x.plastic_hardening + dq;
+                                let gain = x.log_gain + (a - b);
+                                Measured::Values(d, hardening, gain)
+                            }
+                            Answer::Refused(n) => Measured::Refused(n, steps::LOG_AFTER),
+                        },
+                        Answer::Refused(n) => Measured::Refused(n, steps::LOG_BEFORE),
+                    }
+                } else {
+                    Measured::Refused(answers::NO_NUMBER, steps::DETERMINANTS)
+                }
+            } else {
+                Measured::Refused(answers::NO_NUMBER, steps::DETERMINANTS)
+            }
+        } else {
+            Measured::Refused(answers::NO_NUMBER, steps::DETERMINANTS)
+        }
+    }
+
     // New singular values: determinants, logarithms, hardening, recomposed F.
     fn moved(
         self,
@@ -93,33 +141,11 @@ impl DruckerPragerPlasticity {
         ensures { λ r. ⌜ r ≡ updatedOf s (result (movedWalk self sigma dq u vt s)) ⌝ }
     {
         let old = s.sigma;
-        let prev = tensor::product(old);
-        let grown = tensor::product(sigma);
-        let diff = grown - prev;
-        if numbers::is_number(diff) {
-            let new = self.corrected(prev, grown, diff);
-            if numbers::is_number(new) {
-                let d = s.scalars.plastic_determinant * (prev / new);
-                if numbers::is_number(d) {
-                    match logarithm::ln_on_path(prev) {
-                        Answer::Value(x) => match logarithm::ln_on_path(new) {
-                            Answer::Value(y) => {
-                                let hardening = s.scalars.plastic_hardening + dq;
-                                let gain = s.scalars.log_gain + (x - y);
-                                store(u, sigma, vt, d, hardening, gain, dq, s)
-                            }
-                            Answer::Refused(n) => plasticity::refuse(n, s),
-                        },
-                        Answer::Refused(n) => plasticity::refuse(n, s),
-                    }
-                } else {
-                    plasticity::refuse(answers::NO_NUMBER, s)
-                }
-            } else {
-                plasticity::refuse(answers::NO_NUMBER, s)
+        match self.measured(tensor::product(old), tensor::product(sigma), dq, s.scalars) {
+            Measured::Values(d, hardening, gain) => {
+                store(u, sigma, vt, d, hardening, gain, dq, s)
             }
-        } else {
-            plasticity::refuse(answers::NO_NUMBER, s)
+            Measured::Refused(n, _) => plasticity::refuse(n, s),
         }
     }
 
@@ -129,16 +155,16 @@ impl DruckerPragerPlasticity {
         let b = q.branch;
         let sigma = q.sigma;
         match b {
-            Branch::Isotropic(_, _) => self.moved(sigma, q.dq, u, vt, s),
+            Branch::Isotropic(_, _, _) => self.moved(sigma, q.dq, u, vt, s),
             Branch::Expanding(_, _) => self.moved(sigma, q.dq, u, vt, s),
             Branch::Inside(_, _) => untouched(s),
             Branch::Surface(_, _, _) => self.moved(sigma, q.dq, u, vt, s),
-            Branch::Refused(n) => plasticity::refuse(n, s),
+            Branch::Refused(n, _) => plasticity::refuse(n, s),
         }
     }
 
     // Whether the law leaves a particle of this phase alone.
-    fn stays(self, phase: f64) -> bool
+    pub fn stays(self, phase: f64) -> bool
         ensures { λ r. ⌜ r ≡ staysOf self phase ⌝ }
     {
         self.only_active_when_failed & (phase != 0.0)
@@ -152,12 +178,12 @@ impl DruckerPragerPlasticity {
             untouched(s)
         } else {
             match self.alpha_on_path(s.scalars.plastic_hardening) {
-                Answer::Value(a) => {
+                Number::Value(a) => {
                     let sigma = s.sigma;
                     let q = self.projected(sigma, s.scalars.log_gain, a);
                     self.branch(q, u, vt, s)
                 }
-                Answer::Refused(n) => plasticity::refuse(n, s),
+                Number::Refused(n, _) => plasticity::refuse(n, s),
             }
         }
     }

@@ -14,23 +14,27 @@ use Rattle.plasticity.specs.State as law
 use Rattle.plasticity.specs.State.{inputsFinite, stateFinite, scalarsFinite}
 use Rattle.plasticity.specs.declared.State.{State}
 use Rattle.plasticity.specs.declared.Updated.{Updated}
-use Rattle.walk.specs.Expr.{num, neg, value, zero-number}
+use Rattle.walk.specs.Expr.{Expr, num, neg, value, zero-number}
 use Rattle.walk.specs.Walk.{Walk, end, _then_, holds, Ended, given, refused, result}
 use Rattle.walk.specs.Number.{finite-number, neg-number, add-number, sub-number, finite-sub, picked-number, zero-finite}
 use Rattle.walk.specs.Exact.{andThen, result-then}
 use Rattle.walk.specs.Every.{and-left, and-right, flat, all-append, all-flat}
-use Rattle.walk.specs.Steps.{most-answers, when-answers}
 use Rattle.walk.specs.Matrix.{value-entry, values-nums}
 use Rattle.walk.specs.Update.{Change, updatedOf, inputs-finite}
+use Rattle.reason.specs.declared.Number.{Number}
+use Rattle.reason.specs.declared.Number.the-variants as number
+use Rattle.reason.specs.Traced.{Traced, reached, stopped, traced, untraced, onwards, numberAs}
+use Rattle.reason.proofs.Laws.{most-traced, when-traced, traced-then, result-traced}
 use Rattle.plasticity_nacc.specs.declared.Branch.the-variants.{Lower}
 use Rattle.plasticity_nacc.specs.declared.NaccArguments.{NaccArguments}
 use Rattle.plasticity_nacc.specs.declared.NaccPlasticity.{NaccPlasticity}
 use Rattle.plasticity_nacc.specs.declared.Projected.{Projected}
 use Rattle.plasticity_nacc.specs.declared.Stepped.{Stepped}
 use Rattle.plasticity_nacc.specs.declared.Trial.{Trial}
-use Rattle.plasticity_nacc.specs.Law.{small, lawOf, parametersOf, argumentsFloats, elasticFinite, parametersFinite}
+use Rattle.plasticity_nacc.specs.Law.{small, lawOf, parametersOf, argumentsFloats, elasticFinite, argumentsFinite, parametersFinite}
+use Rattle.plasticity_nacc.specs.Axes.{Axes, three-axes}
 use Rattle.plasticity_nacc.specs.Formulas as of
-use Rattle.plasticity_nacc.specs.Nacc.{Way, upper, lower, inside, surface, Shape, Landed, Result, sizeOf, tipWalk, hardenWalk, conditions, hardenedWalk, settled, ends, pressWalk, stepsWalk, recomposedWalk, wayWalk, projectWalk, moduli, projectInputs, projectFloats, changeOf, runWalk, floats, naccWalk, argumentsWalk, branchOf, asBranch, steppedOf, refusedProjection, projectedOf, recomposedOf, byBranch, storedBy, naccUpdate}
+use Rattle.plasticity_nacc.specs.Nacc.{Way, upper, lower, inside, surface, Shape, Landed, Result, sizeOf, tipWalk, hardenWalk, conditions, hardenedWalk, settled, ends, pressWalk, stepsWalk, recomposedWalk, wayWalk, projectWalk, moduli, projectInputs, projectFloats, changeOf, runWalk, floats, naccWalk, argumentsWalk, branchOf, asBranch, steppedOf, refusedProjection, walkedOf, projectedOf, resultsOf, recomposedOf, byBranch, storedBy, naccUpdate}
 
 pub small-finite : finite small ≡ true
 unfolding finite ofBits
@@ -44,23 +48,23 @@ pub size-number : (v : Float) → isNumber v ≡ true → isNumber (sizeOf v) �
 size-number v h = picked-number (Ieee.le v tensor.zero) (tensor.sub tensor.zero v) v (finite-sub tensor.zero v zero-finite h) h
 
 -- the maximum of a finite alpha meets no NaN
-pub steps-law : (p : NaccPlasticity) (sigma : List Float) (alpha : Float) → finite alpha ≡ true
-    → result (stepsWalk p sigma alpha) ≡ result (pressWalk p (num (maxOf (Ieee.neg alpha) tensor.zero)) sigma alpha)
+pub steps-law : (axes : Axes) (p : NaccPlasticity) (sigma : List Float) (alpha : Float) → finite alpha ≡ true
+    → traced (stepsWalk axes p sigma alpha) ≡ traced (pressWalk axes p (num (maxOf (Ieee.neg alpha) tensor.zero)) sigma alpha)
 unfolding stepsWalk
-steps-law p sigma alpha h =
-    most-answers 2 (neg (num alpha)) of.zero (λ m. pressWalk p m sigma alpha) (neg-number alpha ∙ finite-number alpha h) zero-number
+steps-law axes p sigma alpha h =
+    most-traced 2 (neg (num alpha)) of.zero (λ m. pressWalk axes p m sigma alpha) (neg-number alpha ∙ finite-number alpha h) zero-number
 
 -- nor do the four conditions, once the branches are tested
-pub harden-law : (p : NaccPlasticity) (t : Trial) (alpha : Float) → settled p t ≡ true
-    → result (hardenedWalk p t alpha) ≡ cond (allOf holds (conditions p t)) (result (hardenWalk p t alpha)) (given alpha)
+pub harden-law : (d : Expr) (p : NaccPlasticity) (t : Trial) (alpha : Float) → settled p t ≡ true
+    → traced (hardenedWalk d p t alpha) ≡ cond (allOf holds (conditions p t)) (traced (hardenWalk d p t alpha)) (reached alpha)
 unfolding hardenedWalk
-harden-law p t alpha h =
+harden-law d p t alpha h =
     let low = value (of.low p (num (t .p0))) in
     let two = and-left (isNumber (t .p0) && isNumber (t .p)) (isNumber low) h in
     let a = and-left (isNumber (t .p0)) (isNumber (t .p)) two in
     let b = and-right (isNumber (t .p0)) (isNumber (t .p)) two in
     let c = and-right (isNumber (t .p0) && isNumber (t .p)) (isNumber low) h in
-    when-answers 13 (conditions p t) (hardenWalk p t alpha) (end alpha)
+    when-traced 13 (conditions p t) (hardenWalk d p t alpha) (end alpha)
     (simp (a, b, small-number, sub-number (t .p0) small a small-finite, add-number low small c small-finite))
 
 pub pressures : (t : Trial) → isNumber (t .p0) && (isNumber (t .squares) && isNumber (t .p)) ≡ true → isNumber (t .p0) && isNumber (t .p) ≡ true
@@ -69,31 +73,44 @@ pressures t h =
     (and-right (isNumber (t .squares)) (isNumber (t .p)) (and-right (isNumber (t .p0)) (isNumber (t .squares) && isNumber (t .p)) h))
 
 -- ---- one piece after the other
-ended : (w : Way) (x : Ended Shape) → steppedOf (andThen x (λ q. result (ends w q))) ≡ asBranch (branchOf w) x
-ended w (given q) = refl
-ended w (refused n) = refl
+ended : (w : Way) (x : Traced Shape) → steppedOf (onwards x (λ q. traced (ends w q))) ≡ asBranch (branchOf w) x
+ended w (reached q) = refl
+ended w (stopped n step) = refl
 
-pub shape-then : (w : Way) (v : Walk Shape) → steppedOf (result (v then ends w)) ≡ asBranch (branchOf w) (result v)
-shape-then w v = ap steppedOf (result-then v (ends w)) ∙ ended w (result v)
+pub shape-then : (w : Way) (v : Walk Shape) → steppedOf (traced (v then ends w)) ≡ asBranch (branchOf w) (traced v)
+shape-then w v = ap steppedOf (traced-then v (ends w)) ∙ ended w (traced v)
+
+-- the new alpha is handed on to what follows it
+module _ {B : Type 0} (g : Float → Traced B) where
+  abbrev pub numbered : Number → Traced B
+  numbered (number.Value x) = g x
+  numbered (number.Refused n step) = stopped n step
+
+  handed-on : (x : Traced Float) → onwards x g ≡ numbered (numberAs x)
+  handed-on (reached v) = refl
+  handed-on (stopped n step) = refl
+
+pub alpha-then : {B : Type 0} (w : Walk Float) (g : Float → Walk B) → traced (w then g) ≡ numbered (λ a. traced (g a)) (numberAs (traced w))
+alpha-then w g = traced-then w g ∙ handed-on (λ a. traced (g a)) (traced w)
 
 -- at the lower tip
 pub lower-law : (p : NaccPlasticity) (t : Trial) (alpha x : Float)
-    → steppedOf (result (tipWalk p (num x) (t .j) alpha then ends (lower (t .p) (value (of.low p (num (t .p0)))))))
-    ≡ asBranch (Lower (t .p) (value (of.low p (num (t .p0))))) (result (tipWalk p (num x) (t .j) alpha))
-lower-law p t alpha x = shape-then (lower (t .p) (value (of.low p (num (t .p0))))) (tipWalk p (num x) (t .j) alpha)
+    → steppedOf (traced (tipWalk three-axes p (num x) (t .j) alpha then ends (lower (t .p) (value (of.low p (num (t .p0)))))))
+    ≡ asBranch (Lower (t .p) (value (of.low p (num (t .p0))))) (traced (tipWalk three-axes p (num x) (t .j) alpha))
+lower-law p t alpha x = shape-then (lower (t .p) (value (of.low p (num (t .p0))))) (tipWalk three-axes p (num x) (t .j) alpha)
 
-kept : (q : Result) (b : Bool) → projectedOf (cond b (given q) (refused 3)) ≡ cond b (projectedOf (given q)) (refusedProjection 3)
+kept : (q : Result) (b : Bool) → walkedOf (cond b (reached q) (stopped 3 30)) ≡ cond b (walkedOf (reached q)) (refusedProjection 3 30)
 kept q true = refl
 kept q false = refl
 
-recomposed-law : (w : Way) (u : List (List Float)) (q : Shape) (vt : List (List Float)) → projectedOf (result (recomposedWalk w u q vt)) ≡ recomposedOf (branchOf w) u (q .sigma) vt (q .alpha)
+recomposed-law : (w : Way) (u : List (List Float)) (q : Shape) (vt : List (List Float)) → walkedOf (traced (recomposedWalk w u q vt)) ≡ recomposedOf (branchOf w) u (q .sigma) vt (q .alpha)
 unfolding recomposedWalk recomposedOf
 recomposed-law w u q vt =
     let f = recomposeOf u (q .sigma) vt in
     simp (value-entry, values-nums) (kept (record { way = w; f = rowsOf f; shape = q }) ((matFinite f && rowFinite (q .sigma)) && finite (q .alpha)))
 
 module _ (f : Rows) (u vt : List (List Float)) where
-  way-law : (w : Way) (q : Shape) → projectedOf (result (wayWalk w q f u vt)) ≡ byBranch (branchOf w) (q .sigma) (q .alpha) f u vt
+  way-law : (w : Way) (q : Shape) → walkedOf (traced (wayWalk w q f u vt)) ≡ byBranch (branchOf w) (q .sigma) (q .alpha) f u vt
   unfolding wayWalk
   way-law (upper x y) q = recomposed-law (upper x y) u q vt
   way-law (lower x y) q = recomposed-law (lower x y) u q vt
@@ -104,14 +121,22 @@ module _ (f : Rows) (u vt : List (List Float)) where
   abbrev pub byStep : Stepped → Projected
   byStep q = byBranch (q .branch) (q .sigma) (q .alpha) f u vt
 
-  followed : (x : Ended Landed) → projectedOf (andThen x (λ q. result (wayWalk (q .way) (q .shape) f u vt))) ≡ byStep (steppedOf x)
-  followed (given q) = way-law (q .way) (q .shape)
-  followed (refused n) = refl
+  followed : (x : Traced Landed) → walkedOf (onwards x (λ q. traced (wayWalk (q .way) (q .shape) f u vt))) ≡ byStep (steppedOf x)
+  followed (reached q) = way-law (q .way) (q .shape)
+  followed (stopped n step) = refl
 
-  pub project-law : (p : NaccPlasticity) (sigma : List Float) (alpha : Float) → projectedOf (result (projectWalk p f u sigma vt alpha)) ≡ byStep (steppedOf (result (stepsWalk p sigma alpha)))
+  pub project-law : (p : NaccPlasticity) (sigma : List Float) (alpha : Float) → walkedOf (traced (projectWalk p f u sigma vt alpha)) ≡ byStep (steppedOf (traced (stepsWalk three-axes p sigma alpha)))
   unfolding projectWalk
   project-law p sigma alpha =
-      ap projectedOf (result-then (stepsWalk p sigma alpha) (λ q. wayWalk (q .way) (q .shape) f u vt)) ∙ followed (result (stepsWalk p sigma alpha))
+      ap walkedOf (traced-then (stepsWalk three-axes p sigma alpha) (λ q. wayWalk (q .way) (q .shape) f u vt)) ∙ followed (traced (stepsWalk three-axes p sigma alpha))
+
+-- it is handed out without its step
+handed-out : (x : Traced Result) → resultsOf (projectedOf (untraced x)) ≡ resultsOf (walkedOf x)
+handed-out (reached q) = refl
+handed-out (stopped n step) = refl
+
+pub results-law : (w : Walk Result) → resultsOf (projectedOf (result w)) ≡ resultsOf (walkedOf (traced w))
+results-law w = ap (λ x. resultsOf (projectedOf x)) (result-traced w) ∙ handed-out (traced w)
 
 module _ (s : State) where
   abbrev pub byProjection : Projected → Updated
@@ -123,15 +148,16 @@ module _ (s : State) where
   changed (inside x y) f q = refl
   changed (surface x y) f q = refl
 
-  stores : (x : Ended Result) → updatedOf s (andThen x (λ q. given (changeOf (q .way) (q .f) (q .shape) s))) ≡ byProjection (projectedOf x)
-  stores (given q) = changed (q .way) (q .f) (q .shape)
-  stores (refused n) = refl
+  stores : (x : Traced Result) → updatedOf s (andThen (untraced x) (λ q. given (changeOf (q .way) (q .f) (q .shape) s))) ≡ byProjection (walkedOf x)
+  stores (reached q) = changed (q .way) (q .f) (q .shape)
+  stores (stopped n step) = refl
 
-  pub run-law : (p : NaccPlasticity) (u vt : List (List Float)) → updatedOf s (result (runWalk p u vt s)) ≡ byProjection (projectedOf (result (projectWalk p (s .f) u (s .sigma) vt (s .scalars .alpha))))
+  pub run-law : (p : NaccPlasticity) (u vt : List (List Float)) → updatedOf s (result (runWalk p u vt s)) ≡ byProjection (walkedOf (traced (projectWalk p (s .f) u (s .sigma) vt (s .scalars .alpha))))
   unfolding runWalk
   run-law p u vt =
       let w = projectWalk p (s .f) u (s .sigma) vt (s .scalars .alpha) in
-      ap (updatedOf s) (result-then w (λ q. end (changeOf (q .way) (q .f) (q .shape) s))) ∙ stores (result w)
+      ap (updatedOf s) (result-then w (λ q. end (changeOf (q .way) (q .f) (q .shape) s)))
+      ∙ ap (λ x. updatedOf s (andThen x (λ q. given (changeOf (q .way) (q .f) (q .shape) s)))) (result-traced w) ∙ stores (traced w)
 
 -- ---- the inputs
 pub inputs-law : (l : List Float) (u vt : List (List Float)) (s : State) → allOf finite (floats l u vt s) ≡ allOf finite l && inputsFinite u vt s
@@ -185,3 +211,6 @@ project-alpha p f u sigma vt alpha h = and-right (parametersFinite p && matFinit
 
 pub run-alpha : (p : NaccPlasticity) (u vt : List (List Float)) (s : State) → parametersFinite p && inputsFinite u vt s ≡ true → finite (s .scalars .alpha) ≡ true
 run-alpha p u vt s h = alpha-finite u vt s (and-right (parametersFinite p) (inputsFinite u vt s) h)
+
+pub arguments-alpha : (a : NaccArguments) (u vt : List (List Float)) (s : State) → argumentsFinite a && inputsFinite u vt s ≡ true → finite (s .scalars .alpha) ≡ true
+arguments-alpha a u vt s h = alpha-finite u vt s (and-right (argumentsFinite a) (inputsFinite u vt s) h)

@@ -14,14 +14,17 @@ use Rattle.plasticity.specs.declared.State.{State}
 use Rattle.walk.specs.Expr.{Expr, num, value}
 use Rattle.walk.specs.Walk.{Walk, root, less, end, branch, ask, _then_}
 use Rattle.walk.specs.Exact.{path, final, last, lastFrom, Reason}
+use Rattle.walk.specs.Update.{Change}
 use Rattle.walk.specs.Reason.{final-then, last-then, Told, branch-told, Branchless, quiet, branchless-when, branchless-asks, branchless-then}
 use Rattle.walk.specs.Numbers.{Stops, refused-when}
 use Rattle.plasticity_nacc.specs.declared.NaccArguments.{NaccArguments}
 use Rattle.plasticity_nacc.specs.declared.NaccPlasticity.{NaccPlasticity}
 use Rattle.plasticity_nacc.specs.declared.Trial.{Trial}
+use Rattle.plasticity_nacc.specs.Law.{lawOf}
+use Rattle.plasticity_nacc.specs.Axes.{Axes, two-axes, three-axes, dimOf}
 use Rattle.plasticity_nacc.specs.Formulas as of
 use Rattle.plasticity_nacc.specs.Formulas.{small}
-use Rattle.plasticity_nacc.specs.Nacc.{Way, upper, lower, inside, surface, Shape, Landed, Result, tipWalk, growWalk, crossWalk, hardenWalk, conditions, hardenedWalk, rootsWalk, landWalk, surfaceWalk, ends, yieldWalk, lowerWalk, branchWalk, pressWalk, stepsWalk, recomposedWalk, wayWalk, projectWalk, changeOf, runWalk, naccWalk, argumentsWalk, naccUpdate, argumentsUpdate}
+use Rattle.plasticity_nacc.specs.Nacc.{Way, upper, lower, inside, surface, Shape, Landed, Result, raiseWalk, tipWalk, growWalk, crossWalk, hardenWalk, conditions, hardenedWalk, rootsWalk, landWalk, surfaceWalk, ends, yieldWalk, lowerWalk, branchWalk, pressWalk, stepsWalk, recomposedWalk, wayWalk, projectWalk, changeOf, runWalk, naccWalk, argumentsWalk, naccUpdate, argumentsUpdate}
 
 -- ---- the refusal
 pub nacc-refused : (p : NaccPlasticity) (u vt : List (List Float)) (s : State) (n : ℕ) → (naccUpdate p u vt s .outcome ≡ Refused n) ↔ Stops n (path (naccWalk p u vt s))
@@ -32,9 +35,10 @@ arguments-refused a u vt s n = refused-when s (argumentsWalk a u vt s) n
 
 -- ---- no test counts in a tip, the hardening step or the surface
 module _ (p : NaccPlasticity) where
-  tip-branchless : (x : Expr) (j alpha : Float) → Branchless (tipWalk p x j alpha)
-  unfolding tipWalk
-  tip-branchless x j alpha = λ e. (λ l. tt, tt)
+  tip-branchless : (axes : Axes) (x : Expr) (j alpha : Float) → Branchless (tipWalk axes p x j alpha)
+  unfolding tipWalk raiseWalk
+  tip-branchless two-axes x j alpha = λ w e. (λ l. tt, tt)
+  tip-branchless three-axes x j alpha = λ e. (λ l. tt, tt)
 
   grow-branchless : (x : Expr) (j alpha : Float) → Branchless (growWalk p x j alpha)
   unfolding growWalk
@@ -44,19 +48,21 @@ module _ (p : NaccPlasticity) where
   unfolding crossWalk
   cross-branchless t c d0 d1 alpha = λ r l. (grow-branchless (num (getD l 0 nan)) (t .j) alpha, grow-branchless (num (getD l 1 nan)) (t .j) alpha)
 
-  harden-branchless : (t : Trial) (alpha : Float) → Branchless (hardenWalk p t alpha)
+  harden-branchless : (d : Expr) (t : Trial) (alpha : Float) → Branchless (hardenWalk d p t alpha)
   unfolding hardenWalk
-  harden-branchless t alpha = λ l a b n d. cross-branchless t (num (getD l 0 (value (of.centre p (num (t .p0)))))) (getD d 0 nan) (getD d 1 nan) alpha
+  harden-branchless d t alpha = λ l a b n d. cross-branchless t (num (getD l 0 (value (of.centre p (num (t .p0)))))) (getD d 0 nan) (getD d 1 nan) alpha
 
-  land-branchless : (t : Trial) (alpha : Float) → Branchless (landWalk p t alpha)
+  land-branchless : (axes : Axes) (t : Trial) (s : List Float) (alpha : Float) → Branchless (landWalk axes p t s alpha)
   unfolding landWalk rootsWalk
-  land-branchless t alpha = λ r w k norm e. branchless-asks 29 root e (λ sigma. end (record { sigma = sigma; alpha = alpha })) (λ vs. tt)
+  land-branchless two-axes t s alpha = λ r w k norm e. branchless-asks 29 root e (λ sigma. end (record { sigma = sigma; alpha = alpha })) (λ vs. tt)
+  land-branchless three-axes t s alpha = λ r w k norm e. branchless-asks 29 root e (λ sigma. end (record { sigma = sigma; alpha = alpha })) (λ vs. tt)
 
-  surface-branchless : (t : Trial) (alpha : Float) → Branchless (surfaceWalk p t alpha)
+  surface-branchless : (axes : Axes) (t : Trial) (s : List Float) (alpha : Float) → Branchless (surfaceWalk axes p t s alpha)
   unfolding surfaceWalk hardenedWalk
-  surface-branchless t alpha =
-      branchless-then (hardenedWalk p t alpha) (landWalk p t) (branchless-when 13 (conditions p t) (hardenWalk p t alpha) (end alpha) (harden-branchless t alpha) tt)
-      (land-branchless t)
+  surface-branchless axes t s alpha =
+      let d = dimOf axes in
+      branchless-then (hardenedWalk d p t alpha) (landWalk axes p t s) (branchless-when 13 (conditions p t) (hardenWalk d p t alpha) (end alpha) (harden-branchless d t alpha) tt)
+      (land-branchless axes t s)
 
 -- ---- the reason
 abbrev pub reasonOf : Way → Reason
@@ -71,35 +77,36 @@ R q = reasonOf (q .way)
 ends-told : (w : Way) (v : Walk Shape) → Branchless v → Told R (some (reasonOf w)) (v then ends w)
 ends-told w v b = last-then v (ends w) (some (reasonOf w)) ∙ quiet v b (some (reasonOf w)) ∙ ap (λ q. some (R q)) (sym (final-then v (ends w)))
 
-module _ (p : NaccPlasticity) (t : Trial) (sigma : List Float) (alpha : Float) where
-  yield-told : (r : Option Reason) → Told R r (yieldWalk p t sigma alpha)
+module _ (axes : Axes) (p : NaccPlasticity) (t : Trial) (s sigma : List Float) (alpha : Float) where
+  yield-told : (r : Option Reason) → Told R r (yieldWalk axes p t s sigma alpha)
   unfolding yieldWalk
   yield-told r =
-      let y = value (of.y p t) in
+      let y = value (of.y (dimOf axes) p t) in
       let way = surface y (value small) in
-      branch-told R 9 (less (num y) small) (ends (inside y (value small)) (record { sigma = sigma; alpha = alpha })) (surfaceWalk p t alpha then ends way) r
-      (λ h. refl) (λ h. ends-told way (surfaceWalk p t alpha) (surface-branchless p t alpha))
+      branch-told R 9 (less (num y) small) (ends (inside y (value small)) (record { sigma = sigma; alpha = alpha })) (surfaceWalk axes p t s alpha then ends way) r
+      (λ h. refl) (λ h. ends-told way (surfaceWalk axes p t s alpha) (surface-branchless p axes t s alpha))
 
-  lower-told : (r : Option Reason) → Told R r (lowerWalk p t sigma alpha)
+  lower-told : (r : Option Reason) → Told R r (lowerWalk axes p t s sigma alpha)
   unfolding lowerWalk
   lower-told r =
       let low = value (of.low p (num (t .p0))) in
       let way = lower (t .p) low in
-      branch-told R 8 (less (num (t .p)) (num low)) (ask 10 root (of.lowerSquare p (num (t .p0))) (λ x. tipWalk p x (t .j) alpha then ends way)) (yieldWalk p t sigma alpha) r
-      (λ h. let x = num (sqrtOf (value (of.lowerSquare p (num (t .p0))))) in ends-told way (tipWalk p x (t .j) alpha) (tip-branchless p x (t .j) alpha))
+      branch-told R 8 (less (num (t .p)) (num low)) (ask 10 root (of.lowerSquare p (num (t .p0))) (λ x. tipWalk axes p x (t .j) alpha then ends way)) (yieldWalk axes p t s sigma alpha) r
+      (λ h. let x = num (sqrtOf (value (of.lowerSquare p (num (t .p0))))) in ends-told way (tipWalk axes p x (t .j) alpha) (tip-branchless p axes x (t .j) alpha))
       (λ h. yield-told (some (record { test = 8; compares = t .p ∷ low ∷ []; held = false })))
 
-  tests-told : (r : Option Reason) → Told R r (branchWalk p t sigma alpha)
+  tests-told : (r : Option Reason) → Told R r (branchWalk axes p t s sigma alpha)
   unfolding branchWalk
   tests-told r =
       let way = upper (t .p) (t .p0) in
-      branch-told R 7 (less (num (t .p0)) (num (t .p))) (ask 10 root (of.volumeSquare p (num (t .p0))) (λ x. tipWalk p x (t .j) alpha then ends way)) (lowerWalk p t sigma alpha) r
-      (λ h. let x = num (sqrtOf (value (of.volumeSquare p (num (t .p0))))) in ends-told way (tipWalk p x (t .j) alpha) (tip-branchless p x (t .j) alpha))
+      branch-told R 7 (less (num (t .p0)) (num (t .p))) (ask 10 root (of.volumeSquare p (num (t .p0))) (λ x. tipWalk axes p x (t .j) alpha then ends way)) (lowerWalk axes p t s sigma alpha) r
+      (λ h. let x = num (sqrtOf (value (of.volumeSquare p (num (t .p0))))) in ends-told way (tipWalk axes p x (t .j) alpha) (tip-branchless p axes x (t .j) alpha))
       (λ h. lower-told (some (record { test = 7; compares = t .p0 ∷ t .p ∷ []; held = false })))
 
-pub steps-told : (p : NaccPlasticity) (sigma : List Float) (alpha : Float) (r : Option Reason) → Told R r (stepsWalk p sigma alpha)
+pub steps-told : (axes : Axes) (p : NaccPlasticity) (sigma : List Float) (alpha : Float) (r : Option Reason) → Told R r (stepsWalk axes p sigma alpha)
 unfolding stepsWalk pressWalk
-steps-told p sigma alpha r = tests-told p _ sigma alpha r
+steps-told two-axes p sigma alpha r = tests-told two-axes p _ _ sigma alpha r
+steps-told three-axes p sigma alpha r = tests-told three-axes p _ _ sigma alpha r
 
 way-branchless : (w : Way) (q : Shape) (f : Rows) (u vt : List (List Float)) → Branchless (wayWalk w q f u vt)
 unfolding wayWalk recomposedWalk
@@ -110,11 +117,28 @@ way-branchless (surface x y) q f u vt = tt
 
 -- the last test and its numbers are the branch's
 pub nacc-reason : (p : NaccPlasticity) (u vt : List (List Float)) (s : State)
-    → last (path (naccWalk p u vt s)) ≡ some (reasonOf (final (stepsWalk p (s .sigma) (s .scalars .alpha)) .way))
+    → last (path (naccWalk p u vt s)) ≡ some (reasonOf (final (stepsWalk three-axes p (s .sigma) (s .scalars .alpha)) .way))
 unfolding naccWalk runWalk projectWalk
 nacc-reason p u vt s =
-    let w = stepsWalk p (s .sigma) (s .scalars .alpha) in
+    let w = stepsWalk three-axes p (s .sigma) (s .scalars .alpha) in
     let g : Landed → Walk Result = λ q. wayWalk (q .way) (q .shape) (s .f) u vt in
     let before = lastFrom none (path w) in
     last-then (w then g) (λ q. end (changeOf (q .way) (q .f) (q .shape) s)) none ∙ last-then w g none
-    ∙ quiet (g (final w)) (way-branchless (final w .way) (final w .shape) (s .f) u vt) before ∙ steps-told p (s .sigma) (s .scalars .alpha) none
+    ∙ quiet (g (final w)) (way-branchless (final w .way) (final w .shape) (s .f) u vt) before ∙ steps-told three-axes p (s .sigma) (s .scalars .alpha) none
+
+-- and that branch gives the stored record
+pub nacc-branch : (p : NaccPlasticity) (u vt : List (List Float)) (s : State) → let q = final (stepsWalk three-axes p (s .sigma) (s .scalars .alpha)) in
+    final (naccWalk p u vt s) ≡ final (wayWalk (q .way) (q .shape) (s .f) u vt then (λ r. end (changeOf (r .way) (r .f) (r .shape) s)))
+unfolding naccWalk runWalk projectWalk
+nacc-branch p u vt s =
+    let w = stepsWalk three-axes p (s .sigma) (s .scalars .alpha) in
+    let g : Landed → Walk Result = λ q. wayWalk (q .way) (q .shape) (s .f) u vt in
+    let e : Result → Walk Change = λ r. end (changeOf (r .way) (r .f) (r .shape) s) in
+    final-then (w then g) e ∙ ap (λ r. final (e r)) (final-then w g) ∙ sym (final-then (g (final w)) e)
+
+-- of the arguments
+pub arguments-reason : (a : NaccArguments) (u vt : List (List Float)) (s : State) → let q = final (stepsWalk three-axes (lawOf a) (s .sigma) (s .scalars .alpha)) in
+    (last (path (argumentsWalk a u vt s)) ≡ some (reasonOf (q .way)))
+    × (final (argumentsWalk a u vt s) ≡ final (wayWalk (q .way) (q .shape) (s .f) u vt then (λ r. end (changeOf (r .way) (r .f) (r .shape) s))))
+unfolding argumentsWalk naccWalk
+arguments-reason a u vt s = (nacc-reason (lawOf a) u vt s, nacc-branch (lawOf a) u vt s)

@@ -8,20 +8,22 @@ use lib.Ieee.{Float, nan}
 use Rattle.answers.specs.Refusals.{noNumber}
 use Rattle.numbers.specs.Floats.{finite, isNumber}
 use Rattle.tensor.specs.Matrix as tensor
-use Rattle.tensor.specs.Matrix.{three, recomposeOf, rowsOf}
+use Rattle.tensor.specs.Matrix.{recomposeOf, rowsOf}
 use Rattle.tensor.specs.Finite.{rowFinite, matFinite}
 use Rattle.tensor.specs.Answer.{zeroRow, zeroRows}
 use Rattle.tensor.specs.declared.Rows.{Rows}
 use Rattle.plasticity.specs.State as law
 use Rattle.plasticity.specs.declared.Outcome.{Outcome}
 use Rattle.plasticity.specs.declared.Outcome.the-variants as outcome
+use Rattle.plasticity.specs.declared.Scalars.{Scalars}
 use Rattle.plasticity.specs.declared.State.{State}
 use Rattle.plasticity.specs.declared.Updated.{Updated}
-use Rattle.walk.specs.Expr.{Expr, num, neg, _+_, _-_, _*_, _/_, value, nums}
-use Rattle.walk.specs.Walk.{Walk, Test, ln, root, sinh, third, two-thirds, minus-two-thirds, less, flag, inputs, ask, asks, work, works, most, size, branch, split, when, results, end, _then_, Ended, given, refused, result}
+use Rattle.walk.specs.Expr.{Expr, num, neg, _+_, _-_, _*_, _/_, value, values, nums}
+use Rattle.walk.specs.Walk.{Walk, Test, ln, root, sinh, less, flag, inputs, ask, asks, work, works, most, size, branch, split, when, results, end, _then_, Ended, result}
 use Rattle.walk.specs.Matrix.{product}
 use Rattle.walk.specs.Every.{flat}
 use Rattle.walk.specs.Update.{Change, untouched, stored, updatedOf, recomposed, floatsOf}
+use Rattle.reason.specs.Traced.{Traced, reached, stopped, stepless}
 use Rattle.plasticity_nacc.specs.declared.Branch.{Branch}
 use Rattle.plasticity_nacc.specs.declared.Branch.the-variants.{Upper, Lower, Inside, Surface, Refused}
 use Rattle.plasticity_nacc.specs.declared.NaccArguments.{NaccArguments}
@@ -31,6 +33,7 @@ use Rattle.plasticity_nacc.specs.declared.Results.{Results}
 use Rattle.plasticity_nacc.specs.declared.Stepped.{Stepped}
 use Rattle.plasticity_nacc.specs.declared.Trial.{Trial}
 use Rattle.plasticity_nacc.specs.Law.{lawOf, argumentsFloats, parametersOf, parametersFinite}
+use Rattle.plasticity_nacc.specs.Axes.{Axes, three-axes, dimOf, alike, inverse, rooted, squared}
 use Rattle.plasticity_nacc.specs.Formulas as of
 use Rattle.plasticity_nacc.specs.Formulas.{zero, small, trialOf}
 
@@ -49,13 +52,13 @@ pub record Landed : Type 0 where
   pub way : Way
   pub shape : Shape
 
--- ---- a tip, whose volume is x: the cube root, then alpha raised by the logarithm of j / x where hardening is enabled
-unfoldable pub tipWalk : NaccPlasticity → Expr → Float → Float → Walk Shape
-tipWalk p x j alpha =
-    ask 11 third x (λ e.
-    split 12 (flag (p .«hardening_enabled»))
-    (ask 12 ln (num j / x) (λ l. end (record { sigma = three (value e) (value e) (value e); alpha = value (num alpha + l) })))
-    (end (record { sigma = three (value e) (value e) (value e); alpha = alpha })))
+-- ---- a tip, whose volume is x: the root for each axis, then alpha raised by the logarithm of j / x where hardening is enabled
+unfoldable pub raiseWalk : NaccPlasticity → Expr → Float → Float → Walk Float
+raiseWalk p x j alpha = split 12 (flag (p .«hardening_enabled»)) (ask 12 ln (num j / x) (λ l. end (value (num alpha + l)))) (end alpha)
+
+unfoldable pub tipWalk : Axes → NaccPlasticity → Expr → Float → Float → Walk Shape
+tipWalk axes p x j alpha =
+    rooted axes 11 x (λ e. raiseWalk p x j alpha then (λ a. end (record { sigma = alike axes (value e); alpha = a })))
 
 -- ---- the hardening step: the new alpha
 -- of a zero of either sign 0
@@ -81,24 +84,24 @@ crossWalk p t c d0 d1 alpha =
     let p2 = num (getD l 1 nan) in
     split 21 (less zero ((num (t .p) - c) * (p1 - c))) (growWalk p p1 (t .j) alpha) (growWalk p p2 (t .j) alpha)))
 
--- the direction of (p_c - p_tr, 0 - q_tr), with q_tr = root((6 - 3)/2) |s_tr|
-unfoldable pub hardenWalk : NaccPlasticity → Trial → Float → Walk Float
-hardenWalk p t alpha =
+-- the direction of (p_c - p_tr, 0 - q_tr), with q_tr = root((6 - d)/2) |s_tr|
+unfoldable pub hardenWalk : Expr → NaccPlasticity → Trial → Float → Walk Float
+hardenWalk d p t alpha =
     work 14 (of.centre p (num (t .p0))) (λ c.
-    ask 15 root of.half (λ a.
+    ask 15 root (of.half d) (λ a.
     ask 16 root (num (t .squares)) (λ b.
     let x = c - num (t .p) in
     let y = zero - a * b in
     ask 17 root (x * x + y * y) (λ n.
-    works 18 (x / n ∷ y / n ∷ []) (λ d. crossWalk p t c (getD d 0 nan) (getD d 1 nan) alpha)))))
+    works 18 (x / n ∷ y / n ∷ []) (λ l. crossWalk p t c (getD l 0 nan) (getD l 1 nan) alpha)))))
 
 -- "the four-condition hardening step first": none of these tests is a branch of section 5
 abbrev pub conditions : NaccPlasticity → Trial → List Test
 conditions p t =
     flag (p .«hardening_enabled») ∷ less small (num (t .p0)) ∷ less (num (t .p)) (num (t .p0) - small) ∷ less (of.low p (num (t .p0)) + small) (num (t .p)) ∷ []
 
-unfoldable pub hardenedWalk : NaccPlasticity → Trial → Float → Walk Float
-hardenedWalk p t alpha = when 13 (conditions p t) (hardenWalk p t alpha) (end alpha)
+unfoldable pub hardenedWalk : Expr → NaccPlasticity → Trial → Float → Walk Float
+hardenedWalk d p t alpha = when 13 (conditions p t) (hardenWalk d p t alpha) (end alpha)
 
 -- what the branches before it have tested
 abbrev pub settled : NaccPlasticity → Trial → Bool
@@ -108,53 +111,54 @@ settled p t = isNumber (t .p0) && isNumber (t .p) && isNumber (value (of.low p (
 unfoldable pub rootsWalk : List Float → Float → Walk Shape
 rootsWalk e alpha = asks 29 root e (λ sigma. end (record { sigma = sigma; alpha = alpha }))
 
--- k = root(-y1 / y0) (j^(2/3) / mu), then k s_tr / |s_tr| + mean
-unfoldable pub landWalk : NaccPlasticity → Trial → Float → Walk Shape
-landWalk p t alpha =
-    ask 24 root (of.ratio p t) (λ r.
-    ask 25 two-thirds (num (t .j)) (λ w.
-    work 26 (r * (w / num (p .mu))) (λ k.
+-- k = root(-y1 / y0) (j^(2/d) / mu), then k s_tr / |s_tr| + mean
+unfoldable pub landWalk : Axes → NaccPlasticity → Trial → List Float → Float → Walk Shape
+landWalk axes p t s alpha =
+    ask 24 root (of.ratio (dimOf axes) p t) (λ r.
+    squared axes 25 (num (t .j)) (λ w.
+    work 26 (of.scale p r w) (λ k.
     ask 27 root (num (t .squares)) (λ norm.
-    works 28 (of.spread k (t .s) norm (t .mean)) (λ e. rootsWalk e alpha)))))
+    works 28 (of.spread k s norm (t .mean)) (λ e. rootsWalk e alpha)))))
 
-unfoldable pub surfaceWalk : NaccPlasticity → Trial → Float → Walk Shape
-surfaceWalk p t alpha = hardenedWalk p t alpha then (λ a. landWalk p t a)
+unfoldable pub surfaceWalk : Axes → NaccPlasticity → Trial → List Float → Float → Walk Shape
+surfaceWalk axes p t s alpha = hardenedWalk (dimOf axes) p t alpha then (λ a. landWalk axes p t s a)
 
 -- ---- the branches: "p_tr > p0: upper tip. p_tr < -beta p0: lower tip. y < 1e-4: untouched .. Else the surface"
 abbrev pub ends : Way → Shape → Walk Landed
 ends w q = end (record { way = w; shape = q })
 
-unfoldable pub yieldWalk : NaccPlasticity → Trial → List Float → Float → Walk Landed
-yieldWalk p t sigma alpha =
-    work 9 (of.y p t) (λ y.
+unfoldable pub yieldWalk : Axes → NaccPlasticity → Trial → List Float → List Float → Float → Walk Landed
+yieldWalk axes p t s sigma alpha =
+    work 9 (of.y (dimOf axes) p t) (λ y.
     branch 9 (less y small) (ends (inside (value y) (value small)) (record { sigma = sigma; alpha = alpha }))
-    (surfaceWalk p t alpha then ends (surface (value y) (value small))))
+    (surfaceWalk axes p t s alpha then ends (surface (value y) (value small))))
 
-unfoldable pub lowerWalk : NaccPlasticity → Trial → List Float → Float → Walk Landed
-lowerWalk p t sigma alpha =
+unfoldable pub lowerWalk : Axes → NaccPlasticity → Trial → List Float → List Float → Float → Walk Landed
+lowerWalk axes p t s sigma alpha =
     work 8 (of.low p (num (t .p0))) (λ low.
     branch 8 (less (num (t .p)) low)
-    (ask 10 root (of.lowerSquare p (num (t .p0))) (λ x. tipWalk p x (t .j) alpha then ends (lower (t .p) (value low))))
-    (yieldWalk p t sigma alpha))
+    (ask 10 root (of.lowerSquare p (num (t .p0))) (λ x. tipWalk axes p x (t .j) alpha then ends (lower (t .p) (value low))))
+    (yieldWalk axes p t s sigma alpha))
 
-unfoldable pub branchWalk : NaccPlasticity → Trial → List Float → Float → Walk Landed
-branchWalk p t sigma alpha =
+unfoldable pub branchWalk : Axes → NaccPlasticity → Trial → List Float → List Float → Float → Walk Landed
+branchWalk axes p t s sigma alpha =
     branch 7 (less (num (t .p0)) (num (t .p)))
-    (ask 10 root (of.volumeSquare p (num (t .p0))) (λ x. tipWalk p x (t .j) alpha then ends (upper (t .p) (t .p0))))
-    (lowerWalk p t sigma alpha)
+    (ask 10 root (of.volumeSquare p (num (t .p0))) (λ x. tipWalk axes p x (t .j) alpha then ends (upper (t .p) (t .p0))))
+    (lowerWalk axes p t s sigma alpha)
 
 -- ---- the trial state, in the text's order: p0, the power of j, stress and pressure
-unfoldable pub pressWalk : NaccPlasticity → Expr → List Float → Float → Walk Landed
-pressWalk p m sigma alpha =
+unfoldable pub pressWalk : Axes → NaccPlasticity → Expr → List Float → Float → Walk Landed
+pressWalk axes p m sigma alpha =
+    let d = dimOf axes in
     ask 3 sinh (num (p .«hardening_factor») * m) (λ x.
     work 4 (of.p0 p x) (λ p0.
-    ask 5 minus-two-thirds (product sigma) (λ w.
-    works 6 (of.squares p w sigma ∷ of.pressure p (product sigma) ∷ []) (λ l.
-    branchWalk p (trialOf p (value w) (value p0) (value (product sigma)) sigma) sigma alpha))))
+    inverse axes 5 (product sigma) (λ w.
+    works 6 (of.squares d p w sigma ∷ of.pressure p (product sigma) ∷ []) (λ l.
+    branchWalk axes p (trialOf d p (value w) (value p0) (value (product sigma)) sigma) (values (of.stress d p (num (value w)) sigma)) sigma alpha))))
 
 -- xi max(-alpha, 0)
-unfoldable pub stepsWalk : NaccPlasticity → List Float → Float → Walk Landed
-stepsWalk p sigma alpha = most 2 (neg (num alpha)) zero (λ m. pressWalk p m sigma alpha)
+unfoldable pub stepsWalk : Axes → NaccPlasticity → List Float → Float → Walk Landed
+stepsWalk axes p sigma alpha = most 2 (neg (num alpha)) zero (λ m. pressWalk axes p m sigma alpha)
 
 -- ---- F recomposed, the results finite; inside the yield surface F is as it came
 pub record Result : Type 0 where
@@ -174,7 +178,7 @@ wayWalk (inside x y) q f u vt = end (record { way = inside x y; f = f; shape = q
 wayWalk (surface x y) q f u vt = recomposedWalk (surface x y) u q vt
 
 unfoldable pub projectWalk : NaccPlasticity → Rows → List (List Float) → List Float → List (List Float) → Float → Walk Result
-projectWalk p f u sigma vt alpha = stepsWalk p sigma alpha then (λ q. wayWalk (q .way) (q .shape) f u vt)
+projectWalk p f u sigma vt alpha = stepsWalk three-axes p sigma alpha then (λ q. wayWalk (q .way) (q .shape) f u vt)
 
 -- "1 is tested first, then the moduli by 3"
 abbrev pub moduli : {A : Type 0} → NaccPlasticity → Walk A → Walk A
@@ -191,20 +195,19 @@ unfoldable pub projectCall : NaccPlasticity → List (List Float) → List (List
 projectCall p f u sigma vt alpha = inputs (projectFloats p f u sigma vt alpha) (moduli p (projectWalk p (rowsOf f) u sigma vt alpha))
 
 -- ---- the update: F, sigma and alpha are new, and alpha is the amount; "y < 1e-4: untouched, alpha too"
-abbrev pub stateOf : Rows → List Float → Float → State → State
-stateOf f sigma alpha s =
+abbrev pub scalarsOf : Float → Scalars → Scalars
+scalarsOf alpha x =
     record {
-      f = f;
-      sigma = sigma;
-      scalars = record {
-        phase = s .scalars .phase;
-        «plastic_determinant» = s .scalars .«plastic_determinant»;
-        «plastic_hardening» = s .scalars .«plastic_hardening»;
-        «elastic_hardening» = s .scalars .«elastic_hardening»;
-        «log_gain» = s .scalars .«log_gain»;
-        alpha = alpha;
-      };
+      phase = x .phase;
+      «plastic_determinant» = x .«plastic_determinant»;
+      «plastic_hardening» = x .«plastic_hardening»;
+      «elastic_hardening» = x .«elastic_hardening»;
+      «log_gain» = x .«log_gain»;
+      alpha = alpha;
     }
+
+abbrev pub stateOf : Rows → List Float → Float → State → State
+stateOf f sigma alpha s = record { f = f; sigma = sigma; scalars = scalarsOf alpha (s .scalars) }
 
 abbrev pub changeOf : Way → Rows → Shape → State → Change
 changeOf (upper x y) f q s = stored (stateOf f (q .sigma) (q .alpha) s) (q .alpha)
@@ -233,36 +236,40 @@ branchOf (lower x y) = Lower x y
 branchOf (inside x y) = Inside x y
 branchOf (surface x y) = Surface x y
 
-abbrev pub refusedStep : ℕ → Stepped
-refusedStep n = record { branch = Refused n; sigma = zeroRow; alpha = tensor.zero }
+abbrev pub refusedStep : ℕ → ℕ → Stepped
+refusedStep n step = record { branch = Refused n step; sigma = zeroRow; alpha = tensor.zero }
 
-abbrev pub asBranch : Branch → Ended Shape → Stepped
-asBranch b (given q) = record { branch = b; sigma = q .sigma; alpha = q .alpha }
-asBranch b (refused n) = refusedStep n
+abbrev pub asBranch : Branch → Traced Shape → Stepped
+asBranch b (reached q) = record { branch = b; sigma = q .sigma; alpha = q .alpha }
+asBranch b (stopped n step) = refusedStep n step
 
-abbrev pub steppedOf : Ended Landed → Stepped
-steppedOf (given q) = record { branch = branchOf (q .way); sigma = q .shape .sigma; alpha = q .shape .alpha }
-steppedOf (refused n) = refusedStep n
+abbrev pub steppedOf : Traced Landed → Stepped
+steppedOf (reached q) = record { branch = branchOf (q .way); sigma = q .shape .sigma; alpha = q .shape .alpha }
+steppedOf (stopped n step) = refusedStep n step
 
-abbrev pub refusedProjection : ℕ → Projected
-refusedProjection n = record { branch = Refused n; f = zeroRows; sigma = zeroRow; alpha = tensor.zero }
+abbrev pub refusedProjection : ℕ → ℕ → Projected
+refusedProjection n step = record { branch = Refused n step; f = zeroRows; sigma = zeroRow; alpha = tensor.zero }
 
+abbrev pub walkedOf : Traced Result → Projected
+walkedOf (reached q) = record { branch = branchOf (q .way); f = q .f; sigma = q .shape .sigma; alpha = q .shape .alpha }
+walkedOf (stopped n step) = refusedProjection n step
+
+-- where the step isn't told
 abbrev pub projectedOf : Ended Result → Projected
-projectedOf (given q) = record { branch = branchOf (q .way); f = q .f; sigma = q .shape .sigma; alpha = q .shape .alpha }
-projectedOf (refused n) = refusedProjection n
+projectedOf x = walkedOf (stepless x)
 
 unfoldable pub recomposedOf : Branch → List (List Float) → List Float → List (List Float) → Float → Projected
 recomposedOf b u sigma vt alpha =
     cond ((matFinite (recomposeOf u sigma vt) && rowFinite sigma) && finite alpha)
     (record { branch = b; f = rowsOf (recomposeOf u sigma vt); sigma = sigma; alpha = alpha })
-    (refusedProjection noNumber)
+    (refusedProjection noNumber 30)
 
 abbrev pub byBranch : Branch → List Float → Float → Rows → List (List Float) → List (List Float) → Projected
 byBranch (Upper x y) sigma alpha f u vt = recomposedOf (Upper x y) u sigma vt alpha
 byBranch (Lower x y) sigma alpha f u vt = recomposedOf (Lower x y) u sigma vt alpha
 byBranch (Inside x y) sigma alpha f u vt = record { branch = Inside x y; f = f; sigma = sigma; alpha = alpha }
 byBranch (Surface x y) sigma alpha f u vt = recomposedOf (Surface x y) u sigma vt alpha
-byBranch (Refused n) sigma alpha f u vt = refusedProjection n
+byBranch (Refused n step) sigma alpha f u vt = refusedProjection n step
 
 -- as it is handed out: the branch and what it compared stay inside
 abbrev pub outcomeOf : Branch → Float → Outcome
@@ -270,7 +277,7 @@ outcomeOf (Upper x y) alpha = outcome.Stored alpha
 outcomeOf (Lower x y) alpha = outcome.Stored alpha
 outcomeOf (Inside x y) alpha = outcome.Untouched
 outcomeOf (Surface x y) alpha = outcome.Stored alpha
-outcomeOf (Refused n) alpha = outcome.Refused n
+outcomeOf (Refused n step) alpha = outcome.Refused n
 
 abbrev pub resultsOf : Projected → Results
 resultsOf q = record { outcome = outcomeOf (q .branch) (q .alpha); f = q .f; sigma = q .sigma }
@@ -283,7 +290,7 @@ storedBy (Upper x y) f sigma alpha s = storedAs f sigma alpha s
 storedBy (Lower x y) f sigma alpha s = storedAs f sigma alpha s
 storedBy (Inside x y) f sigma alpha s = record { state = s; outcome = outcome.Untouched }
 storedBy (Surface x y) f sigma alpha s = storedAs f sigma alpha s
-storedBy (Refused n) f sigma alpha s = law.refused n s
+storedBy (Refused n step) f sigma alpha s = law.refused n s
 
 abbrev pub naccUpdate : NaccPlasticity → List (List Float) → List (List Float) → State → Updated
 naccUpdate p u vt s = updatedOf s (result (naccWalk p u vt s))

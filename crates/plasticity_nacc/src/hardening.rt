@@ -1,13 +1,16 @@
 // The hardening step: where the line from the surface's centre to the trial state crosses the surface.
 use crate::NaccPlasticity;
 use crate::Trial;
+use crate::steps;
 use answers::Answer;
+use reason::Number;
 ghost use mathlib.Core.Path.{_≡_};
 ghost use mathlib.Core.Bool.{true};
 ghost use Rattle.tensor.specs.Axes.{allOf};
 ghost use Rattle.walk.specs.Expr.{num, value};
-ghost use Rattle.walk.specs.Walk.{holds, result, answerAs};
-ghost use Rattle.plasticity_nacc.specs.Formulas.{volumeSquare, quadratic, linear, constant};
+ghost use Rattle.walk.specs.Walk.{holds};
+ghost use Rattle.reason.specs.Traced.{traced, numberAs};
+ghost use Rattle.plasticity_nacc.specs.Formulas.{quadratic, linear, constant};
 ghost use Rattle.plasticity_nacc.specs.Nacc.{sizeOf, growWalk, crossWalk, hardenWalk, conditions, hardenedWalk, settled};
 
 // The size of x; of either zero 0.0.
@@ -18,16 +21,9 @@ fn size(x: f64) -> f64
 }
 
 impl NaccPlasticity {
-    // The square of the volume at the pressure x.
-    pub(crate) fn volume_square(self, x: f64) -> f64
-        ensures { λ r. ⌜ r ≡ value (volumeSquare self (num x)) ⌝ }
-    {
-        -2.0 * x / self.kappa + 1.0
-    }
-
     // At the crossing's pressure x: the new alpha.
-    fn grown(self, x: f64, j: f64, alpha: f64) -> Answer
-        ensures { λ r. ⌜ r ≡ answerAs (result (growWalk self (num x) j alpha)) ⌝ }
+    fn grown(self, x: f64, j: f64, alpha: f64) -> Number
+        ensures { λ r. ⌜ r ≡ numberAs (traced (growWalk self (num x) j alpha)) ⌝ }
     {
         let square = self.volume_square(x);
         if numbers::is_number(square) {
@@ -35,17 +31,17 @@ impl NaccPlasticity {
                 Answer::Value(v) => {
                     if v > 0.0001 {
                         match logarithm::ln_on_path(j / v) {
-                            Answer::Value(l) => Answer::Value(alpha + l),
-                            Answer::Refused(n) => Answer::Refused(n),
+                            Answer::Value(l) => Number::Value(alpha + l),
+                            Answer::Refused(n) => Number::Refused(n, steps::VOLUME_LOG),
                         }
                     } else {
-                        Answer::Value(alpha)
+                        Number::Value(alpha)
                     }
                 }
-                Answer::Refused(n) => Answer::Refused(n),
+                Answer::Refused(n) => Number::Refused(n, steps::VOLUME),
             }
         } else {
-            Answer::Refused(answers::NO_NUMBER)
+            Number::Refused(answers::NO_NUMBER, steps::VOLUME)
         }
     }
 
@@ -69,8 +65,8 @@ impl NaccPlasticity {
     }
 
     // From the centre c along (d0, d1): both crossings are worked, and the one on the trial state's side is taken.
-    fn crossed(self, t: Trial, c: f64, d0: f64, d1: f64, alpha: f64) -> Answer
-        ensures { λ r. ⌜ r ≡ answerAs (result (crossWalk self t (num c) d0 d1 alpha)) ⌝ }
+    fn crossed(self, t: Trial, c: f64, d0: f64, d1: f64, alpha: f64) -> Number
+        ensures { λ r. ⌜ r ≡ numberAs (traced (crossWalk self t (num c) d0 d1 alpha)) ⌝ }
     {
         let k = self.constant(c, t.p0);
         let b = self.linear(c, t.p0, d0);
@@ -88,23 +84,23 @@ impl NaccPlasticity {
                             self.grown(p2, t.j, alpha)
                         }
                     } else {
-                        Answer::Refused(answers::NO_NUMBER)
+                        Number::Refused(answers::NO_NUMBER, steps::SIDE)
                     }
                 } else {
-                    Answer::Refused(answers::NO_NUMBER)
+                    Number::Refused(answers::NO_NUMBER, steps::CROSSINGS)
                 }
             }
-            Answer::Refused(n) => Answer::Refused(n),
+            Answer::Refused(n) => Number::Refused(n, steps::DISCRIMINANT),
         }
     }
 
     // From the centre, the pressure midway between the tips, to the trial state.
-    fn hardening_step(self, t: Trial, alpha: f64) -> Answer
-        ensures { λ r. ⌜ r ≡ answerAs (result (hardenWalk self t alpha)) ⌝ }
+    fn hardening_step(self, d: f64, t: Trial, alpha: f64) -> Number
+        ensures { λ r. ⌜ r ≡ numberAs (traced (hardenWalk (num d) self t alpha)) ⌝ }
     {
         let c = (1.0 - self.cohesion) * t.p0 / 2.0;
         if numbers::is_number(c) {
-            match square_root::sqrt_on_path((6.0 - 3.0) / 2.0) {
+            match square_root::sqrt_on_path((6.0 - d) / 2.0) {
                 Answer::Value(a) => match square_root::sqrt_on_path(t.squares) {
                     Answer::Value(b) => {
                         let x = c - t.p;
@@ -116,18 +112,18 @@ impl NaccPlasticity {
                                 if numbers::is_number(d0) & numbers::is_number(d1) {
                                     self.crossed(t, c, d0, d1, alpha)
                                 } else {
-                                    Answer::Refused(answers::NO_NUMBER)
+                                    Number::Refused(answers::NO_NUMBER, steps::DIRECTION)
                                 }
                             }
-                            Answer::Refused(n) => Answer::Refused(n),
+                            Answer::Refused(n) => Number::Refused(n, steps::DISTANCE),
                         }
                     }
-                    Answer::Refused(n) => Answer::Refused(n),
+                    Answer::Refused(n) => Number::Refused(n, steps::STRESS_NORM),
                 },
-                Answer::Refused(n) => Answer::Refused(n),
+                Answer::Refused(n) => Number::Refused(n, steps::HALF_ROOT),
             }
         } else {
-            Answer::Refused(answers::NO_NUMBER)
+            Number::Refused(answers::NO_NUMBER, steps::CENTRE)
         }
     }
 
@@ -141,15 +137,15 @@ impl NaccPlasticity {
             & (t.p > -self.cohesion * t.p0 + 0.0001)
     }
 
-    // The new alpha. The numbers compared are known to be no NaN.
-    pub(crate) fn hardened(self, t: Trial, alpha: f64) -> Answer
+    // The new alpha; d is the number of axes. The numbers compared are known to be no NaN.
+    pub fn hardened(self, d: f64, t: Trial, alpha: f64) -> Number
         requires { ⌜ settled self t ≡ true ⌝ }
-        ensures { λ r. ⌜ r ≡ answerAs (result (hardenedWalk self t alpha)) ⌝ }
+        ensures { λ r. ⌜ r ≡ numberAs (traced (hardenedWalk (num d) self t alpha)) ⌝ }
     {
         if self.hardens(t) {
-            self.hardening_step(t, alpha)
+            self.hardening_step(d, t, alpha)
         } else {
-            Answer::Value(alpha)
+            Number::Value(alpha)
         }
     }
 }

@@ -1,12 +1,16 @@
 // Non-associated Cam clay (plasticity_nacc.rs; RULES, section 5).
 mod arguments;
 mod branches;
+mod formulas;
 mod hardening;
+mod reasons;
+mod steps;
 mod surface;
 mod update;
 
 use plasticity::Outcome;
 use tensor::Rows;
+pub use update::scalars_of;
 
 // The law with its moduli; made by `new` or `with_m`.
 pub struct NaccPlasticity {
@@ -34,18 +38,23 @@ pub enum Made {
     Refused(u8),
 }
 
-// The trial state: p0, the product of sigma, a third of the sum of squares, the deviatoric stress with its sum of
-// squares, and the pressure.
+// The trial state: p0, the product of sigma, the mean of its squares, the sum of squares of the deviatoric stress, and
+// the pressure.
 pub struct Trial {
     pub p0: f64,
     pub j: f64,
     pub mean: f64,
-    pub s: [f64; 3],
     pub squares: f64,
     pub p: f64,
 }
 
-// The branch taken, with the two numbers last compared; or the refusal's number.
+// With the deviatoric stress.
+pub struct Stressed {
+    pub trial: Trial,
+    pub s: [f64; 3],
+}
+
+// The branch taken, with the two numbers last compared; or the refusal's number and its step.
 pub enum Branch {
     // The trial pressure and p0.
     Upper(f64, f64),
@@ -55,7 +64,7 @@ pub enum Branch {
     Inside(f64, f64),
     // y and 1e-4.
     Surface(f64, f64),
-    Refused(u8),
+    Refused(u8, u8),
 }
 
 // The branch with the singular values and alpha after it; zeros stand beside a refusal.

@@ -3,20 +3,23 @@ use crate::Branch;
 use crate::NaccPlasticity;
 use crate::Stepped;
 use crate::Trial;
+use crate::steps;
 use answers::Answer;
+use reason::Number;
 ghost use mathlib.Core.Path.{_≡_};
 ghost use mathlib.Core.Bool.{true};
-ghost use Rattle.walk.specs.Expr.{num, value, values};
-ghost use Rattle.walk.specs.Walk.{result};
-ghost use Rattle.plasticity_nacc.specs.Formulas.{y0, y1, spread};
+ghost use Rattle.walk.specs.Expr.{num, values};
+ghost use Rattle.reason.specs.Traced.{traced};
+ghost use Rattle.plasticity_nacc.specs.Axes.{three-axes};
+ghost use Rattle.plasticity_nacc.specs.Formulas.{spread};
 ghost use Rattle.plasticity_nacc.specs.Nacc.{refusedStep, asBranch, tipWalk, rootsWalk, landWalk, surfaceWalk, settled};
 
-pub fn refused_step(n: u8) -> Stepped
-    ensures { λ r. ⌜ r ≡ refusedStep n ⌝ }
+pub fn refused_step(n: u8, step: u8) -> Stepped
+    ensures { λ r. ⌜ r ≡ refusedStep n step ⌝ }
 {
     let z = [0.0, 0.0, 0.0];
     Stepped {
-        branch: Branch::Refused(n),
+        branch: Branch::Refused(n, step),
         sigma: z,
         alpha: 0.0,
     }
@@ -35,7 +38,7 @@ fn spread(k: f64, s: [f64; 3], norm: f64, mean: f64) -> [f64; 3]
 
 // The singular values are the roots of these.
 fn roots(b: Branch, e: [f64; 3], alpha: f64) -> Stepped
-    ensures { λ r. ⌜ r ≡ asBranch b (result (rootsWalk e alpha)) ⌝ }
+    ensures { λ r. ⌜ r ≡ asBranch b (traced (rootsWalk e alpha)) ⌝ }
 {
     match square_root::sqrt_on_path(e[0]) {
         Answer::Value(x) => match square_root::sqrt_on_path(e[1]) {
@@ -48,94 +51,73 @@ fn roots(b: Branch, e: [f64; 3], alpha: f64) -> Stepped
                         alpha,
                     }
                 }
-                Answer::Refused(n) => refused_step(n),
+                Answer::Refused(n) => refused_step(n, steps::ROOTS),
             },
-            Answer::Refused(n) => refused_step(n),
+            Answer::Refused(n) => refused_step(n, steps::ROOTS),
         },
-        Answer::Refused(n) => refused_step(n),
+        Answer::Refused(n) => refused_step(n, steps::ROOTS),
     }
 }
 
 impl NaccPlasticity {
     // All singular values alike, at the tip whose volume is x.
     pub(crate) fn tip(self, b: Branch, x: f64, j: f64, alpha: f64) -> Stepped
-        ensures { λ r. ⌜ r ≡ asBranch b (result (tipWalk self (num x) j alpha)) ⌝ }
+        ensures { λ r. ⌜ r ≡ asBranch b (traced (tipWalk three-axes self (num x) j alpha)) ⌝ }
     {
         match thirds::cbrt_on_path(x) {
-            Answer::Value(e) => {
-                let sigma = [e, e, e];
-                if self.hardening_enabled {
-                    match logarithm::ln_on_path(j / x) {
-                        Answer::Value(l) => Stepped {
-                            branch: b,
-                            sigma,
-                            alpha: alpha + l,
-                        },
-                        Answer::Refused(n) => refused_step(n),
-                    }
-                } else {
+            Answer::Value(e) => match self.raised(x, j, alpha) {
+                Number::Value(a) => {
+                    let sigma = [e, e, e];
                     Stepped {
                         branch: b,
                         sigma,
-                        alpha,
+                        alpha: a,
                     }
                 }
-            }
-            Answer::Refused(n) => refused_step(n),
+                Number::Refused(n, step) => refused_step(n, step),
+            },
+            Answer::Refused(n) => refused_step(n, steps::TIP_SIZE),
         }
     }
 
-    pub(crate) fn y0(self) -> f64
-        ensures { λ r. ⌜ r ≡ value (y0 self) ⌝ }
-    {
-        (1.0 + 2.0 * self.cohesion) * ((6.0 - 3.0) / 2.0)
-    }
-
-    pub(crate) fn y1(self, t: Trial) -> f64
-        ensures { λ r. ⌜ r ≡ value (y1 self t) ⌝ }
-    {
-        self.friction * self.friction * (t.p + self.cohesion * t.p0) * (t.p - t.p0)
-    }
-
     // Onto the surface, once the new alpha is known.
-    fn land(self, b: Branch, t: Trial, alpha: f64) -> Stepped
-        ensures { λ r. ⌜ r ≡ asBranch b (result (landWalk self t alpha)) ⌝ }
+    fn land(self, b: Branch, t: Trial, s: [f64; 3], alpha: f64) -> Stepped
+        ensures { λ r. ⌜ r ≡ asBranch b (traced (landWalk three-axes self t s alpha)) ⌝ }
     {
-        match square_root::sqrt_on_path(-self.y1(t) / self.y0()) {
+        match square_root::sqrt_on_path(-self.y1(t) / self.y0(3.0)) {
             Answer::Value(r) => match thirds::cbrt_squared_on_path(t.j) {
                 Answer::Value(w) => {
-                    let k = r * (w / self.mu);
+                    let k = self.scale(r, w);
                     if numbers::is_number(k) {
                         match square_root::sqrt_on_path(t.squares) {
                             Answer::Value(norm) => {
-                                let s = t.s;
                                 let e = spread(k, s, norm, t.mean);
                                 if tensor::row_number(e) {
                                     roots(b, e, alpha)
                                 } else {
-                                    refused_step(3)
+                                    refused_step(answers::NO_NUMBER, steps::SQUARES)
                                 }
                             }
-                            Answer::Refused(n) => refused_step(n),
+                            Answer::Refused(n) => refused_step(n, steps::NORM),
                         }
                     } else {
-                        refused_step(3)
+                        refused_step(answers::NO_NUMBER, steps::SCALE)
                     }
                 }
-                Answer::Refused(n) => refused_step(n),
+                Answer::Refused(n) => refused_step(n, steps::POWER_BACK),
             },
-            Answer::Refused(n) => refused_step(n),
+            Answer::Refused(n) => refused_step(n, steps::RATIO),
         }
     }
 
     // The hardening step comes first.
-    pub(crate) fn surface(self, b: Branch, t: Trial, alpha: f64) -> Stepped
+    pub(crate) fn surface(self, b: Branch, t: Trial, s: [f64; 3], alpha: f64) -> Stepped
         requires { ⌜ settled self t ≡ true ⌝ }
-        ensures { λ r. ⌜ r ≡ asBranch b (result (surfaceWalk self t alpha)) ⌝ }
+        ensures { λ r. ⌜ r ≡ asBranch b (traced (surfaceWalk three-axes self t s alpha)) ⌝ }
     {
-        match self.hardened(t, alpha) {
-            Answer::Value(a) => self.land(b, t, a),
-            Answer::Refused(n) => refused_step(n),
+        match self.hardened(3.0, t, alpha) {
+            Number::Value(a) => self.land(b, t, s, a),
+            Number::Refused(n, step) => refused_step(n, step),
         }
     }
 }

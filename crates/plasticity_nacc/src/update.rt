@@ -4,6 +4,7 @@ use crate::NaccPlasticity;
 use crate::Projected;
 use crate::Results;
 use crate::Stepped;
+use crate::steps;
 use plasticity::Outcome;
 use plasticity::Scalars;
 use plasticity::State;
@@ -15,10 +16,11 @@ ghost use Rattle.numbers.specs.Floats.{finite};
 ghost use Rattle.plasticity.specs.State.{inputsFinite};
 ghost use Rattle.walk.specs.Walk.{result};
 ghost use Rattle.walk.specs.Update.{updatedOf};
-ghost use Rattle.plasticity_nacc.specs.Nacc.{outcomeOf, resultsOf, refusedProjection, recomposedOf, byBranch, projectedOf, projectInputs, projectCall, stateOf, storedBy, runWalk, naccUpdate};
+ghost use Rattle.reason.specs.Traced.{traced};
+ghost use Rattle.plasticity_nacc.specs.Nacc.{outcomeOf, resultsOf, refusedProjection, recomposedOf, byBranch, walkedOf, projectedOf, projectInputs, projectCall, scalarsOf, stateOf, storedBy, runWalk, naccUpdate};
 
-fn refused_projection(n: u8) -> Projected
-    ensures { λ r. ⌜ r ≡ refusedProjection n ⌝ }
+fn refused_projection(n: u8, step: u8) -> Projected
+    ensures { λ r. ⌜ r ≡ refusedProjection n step ⌝ }
 {
     let z = [0.0, 0.0, 0.0];
     let zeros = Rows {
@@ -27,7 +29,7 @@ fn refused_projection(n: u8) -> Projected
         r2: z,
     };
     Projected {
-        branch: Branch::Refused(n),
+        branch: Branch::Refused(n, step),
         f: zeros,
         sigma: z,
         alpha: 0.0,
@@ -54,12 +56,12 @@ fn recomposed(
             alpha,
         }
     } else {
-        refused_projection(3)
+        refused_projection(answers::NO_NUMBER, steps::RESULTS)
     }
 }
 
 // F is recomposed, but inside the yield surface as it came.
-fn projected(q: Stepped, f: Rows, u: [[f64; 3]; 3], vt: [[f64; 3]; 3]) -> Projected
+pub(crate) fn projected(q: Stepped, f: Rows, u: [[f64; 3]; 3], vt: [[f64; 3]; 3]) -> Projected
     ensures { λ r. ⌜ r ≡ byBranch (q .branch) (q .sigma) (q .alpha) f u vt ⌝ }
 {
     let b = q.branch;
@@ -74,7 +76,21 @@ fn projected(q: Stepped, f: Rows, u: [[f64; 3]; 3], vt: [[f64; 3]; 3]) -> Projec
             alpha: q.alpha,
         },
         Branch::Surface(x, y) => recomposed(Branch::Surface(x, y), u, sigma, vt, q.alpha),
-        Branch::Refused(n) => refused_projection(n),
+        Branch::Refused(n, step) => refused_projection(n, step),
+    }
+}
+
+// Alpha is new.
+pub fn scalars_of(alpha: f64, x: Scalars) -> Scalars
+    ensures { λ r. ⌜ r ≡ scalarsOf alpha x ⌝ }
+{
+    Scalars {
+        phase: x.phase,
+        plastic_determinant: x.plastic_determinant,
+        plastic_hardening: x.plastic_hardening,
+        elastic_hardening: x.elastic_hardening,
+        log_gain: x.log_gain,
+        alpha,
     }
 }
 
@@ -84,14 +100,7 @@ fn state_of(f: Rows, sigma: [f64; 3], alpha: f64, s: State) -> State
     State {
         f,
         sigma,
-        scalars: Scalars {
-            phase: s.scalars.phase,
-            plastic_determinant: s.scalars.plastic_determinant,
-            plastic_hardening: s.scalars.plastic_hardening,
-            elastic_hardening: s.scalars.elastic_hardening,
-            log_gain: s.scalars.log_gain,
-            alpha,
-        },
+        scalars: scalars_of(alpha, s.scalars),
     }
 }
 
@@ -119,7 +128,7 @@ fn stored(q: Projected, s: State) -> Updated
             state: state_of(f, sigma, q.alpha, s),
             outcome: Outcome::Stored(q.alpha),
         },
-        Branch::Refused(n) => plasticity::refuse(n, s),
+        Branch::Refused(n, _) => plasticity::refuse(n, s),
     }
 }
 
@@ -132,7 +141,7 @@ fn outcome_of(b: Branch, alpha: f64) -> Outcome
         Branch::Lower(_, _) => Outcome::Stored(alpha),
         Branch::Inside(_, _) => Outcome::Untouched,
         Branch::Surface(_, _) => Outcome::Stored(alpha),
-        Branch::Refused(n) => Outcome::Refused(n),
+        Branch::Refused(n, _) => Outcome::Refused(n),
     }
 }
 
@@ -174,16 +183,16 @@ impl NaccPlasticity {
         vt: [[f64; 3]; 3],
         alpha: f64,
     ) -> Projected
-        ensures { λ r. ⌜ r ≡ projectedOf (result (projectCall self f u sigma vt alpha)) ⌝ }
+        ensures { λ r. ⌜ r ≡ walkedOf (traced (projectCall self f u sigma vt alpha)) ⌝ }
     {
         if self.projection_inputs(f, u, sigma, vt, alpha) {
             if self.moduli_finite() {
                 projected(self.steps(sigma, alpha), tensor::to_rows(f), u, vt)
             } else {
-                refused_projection(3)
+                refused_projection(answers::NO_NUMBER, steps::MODULI)
             }
         } else {
-            refused_projection(1)
+            refused_projection(answers::NOT_FINITE, 0)
         }
     }
 

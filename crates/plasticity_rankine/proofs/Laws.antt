@@ -14,6 +14,7 @@ use Rattle.physics.specs.Norm.{normOf}
 use Rattle.plasticity.specs.State as law
 use Rattle.plasticity.specs.State.{inputsFinite, stateFinite, scalarsFinite}
 use Rattle.plasticity.specs.declared.Outcome.the-variants.{Stored}
+use Rattle.plasticity.specs.declared.Scalars.{Scalars}
 use Rattle.plasticity.specs.declared.State.{State}
 use Rattle.walk.specs.Expr.{Expr, num, _-_, value, values, nums}
 use Rattle.walk.specs.Walk.{Walk, _then_, Ended, given, refused, asked, result}
@@ -30,7 +31,7 @@ use Rattle.plasticity_rankine.specs.declared.RankinePlasticity.{RankineP
 use Rattle.plasticity_rankine.specs.Law.{lawOf, parametersOf, argumentsFloats, elasticFinite, parametersFinite, moduli}
 use Rattle.plasticity_rankine.specs.Sorting.{indexesOf, restoredOf}
 use Rattle.plasticity_rankine.specs.Projection.{Way, none-moves, one-moves, two-move, all-move, Moved, projectWalk, returnedWalk, callFloats, projectCall, argumentsCall, branchOf, movedOf, projectedOf, vectorOf, byBranch, projectOf, argumentsProject}
-use Rattle.plasticity_rankine.specs.Rankine.{stateOf, storeWalk, expsWalk, hardenWalk, movedWalk, wayWalk, softStrength, strainedWalk, runWalk, floats, rankineWalk, argumentsWalk, followedOf, rankineUpdate}
+use Rattle.plasticity_rankine.specs.Rankine.{stateOf, storeWalk, expsWalk, hardenWalk, movedWalk, wayWalk, softStrength, strainedWalk, runWalk, floats, rankineWalk, argumentsWalk, followedOf, rankineUpdate, grows, changes}
 
 -- ---- the inputs
 pub inputs-law : (l : List Float) (u vt : List (List Float)) (s : State) → allOf finite (floats l u vt s) ≡ allOf finite l && inputsFinite u vt s
@@ -74,12 +75,10 @@ arguments-call a e s =
 pub strength-finite : (p : RankinePlasticity) (u vt : List (List Float)) (s : State) → parametersFinite p && inputsFinite u vt s ≡ true → finite (p .«tensile_strength») ≡ true
 strength-finite p u vt s h = and-left (finite (p .«tensile_strength»)) (finite (p .«softening_rate»)) (and-left (parametersFinite p) (inputsFinite u vt s) h)
 
-hardening-finite : (u vt : List (List Float)) (s : State) → inputsFinite u vt s ≡ true → finite (s .scalars .«plastic_hardening») ≡ true
-hardening-finite u vt s h =
-    let x = s .scalars in
+pub hardening-of : (x : Scalars) → scalarsFinite x ≡ true → finite (x .«plastic_hardening») ≡ true
+hardening-of x all =
     let three = finite (x .phase) && finite (x .«plastic_determinant») && finite (x .«plastic_hardening») in
     let four = three && finite (x .«elastic_hardening») in
-    let all = and-right (rowsFinite (s .f) && rowFinite (s .sigma)) (scalarsFinite x) (and-right (matFinite u && matFinite vt) (stateFinite s) h) in
     and-right (finite (x .phase) && finite (x .«plastic_determinant»)) (finite (x .«plastic_hardening»))
     (and-left three (finite (x .«elastic_hardening»)) (and-left four (finite (x .«log_gain»)) (and-left (four && finite (x .«log_gain»)) (finite (x .alpha)) all)))
 
@@ -87,12 +86,15 @@ one-finite : finite one ≡ true
 unfolding finite ofBits
 one-finite = refl
 
+pub soft-of : (p : RankinePlasticity) (x : Float) → finite (p .«tensile_strength») ≡ true → finite x ≡ true → isNumber (value (softStrength p x)) ≡ true
+soft-of p x h f = finite-sub (p .«tensile_strength») (sub x one) h (sub-number x one (finite-number x f) one-finite)
+
 pub soft-number : (p : RankinePlasticity) (u vt : List (List Float)) (s : State) → parametersFinite p && inputsFinite u vt s ≡ true
     → isNumber (value (softStrength p (s .scalars .«plastic_hardening»))) ≡ true
 soft-number p u vt s h =
-    let x = s .scalars .«plastic_hardening» in
-    let f = hardening-finite u vt s (and-right (parametersFinite p) (inputsFinite u vt s) h) in
-    finite-sub (p .«tensile_strength») (sub x one) (strength-finite p u vt s h) (sub-number x one (finite-number x f) one-finite)
+    let i = and-right (matFinite u && matFinite vt) (stateFinite s) (and-right (parametersFinite p) (inputsFinite u vt s) h) in
+    soft-of p (s .scalars .«plastic_hardening») (strength-finite p u vt s h)
+    (hardening-of (s .scalars) (and-right (rowsFinite (s .f) && rowFinite (s .sigma)) (scalarsFinite (s .scalars)) i))
 
 -- ---- the strains in index order
 pub restored : (k : Rank) (x y z : Expr) → values (restoredOf (indexesOf k) (three x y z)) ≡ restoredOf (indexesOf k) (three (value x) (value y) (value z))
@@ -129,34 +131,44 @@ values-change [] b = refl
 values-change (x ∷ a) [] = refl
 values-change (x ∷ a) (y ∷ b) = ap (λ t. sub (value x) (value y) ∷ t) (values-change a b)
 
-change-law : (old : List Float) (new : List Expr) → values (pairwise _-_ (nums old) new) ≡ rowSubOf old (values new)
+pub change-law : (old : List Float) (new : List Expr) → values (pairwise _-_ (nums old) new) ≡ rowSubOf old (values new)
 unfolding rowSubOf
 change-law old new = values-change (nums old) new ∙ ap (λ l. pairwise sub l (values new)) (values-nums old)
+
+-- over any state
+pub changes-law : {A : Type 0} (old : List Float) (new : List Expr) (k : Expr → Walk A)
+    → result (changes old new k) ≡ asked (normOf (rowSubOf old (values new))) (λ norm. result (k (num norm)))
+changes-law old new k =
+    let change = pairwise _-_ (nums old) new in
+    rw (value-dots change change, change-law old new)
+
+same : {A : Type 0} (b : Bool) (x y : Ended A) → (b ≡ true → x ≡ y) → cond b x (refused 3) ≡ cond b y (refused 3)
+same true x y h = h refl
+same false x y h = refl
+
+pub grows-law : {A : Type 0} (p : RankinePlasticity) (hardening norm : Float) (k : Expr → Walk A) → finite (p .«tensile_strength») ≡ true
+    → let grown = add hardening (mul (p .«softening_rate») norm) in
+    result (grows p hardening (num norm) k) ≡ cond (isNumber grown) (result (k (num (minOf grown (p .«tensile_strength»))))) (refused 3)
+grows-law p hardening norm k h =
+    let grown = add hardening (mul (p .«softening_rate») norm) in
+    let strength = p .«tensile_strength» in
+    same (isNumber grown) _ (result (k (num (minOf grown strength))))
+    (λ i. least-answers 8 (num grown) (num strength) k i (finite-number strength h))
 
 module _ (p : RankinePlasticity) (u vt : List (List Float)) (s : State) where
   pub moved-law : (old : List Float) (new : List Expr)
       → result (movedWalk p old new u vt s) ≡ asked (normOf (rowSubOf old (values new))) (λ norm. result (hardenWalk p (num norm) (values new) u vt s))
   unfolding movedWalk
-  moved-law old new =
-      let change = pairwise _-_ (nums old) new in
-      rw (value-dots change change, change-law old new)
+  moved-law old new = changes-law old new (λ norm. hardenWalk p norm (values new) u vt s)
 
   numbers-moved : (old : List Float) (new : List Expr) → result (movedWalk p old new u vt s) ≡ result (movedWalk p old (nums (values new)) u vt s)
   numbers-moved old new = moved-law old new ∙ sym (moved-law old (nums (values new)) ∙ rw (values-nums (values new)))
-
-  same : (b : Bool) (x y : Ended Change) → (b ≡ true → x ≡ y) → cond b x (refused 3) ≡ cond b y (refused 3)
-  same true x y h = h refl
-  same false x y h = refl
 
   pub harden-law : (norm : Float) (e : List Float) → finite (p .«tensile_strength») ≡ true
       → let grown = add (s .scalars .«plastic_hardening») (mul (p .«softening_rate») norm) in
       result (hardenWalk p (num norm) e u vt s) ≡ cond (isNumber grown) (result (expsWalk e u vt (num (minOf grown (p .«tensile_strength»))) s)) (refused 3)
   unfolding hardenWalk
-  harden-law norm e h =
-      let grown = add (s .scalars .«plastic_hardening») (mul (p .«softening_rate») norm) in
-      let strength = p .«tensile_strength» in
-      same (isNumber grown) _ (result (expsWalk e u vt (num (minOf grown strength)) s))
-      (λ i. least-answers 8 (num grown) (num strength) (λ h. expsWalk e u vt h s) i (finite-number strength h))
+  harden-law norm e h = grows-law p (s .scalars .«plastic_hardening») norm (λ g. expsWalk e u vt g s) h
 
   -- ---- the projection is followed by its branch
   way-law : (w : Way) (old : List Float) (new : List Expr) → updatedOf s (result (wayWalk p w old new u vt s)) ≡ followedOf (branchOf w) p old (values new) u vt s

@@ -2,3 +2,4 @@ pub mod Law
 pub mod Sorting
 pub mod Projection
 pub mod Rankine
+pub mod Reason

@@ -45,25 +45,36 @@ storeWalk u sigma vt h s =
 unfoldable pub expsWalk : List Float → List (List Float) → List (List Float) → Expr → State → Walk Change
 expsWalk strains u vt h s = asks 9 exp strains (λ sigma. storeWalk u sigma vt h s)
 
+-- ---- over any state, in however many axes: k is what follows
 -- "Hardening grows by rate times the norm of the change, then is capped at the strength."
+abbrev pub grows : {A : Type 0} → RankinePlasticity → Float → Expr → (Expr → Walk A) → Walk A
+grows p hardening norm k =
+    work 8 (num hardening + num (p .«softening_rate») * norm) (λ grown.
+    least 8 grown (num (p .«tensile_strength»)) k)
+
+abbrev pub changes : {A : Type 0} → List Float → List Expr → (Expr → Walk A) → Walk A
+changes old new k =
+    let change = pairwise _-_ (nums old) new in
+    ask 7 root (dots change change) k
+
+-- w where no strain moved, else v
+abbrev pub byWay : {A : Type 0} → Way → Walk A → Walk A → Walk A
+byWay (none-moves x y) w v = w
+byWay (one-moves x y) w v = v
+byWay (two-move x y) w v = v
+byWay (all-move x y) w v = v
+
+-- ---- three axes
 unfoldable pub hardenWalk : RankinePlasticity → Expr → List Float → List (List Float) → List (List Float) → State → Walk Change
-hardenWalk p norm strains u vt s =
-    work 8 (num (s .scalars .«plastic_hardening») + num (p .«softening_rate») * norm) (λ grown.
-    least 8 grown (num (p .«tensile_strength»)) (λ h.
-    expsWalk strains u vt h s))
+hardenWalk p norm strains u vt s = grows p (s .scalars .«plastic_hardening») norm (λ h. expsWalk strains u vt h s)
 
 -- strains that moved
 unfoldable pub movedWalk : RankinePlasticity → List Float → List Expr → List (List Float) → List (List Float) → State → Walk Change
-movedWalk p old new u vt s =
-    let change = pairwise _-_ (nums old) new in
-    ask 7 root (dots change change) (λ norm. hardenWalk p norm (values new) u vt s)
+movedWalk p old new u vt s = changes old new (λ norm. hardenWalk p norm (values new) u vt s)
 
 -- after the projection
 unfoldable pub wayWalk : RankinePlasticity → Way → List Float → List Expr → List (List Float) → List (List Float) → State → Walk Change
-wayWalk p (none-moves x y) old new u vt s = end untouched
-wayWalk p (one-moves x y) old new u vt s = movedWalk p old new u vt s
-wayWalk p (two-move x y) old new u vt s = movedWalk p old new u vt s
-wayWalk p (all-move x y) old new u vt s = movedWalk p old new u vt s
+wayWalk p w old new u vt s = byWay w (end untouched) (movedWalk p old new u vt s)
 
 -- s = strength - (hardening - 1): the hardening starts from 1
 abbrev pub softStrength : RankinePlasticity → Float → Expr

@@ -14,7 +14,7 @@ ghost use Rattle.plasticity_rankine.specs.Rankine.{argumentsUpdate};
 
 impl RankineArguments {
     // The law with the Lamé parameters of these arguments.
-    fn law(self) -> RankinePlasticity
+    pub fn law(self) -> RankinePlasticity
         ensures { λ r. ⌜ r ≡ lawOf self ⌝ }
     {
         let l = physics::plain::lame_lambda_mu(self.young_modulus, self.poisson_ratio);
@@ -26,7 +26,7 @@ impl RankineArguments {
         }
     }
 
-    fn elastic_finite(self) -> bool
+    pub(crate) fn elastic_finite(self) -> bool
         ensures { λ r. ⌜ r ≡ elasticFinite self ⌝ }
     {
         numbers::is_finite(self.young_modulus) & numbers::is_finite(self.poisson_ratio)

@@ -1,15 +1,16 @@
 // Rankine: log strains are returned to the tensile surface (plasticity_rankine.rs; RULES, section 5).
 mod arguments;
 mod projection;
+mod reasons;
 mod sorting;
 mod update;
 
 // The law with its moduli, which come from `new`.
 pub struct RankinePlasticity {
-    mu: f64,
-    lambda: f64,
-    tensile_strength: f64,
-    softening_rate: f64,
+    pub mu: f64,
+    pub lambda: f64,
+    pub tensile_strength: f64,
+    pub softening_rate: f64,
 }
 
 // The arguments of `new`.

@@ -42,13 +42,13 @@ fn returned(q: Projected) -> VectorAnswer
 
 impl RankinePlasticity {
     // The left sides of the three tests.
-    fn first_side(self, sum: f64, a: f64) -> f64
+    pub fn first_side(self, sum: f64, a: f64) -> f64
         ensures { λ r. ⌜ r ≡ value (firstSide self (num sum) (num a)) ⌝ }
     {
         self.lambda * sum + 2.0 * self.mu * a
     }
 
-    fn second_side(self, sum: f64, a: f64, b: f64) -> f64
+    pub fn second_side(self, sum: f64, a: f64, b: f64) -> f64
         ensures { λ r. ⌜ r ≡ value (secondSide self (num sum) (num a) (num b)) ⌝ }
     {
         (2.0 * self.mu + self.lambda) * b + self.lambda * (sum - a)
@@ -61,7 +61,7 @@ impl RankinePlasticity {
     }
 
     // What the highest strain becomes, what the two highest become, what all become.
-    fn back_one(self, s: f64, sum: f64, a: f64) -> f64
+    pub fn back_one(self, s: f64, sum: f64, a: f64) -> f64
         ensures { λ r. ⌜ r ≡ value (backOne self (num s) (num sum) (num a)) ⌝ }
     {
         (s - self.lambda * (sum - a)) / (2.0 * self.mu + self.lambda)
@@ -154,7 +154,7 @@ impl RankinePlasticity {
         numbers::is_finite(self.tensile_strength) & numbers::is_finite(self.softening_rate)
     }
 
-    pub(crate) fn moduli_finite(self) -> bool
+    pub fn moduli_finite(self) -> bool
         ensures { λ r. ⌜ r ≡ moduliFinite self ⌝ }
     {
         numbers::is_finite(self.lambda) & numbers::is_finite(self.mu)

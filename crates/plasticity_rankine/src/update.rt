@@ -10,6 +10,8 @@ use plasticity::Updated;
 ghost use mathlib.Core.Path.{_≡_};
 ghost use mathlib.Core.Bool.{true, _&&_};
 ghost use Rattle.numbers.specs.Floats.{finite};
+ghost use Rattle.tensor.specs.Finite.{rowFinite, matFinite};
+ghost use Rattle.tensor.specs.Matrix.{add, mul};
 ghost use Rattle.plasticity.specs.State.{inputsFinite};
 ghost use Rattle.walk.specs.Expr.{num, value, nums};
 ghost use Rattle.walk.specs.Walk.{result};
@@ -43,12 +45,18 @@ fn state_of(f: [[f64; 3]; 3], sigma: [f64; 3], h: f64, s: State) -> State
     }
 }
 
+pub(crate) fn results_finite(f: [[f64; 3]; 3], sigma: [f64; 3], h: f64) -> bool
+    ensures { λ r. ⌜ r ≡ matFinite f && rowFinite sigma && finite h ⌝ }
+{
+    tensor::mat_finite(f) & tensor::row_finite(sigma) & numbers::is_finite(h)
+}
+
 // The results are stored where all are finite.
 fn store(u: [[f64; 3]; 3], sigma: [f64; 3], vt: [[f64; 3]; 3], h: f64, s: State) -> Updated
     ensures { λ r. ⌜ r ≡ updatedOf s (result (storeWalk u sigma vt (num h) s)) ⌝ }
 {
     let f = tensor::recompose(u, sigma, vt);
-    if tensor::mat_finite(f) & tensor::row_finite(sigma) & numbers::is_finite(h) {
+    if results_finite(f, sigma, h) {
         Updated {
             state: state_of(f, sigma, h, s),
             outcome: Outcome::Stored(h),
@@ -78,6 +86,13 @@ fn exps(e: [f64; 3], u: [[f64; 3]; 3], vt: [[f64; 3]; 3], h: f64, s: State) -> U
 }
 
 impl RankinePlasticity {
+    // The hardening h before the cap.
+    pub(crate) fn grown(self, h: f64, norm: f64) -> f64
+        ensures { λ r. ⌜ r ≡ add h (mul (self .«softening_rate») norm) ⌝ }
+    {
+        h + self.softening_rate * norm
+    }
+
     // Strains that moved: hardening, exponentials, F. A NaN in the new strains is in the norm. The minimum would hide one in
     // the hardening: it is refused before.
     fn moved(
@@ -93,7 +108,7 @@ impl RankinePlasticity {
     {
         match physics::norm_on_path(tensor::row_sub(old, new)) {
             Answer::Value(norm) => {
-                let grown = s.scalars.plastic_hardening + self.softening_rate * norm;
+                let grown = self.grown(s.scalars.plastic_hardening, norm);
                 if numbers::is_number(grown) {
                     exps(new, u, vt, numbers::min(grown, self.tensile_strength), s)
                 } else {
@@ -128,7 +143,7 @@ impl RankinePlasticity {
     }
 
     // The hardening starts from 1.
-    fn soft_strength(self, h: f64) -> f64
+    pub fn soft_strength(self, h: f64) -> f64
         ensures { λ r. ⌜ r ≡ value (softStrength self h) ⌝ }
     {
         self.tensile_strength - (h - 1.0)

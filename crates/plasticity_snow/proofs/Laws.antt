@@ -26,12 +26,12 @@ unfolding floats
 inputs-law p u vt s = inputs-finite (parametersOf p) u vt s
 
 -- ---- the clamp
-one-number : isNumber one ≡ true
+pub one-number : isNumber one ≡ true
 unfolding isNumber ofBits
 one-number = refl
 
 module _ {A : Type 0} (p : SnowPlasticity) (low : isNumber (sub one (p .«min_epsilon»)) ≡ true) (high : isNumber (add one (p .«max_epsilon»)) ≡ true) where
-  clamps-answer : (l : List Float) (k : List Float → Walk A) → every finite l ≡ true → result (clamps p l k) ≡ result (k (clampedOf p l))
+  pub clamps-answer : (l : List Float) (k : List Float → Walk A) → every finite l ≡ true → result (clamps p l k) ≡ result (k (clampedOf p l))
   clamps-answer [] k h = refl
   clamps-answer (x ∷ l) k h =
       let bottom = num one - num (p .«min_epsilon») in
@@ -43,18 +43,28 @@ module _ {A : Type 0} (p : SnowPlasticity) (low : isNumber (sub one (p .«min_ep
       ∙ least-answers 2 (num y) top rest (max-number x (sub one (p .«min_epsilon»)) number low) high
       ∙ clamps-answer l (λ vs. k (clampOf p x ∷ vs)) (and-right (finite x) (every finite l) h)
 
-pub run-law : (p : SnowPlasticity) (u vt : List (List Float)) (s : State) → parametersFinite p && inputsFinite u vt s ≡ true
-    → result (runWalk p u vt s) ≡ result (hardenWalk p (clampedOf p (s .sigma)) u vt s)
-unfolding runWalk
-run-law p u vt s h =
+-- what finite inputs give: both bounds are numbers, and sigma is finite
+pub bounds-numbers : (p : SnowPlasticity) (u vt : List (List Float)) (s : State) → parametersFinite p && inputsFinite u vt s ≡ true
+    → (isNumber (sub one (p .«min_epsilon»)) ≡ true) × (isNumber (add one (p .«max_epsilon»)) ≡ true)
+bounds-numbers p u vt s h =
     let a = finite (p .«min_epsilon») in
     let b = finite (p .«max_epsilon») in
     let c = finite (p .«hardening_coeff») in
     let two = and-left (a && b) c (and-left (parametersFinite p) (inputsFinite u vt s) h) in
+    (sub-number one (p .«min_epsilon») one-number (and-left a b two), add-number one (p .«max_epsilon») one-number (and-right a b two))
+
+pub sigma-finite : (p : SnowPlasticity) (u vt : List (List Float)) (s : State) → parametersFinite p && inputsFinite u vt s ≡ true → every finite (s .sigma) ≡ true
+sigma-finite p u vt s h =
     let state = and-right (matFinite u && matFinite vt) (stateFinite s) (and-right (parametersFinite p) (inputsFinite u vt s) h) in
     let sigma = and-right (rowsFinite (s .f)) (rowFinite (s .sigma)) (and-left (rowsFinite (s .f) && rowFinite (s .sigma)) (scalarsFinite (s .scalars)) state) in
-    clamps-answer p (sub-number one (p .«min_epsilon») one-number (and-left a b two)) (add-number one (p .«max_epsilon») one-number (and-right a b two))
-    (s .sigma) (λ new. hardenWalk p new u vt s) (sym (all-every finite (s .sigma)) ∙ sigma)
+    sym (all-every finite (s .sigma)) ∙ sigma
+
+pub run-law : (p : SnowPlasticity) (u vt : List (List Float)) (s : State) → parametersFinite p && inputsFinite u vt s ≡ true
+    → result (runWalk p u vt s) ≡ result (hardenWalk p (clampedOf p (s .sigma)) u vt s)
+unfolding runWalk
+run-law p u vt s h =
+    let q = bounds-numbers p u vt s h in
+    clamps-answer p (q .0) (q .1) (s .sigma) (λ new. hardenWalk p new u vt s) (sigma-finite p u vt s h)
 
 -- ---- the results
 kept : (s new : State) (h : Float) (b : Bool) → updatedOf s (cond b (given (stored new h)) (refused 3)) ≡ cond b (record { state = new; outcome = Stored h }) (law.refused 3 s)

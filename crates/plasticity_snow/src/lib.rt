@@ -1,4 +1,6 @@
 // Snow: each singular value is clamped (plasticity_snow.rs; RULES, section 5).
+mod reasons;
+
 use answers::Answer;
 use plasticity::Outcome;
 use plasticity::Scalars;
@@ -6,11 +8,14 @@ use plasticity::State;
 use plasticity::Updated;
 ghost use mathlib.Core.Path.{_≡_};
 ghost use mathlib.Core.Bool.{true, _&&_};
+ghost use Rattle.numbers.specs.Floats.{finite};
+ghost use Rattle.tensor.specs.Finite.{rowFinite, matFinite};
+ghost use Rattle.tensor.specs.Matrix.{sub, mul, div, productOf};
 ghost use Rattle.plasticity.specs.State.{inputsFinite};
 ghost use Rattle.walk.specs.Expr.{num};
 ghost use Rattle.walk.specs.Walk.{result};
 ghost use Rattle.walk.specs.Update.{updatedOf};
-ghost use Rattle.plasticity_snow.specs.Snow.{defaults, clampOf, clampedOf, parametersFinite, stateOf, storeWalk, runWalk, snowUpdate};
+ghost use Rattle.plasticity_snow.specs.Snow.{one, defaults, clampOf, clampedOf, parametersFinite, stateOf, storeWalk, runWalk, snowUpdate};
 
 pub struct SnowPlasticity {
     pub min_epsilon: f64,
@@ -36,7 +41,7 @@ impl SnowPlasticity {
     }
 
     // The maximum with the lower bound first: of a NaN this is the lower bound.
-    fn clamp(self, e: f64) -> f64
+    pub fn clamp(self, e: f64) -> f64
         ensures { λ r. ⌜ r ≡ clampOf self e ⌝ }
     {
         numbers::min(
@@ -64,6 +69,13 @@ impl SnowPlasticity {
             & numbers::is_finite(self.hardening_coeff)
     }
 
+    // What the exponential is given.
+    fn exponent(self, d: f64) -> f64
+        ensures { λ r. ⌜ r ≡ mul (self .«hardening_coeff») (sub one d) ⌝ }
+    {
+        self.hardening_coeff * (1.0 - d)
+    }
+
     // The steps in the law's order: clamp, determinant, exponential, recomposed F. Of finite inputs the clamp hides no NaN;
     // one in the determinant is in what the exponential is given.
     fn run(self, u: [[f64; 3]; 3], vt: [[f64; 3]; 3], s: State) -> Updated
@@ -72,8 +84,8 @@ impl SnowPlasticity {
     {
         let sigma = s.sigma;
         let new = self.project_deformation_gradient(sigma);
-        let d = s.scalars.plastic_determinant * (tensor::product(sigma) / tensor::product(new));
-        match exponential::exp_on_path(self.hardening_coeff * (1.0 - d)) {
+        let d = determinant(s.scalars.plastic_determinant, sigma, new);
+        match exponential::exp_on_path(self.exponent(d)) {
             Answer::Value(h) => store(u, new, vt, d, h, s),
             Answer::Refused(n) => plasticity::refuse(n, s),
         }
@@ -102,6 +114,21 @@ impl SnowPlasticity {
             plasticity::refuse(answers::NOT_FINITE, s)
         }
     }
+}
+
+// The plastic determinant d, multiplied by old product over new product.
+fn determinant(d: f64, old: [f64; 3], new: [f64; 3]) -> f64
+    ensures { λ r. ⌜ r ≡ mul d (div (productOf old) (productOf new)) ⌝ }
+{
+    d * (tensor::product(old) / tensor::product(new))
+}
+
+fn results_finite(f: [[f64; 3]; 3], sigma: [f64; 3], d: f64, hardening: f64) -> bool
+    ensures { λ r. ⌜ r ≡ matFinite f && rowFinite sigma && (finite d && finite hardening) ⌝ }
+{
+    tensor::mat_finite(f)
+        & tensor::row_finite(sigma)
+        & (numbers::is_finite(d) & numbers::is_finite(hardening))
 }
 
 fn state_of(f: [[f64; 3]; 3], sigma: [f64; 3], d: f64, hardening: f64, s: State) -> State
@@ -133,10 +160,7 @@ fn store(
     ensures { λ r. ⌜ r ≡ updatedOf s (result (storeWalk u sigma vt (num d) (num hardening) s)) ⌝ }
 {
     let f = tensor::recompose(u, sigma, vt);
-    if tensor::mat_finite(f)
-        & tensor::row_finite(sigma)
-        & (numbers::is_finite(d) & numbers::is_finite(hardening))
-    {
+    if results_finite(f, sigma, d, hardening) {
         Updated {
             state: state_of(f, sigma, d, hardening, s),
             outcome: Outcome::Stored(hardening),

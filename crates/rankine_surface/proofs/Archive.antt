@@ -18,10 +18,10 @@ use Rattle.answers.specs.declared.Answer.the-variants.{Value}
 use Rattle.walk.specs.Walk.{exp, ln, at, answerOf, given}
 use Rattle.plasticity_rankine.specs.declared.RankinePlasticity.{RankinePlasticity}
 use Rattle.rankine_surface.specs.Axes.{Each, Some, total}
-use Rattle.rankine_surface.specs.Surface.{stressOf, modulus, demanded, archived, Under, Below, Reaches, Fair, OnSurface, Archived, numbersOf, logsOf, expsOf}
+use Rattle.rankine_surface.specs.Surface.{stressOf, modulusIn, demanded, archived, Under, BelowIn, ReachesIn, FairIn, OnSurfaceIn, ArchivedIn, numbersOf, logsOf, expsOf}
 use Rattle.rankine_surface.proofs.Bounds.{apart, larger, chained}
 use Rattle.rankine_surface.proofs.Branches.{Bounded, mu-is, la-is}
-use Rattle.rankine_surface.proofs.Indexed.{Landed}
+use Rattle.rankine_surface.proofs.Indexed.{LandedIn}
 use Rattle.rankine_surface.proofs.Strains.{answers, logs-answered, exps-answered, of-each}
 
 -- ---- of each entry, and of some, of a list that is mapped
@@ -58,38 +58,38 @@ module _ (g : Float → Float) where
           rw (ring 4 (a, (b, (c, (d, tt)))) (var 0 :+ var 2 :- (var 1 :+ var 3)) (var 0 :- var 1 :+ (var 2 :- var 3)) tt)
           (omega (arith, abs-+ (a -ℤ b) (c -ℤ d)))
 
-stress-moves : (l m k : ℕ) (t u v w : ℤ) → abs (u -ℤ t) * 2 ^ 43 ≤ 3 * k → abs (w -ℤ v) * 2 ^ 43 ≤ k
-    → abs (pos l *ℤ u +ℤ pos 2 *ℤ pos m *ℤ w -ℤ (pos l *ℤ t +ℤ pos 2 *ℤ pos m *ℤ v)) * 2 ^ 43 ≤ (2 * m + 3 * l) * k
-stress-moves l m k t u v w h i =
+stress-moves : (d l m k : ℕ) (t u v w : ℤ) → abs (u -ℤ t) * 2 ^ 43 ≤ d * k → abs (w -ℤ v) * 2 ^ 43 ≤ k
+    → abs (pos l *ℤ u +ℤ pos 2 *ℤ pos m *ℤ w -ℤ (pos l *ℤ t +ℤ pos 2 *ℤ pos m *ℤ v)) * 2 ^ 43 ≤ (2 * m + d * l) * k
+stress-moves d l m k t u v w h i =
     rw (ring 6 (pos l, (pos m, (t, (u, (v, (w, tt)))))) (var 0 :* var 3 :+ con (pos 2) :* var 1 :* var 5 :- (var 0 :* var 2 :+ con (pos 2) :* var 1 :* var 4))
     (var 0 :* (var 3 :- var 2) :+ con (pos 2) :* var 1 :* (var 5 :- var 4)) tt)
     (plain (abs (u -ℤ t)) (abs (w -ℤ v)) h i
     (rw (abs-* (pos l) (u -ℤ t), abs-* (pos (2 * m)) (w -ℤ v), abs-pos l, abs-pos (2 * m)) at (abs-+ (pos l *ℤ (u -ℤ t)) (pos (2 * m) *ℤ (w -ℤ v)))))
   where
-    plain : (a b : ℕ) {d : ℕ} → a * 2 ^ 43 ≤ 3 * k → b * 2 ^ 43 ≤ k → d ≤ l * a + 2 * m * b → d * 2 ^ 43 ≤ (2 * m + 3 * l) * k
+    plain : (a b : ℕ) {x : ℕ} → a * 2 ^ 43 ≤ d * k → b * 2 ^ 43 ≤ k → x ≤ l * a + 2 * m * b → x * 2 ^ 43 ≤ (2 * m + d * l) * k
     plain a b h i j = omega (arith, mul-le-mul-left l h, mul-le-mul-left (2 * m) i)
 
 -- ---- on the surface, a little further off
-module _ {law : RankinePlasticity} {s : Float} (f : Fair law s) (g : Float → Float) (e : List Float) (axes : length e ≡ 3) (moved : Each (Moved g) e) where
+module _ {d : ℕ} {law : RankinePlasticity} {s : Float} (f : FairIn d law s) (g : Float → Float) (e : List Float) (axes : length e ≡ d) (moved : Each (Moved g) e) where
   abbrev K : ℕ
-  K = modulus law * L
+  K = modulusIn d law * L
 
   moves : (x : Float) → Moved g x → Under 43 (stressOf law (map g e) (g x)) (stressOf law e x) K × Under 43 (stressOf law e x) (stressOf law (map g e) (g x)) K
   moves x b =
       apart 43 (stressOf law (map g e) (g x)) (stressOf law e x) K
-      (rw (mu-is f, la-is f) (stress-moves (mag (law .lambda)) (mag (law .mu)) L (total e) (total (map g e)) (val x) (val (g x))
+      (rw (mu-is f, la-is f) (stress-moves d (mag (law .lambda)) (mag (law .mu)) L (total e) (total (map g e)) (val x) (val (g x))
       (subst (λ k. abs (total (map g e) -ℤ total e) * 2 ^ 43 ≤ k * L) axes (sum-moves g e moved)) (b .near)))
 
-  still : OnSurface demanded law s e → OnSurface archived law s (map g e)
+  still : OnSurfaceIn d demanded law s e → OnSurfaceIn d archived law s (map g e)
   still o =
       record {
         fine = each-map Fin64 g e (of-each (Moved g) (λ x. Fin64 (g x)) (λ x b. b .fine) e moved);
-        below = each-map (Below archived law s (map g e)) g e
-            (each-both (Moved g) (Below demanded law s e) (λ x. Below archived law s (map g e) (g x))
+        below = each-map (BelowIn d archived law s (map g e)) g e
+            (each-both (Moved g) (BelowIn d demanded law s e) (λ x. BelowIn d archived law s (map g e) (g x))
             (λ x b h. chained (stressOf law (map g e) (g x)) (stressOf law e x) (val s *ℤ pos L) K (moves x b .0) (larger (stressOf law e x) (val s *ℤ pos L) K h))
             e moved (o .below));
-        reaches = some-map (Reaches archived law s (map g e)) g e
-            (some-both (Moved g) (Reaches demanded law s e) (λ x. Reaches archived law s (map g e) (g x))
+        reaches = some-map (ReachesIn d archived law s (map g e)) g e
+            (some-both (Moved g) (ReachesIn d demanded law s e) (λ x. ReachesIn d archived law s (map g e) (g x))
             (λ x b h. chained (val s *ℤ pos L) (stressOf law e x) (stressOf law (map g e) (g x)) K (larger (val s *ℤ pos L) (stressOf law e x) K h) (moves x b .1))
             e moved (o .reaches));
       }
@@ -118,9 +118,9 @@ logs e h =
     (of-each Bounded (λ x. answerOf ln (at exp x) ≡ Value (again x)) (λ x b. answers ln (at exp x) (takes x b .by-ln)) e h))
     ∙ ap given (map-twice e)
 
-pub archive : {law : RankinePlasticity} {s : Float} → Fair law s → (e : List Float) → Landed law s e → Archived law s (numbersOf (expsOf e))
-archive {law} {s} f e h =
-    subst (Archived law s) (ap numbersOf (sym (exps e (h .bounded))))
+pub archive : {d : ℕ} {law : RankinePlasticity} {s : Float} → FairIn d law s → (e : List Float) → LandedIn d law s e → ArchivedIn d law s (numbersOf (expsOf e))
+archive {d} {law} {s} f e h =
+    subst (ArchivedIn d law s) (ap numbersOf (sym (exps e (h .bounded))))
     (record {
       strains = map again e;
       answered = logs e (h .bounded);

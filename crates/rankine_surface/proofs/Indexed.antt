@@ -28,7 +28,7 @@ use Rattle.plasticity_rankine.proofs.Orders.{rankOf, order-of-three}
 use Rattle.plasticity_rankine.proofs.Laws.{restored}
 use Rattle.plasticity_rankine.specs.Projection.{firstSide, secondSide, thirdSide, backOne, backTwo, backAll, Way, none-moves, one-moves, two-move, all-move, Moved, thirdWalk, secondWalk, firstWalk, projectWalk}
 use Rattle.rankine_surface.specs.Axes.{Each, Some, total}
-use Rattle.rankine_surface.specs.Surface.{modulus, demanded, Under, Below, Reaches, Fair, Strain, OnSurface, firstTest}
+use Rattle.rankine_surface.specs.Surface.{modulus, demanded, Under, Below, Reaches, Fair, Strain, OnSurfaceIn, OnSurface, firstTest}
 use Rattle.rankine_surface.proofs.Branches.{Upwards, principal, Held, Bounded, OnYield, untouched, one-back, two-back, all-back}
 
 -- ---- there and back
@@ -181,24 +181,33 @@ Moves (two-move x y) = Unit {0}
 Moves (all-move x y) = Unit {0}
 
 -- not refused
-abbrev pub Given : Ended Moved → Type 0
+abbrev pub Given : {A : Type 0} → Ended A → Type 0
 Given (given q) = Unit {0}
 Given (refused n) = ⊥
 
--- three strains upon the surface, each in -40 to 40
-pub record Landed (law : RankinePlasticity) (s : Float) (e : List Float) : Type 0 where
-  pub axes : length e ≡ 3
+-- d strains upon the surface, each in -40 to 40; and three
+pub record LandedIn (d : ℕ) (law : RankinePlasticity) (s : Float) (e : List Float) : Type 0 where
+  pub axes : length e ≡ d
   pub bounded : Each Bounded e
-  pub on-surface : OnSurface demanded law s e
+  pub on-surface : OnSurfaceIn d demanded law s e
 
-pub record Back (law : RankinePlasticity) (s : Float) (q : Moved) : Type 0 where
+abbrev pub Landed : RankinePlasticity → Float → List Float → Type 0
+Landed law s e = LandedIn 3 law s e
+
+pub record BackIn (d : ℕ) (law : RankinePlasticity) (s : Float) (q : Moved) : Type 0 where
   pub moves : Moves (q .way)
-  pub landed : Landed law s (values (q .strains))
+  pub landed : LandedIn d law s (values (q .strains))
 
 -- strains moved to the surface
+abbrev pub ReturnsIn : ℕ → RankinePlasticity → Float → Ended Moved → Type 0
+ReturnsIn d law s (given q) = BackIn d law s q
+ReturnsIn d law s (refused n) = ⊥
+
+abbrev Back : RankinePlasticity → Float → Moved → Type 0
+Back law s q = BackIn 3 law s q
+
 abbrev pub Returns : RankinePlasticity → Float → Ended Moved → Type 0
-Returns law s (given q) = Back law s q
-Returns law s (refused n) = ⊥
+Returns law s x = ReturnsIn 3 law s x
 
 pick : (F : Ended Moved → Type 0) (n1 l1 n2 l2 n3 l3 : Bool) (A B C D : Ended Moved) → T (not l1)
     → Given (cond n1 (cond l1 A (cond n2 (cond l2 B (cond n3 (cond l3 C D) (refused 3))) (refused 3))) (refused 3))
@@ -224,7 +233,7 @@ back law s w m x y z a b c f =
       landed = subst (Landed law s) e (landed law s (order x y z) r f);
     }
 
-kept : (n l : Bool) (q : Moved) (B : Ended Moved) → T l → Given (cond n (cond l (given q) B) (refused 3)) → cond n (cond l (given q) B) (refused 3) ≡ given q
+pub kept : (n l : Bool) (q : Moved) (B : Ended Moved) → T l → Given (cond n (cond l (given q) B) (refused 3)) → cond n (cond l (given q) B) (refused 3) ≡ given q
 kept true true q B t h = refl
 kept true false q B t h = absurd t
 kept false l q B t h = absurd h

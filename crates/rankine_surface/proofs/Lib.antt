@@ -3,6 +3,7 @@ pub mod Bounds
 pub mod Branches
 pub mod Indexed
 pub mod Strains
+pub mod Hardening
 pub mod Archive
 pub mod Update
 pub mod Places

@@ -108,15 +108,23 @@ module _ {A : Type 0} (n : ℕ) (f : Function) (g : List Float → Walk A) where
   follows (x ∷ l) k =
       follows-by (λ v. result (asks n f l (λ vs. g (k (v ∷ vs))))) (λ v. result (asks n f l (λ vs. end (k (v ∷ vs))))) (λ v. follows l (λ vs. k (v ∷ vs))) (answerOf f x)
 
+pub logs-follow : {A : Type 0} (g : List Float → Walk A) (sigma : List Float) → result (asks 2 ln sigma g) ≡ andThen (logsOf sigma) (λ e. result (g e))
+unfolding logsOf
+logs-follow g sigma = follows 2 ln g sigma (λ vs. vs)
+
+pub exps-follow : {A : Type 0} (g : List Float → Walk A) (e : List Float) → result (asks 9 exp e g) ≡ andThen (expsOf e) (λ sigma. result (g sigma))
+unfolding expsOf
+exps-follow g e = follows 9 exp g e (λ vs. vs)
+
 pub logs-then : (law : RankinePlasticity) (sigma : List Float) (u vt : List (List Float)) (st : State)
     → result (runWalk law sigma u vt st) ≡ andThen (logsOf sigma) (λ e. result (strainedWalk law e u vt st))
-unfolding runWalk logsOf
-logs-then law sigma u vt st = follows 2 ln (λ e. strainedWalk law e u vt st) sigma (λ vs. vs)
+unfolding runWalk
+logs-then law sigma u vt st = logs-follow (λ e. strainedWalk law e u vt st) sigma
 
 pub exps-then : (e : List Float) (u vt : List (List Float)) (h : Expr) (st : State)
     → result (expsWalk e u vt h st) ≡ andThen (expsOf e) (λ sigma. result (storeWalk u sigma vt h st))
-unfolding expsWalk expsOf
-exps-then e u vt h st = follows 9 exp (λ sigma. storeWalk u sigma vt h st) e (λ vs. vs)
+unfolding expsWalk
+exps-then e u vt h st = exps-follow (λ sigma. storeWalk u sigma vt h st) e
 
 -- ---- a function whose range takes each entry answers each
 a-number : (l x : Float) → T (le l x) → isNumber x ≡ true
@@ -149,5 +157,9 @@ both : (e : List Float) → Each Fin64 e → Each Small e → Each Strain e
 both [] f s = tt
 both (x ∷ e) f s = (record { fine = f .0; size = s .0 }, both e (f .1) (s .1))
 
+-- of any sigma, and of a record's
+pub strained-of : (sigma : List Float) → Each F64 sigma → Each Small (numbersOf (logsOf sigma)) → Each Strain (numbersOf (logsOf sigma))
+strained-of sigma f s = both (numbersOf (logsOf sigma)) (logs-fine sigma f) s
+
 pub strained : (st : State) → Each F64 (st .sigma) → Each Small (logStrains st) → Each Strain (logStrains st)
-strained st f s = both (logStrains st) (logs-fine (st .sigma) f) s
+strained st f s = strained-of (st .sigma) f s

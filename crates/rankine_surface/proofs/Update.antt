@@ -1,20 +1,18 @@
 -- Demand 3 over Rankine's update: what is accepted is untouched inside the surface, or stored upon it
 use mathlib.Core.Path.{_≡_, refl, sym, ap, _∙_, subst}
 use mathlib.Core.List.{List}
-use mathlib.Core.Bool.{Bool, true, false, not, cond, _&&_, _||_}
+use mathlib.Core.Bool.{Bool, true, false, not, cond, _&&_}
+use Prim.Native.Nat.{ℕ}
 use lib.Dec.{T}
 use lib.ListN.{length, getD}
-use lib.Ieee.{Float, nan, inf, fin, binary64, lt, eq, le, fits}
-use lib.Ieee.Fits.{and-l, and-r, add-fits, sub-fits, div-fits}
+use lib.Ieee.{Float, nan, binary64, le, fits}
+use lib.Ieee.Fits.{and-l, and-r, sub-fits, div-fits}
 use Rattle.exact.specs.Units.{Fin64}
-use Rattle.numbers.specs.Floats.{finite, isNumber, minOf}
-use Rattle.answers.specs.declared.Answer.{Answer}
-use Rattle.answers.specs.declared.Answer.the-variants as answers
-use Rattle.numbers.proofs.Laws.{eq-self, finite-is}
+use Rattle.numbers.specs.Floats.{finite, isNumber}
+use Rattle.numbers.proofs.Laws.{finite-is}
 use Rattle.physics.specs.Physics.{lambdaOf, shearModulusOf}
-use Rattle.physics.specs.Norm.{normOf}
 use Rattle.tensor.specs.Axes.{allOf, entries}
-use Rattle.tensor.specs.Matrix.{add, mul, three, rowSubOf, recomposeOf}
+use Rattle.tensor.specs.Matrix.{three, recomposeOf}
 use Rattle.tensor.specs.Finite.{rowFinite, matFinite}
 use Rattle.plasticity.specs.State as state
 use Rattle.plasticity.specs.State.{inputsFinite}
@@ -22,7 +20,7 @@ use Rattle.plasticity.specs.declared.Outcome.the-variants as outcome
 use Rattle.plasticity.specs.declared.State.{State}
 use Rattle.plasticity.specs.declared.Updated.{Updated}
 use Rattle.walk.specs.Expr.{Expr, num, value, values}
-use Rattle.walk.specs.Walk.{Walk, _then_, Ended, given, refused, asked, result}
+use Rattle.walk.specs.Walk.{Walk, _then_, Ended, given, refused, result}
 use Rattle.walk.specs.Exact.{andThen, result-then}
 use Rattle.walk.specs.Matrix.{values-nums}
 use Rattle.walk.specs.Update.{Change, updatedOf}
@@ -30,26 +28,23 @@ use Rattle.plasticity_rankine.specs.declared.RankineArguments.{RankineArguments
 use Rattle.plasticity_rankine.specs.declared.RankinePlasticity.{RankinePlasticity}
 use Rattle.plasticity_rankine.specs.Law.{lawOf, parametersOf, elasticFinite, parametersFinite, moduliFinite, moduli}
 use Rattle.plasticity_rankine.specs.Projection.{Way, none-moves, one-moves, two-move, all-move, Moved, projectWalk, returnedWalk, callFloats, projectCall, movedOf, projectedOf, vectorOf, projectOf}
-use Rattle.plasticity_rankine.specs.Rankine.{stateOf, storeWalk, expsWalk, hardenWalk, movedWalk, wayWalk, strainedWalk, runWalk, floats, rankineWalk, untouchedOf, rankineUpdate, argumentsUpdate}
-use Rattle.plasticity_rankine.proofs.Laws.{inputs-law, arguments-law, moved-law, harden-law, store-law}
+use Rattle.plasticity_rankine.specs.Rankine.{stateOf, storeWalk, expsWalk, grows, changes, hardenWalk, movedWalk, wayWalk, strainedWalk, runWalk, floats, rankineWalk, untouchedOf, rankineUpdate, argumentsUpdate}
+use Rattle.plasticity_rankine.proofs.Laws.{inputs-law, arguments-law, store-law}
 use Rattle.plasticity_rankine.proofs.Reason.{vector-given}
 use Rattle.rankine_surface.specs.Axes.{Each}
-use Rattle.rankine_surface.specs.Surface.{Accepted, numbersOf, logsOf, expsOf, logStrains, softened, projectedStrains, demanded, Below, Ranges, Fair, Strain, F64, Taken, TakenBy, firstTest, Inside, OnSurface, Archived, Returned, Demand3, Demand3By, Settled, Projects}
+use Rattle.rankine_surface.specs.Surface.{Accepted, numbersOf, logsOf, expsOf, logStrains, softened, projectedStrains, demanded, Below, RangesIn, FairIn, Fair, Strain, F64, Taken, TakenBy, firstTest, Inside, OnSurface, Archived, Returned, Demand3, Demand3By, Settled, Projects}
 use Rattle.rankine_surface.proofs.Indexed.{Given, Moves, Landed, Returns, inside, outside, same}
 use Rattle.rankine_surface.proofs.Archive.{archive}
 use Rattle.rankine_surface.proofs.Strains.{Sized, logs-sized, exps-sized, logs-then, exps-then, strained}
-
--- ---- a test that was not refused
-passed : {A : Type 0} (F : A → Type 0) (b : Bool) (X Y : A) → (F Y → ⊥) → F (cond b X Y) → T b × (cond b X Y ≡ X)
-passed F true X Y bad a = (tt, refl)
-passed F false X Y bad a = absurd (bad a)
+use Rattle.rankine_surface.proofs.Hardening.{passed, by, Capped, changes-end}
 
 -- of a walk's answer
 abbrev Took : State → Ended Change → Type 0
 Took st x = Accepted (updatedOf st x .outcome)
 
-by : {A : Type 0} (F : A → Type 0) {x y : A} → x ≡ y → F x → F y
-by F q a = subst F q a
+took-given : (st : State) (x : Ended Change) → Took st x → Given x
+took-given st (given c) a = tt
+took-given st (refused n) a = absurd a
 
 module _ (law : RankinePlasticity) (u vt : List (List Float)) (st : State) where
   update-runs : Accepted (rankineUpdate law u vt st .outcome)
@@ -61,51 +56,6 @@ module _ (law : RankinePlasticity) (u vt : List (List Float)) (st : State) where
       let second = passed (Took st) (moduliFinite law) run (refused 3) (λ x. x) (by (Took st) (first .1) a) in
       (by T (inputs-law (parametersOf law) u vt st) (first .0), second .0, first .1 ∙ second .1)
 
--- ---- the hardening is capped
-number : (x : Float) → T (finite x) → T (isNumber x)
-unfolding finite isNumber
-number nan f = absurd f
-number (inf s) f = absurd f
-number (fin s m e) f = tt
-
-is-true : (b : Bool) → T b → b ≡ true
-is-true true t = refl
-is-true false t = absurd t
-
-or-right : (a b : Bool) → T b → T (a || b)
-or-right true b t = tt
-or-right false b t = t
-
-or-left : (a b : Bool) → T a → T (a || b)
-or-left true b t = tt
-or-left false b t = absurd t
-
-le-self : (x : Float) → T (finite x) → T (le x x)
-unfolding le
-le-self x f = or-right (lt x x) (eq x x) (rw (eq-self x) (number x f))
-
-at-most : (h c : Float) → T (finite c) → T (le (minOf h c) c)
-unfolding le
-at-most h c f = go (isNumber c) (lt h c) (number c f) (λ t. or-left (lt h c) (eq h c) t) (le-self c f)
-  where
-    go : (a b : Bool) → T a → (T b → T (le h c)) → T (le c c) → T (le (cond a (cond b h c) (cond (isNumber h) h c)) c)
-    go true true t l m = l tt
-    go true false t l m = m
-    go false b t l m = absurd t
-
-least-f64 : (h c : Float) → F64 h → F64 c → F64 (minOf h c)
-least-f64 h c f g = go (isNumber c) (lt h c) (isNumber h)
-  where
-    go : (a b d : Bool) → F64 (cond a (cond b h c) (cond d h c))
-    go true true d = f
-    go true false d = g
-    go false b true = f
-    go false b false = g
-
--- at most the strength, and an f64 where that is one
-abbrev Capped : RankinePlasticity → Float → Type 0
-Capped law h = T (le h (law .«tensile_strength»)) × (F64 (law .«tensile_strength») → F64 h)
-
 -- ---- what is stored
 record Done (law : RankinePlasticity) (v : Updated) (sigma : List Float) : Type 0 where
   hardening : Float
@@ -116,42 +66,30 @@ record Done (law : RankinePlasticity) (v : Updated) (sigma : List Float) : Type 
   axes : length sigma ≡ 3
 
 module _ (law : RankinePlasticity) (u vt : List (List Float)) (st : State) (f : T (finite (law .«tensile_strength»))) where
-  store-done : (h : Float) (t : Ended (List Float)) → Sized 3 t → Capped law h
-      → let x = andThen t (λ sigma. result (storeWalk u sigma vt (num h) st)) in Took st x → Done law (updatedOf st x) (numbersOf t)
-  store-done h (given sigma) n l a =
+  store-done : (h : Float) (sigma : List Float) → length sigma ≡ 3 → Capped law h
+      → let x = result (storeWalk u sigma vt (num h) st) in Took st x → Done law (updatedOf st x) sigma
+  store-done h sigma n l a =
       let e = store-law u sigma vt (num h) st in
       let m = recomposeOf u sigma vt in
       let stored : Updated = record { state = stateOf m sigma h st; outcome = outcome.Stored h } in
       let F : Updated → Type 0 = λ v. Accepted (v .outcome) in
       let q = passed F ((matFinite m && rowFinite sigma) && finite h) stored (state.refused 3 st) (λ b. b) (by F e a) in
       subst (λ v. Done law v sigma) (sym (e ∙ q .1)) (record { hardening = h; stored = refl; written = refl; capped = l; shape = refl; axes = n })
-  store-done h (refused n) i l a = absurd a
 
   abbrev Doing : List Float → Ended Change → Type 0
   Doing new x = Took st x → Done law (updatedOf st x) (numbersOf (expsOf new))
 
-  module _ (new : List Float) (n : length new ≡ 3) where
-    exps-done : (h : Float) → Capped law h → Doing new (result (expsWalk new u vt (num h) st))
-    exps-done h l = by (Doing new) (sym (exps-then new u vt (num h) st)) (store-done h (expsOf new) (exps-sized new 3 n) l)
-
-    tested : (b : Bool) (x : Ended Change) → Doing new x → Doing new (cond b x (refused 3))
-    tested true x h = h
-    tested false x h = λ a. absurd a
-
-    harden-done : (norm : Float) → Doing new (result (hardenWalk law (num norm) new u vt st))
-    harden-done norm =
-        let c = law .«tensile_strength» in
-        let y = add (st .scalars .«plastic_hardening») (mul (law .«softening_rate») norm) in
-        by (Doing new) (sym (harden-law law u vt st norm new (is-true (finite c) f)))
-        (tested (isNumber y) (result (expsWalk new u vt (num (minOf y c)) st))
-        (exps-done (minOf y c) (at-most y c f, λ k. least-f64 y c (add-fits binary64 _ _) k)))
-
-    answered : (r : Answer) → Doing new (asked r (λ norm. result (hardenWalk law (num norm) new u vt st)))
-    answered (answers.Value norm) = harden-done norm
-    answered (answers.Refused m) = λ a. absurd a
-
   moved-done : (old : List Float) (new : List Expr) → length (values new) ≡ 3 → Doing (values new) (result (movedWalk law old new u vt st))
-  moved-done old new n = by (Doing (values new)) (sym (moved-law law u vt st old new)) (answered (values new) n (normOf (rowSubOf old (values new))))
+  unfolding movedWalk hardenWalk
+  moved-done old new n a =
+      let e = values new in
+      let x = result (changes old new (λ norm. grows law (st .scalars .«plastic_hardening») norm (λ h. expsWalk e u vt h st))) in
+      let q =
+      changes-end law f (λ sigma h. result (storeWalk u sigma vt (num h) st)) (st .scalars .«plastic_hardening») old new (λ h. expsWalk e u vt h st)
+      (λ h. exps-then e u vt (num h) st) (took-given st x a) in
+      let d = store-done (q .hardening) (q .sigma) (by (Sized 3) (q .exps) (exps-sized e 3 n)) (q .capped) (by (Took st) (q .ends) a) in
+      subst (λ y. Done law (updatedOf st y) (numbersOf (expsOf e))) (sym (q .ends))
+      (subst (λ t. Done law (updatedOf st (result (storeWalk u (q .sigma) vt (num (q .hardening)) st))) (numbersOf t)) (sym (q .exps)) d)
 
   -- ---- after the projection
   abbrev after : List Float → Ended Moved → Ended Change
@@ -284,10 +222,10 @@ by-arguments a u vt st h =
     let q = arguments-law a u vt st in
     q ∙ passed F (elasticFinite a) (rankineUpdate (lawOf a) u vt st) (state.refused 1 st) (λ x. x) (by F q h) .1
 
-fine : (x : Float) → T (finite x) → T (fits binary64 x) → Fin64 x
+pub fine : (x : Float) → T (finite x) → T (fits binary64 x) → Fin64 x
 fine x f t = (rw (finite-is x) at f, t)
 
-fair-by : (a : RankineArguments) (s : Float) → T (moduliFinite (lawOf a)) → Fin64 s → Ranges (lawOf a) s → Fair (lawOf a) s
+pub fair-by : {d : ℕ} (a : RankineArguments) (s : Float) → T (moduliFinite (lawOf a)) → Fin64 s → RangesIn d (lawOf a) s → FairIn d (lawOf a) s
 unfolding lambdaOf shearModulusOf
 fair-by a s m f r =
     let law = lawOf a in

@@ -29,9 +29,13 @@ use Rattle.plasticity_rankine.specs.Rankine.{untouchedOf, rankineUpdate, argume
 use Rattle.rankine_surface.specs.Axes.{Each, Some, total}
 
 -- ---- exact stresses
--- 2mu + 3lambda, in units of 2 ^ -1074
+-- 2mu + d lambda of d axes, in units of 2 ^ -1074
+abbrev pub modulusIn : ℕ → RankinePlasticity → ℕ
+modulusIn d p = 2 * mag (p .mu) + d * mag (p .lambda)
+
+-- 2mu + 3lambda
 abbrev pub modulus : RankinePlasticity → ℕ
-modulus p = 2 * mag (p .mu) + 3 * mag (p .lambda)
+modulus p = modulusIn 3 p
 
 -- the principal stress that belongs to the strain w among the strains e, lambda (sum of e) + 2mu w, in units of 2 ^ -2148
 abbrev pub stressOf : RankinePlasticity → List Float → Float → ℤ
@@ -41,13 +45,20 @@ stressOf p e w = val (p .lambda) *ℤ total e +ℤ pos 2 *ℤ val (p .mu) *ℤ v
 pub record Under (k : ℕ) (u v : ℤ) (K : ℕ) : Type 0 where
   pub under : u *ℤ pos (2 ^ k) ≤ᶻ v *ℤ pos (2 ^ k) +ℤ pos K
 
--- the stress of w is at most s + (2mu + 3lambda) / 2 ^ k
-abbrev pub Below : ℕ → RankinePlasticity → Float → List Float → Float → Type 0
-Below k p s e w = Under k (stressOf p e w) (val s *ℤ pos L) (modulus p * L)
+-- in d axes, the stress of w is at most s + (2mu + d lambda) / 2 ^ k
+abbrev pub BelowIn : ℕ → ℕ → RankinePlasticity → Float → List Float → Float → Type 0
+BelowIn d k p s e w = Under k (stressOf p e w) (val s *ℤ pos L) (modulusIn d p * L)
 
--- the stress of w is at least s - (2mu + 3lambda) / 2 ^ k
+-- and at least s - (2mu + d lambda) / 2 ^ k
+abbrev pub ReachesIn : ℕ → ℕ → RankinePlasticity → Float → List Float → Float → Type 0
+ReachesIn d k p s e w = Under k (val s *ℤ pos L) (stressOf p e w) (modulusIn d p * L)
+
+-- in three
+abbrev pub Below : ℕ → RankinePlasticity → Float → List Float → Float → Type 0
+Below k p s e w = BelowIn 3 k p s e w
+
 abbrev pub Reaches : ℕ → RankinePlasticity → Float → List Float → Float → Type 0
-Reaches k p s e w = Under k (val s *ℤ pos L) (stressOf p e w) (modulus p * L)
+Reaches k p s e w = ReachesIn 3 k p s e w
 
 -- k for the strains that the update projects: "within (2mu + 3lambda)/2^44"
 abbrev pub demanded : ℕ
@@ -58,20 +69,26 @@ abbrev pub archived : ℕ
 archived = 40
 
 -- ---- what is taken
--- mu in 1 to 2 ^ 40, lambda in 0 to 2 ^ 40, s within 4 (2mu + 3lambda) of zero
-pub record Ranges (p : RankinePlasticity) (s : Float) : Type 0 where
+-- mu in 1 to 2 ^ 40, lambda in 0 to 2 ^ 40, s within 4 (2mu + d lambda) of zero
+pub record RangesIn (d : ℕ) (p : RankinePlasticity) (s : Float) : Type 0 where
   pub mu-low : pos L ≤ᶻ val (p .mu)
   pub mu-high : val (p .mu) ≤ᶻ pos (2 ^ 40 * L)
   pub la-low : pos 0 ≤ᶻ val (p .lambda)
   pub la-high : val (p .lambda) ≤ᶻ pos (2 ^ 40 * L)
-  pub s-size : mag s ≤ 4 * modulus p
+  pub s-size : mag s ≤ 4 * modulusIn d p
 
 -- the three as finite f64 in those ranges
-pub record Fair (p : RankinePlasticity) (s : Float) : Type 0 where
+pub record FairIn (d : ℕ) (p : RankinePlasticity) (s : Float) : Type 0 where
   pub mu-fine : Fin64 (p .mu)
   pub la-fine : Fin64 (p .lambda)
   pub s-fine : Fin64 s
-  pub ranges : Ranges p s
+  pub ranges : RangesIn d p s
+
+abbrev pub Ranges : RankinePlasticity → Float → Type 0
+Ranges p s = RangesIn 3 p s
+
+abbrev pub Fair : RankinePlasticity → Float → Type 0
+Fair p s = FairIn 3 p s
 
 -- in -4 to 4
 abbrev pub Small : Float → Type 0
@@ -139,19 +156,26 @@ pub record Inside (p : RankinePlasticity) (u vt : List (List Float)) (st : State
   pub untouched : rankineUpdate p u vt st ≡ untouchedOf st
   pub below : Each (Below demanded p (softened p st) (logStrains st)) (logStrains st)
 
--- finite strains whose largest stress lies within (2mu + 3lambda) / 2 ^ k of s, above or below (`val` is 0 at a NaN or an infinity)
-pub record OnSurface (k : ℕ) (p : RankinePlasticity) (s : Float) (e : List Float) : Type 0 where
+-- finite strains whose largest stress lies within (2mu + d lambda) / 2 ^ k of s, above or below (`val` is 0 at a NaN or an infinity)
+pub record OnSurfaceIn (d k : ℕ) (p : RankinePlasticity) (s : Float) (e : List Float) : Type 0 where
   pub fine : Each Fin64 e
-  pub below : Each (Below k p s e) e
-  pub reaches : Some (Reaches k p s e) e
+  pub below : Each (BelowIn d k p s e) e
+  pub reaches : Some (ReachesIn d k p s e) e
 
--- in the archive, which keeps sigma alone: our logarithm takes each of the three, and with these as strains the largest stress, whichever
--- axis has it, lies that near to s
-pub record Archived (p : RankinePlasticity) (s : Float) (sigma : List Float) : Type 0 where
+-- in the archive, which keeps sigma alone: our logarithm takes each, and with these as strains the largest stress, whichever axis has it,
+-- lies that near to s
+pub record ArchivedIn (d : ℕ) (p : RankinePlasticity) (s : Float) (sigma : List Float) : Type 0 where
   pub strains : List Float
   pub answered : logsOf sigma ≡ given strains
-  pub axes : length strains ≡ 3
-  pub on-surface : OnSurface archived p s strains
+  pub axes : length strains ≡ d
+  pub on-surface : OnSurfaceIn d archived p s strains
+
+-- in three axes
+abbrev pub OnSurface : ℕ → RankinePlasticity → Float → List Float → Type 0
+OnSurface k p s e = OnSurfaceIn 3 k p s e
+
+abbrev pub Archived : RankinePlasticity → Float → List Float → Type 0
+Archived p s sigma = ArchivedIn 3 p s sigma
 
 abbrev pub projectedStrains : RankinePlasticity → State → List Float
 projectedStrains p st = projectedOf p (logStrains st) (softened p st) .strains

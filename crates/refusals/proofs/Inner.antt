@@ -17,6 +17,7 @@ use Rattle.plasticity_drucker_prager.specs.Projection as drucker-projection
 use Rattle.plasticity_drucker_prager.specs.DruckerPrager as drucker-prager
 use Rattle.plasticity_nacc.specs.declared.NaccPlasticity.{NaccPlasticity}
 use Rattle.plasticity_nacc.specs.declared.Trial.{Trial}
+use Rattle.plasticity_nacc.specs.Axes.{Axes, two-axes, three-axes, dimOf}
 use Rattle.plasticity_nacc.specs.Nacc as nacc
 use Rattle.elasticity_corotated_linear.specs.declared.CorotatedLinearElasticity.{CorotatedLinearElasticity}
 use Rattle.elasticity_corotated_linear.specs.Principal.{principalWalk}
@@ -115,9 +116,10 @@ module _ (p : DruckerPragerPlasticity) where
 
 -- ---- NACC
 module _ (p : NaccPlasticity) where
-  nacc-tip : (x : Expr) (j alpha : Float) → Inner (nacc.tipWalk p x j alpha)
-  unfolding nacc.tipWalk
-  nacc-tip x j alpha = λ e. (λ l. tt, tt)
+  nacc-tip : (axes : Axes) (x : Expr) (j alpha : Float) → Inner (nacc.tipWalk axes p x j alpha)
+  unfolding nacc.tipWalk nacc.raiseWalk
+  nacc-tip two-axes x j alpha = λ w e. (λ l. tt, tt)
+  nacc-tip three-axes x j alpha = λ e. (λ l. tt, tt)
 
   grow : (x : Expr) (j alpha : Float) → Inner (nacc.growWalk p x j alpha)
   unfolding nacc.growWalk
@@ -127,42 +129,44 @@ module _ (p : NaccPlasticity) where
   unfolding nacc.crossWalk
   cross t c d0 d1 alpha = λ r l. (grow _ (t .j) alpha, grow _ (t .j) alpha)
 
-  module _ (t : Trial) (alpha : Float) where
-    hardens : Inner (nacc.hardenWalk p t alpha)
+  module _ (d : Expr) (t : Trial) (alpha : Float) where
+    hardens : Inner (nacc.hardenWalk d p t alpha)
     unfolding nacc.hardenWalk
     hardens = λ l a b n d. cross t _ _ _ alpha
 
-    hardened : Inner (nacc.hardenedWalk p t alpha)
+    hardened : Inner (nacc.hardenedWalk d p t alpha)
     unfolding nacc.hardenedWalk
-    hardened = inner-when 13 (nacc.conditions p t) (nacc.hardenWalk p t alpha) (end alpha) hardens tt
+    hardened = inner-when 13 (nacc.conditions p t) (nacc.hardenWalk d p t alpha) (end alpha) hardens tt
 
-    lands : Inner (nacc.landWalk p t alpha)
-    unfolding nacc.landWalk nacc.rootsWalk
-    lands = λ r w k norm e. inner-asks 29 _ e _ (λ sigma. tt)
+  lands : (axes : Axes) (t : Trial) (s : List Float) (alpha : Float) → Inner (nacc.landWalk axes p t s alpha)
+  unfolding nacc.landWalk nacc.rootsWalk
+  lands two-axes t s alpha = λ r w k norm e. inner-asks 29 _ e _ (λ sigma. tt)
+  lands three-axes t s alpha = λ r w k norm e. inner-asks 29 _ e _ (λ sigma. tt)
 
-  surfaces : (t : Trial) (alpha : Float) → Inner (nacc.surfaceWalk p t alpha)
+  surfaces : (axes : Axes) (t : Trial) (s : List Float) (alpha : Float) → Inner (nacc.surfaceWalk axes p t s alpha)
   unfolding nacc.surfaceWalk
-  surfaces t alpha = inner-then (nacc.hardenedWalk p t alpha) _ (hardened t alpha) (λ a. lands t a)
+  surfaces axes t s alpha = inner-then (nacc.hardenedWalk (dimOf axes) p t alpha) _ (hardened (dimOf axes) t alpha) (λ a. lands axes t s a)
 
   ended : (w : nacc.Way) (x : Walk nacc.Shape) → Inner x → Inner (x then nacc.ends w)
   ended w x h = inner-then x (nacc.ends w) h (λ q. tt)
 
-  module _ (t : Trial) (sigma : List Float) (alpha : Float) where
-    nacc-yields : Inner (nacc.yieldWalk p t sigma alpha)
+  module _ (axes : Axes) (t : Trial) (s sigma : List Float) (alpha : Float) where
+    nacc-yields : Inner (nacc.yieldWalk axes p t s sigma alpha)
     unfolding nacc.yieldWalk
-    nacc-yields = λ l. (tt, ended _ (nacc.surfaceWalk p t alpha) (surfaces t alpha))
+    nacc-yields = λ l. (tt, ended _ (nacc.surfaceWalk axes p t s alpha) (surfaces axes t s alpha))
 
-    lower : Inner (nacc.lowerWalk p t sigma alpha)
+    lower : Inner (nacc.lowerWalk axes p t s sigma alpha)
     unfolding nacc.lowerWalk
-    lower = λ l. (λ x. ended _ (nacc.tipWalk p x (t .j) alpha) (nacc-tip x (t .j) alpha), nacc-yields)
+    lower = λ l. (λ x. ended _ (nacc.tipWalk axes p x (t .j) alpha) (nacc-tip axes x (t .j) alpha), nacc-yields)
 
-    branches : Inner (nacc.branchWalk p t sigma alpha)
+    branches : Inner (nacc.branchWalk axes p t s sigma alpha)
     unfolding nacc.branchWalk
-    branches = (λ x. ended _ (nacc.tipWalk p x (t .j) alpha) (nacc-tip x (t .j) alpha), lower)
+    branches = (λ x. ended _ (nacc.tipWalk axes p x (t .j) alpha) (nacc-tip axes x (t .j) alpha), lower)
 
-  nacc-steps : (sigma : List Float) (alpha : Float) → Inner (nacc.stepsWalk p sigma alpha)
+  pub nacc-steps : (axes : Axes) (sigma : List Float) (alpha : Float) → Inner (nacc.stepsWalk axes p sigma alpha)
   unfolding nacc.stepsWalk nacc.pressWalk
-  nacc-steps sigma alpha = λ m x l w k. branches _ sigma alpha
+  nacc-steps two-axes sigma alpha = λ m x l w k. branches two-axes _ _ sigma alpha
+  nacc-steps three-axes sigma alpha = λ m x l w k. branches three-axes _ _ sigma alpha
 
   nacc-way : (w : nacc.Way) (q : nacc.Shape) (f : Rows) (u vt : List (List Float)) → Inner (nacc.wayWalk w q f u vt)
   unfolding nacc.wayWalk nacc.recomposedWalk
@@ -173,7 +177,7 @@ module _ (p : NaccPlasticity) where
 
   pub nacc-project : (f : Rows) (u : List (List Float)) (sigma : List Float) (vt : List (List Float)) (alpha : Float) → Inner (nacc.projectWalk p f u sigma vt alpha)
   unfolding nacc.projectWalk
-  nacc-project f u sigma vt alpha = inner-then (nacc.stepsWalk p sigma alpha) _ (nacc-steps sigma alpha) (λ q. nacc-way (q .way) (q .shape) f u vt)
+  nacc-project f u sigma vt alpha = inner-then (nacc.stepsWalk three-axes p sigma alpha) _ (nacc-steps three-axes sigma alpha) (λ q. nacc-way (q .way) (q .shape) f u vt)
 
   pub nacc-inner : (u vt : List (List Float)) (s : State) → Inner (nacc.runWalk p u vt s)
   unfolding nacc.runWalk

@@ -11,3 +11,4 @@ pub mod Calls
 pub mod Laws
 pub mod Ran
 pub mod Before
+pub mod InParts

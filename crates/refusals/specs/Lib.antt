@@ -3,3 +3,4 @@ pub mod Calls
 pub mod Laws
 pub mod Ran
 pub mod Before
+pub mod InParts

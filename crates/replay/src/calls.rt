@@ -1,5 +1,6 @@
 // An entry's call, by its number in beside/calls.rs: its refusal or 0, with the outputs in the first places of `out`.
 use crate::elementary;
+use crate::judged;
 use crate::laws;
 use crate::reading;
 use crate::stresses;
@@ -15,6 +16,9 @@ pub fn call(k: u8, i: &[u64], out: &mut [u64]) -> u8
     }
     if (20 <= k) & (k < 24) {
         return laws::update(k, i, out);
+    }
+    if 40 <= k {
+        return judged::judged(k, i, out);
     }
     let o = &mut out[..n];
     if k < 9 {

@@ -17,7 +17,7 @@ fn updated(model: u64, parameters: &[u64], record: &[u64], out: &mut [u64]) -> u
 }
 
 // A list into another from a place on, as far as it has room.
-fn copy(from: &[u64], at: usize, to: &mut [u64]) {
+pub fn copy(from: &[u64], at: usize, to: &mut [u64]) {
     let mut i = 0;
     while i < from.len() {
         if to.len() <= i {
@@ -48,9 +48,7 @@ pub fn update(k: u8, i: &[u64], out: &mut [u64]) -> u8
 pub fn alone(k: u8, i: &[u64], o: &mut [u64]) -> u8
     requires { ⌜ length (now i) ≡ 45 ⌝ }
 {
-    if k == 35 {
-        host::returns::pasoletu_failed(float_of(i[0]), float_of(i[1]), &i[2..5], o)
-    } else if k == 36 {
+    if k == 36 {
         host::returns::pasoletu_snow_clamp(
             float_of(i[0]),
             float_of(i[1]),
@@ -60,7 +58,9 @@ pub fn alone(k: u8, i: &[u64], o: &mut [u64]) -> u8
         )
     } else if k == 37 {
         host::returns::pasoletu_rankine_project(&i[..4], float_of(i[4]), &i[5..8], o)
-    } else {
+    } else if k == 38 {
         host::returns::pasoletu_drucker_prager_alpha(&i[..8], float_of(i[8]), o)
+    } else {
+        host::returns::pasoletu_decomposed_times(float_of(i[0]), &i[1..10], &i[10..13], o)
     }
 }

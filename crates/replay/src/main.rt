@@ -2,6 +2,7 @@
 // there were and how many differ, and the first that does.
 mod calls;
 mod elementary;
+mod judged;
 mod laws;
 mod reading;
 mod stresses;

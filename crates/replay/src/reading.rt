@@ -1,9 +1,9 @@
 // An entry of the list: the call's number, the refusal's number or 0, the inputs as words and, after a 0, the outputs.
 use sheet::Word;
 
-const KINDS: usize = 39;
-// How many words go into each call and come out, by its number (beside/calls.rs).
-const INPUTS: [usize; 39] = [
+const KINDS: usize = 42;
+// How many words go into each call and come out, by its number (beside/calls.rs); a number whose call is retired has none.
+const INPUTS: [usize; 42] = [
     1,
     1,
     1,
@@ -29,23 +29,26 @@ const INPUTS: [usize; 39] = [
     45,
     43,
     13,
-    14,
+    0,
     14,
     14,
     1,
-    36,
+    0,
     8,
     17,
     7,
     17,
     12,
-    5,
+    0,
     6,
     8,
     9,
+    13,
+    42,
+    43,
 ];
 
-const OUTPUTS: [usize; 39] = [
+const OUTPUTS: [usize; 42] = [
     1,
     1,
     1,
@@ -71,20 +74,23 @@ const OUTPUTS: [usize; 39] = [
     39,
     39,
     9,
-    9,
+    0,
+    1,
+    1,
+    1,
+    0,
     1,
     1,
     1,
     9,
     1,
-    1,
-    1,
-    9,
-    1,
-    1,
+    0,
     3,
     3,
     1,
+    3,
+    10,
+    10,
 ];
 
 pub struct Entry {

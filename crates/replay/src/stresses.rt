@@ -24,9 +24,7 @@ fn neo_hookean_phase(
     f: &[u64],
     o: &mut [u64],
 ) -> u8 {
-    if k == 25 {
-        host::elasticity::pasoletu_neo_hookean_kirchhoff_stress(law, phase, hardening, f, o)
-    } else if k == 26 {
+    if k == 26 {
         host::elasticity::pasoletu_neo_hookean_elastic_energy_density(law, phase, hardening, f, o)
     } else {
         host::elasticity::pasoletu_neo_hookean_pos_energy(law, phase, hardening, f, o)
@@ -38,18 +36,7 @@ pub fn corotated(k: u8, i: &[u64], o: &mut [u64]) -> u8
 {
     let law = &i[..4];
     let a = float_of(i[4]);
-    if k == 29 {
-        host::elasticity::pasoletu_corotated_kirchhoff_stress(
-            law,
-            a,
-            float_of(i[5]),
-            &i[6..15],
-            &i[15..24],
-            &i[24..27],
-            &i[27..36],
-            o,
-        )
-    } else if k == 30 {
+    if k == 30 {
         host::elasticity::pasoletu_corotated_elastic_energy_density(law, a, &i[5..8], o)
     } else {
         host::elasticity::pasoletu_corotated_pos_energy(law, a, &i[5..14], &i[14..17], o)

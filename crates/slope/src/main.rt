@@ -1,11 +1,21 @@
-// The program: reads a sheet on standard input and prints it with its answers; with an argument, as -o, it writes the sheet with its
-// updated records instead (RULES, section 7).
+// The program: reads a sheet on standard input and prints it with its answers; with the argument --why it prints why each record moves or doesn't,
+// with another, as -o, it writes the sheet with its updated records instead (RULES, section 7).
 use libc::STDIN_FILENO;
 use lines::Input;
+
+// Whether the first argument is --why.
+fn asks_why() -> bool {
+    let mut word = [0u8; 5];
+    let n = os::arg(1, &mut word);
+    (n == 5) & (word[2] == b'w')
+}
 
 fn answer(room: &[u8], n: usize) -> bool {
     if os::arg_count() < 2 {
         return lines::print_answer(room, n);
+    }
+    if asks_why() {
+        return why_lines::print_reasons(room, n, 2);
     }
     lines::write_updated(room, n)
 }

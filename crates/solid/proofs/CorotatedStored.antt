@@ -10,7 +10,6 @@ use Rattle.numbers.specs.Floats.{finite}
 use Rattle.numbers.proofs.Laws.{and-both}
 use Rattle.tensor.specs.Axes.{allOf}
 use Rattle.tensor.specs.Finite.{rowFinite}
-use Rattle.tensor.specs.Answer.{refusedMatrix}
 use Rattle.walk.specs.Expr.{num}
 use Rattle.walk.specs.Walk.{refused, result, answerAs}
 use Rattle.walk.specs.Every.{flat}
@@ -20,13 +19,12 @@ use Rattle.record.proofs.Parts.{record-parts, state-parts, scalars-parts}
 use Rattle.record.proofs.Stored.{stored}
 use Rattle.elasticity_corotated_linear.specs.declared.CorotatedLinearElasticity.{CorotatedLinearElasticity}
 use Rattle.elasticity_corotated_linear.specs.Law.{lawFinite, floats}
-use Rattle.elasticity_corotated_linear.specs.Stress as stress
 use Rattle.elasticity_corotated_linear.specs.Stress.{stressFrom, stressSteps, stressWalk}
 use Rattle.elasticity_corotated_linear.specs.Energy as energy
 use Rattle.elasticity_corotated_linear.specs.Energy.{posFrom, posSteps, posWalk}
 use Rattle.elasticity_corotated_linear.proofs.Laws.{stress-inputs, energy-inputs, pos-inputs, stress-worked, pos-worked}
 use Rattle.solid.specs.OfRecord.{refusalOf}
-use Rattle.solid.specs.Corotated.{kirchhoffStress, elasticEnergyDensity, posEnergy}
+use Rattle.solid.specs.Corotated.{stressAt, elasticEnergyDensity, posEnergy}
 use Rattle.solid.proofs.Passed.{passed, asked}
 
 module _ (p : CorotatedLinearElasticity) (r : List ℕ) where
@@ -76,13 +74,12 @@ module _ (p : CorotatedLinearElasticity) (r : List ℕ) where
     pub sigma-finite : rowFinite s ≡ true
     sigma-finite = state-parts r (passed (lawFinite p) r q .fine) .1
 
-    pub kirchhoff-stored : matrixAs (result (stressFrom p phase h f u s vt (num j))) ≡ kirchhoffStress p r
+    pub kirchhoff-stored : matrixAs (result (stressFrom p phase h f u s vt (num j))) ≡ stressAt p r
     unfolding stressWalk
     kirchhoff-stored =
         ap (λ x. matrixAs (result (stressFrom p phase h f u s vt (num x)))) (stored r (passed (lawFinite p) r q .right))
         ∙ ap matrixAs (sym (stress-worked p phase h f u s vt))
         ∙ ap (λ b. matrixAs (cond b (result (stressSteps p phase h f u s vt)) (refused notFinite))) (sym (all-finite (passed (lawFinite p) r q .all)))
-        ∙ sym (asked (lawFinite p) r refusedMatrix (stress.kirchhoffStress p phase h f u s vt) q)
 
     pub pos-stored : answerAs (result (posFrom p s h (num j))) ≡ posEnergy p r
     unfolding posWalk

@@ -2,4 +2,5 @@ pub mod Passed
 pub mod NeoHookeanStored
 pub mod CorotatedStored
 pub mod Numbers
+pub mod Ways
 pub mod Told

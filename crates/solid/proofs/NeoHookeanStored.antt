@@ -24,7 +24,7 @@ use Rattle.elasticity_neo_hookean.specs.Energy as energy
 use Rattle.elasticity_neo_hookean.specs.Energy.{energyFrom, energySteps, energyWalkIn, posFrom, posSteps, posWalk}
 use Rattle.elasticity_neo_hookean.proofs.Laws.{inputs-law, fpk-inputs-law, kirchhoff-worked, fpk-worked, energy-worked, pos-worked}
 use Rattle.solid.specs.OfRecord.{refusalOf}
-use Rattle.solid.specs.NeoHookean.{kirchhoffStress, fpkStress, elasticEnergyDensityIn, posEnergy}
+use Rattle.solid.specs.NeoHookean.{stressAt, fpkStress, elasticEnergyDensityIn, posEnergy}
 use Rattle.solid.proofs.Passed.{passed, asked}
 
 module _ (p : NeoHookeanElasticity) (r : List ℕ) where
@@ -54,13 +54,12 @@ module _ (p : NeoHookeanElasticity) (r : List ℕ) where
     abbrev j : Float
     j = floatAt r placeDeterminant
 
-    pub kirchhoff-stored : matrixAs (result (kirchhoffFrom p phase h f (num j))) ≡ kirchhoffStress p r
+    pub kirchhoff-stored : matrixAs (result (kirchhoffFrom p phase h f (num j))) ≡ stressAt p r
     unfolding kirchhoffWalk
     kirchhoff-stored =
         ap (λ x. matrixAs (result (kirchhoffFrom p phase h f (num x)))) (stored r (passed (lawFinite p) r q .right))
         ∙ ap matrixAs (sym (kirchhoff-worked p phase h f))
         ∙ ap (λ b. matrixAs (cond b (result (kirchhoffSteps p phase h f)) (refused notFinite))) (sym (all-finite (passed (lawFinite p) r q .all)))
-        ∙ sym (asked (lawFinite p) r refusedMatrix (stress.kirchhoffStress p phase h f) q)
 
     pub fpk-stored : matrixAs (result (fpkFrom p f h (num j))) ≡ fpkStress p r
     unfolding fpkWalk

@@ -11,7 +11,7 @@ use borrow.Author.Tests.{eqb-true, eqb-false, eq-eqb, ne-eqb}
 use Rattle.answers.specs.Refusals.{notFinite, wrongLength, wrongDeterminant}
 use Rattle.record.specs.Layout.{floats, placeDeterminant, recordFinite, determinantAt, determinantRight}
 use Rattle.solid.specs.OfRecord.{ofRecord}
-use Rattle.solid.specs.Told.{Right, Other, Told}
+use Rattle.solid.specs.Told.{Right, Other, Clear, Told}
 use Rattle.solid.proofs.Passed.{told}
 
 -- S y n: the answer y is a refusal by n; x is the law's own answer
@@ -82,3 +82,12 @@ module _ {A : Type 0} (refused : ℕ → A) (S : A → ℕ → Type 0) (says : (
                 λ q. l .1 ((eq-eqb (length r) floats (q .0 .0), q .0 .1, is-right .1 (q .0 .2)), q .1),
               );
         }
+
+-- what none of the three refuses is answered
+pub clear-asked : {A : Type 0} (refused : ℕ → A) (x : A) (ok : Bool) (r : List ℕ) → Clear ok r → ofRecord refused ok r x ≡ x
+unfolding ofRecord determinantRight
+clear-asked refused x ok r c =
+    let a = eq-eqb (length r) floats (c .0) in
+    let b = c .1 in
+    let d = eq-eqb (getD r placeDeterminant 0) (determinantAt r) (c .2) in
+    simp (a, b, d)

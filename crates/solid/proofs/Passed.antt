@@ -59,3 +59,16 @@ module _ (ok : Bool) (r : List ℕ) where
   pub unasked : {A : Type 0} (refused : ℕ → A) (x : A) → (refusalOf ok r ≡ 0 → ⊥) → ofRecord refused ok r x ≡ refused (refusalOf ok r)
   unfolding ofRecord
   unasked refused x q = told-refused refused x (eqb (length r) floats) (ok && recordFinite r) (determinantRight r) q
+
+-- what passes with more floats passes with fewer
+fewer-tests : (a k l f c : Bool) → number a ((k && l) && f) c ≡ 0 → number a (k && f) c ≡ 0
+fewer-tests true true true true true q = q
+fewer-tests true true true true false q = q
+fewer-tests true true true false c q = q
+fewer-tests true true false f c q = absurd (omega arith)
+fewer-tests true false l f c q = q
+fewer-tests false k l f c q = q
+
+pub fewer : (k l : Bool) (r : List ℕ) → refusalOf (k && l) r ≡ 0 → refusalOf k r ≡ 0
+unfolding ofRecord
+fewer k l r q = fewer-tests (eqb (length r) floats) k l (recordFinite r) (determinantRight r) q

@@ -1,15 +1,16 @@
 -- Section 6 of each call that takes a record (specs/Told): the law itself, of finite floats, gives only 2, 3 and 10. Assumes nothing.
 use mathlib.Core.Path.{_≡_, refl, ap, sym, subst, _∙_}
-use mathlib.Core.Bool.{Bool, true, cond, _&&_}
+use mathlib.Core.Bool.{Bool, true, false, cond, _&&_, false≢true}
 use mathlib.Core.List.{List, [], _∷_, _++_}
 use mathlib.Core.Logic.{_⊎_, inl, inr, _↔_, Iff·rfl}
 use Prim.Native.Nat.{ℕ, _≤_, _<_}
 use native.Mathlib.Omega.{arith}
 use lib.Ieee.{Float}
-use Rattle.answers.specs.Refusals.{notFinite, wrongLength, wrongDeterminant, aboveRange}
+use Rattle.answers.specs.Refusals.{notFinite, wrongLength, wrongDeterminant, aboveRange, notAccepted}
 use Rattle.answers.specs.declared.Answer.{Answer}
 use Rattle.answers.specs.declared.Answer.the-variants.{Refused}
 use Rattle.numbers.specs.Floats.{finite}
+use Rattle.numbers.proofs.Laws.{and-both}
 use Rattle.tensor.specs.Axes.{allOf}
 use Rattle.tensor.specs.Answer.{refusedMatrix}
 use Rattle.walk.specs.Walk.{Walk, inputs, refused, result, answerAs}
@@ -29,11 +30,15 @@ use Rattle.elasticity_corotated_linear.specs.Law as corotated
 use Rattle.elasticity_corotated_linear.specs.Stress as corotated-stress
 use Rattle.elasticity_corotated_linear.specs.Energy as corotated-energy
 use Rattle.elasticity_corotated_linear.proofs.Laws as corotated-laws
+use Rattle.failure_maximum_stress.specs.Failure.{limitsFinite}
+use Rattle.failure_maximum_stress.specs.declared.MaximumStressFailure.{MaximumStressFailure}
 use Rattle.solid.specs.OfRecord.{ofRecord}
-use Rattle.solid.specs.Told.{Other, ToldNumber, ToldMatrix, NeoHookeanTold, CorotatedTold}
+use Rattle.solid.specs.Judged.{refusedJudged, judgedOf}
+use Rattle.solid.specs.Told.{Other, ToldNumber, ToldMatrix, ToldJudged, NeoHookeanTold, CorotatedTold}
 use Rattle.solid.proofs.NeoHookeanStored as neo-stored
 use Rattle.solid.proofs.CorotatedStored as corotated-stored
 use Rattle.solid.proofs.Numbers.{all-told}
+use Rattle.solid.proofs.Ways.{all-judged}
 
 -- ---- what stops a walk without inputs
 neither : (n m : ℕ) → ((1 ≤ n) × (n ≤ 3)) ⊎ (n ≡ aboveRange) → (m ≡ wrongLength) ⊎ (m ≡ wrongDeterminant) → n ≡ m → ⊥
@@ -46,6 +51,16 @@ other : {A : Type 0} (w : Walk A) → Inner w → (n : ℕ) → (0 < n → Stops
 other w h n q =
     (λ e. neither n wrongLength (between (path w) n (q (omega arith))) (inl refl) e, λ e. never-one (path w) (later w h) (subst (λ k. Stops k (path w)) e (q (omega arith))), λ e. neither n wrongDeterminant (between (path w) n (q (omega arith))) (inr refl) e)
 
+not-fourteen : (n : ℕ) → ((1 ≤ n) × (n ≤ 3)) ⊎ (n ≡ aboveRange) → n ≡ notAccepted → ⊥
+not-fourteen n (inl q) e = let z = q .1 in omega arith
+not-fourteen n (inr q) e = omega arith
+
+-- what is finite with the limits is so without them
+without : (k l f : Bool) → (k && l) && f ≡ true → k && f ≡ true
+without true true f q = q
+without true false f q = absurd (false≢true q)
+without false l f q = q
+
 -- ---- a number, a matrix
 number-says : (m n : ℕ) → (_≡_ {A = Answer} (Refused m) (Refused n)) ↔ (m ≡ n)
 number-says m n = (λ e. cc, λ e. ap Refused e)
@@ -56,6 +71,10 @@ module _ (l : List Float) (k : allOf finite l ≡ true) where
 
   matrix-other : (w : Walk (List (List Float))) → Inner w → (n : ℕ) → matrixAs (result (inputs l w)) .refusal ≡ n → Other n
   matrix-other w h n q = other w h n (λ z. matrix-refused w n .0 (z, ap (λ b. matrixAs (cond b (result w) (refused notFinite)) .refusal) (sym k) ∙ q))
+
+  matrix-not-fourteen : (w : Walk (List (List Float))) → (n : ℕ) → matrixAs (result (inputs l w)) .refusal ≡ n → n ≡ notAccepted → ⊥
+  matrix-not-fourteen w n q e =
+      not-fourteen n (between (path w) n (matrix-refused w n .0 (omega arith, ap (λ b. matrixAs (cond b (result w) (refused notFinite)) .refusal) (sym k) ∙ q))) e
 
 -- ---- of the calls
 module _ (r : List ℕ) where
@@ -76,6 +95,14 @@ module _ (r : List ℕ) where
       → ToldMatrix (ofRecord refusedMatrix ok r (matrixAs (result (inputs l w)))) (matrixAs (result (inputs l w))) ok r
   matrix-told ok l w i k = all-told refusedMatrix (λ a n. a .refusal ≡ n) (λ m n. Iff·rfl) (matrixAs (result (inputs l w))) ok r (λ q. matrix-other l (k q) w i)
 
+  -- with the verdict
+  judged-told : (ok : Bool) (l : List Float) (w : Walk (List (List Float))) → Inner w → (ok && recordFinite r ≡ true → allOf finite l ≡ true) → (b : MaximumStressFailure)
+      → ToldJudged b (ofRecord refusedJudged (ok && limitsFinite b) r (judgedOf b (matrixAs (result (inputs l w))))) (matrixAs (result (inputs l w))) (ok && limitsFinite b) r
+  judged-told ok l w i k b =
+      all-judged b (matrixAs (result (inputs l w))) (ok && limitsFinite b) r
+      (λ q. and-both ok (limitsFinite b) (and-both (ok && limitsFinite b) (recordFinite r) q .0) .1)
+      (λ q n e. let f = k (without ok (limitsFinite b) (recordFinite r) q) in (matrix-other l f w i n e, matrix-not-fourteen l f w n e))
+
   -- and a number
   number-told : (ok : Bool) (l : List Float) (w : Walk Float) → Inner w → (ok && recordFinite r ≡ true → allOf finite l ≡ true)
       → ToldNumber (ofRecord Refused ok r (answerAs (result (inputs l w)))) (answerAs (result (inputs l w))) ok r
@@ -87,7 +114,7 @@ module _ (r : List ℕ) where
       let ok = neo.lawFinite p in
       let l = neo.floats p (phase ∷ h ∷ []) f in
       record {
-        kirchhoff = matrix-told ok l (neo-stress.kirchhoffSteps p phase h f) (neo-laws.kirchhoff-inner p phase h f) (neo-stored.all-finite p r);
+        judged = judged-told ok l (neo-stress.kirchhoffSteps p phase h f) (neo-laws.kirchhoff-inner p phase h f) (neo-stored.all-finite p r);
         fpk = matrix-told ok (neo.floats p (h ∷ []) f) (neo-stress.fpkSteps p f h) (neo-laws.fpk-inner p f h) (neo-stored.fpk-finite p r);
         energy = λ m. number-told ok l (neo-energy.energySteps m p phase h f) (neo-laws.energy-inner m p phase h f) (neo-stored.all-finite p r);
         pos-energy = number-told ok l (neo-energy.posSteps p phase h f) (neo-laws.pos-inner p phase h f) (neo-stored.all-finite p r);
@@ -100,7 +127,7 @@ module _ (r : List ℕ) where
       let u = uAt r in
       let vt = vtAt r in
       record {
-        kirchhoff = matrix-told ok (corotated.floats p ((phase ∷ h ∷ []) ++ flat f ++ flat u ++ s ++ flat vt)) (corotated-stress.stressSteps p phase h f u s vt) (corotated-laws.stress-inner p phase h f u s vt) (corotated-stored.all-finite p r);
+        judged = judged-told ok (corotated.floats p ((phase ∷ h ∷ []) ++ flat f ++ flat u ++ s ++ flat vt)) (corotated-stress.stressSteps p phase h f u s vt) (corotated-laws.stress-inner p phase h f u s vt) (corotated-stored.all-finite p r);
         energy = number-told ok (corotated.floats p (s ++ (h ∷ []))) (returned 1 (corotated-energy.density p s h)) tt (corotated-stored.energy-finite p r);
         pos-energy = number-told ok (corotated.floats p (flat f ++ s ++ (h ∷ []))) (corotated-energy.posSteps p f s h) (corotated-laws.pos-inner p s h f) (corotated-stored.pos-finite p r);
       }

@@ -1,4 +1,5 @@
 pub mod OfRecord
+pub mod Judged
 pub mod NeoHookean
 pub mod Corotated
 pub mod Told

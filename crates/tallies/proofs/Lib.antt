@@ -1,6 +1,10 @@
+pub mod Again
 pub mod ByZone
+pub mod Counting
 pub mod Exactly
 pub mod LentLaws
+pub mod Local
+pub mod Passing
 pub mod Sequence
 pub mod WordLaws
 pub mod ZoneLaws

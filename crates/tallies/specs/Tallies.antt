@@ -6,9 +6,9 @@ use lib.Dec.{eqb, leb}
 use lib.ListN.{length, getD, set, replicate}
 use Rattle.answers.specs.Refusals.{wrongLength, outOfRange, tallyFull}
 use Rattle.plasticity.specs.declared.Outcome.{Outcome}
-use Rattle.plasticity.specs.declared.Outcome.the-variants.{Untouched, Stored, Refused}
 use Rattle.record.specs.Layout.{floats}
-use Rattle.particles.specs.Pass.{Worked, recordAt, worked, answers, countedIf, wellSized}
+use Rattle.particles.specs.Pass.{Worked, recordAt, worked, answers, counted, wellSized}
+use Rattle.particles.specs.declared.failure.FailureCounts.{FailureCounts}
 use Rattle.tallies.specs.declared.tally.Tally.{Tally}
 use Rattle.tallies.specs.Zones.{mostZones, listed, zonesFit, moveFits}
 
@@ -23,16 +23,24 @@ spare = replicate mostZones none
 abbrev pub withParticles : ℕ → Tally → Tally
 withParticles n t = record { particles = n; untouched = t .untouched; stored = t .stored; refused = t .refused; failed = t .failed }
 
--- one outcome more
+-- the four so far, and a tally with others
+abbrev pub soFar : Tally → FailureCounts
+soFar t = record { untouched = t .untouched; stored = t .stored; refused = t .refused; failed = t .failed }
+
+abbrev pub withSoFar : FailureCounts → Tally → Tally
+withSoFar c t = record { particles = t .particles; untouched = c .untouched; stored = c .stored; refused = c .refused; failed = c .failed }
+
+-- one outcome more, counted as a pass counts it
 abbrev pub tallied : Tally → Outcome → Bool → Tally
-tallied t Untouched f = record { particles = t .particles; untouched = t .untouched + 1; stored = t .stored; refused = t .refused; failed = countedIf (t .failed) f }
-tallied t (Stored a) f = record { particles = t .particles; untouched = t .untouched; stored = t .stored + 1; refused = t .refused; failed = countedIf (t .failed) f }
-tallied t (Refused n) f = record { particles = t .particles; untouched = t .untouched; stored = t .stored; refused = t .refused + 1; failed = countedIf (t .failed) f }
+tallied t o f = withSoFar (counted (soFar t) o f) t
 
 -- each tally by the number of its zone, from z up
 unfoldable pub byZone : (ℕ → Tally → Tally) → ℕ → List Tally → List Tally
 byZone f z [] = []
 byZone f z (t ∷ ts) = f z t ∷ byZone f (suc z) ts
+
+abbrev pub noParticles : List Tally → List Tally
+noParticles ts = byZone (λ z t. withParticles 0 t) 0 ts
 
 -- particles now, counted afresh from the zone list
 abbrev pub recount : List ℕ → ℕ → Tally → Tally

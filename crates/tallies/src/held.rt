@@ -1,52 +1,21 @@
 // The calls on tallies held by value: an array with room for every zone, of which the first n are the tallies.
 use crate::ranges;
+use crate::slice;
 use crate::tally;
 use crate::tally::Tally;
 use particles::Step;
 ghost use mathlib.Core.Path.{_≡_};
 ghost use mathlib.Core.Bool.{true};
-ghost use Prim.Native.Nat.{_*_, _≤_};
+ghost use Prim.Native.Nat.{_≤_};
 ghost use lib.ListN.{length};
-ghost use Rattle.record.specs.Layout.{floats};
-ghost use Rattle.particles.specs.Pass.{worked, answers, wellSized};
+ghost use Rattle.particles.specs.Pass.{wellSized};
 ghost use Rattle.particles.specs.Step.{stepLaw};
-ghost use Rattle.tallies.specs.Zones.{belowIn};
-ghost use Rattle.tallies.specs.Tallies.{withParticles, byZone, recounted, talliedIn, roomIn, clearRefusal, clearTallies, moveRefusal, moveZones, moveTallies, passZonesFit, passRefusal, recordsAfter, answersAfter, passTallies};
+ghost use Rattle.tallies.specs.Tallies.{roomIn, clearRefusal, clearTallies, moveRefusal, moveZones, moveTallies, passZonesFit, passRefusal, recordsAfter, answersAfter, passTallies};
 
 // The tallies after a call, and 0 or the number that refused it.
 pub struct Held {
     pub refusal: u8,
     pub tallies: [Tally; 256],
-}
-
-// No particles in any zone.
-fn emptied(ts: [Tally; 256]) -> [Tally; 256]
-    ensures { λ r. ⌜ r ≡ byZone (λ z t. withParticles 0 t) 0 ts ⌝ }
-{
-    let mut r = ts;
-    let mut z = 0;
-    while z < 256 {
-        let t = r[z];
-        r[z] = tally::with_particles(t, 0);
-        z = z + 1;
-    }
-    r
-}
-
-// Particles now, counted afresh.
-fn recount(ts: [Tally; 256], zones: &[u64]) -> [Tally; 256]
-    requires { ⌜ belowIn 256 (now zones) (length (now zones)) ≡ true ⌝ }
-    ensures { λ r. ⌜ r ≡ recounted (now (zones .entry)) ts ⌝ }
-{
-    let mut r = emptied(ts);
-    let mut i = 0;
-    while i < zones.len() {
-        let z = zones[i] as usize;
-        let t = r[z];
-        r[z] = tally::with_particles(t, t.particles + 1);
-        i = i + 1;
-    }
-    r
 }
 
 // Whether the first n have room for an outcome of every particle now.
@@ -64,40 +33,13 @@ fn room_for_all(ts: [Tally; 256], n: usize) -> bool
     ok
 }
 
-// Every record by its index, whatever the ones before it gave, and its outcome in the tally of its zone.
-fn pass_all(
-    s: Step,
-    xs: &mut [u64],
-    out: &mut [u64],
-    zones: &[u64],
-    ts: [Tally; 256],
-    n: usize,
-) -> [Tally; 256]
-    requires { ⌜ (length (now xs) ≡ length (now zones) * floats) × (length (now out) ≡ length (now zones) * 2) × (n ≤ 256) × (belowIn n (now zones) (length (now zones)) ≡ true) × (roomIn (recounted (now zones) ts) n ≡ true) ⌝ }
-    ensures tallies { λ r. ⌜ r ≡ byZone (talliedIn (stepLaw s) (now (xs .entry)) (now (zones .entry)) (length (now (zones .entry)))) 0 ts ⌝ }
-    ensures records { λ r. ⌜ now (xs .exit) ≡ worked (stepLaw s) (now (xs .entry)) (length (now (zones .entry))) ⌝ }
-    ensures answers { λ r. ⌜ now (out .exit) ≡ answers (stepLaw s) (now (xs .entry)) (length (now (zones .entry))) ⌝ }
-{
-    let mut r = ts;
-    let mut i = 0;
-    while i < zones.len() {
-        let d = particles::one(s, xs, out, i);
-        let o = d.outcome;
-        let z = zones[i] as usize;
-        let t = r[z];
-        r[z] = tally::tally_one(t, o, d.failed);
-        i = i + 1;
-    }
-    r
-}
-
 // The tallies cleared, and particles now counted.
 pub fn clear_held(particles: usize, zones: &[u64], ts: [Tally; 256], n: usize) -> Held
     ensures refusal { λ r. ⌜ r .refusal ≡ clearRefusal particles (now (zones .entry)) n ⌝ }
     ensures tallies { λ r. ⌜ r .tallies ≡ clearTallies particles (now (zones .entry)) n ts ⌝ }
 {
     if ranges::zones_fit(particles, zones, n) {
-        let cleared = recount(tally::no_tallies(), zones);
+        let cleared = slice::recount(tally::no_tallies(), zones);
         return Held {
             refusal: 0,
             tallies: cleared,
@@ -124,7 +66,7 @@ pub fn move_held(
 {
     if ranges::move_fits(particles, p, z, &zones[..], n) {
         zones[p] = z as u64;
-        let counted = recount(ts, &zones[..]);
+        let counted = slice::recount(ts, &zones[..]);
         return Held {
             refusal: 0,
             tallies: counted,
@@ -151,9 +93,9 @@ fn pass_fitting(
     ensures answers { λ r. ⌜ now (out .exit) ≡ answersAfter (stepLaw s) (now (xs .entry)) (now (out .entry)) (now (zones .entry)) n held ⌝ }
     ensures tallies { λ r. ⌜ r .tallies ≡ passTallies (stepLaw s) (now (xs .entry)) (now (out .entry)) (now (zones .entry)) n held ⌝ }
 {
-    let counted = recount(held, zones);
+    let counted = slice::recount(held, zones);
     if room_for_all(counted, n) {
-        let passed = pass_all(s, xs, out, zones, counted, n);
+        let passed = slice::pass_array(s, xs, out, zones, counted, n);
         return Held {
             refusal: 0,
             tallies: passed,

@@ -3,6 +3,7 @@
 mod held;
 mod lent;
 mod ranges;
+mod slice;
 mod tally;
 mod words;
 

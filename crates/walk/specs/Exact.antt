@@ -120,16 +120,16 @@ each-number : (l : List Float) → map isNumber l ≡ map clean (nums l)
 each-number [] = refl
 each-number (x ∷ l) = ap (λ m. isNumber x ∷ m) (each-number l)
 
-all-clean : (es : List Expr) → numbers es ≡ allClean es
+pub all-clean : (es : List Expr) → numbers es ≡ allClean es
 all-clean es = rw (each-clean es)
 
-told : (t : Test) → tellable t ≡ allClean (compared t)
+pub told : (t : Test) → tellable t ≡ allClean (compared t)
 told (less a b) = rw (whole-tells a, whole-tells b)
 told (at-most a b) = rw (whole-tells a, whole-tells b)
 told (zeros l) = ap (λ m. fromLeft _&&_ true m) (each-number l)
 told (flag b) = refl
 
-picked-clean : (c : Bool) (a b : Expr) → isNumber (cond c (value a) (value b)) ≡ clean (cond c a b)
+pub picked-clean : (c : Bool) (a b : Expr) → isNumber (cond c (value a) (value b)) ≡ clean (cond c a b)
 picked-clean true a b = whole-tells a
 picked-clean false a b = whole-tells b
 
@@ -146,7 +146,7 @@ row-clean : (es : List Expr) → map finite (values es) ≡ map (λ e. clean e &
 row-clean [] = refl
 row-clean (e ∷ es) = ap (λ b. b ∷ map finite (values es)) (finite-clean e) ∙ ap (λ l. (clean e && finite (value e)) ∷ l) (row-clean es)
 
-rows-clean : (rows : List (List Expr)) → map (allOf finite) (map values rows) ≡ map (allOf (λ e. clean e && finite (value e))) rows
+pub rows-clean : (rows : List (List Expr)) → map (allOf finite) (map values rows) ≡ map (allOf (λ e. clean e && finite (value e))) rows
 rows-clean [] = refl
 rows-clean (es ∷ rows) =
     ap (λ l. fromLeft _&&_ true l ∷ map (allOf finite) (map values rows)) (row-clean es)

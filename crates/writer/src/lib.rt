@@ -3,6 +3,7 @@
 mod bytes;
 mod refusing;
 
+pub use bytes::write_words;
 use sheet::BYTES;
 ghost use mathlib.Core.Path.{_≡_};
 ghost use lib.ListN.{length};

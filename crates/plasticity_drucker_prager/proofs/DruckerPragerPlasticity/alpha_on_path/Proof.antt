@@ -1,4 +1,4 @@
--- `plasticity_drucker_prager::DruckerPragerPlasticity::alpha_on_path` answers `answerAs (result (alphaWalk self q))`.
+-- `plasticity_drucker_prager::DruckerPragerPlasticity::alpha_on_path` answers `numberAs (traced (alphaWalk self q))`.
 use borrow.Author.Needs.{needs}
 use Rattle.plasticity_drucker_prager.specs.Alpha.{alphaWalk}
 use Rattle.plasticity_drucker_prager.proofs.DruckerPragerPlasticity.alpha_on_path.Statement.{statement}

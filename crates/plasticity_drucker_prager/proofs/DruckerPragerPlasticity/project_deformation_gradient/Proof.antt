@@ -1,5 +1,6 @@
 -- What is worked with its branch is handed out without it.
 use borrow.Author.Needs.{needs}
+use Rattle.plasticity_drucker_prager.proofs.Laws.{results-law}
 use Rattle.plasticity_drucker_prager.proofs.DruckerPragerPlasticity.project_deformation_gradient.Statement.{
   statement,
 }
@@ -12,7 +13,7 @@ handed-out-requires : tie.Need-handed-out-requires
 handed-out-requires c κs = search needs
 
 returns : tie.Need-returns
-returns c = simp (c .handed-out .ensures, c .before .projected-by-itself .ensures)
+returns c = simp (c .handed-out .ensures, c .before .projected-by-itself .ensures, results-law)
 
 pub project-deformation-gradient-spec : {M : Type 1} → statement M
 project-deformation-gradient-spec =

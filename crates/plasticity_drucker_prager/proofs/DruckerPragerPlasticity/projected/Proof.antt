@@ -1,19 +1,19 @@
--- `plasticity_drucker_prager::DruckerPragerPlasticity::projected` answers `projectedOf (result (projectWalk dim self sigma gain alpha))`.
+-- `plasticity_drucker_prager::DruckerPragerPlasticity::projected` answers `walkedOf (traced (projectWalk dim self sigma gain alpha))`.
 use borrow.Author.Needs.{needs}
 use mathlib.Core.Path.{_∙_}
 use lib.Ieee.{nan}
 use Rattle.tensor.specs.Axes.{of-one}
-use Rattle.walk.specs.Walk.{result}
+use Rattle.reason.specs.Traced.{traced}
 use Rattle.walk.specs.Walk.{asks, works, ln}
 use Rattle.plasticity_drucker_prager.specs.Alpha.{dim}
-use Rattle.plasticity_drucker_prager.specs.Projection.{strain, strainedWalk, projectWalk, projectedOf}
+use Rattle.plasticity_drucker_prager.specs.Projection.{strain, strainedWalk, projectWalk, walkedOf}
 use Rattle.plasticity_drucker_prager.proofs.DruckerPragerPlasticity.projected.Statement.{statement}
 use Rattle.plasticity_drucker_prager.proofs.DruckerPragerPlasticity.projected.Tie as tie
 
 returns : tie.Need-returns
 unfolding projectWalk
 returns c =
-    let whole = of-one (λ l. projectedOf (result (asks 6 ln l (λ logs. works 7 (strain dim logs (c .before .before .before .before .before .before .before .before .before .before .before .before .before .before .before .before .args .gain)) (λ e. strainedWalk dim (c .before .before .before .before .before .before .before .before .before .before .before .before .before .before .before .before .args .self) (c .before .before .before .before .before .before .before .before .before .before .before .before .before .before .before .before .args .t2) e (c .before .before .before .before .before .before .before .before .before .before .before .before .before .before .before .before .args .alpha)))))) nan (c .before .before .before .before .before .before .before .before .before .before .before .before .before .before .before .before .args .t2) (search needs) in
+    let whole = of-one (λ l. walkedOf (traced (asks 6 ln l (λ logs. works 7 (strain dim logs (c .before .before .before .before .before .before .before .before .before .before .before .before .before .before .before .before .args .gain)) (λ e. strainedWalk dim (c .before .before .before .before .before .before .before .before .before .before .before .before .before .before .before .before .args .self) (c .before .before .before .before .before .before .before .before .before .before .before .before .before .before .before .before .args .t2) e (c .before .before .before .before .before .before .before .before .before .before .before .before .before .before .before .before .args .alpha)))))) nan (c .before .before .before .before .before .before .before .before .before .before .before .before .before .before .before .before .args .t2) (search needs) in
     let c1 = c .before in
     let c2 = c1 .before in
     let c3 = c2 .before in
@@ -32,7 +32,7 @@ returns c =
 returns-2 : tie.Need-returns-2
 unfolding projectWalk
 returns-2 c =
-    let whole = of-one (λ l. projectedOf (result (asks 6 ln l (λ logs. works 7 (strain dim logs (c .before .before .before .before .before .before .before .before .before .before .before .before .before .before .before .before .args .gain)) (λ e. strainedWalk dim (c .before .before .before .before .before .before .before .before .before .before .before .before .before .before .before .before .args .self) (c .before .before .before .before .before .before .before .before .before .before .before .before .before .before .before .before .args .t2) e (c .before .before .before .before .before .before .before .before .before .before .before .before .before .before .before .before .args .alpha)))))) nan (c .before .before .before .before .before .before .before .before .before .before .before .before .before .before .before .before .args .t2) (search needs) in
+    let whole = of-one (λ l. walkedOf (traced (asks 6 ln l (λ logs. works 7 (strain dim logs (c .before .before .before .before .before .before .before .before .before .before .before .before .before .before .before .before .args .gain)) (λ e. strainedWalk dim (c .before .before .before .before .before .before .before .before .before .before .before .before .before .before .before .before .args .self) (c .before .before .before .before .before .before .before .before .before .before .before .before .before .before .before .before .args .t2) e (c .before .before .before .before .before .before .before .before .before .before .before .before .before .before .before .before .args .alpha)))))) nan (c .before .before .before .before .before .before .before .before .before .before .before .before .before .before .before .before .args .t2) (search needs) in
     let c1 = c .before in
     let c2 = c1 .before in
     let c3 = c2 .before in
@@ -51,7 +51,7 @@ returns-2 c =
 returns-3 : tie.Need-returns-3
 unfolding projectWalk
 returns-3 c =
-    let whole = of-one (λ l. projectedOf (result (asks 6 ln l (λ logs. works 7 (strain dim logs (c .before .before .before .before .before .before .before .before .before .before .before .before .before .args .gain)) (λ e. strainedWalk dim (c .before .before .before .before .before .before .before .before .before .before .before .before .before .args .self) (c .before .before .before .before .before .before .before .before .before .before .before .before .before .args .t2) e (c .before .before .before .before .before .before .before .before .before .before .before .before .before .args .alpha)))))) nan (c .before .before .before .before .before .before .before .before .before .before .before .before .before .args .t2) (search needs) in
+    let whole = of-one (λ l. walkedOf (traced (asks 6 ln l (λ logs. works 7 (strain dim logs (c .before .before .before .before .before .before .before .before .before .before .before .before .before .args .gain)) (λ e. strainedWalk dim (c .before .before .before .before .before .before .before .before .before .before .before .before .before .args .self) (c .before .before .before .before .before .before .before .before .before .before .before .before .before .args .t2) e (c .before .before .before .before .before .before .before .before .before .before .before .before .before .args .alpha)))))) nan (c .before .before .before .before .before .before .before .before .before .before .before .before .before .args .t2) (search needs) in
     let c2 = c .before .before in
     let c4 = c2 .before .before in
     let c6 = c4 .before .before in
@@ -66,7 +66,7 @@ returns-3 c =
 returns-4 : tie.Need-returns-4
 unfolding projectWalk
 returns-4 c =
-    let whole = of-one (λ l. projectedOf (result (asks 6 ln l (λ logs. works 7 (strain dim logs (c .before .before .before .before .before .before .before .before .before .args .gain)) (λ e. strainedWalk dim (c .before .before .before .before .before .before .before .before .before .args .self) (c .before .before .before .before .before .before .before .before .before .args .t2) e (c .before .before .before .before .before .before .before .before .before .args .alpha)))))) nan (c .before .before .before .before .before .before .before .before .before .args .t2) (search needs) in
+    let whole = of-one (λ l. walkedOf (traced (asks 6 ln l (λ logs. works 7 (strain dim logs (c .before .before .before .before .before .before .before .before .before .args .gain)) (λ e. strainedWalk dim (c .before .before .before .before .before .before .before .before .before .args .self) (c .before .before .before .before .before .before .before .before .before .args .t2) e (c .before .before .before .before .before .before .before .before .before .args .alpha)))))) nan (c .before .before .before .before .before .before .before .before .before .args .t2) (search needs) in
     let c2 = c .before .before in
     let c4 = c2 .before .before in
     let c6 = c4 .before .before in
@@ -78,7 +78,7 @@ returns-4 c =
 returns-5 : tie.Need-returns-5
 unfolding projectWalk
 returns-5 c =
-    let whole = of-one (λ l. projectedOf (result (asks 6 ln l (λ logs. works 7 (strain dim logs (c .before .before .before .before .before .args .gain)) (λ e. strainedWalk dim (c .before .before .before .before .before .args .self) (c .before .before .before .before .before .args .t2) e (c .before .before .before .before .before .args .alpha)))))) nan (c .before .before .before .before .before .args .t2) (search needs) in
+    let whole = of-one (λ l. walkedOf (traced (asks 6 ln l (λ logs. works 7 (strain dim logs (c .before .before .before .before .before .args .gain)) (λ e. strainedWalk dim (c .before .before .before .before .before .args .self) (c .before .before .before .before .before .args .t2) e (c .before .before .before .before .before .args .alpha)))))) nan (c .before .before .before .before .before .args .t2) (search needs) in
     let c2 = c .before .before in
     let c4 = c2 .before .before in
     let t0 = simp (c4 .ln-on-path .ensures) at (c2 .n3 .given .1) in

@@ -1,4 +1,4 @@
--- `plasticity_drucker_prager::DruckerPragerPlasticity::projected_by_itself` answers `projectedOf (result (projectCall dim self «singular_values» «log_vol_gain» alpha))`.
+-- `plasticity_drucker_prager::DruckerPragerPlasticity::projected_by_itself` answers `walkedOf (traced (projectCall dim self «singular_values» «log_vol_gain» alpha))`.
 use borrow.Author.Needs.{needs}
 use Rattle.plasticity_drucker_prager.proofs.Laws.{returned-then, project-inputs}
 use Rattle.plasticity_drucker_prager.specs.Projection.{projectCall}

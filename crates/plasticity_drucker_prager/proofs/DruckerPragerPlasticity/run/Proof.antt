@@ -1,7 +1,6 @@
 -- `plasticity_drucker_prager::DruckerPragerPlasticity::run` answers `updatedOf s (result (runWalk self u vt s))`.
 use borrow.Author.Needs.{needs}
-use Rattle.walk.specs.Exact.{number-then}
-use Rattle.plasticity_drucker_prager.proofs.Laws.{way-then}
+use Rattle.plasticity_drucker_prager.proofs.Laws.{alpha-then, way-then}
 use Rattle.plasticity_drucker_prager.specs.DruckerPrager.{runWalk}
 use Rattle.plasticity_drucker_prager.proofs.DruckerPragerPlasticity.run.Statement.{statement}
 use Rattle.plasticity_drucker_prager.proofs.DruckerPragerPlasticity.run.Tie as tie
@@ -12,7 +11,7 @@ returns c =
     let c1 = c .before in
     let c2 = c1 .before in
     let t0 = simp (c2 .stays .ensures) at (c1 .if1 .taken) in
-    simp (c .untouched .ensures, t0, number-then)
+    simp (c .untouched .ensures, t0, alpha-then)
 
 returns-2 : tie.Need-returns-2
 unfolding runWalk
@@ -24,7 +23,7 @@ returns-2 c =
     let c8 = c7 .before in
     let t0 = simp (c6 .alpha-on-path .ensures) at (c4 .a .given .1) in
     let t1 = simp (c8 .stays .ensures) at (c7 .if1 .left) in
-    simp (c .branch .ensures, c1 .projected .ensures, t0, t1, number-then, way-then)
+    simp (c .branch .ensures, c1 .projected .ensures, t0, t1, alpha-then, way-then)
 
 returns-3 : tie.Need-returns-3
 unfolding runWalk
@@ -35,7 +34,7 @@ returns-3 c =
     let c6 = c5 .before in
     let t0 = simp (c4 .alpha-on-path .ensures) at (c2 .n .given .1) in
     let t1 = simp (c6 .stays .ensures) at (c5 .if1 .left) in
-    simp (c .refuse .ensures, t0, t1, number-then)
+    simp (c .refuse .ensures, t0, t1, alpha-then)
 
 pub run-spec : {M : Type 1} → statement M
 run-spec = tie.close (tie.spec (λ c κs. search needs) (λ c κs. search needs) (λ c κs. search needs) (λ c. search needs) (λ c κs. search needs) (λ c κs. search needs) (λ c. search needs) (λ c κs. search needs) returns returns-2 returns-3)

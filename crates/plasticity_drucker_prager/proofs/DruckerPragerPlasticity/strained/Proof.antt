@@ -1,4 +1,4 @@
--- `plasticity_drucker_prager::DruckerPragerPlasticity::strained` answers `projectedOf (result (strainedWalk dim self sigma e alpha))`.
+-- `plasticity_drucker_prager::DruckerPragerPlasticity::strained` answers `walkedOf (traced (strainedWalk dim self sigma e alpha))`.
 use borrow.Author.Needs.{needs}
 use mathlib.Core.List.{map}
 use mathlib.Core.Path.{sym}
@@ -89,4 +89,4 @@ returns-5 c =
     simp (c .refused-projection2 .ensures, t0, value-sum, zero-number)
 
 pub strained-spec : {M : Type 1} → statement M
-strained-spec = tie.close (tie.spec (λ c κs. search needs) (λ c κs. search needs) (λ c κs. search needs) (λ c κs. search needs) (λ c κs. search needs) (λ c. search needs) (λ c κs. search needs) (λ c κs. search needs) (λ c κs. search needs) (λ c κs. search needs) (λ c κs. search needs) returns returns-2 returns-3 returns-4 returns-5)
+strained-spec = tie.close (tie.spec (λ c κs. search needs) (λ c κs. search needs) (λ c κs. search needs) (λ c κs. search needs) (λ c κs. search needs) (λ c. search needs) (λ c. search needs) (λ c. search needs) (λ c κs. search needs) (λ c κs. search needs) (λ c κs. search needs) (λ c κs. search needs) (λ c κs. search needs) returns returns-2 returns-3 returns-4 returns-5)

@@ -1,4 +1,4 @@
--- `plasticity_drucker_prager::DruckerPragerPlasticity::yielded` answers `projectedOf (result (yieldWalk dim self sigma e d (num trace) alpha))`.
+-- `plasticity_drucker_prager::DruckerPragerPlasticity::yielded` answers `walkedOf (traced (yieldWalk dim self sigma e d (num trace) alpha))`.
 use borrow.Author.Needs.{needs}
 use Rattle.walk.specs.Matrix.{value-dot}
 use Rattle.walk.specs.Expr.{zero-number}

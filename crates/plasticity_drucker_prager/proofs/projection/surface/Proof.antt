@@ -1,18 +1,18 @@
--- `plasticity_drucker_prager::projection::surface` answers `projectedOf (result (surfaceWalk (num gamma) (num norm) b))`.
+-- `plasticity_drucker_prager::projection::surface` answers `walkedOf (traced (surfaceWalk (num gamma) (num norm) b))`.
 use borrow.Author.Needs.{needs}
 use mathlib.Core.Path.{_∙_}
 use lib.Ieee.{nan}
 use Rattle.tensor.specs.Axes.{of-one}
 use Rattle.walk.specs.Expr.{num}
-use Rattle.walk.specs.Walk.{result}
-use Rattle.plasticity_drucker_prager.specs.Projection.{surfaceWalk, projectedOf}
+use Rattle.reason.specs.Traced.{traced}
+use Rattle.plasticity_drucker_prager.specs.Projection.{surfaceWalk, walkedOf}
 use Rattle.plasticity_drucker_prager.proofs.projection.surface.Statement.{statement}
 use Rattle.plasticity_drucker_prager.proofs.projection.surface.Tie as tie
 
 returns : tie.Need-returns
 unfolding surfaceWalk
 returns c =
-    let whole = of-one (λ b. projectedOf (result (surfaceWalk (num (c .before .before .before .before .before .before .before .before .before .before .before .before .args .gamma)) (num (c .before .before .before .before .before .before .before .before .before .before .before .before .args .norm)) b))) nan (c .before .before .before .before .before .before .before .before .before .before .before .before .args .t3) (search needs) in
+    let whole = of-one (λ b. walkedOf (traced (surfaceWalk (num (c .before .before .before .before .before .before .before .before .before .before .before .before .args .gamma)) (num (c .before .before .before .before .before .before .before .before .before .before .before .before .args .norm)) b))) nan (c .before .before .before .before .before .before .before .before .before .before .before .before .args .t3) (search needs) in
     let c1 = c .before in
     let c3 = c1 .before .before in
     let c5 = c3 .before .before in
@@ -27,7 +27,7 @@ returns c =
 returns-2 : tie.Need-returns-2
 unfolding surfaceWalk
 returns-2 c =
-    let whole = of-one (λ b. projectedOf (result (surfaceWalk (num (c .before .before .before .before .before .before .before .before .before .before .before .before .before .args .gamma)) (num (c .before .before .before .before .before .before .before .before .before .before .before .before .before .args .norm)) b))) nan (c .before .before .before .before .before .before .before .before .before .before .before .before .before .args .t3) (search needs) in
+    let whole = of-one (λ b. walkedOf (traced (surfaceWalk (num (c .before .before .before .before .before .before .before .before .before .before .before .before .before .args .gamma)) (num (c .before .before .before .before .before .before .before .before .before .before .before .before .before .args .norm)) b))) nan (c .before .before .before .before .before .before .before .before .before .before .before .before .before .args .t3) (search needs) in
     let c2 = c .before .before in
     let c4 = c2 .before .before in
     let c6 = c4 .before .before in
@@ -42,7 +42,7 @@ returns-2 c =
 returns-3 : tie.Need-returns-3
 unfolding surfaceWalk
 returns-3 c =
-    let whole = of-one (λ b. projectedOf (result (surfaceWalk (num (c .before .before .before .before .before .before .before .before .before .args .gamma)) (num (c .before .before .before .before .before .before .before .before .before .args .norm)) b))) nan (c .before .before .before .before .before .before .before .before .before .args .t3) (search needs) in
+    let whole = of-one (λ b. walkedOf (traced (surfaceWalk (num (c .before .before .before .before .before .before .before .before .before .args .gamma)) (num (c .before .before .before .before .before .before .before .before .before .args .norm)) b))) nan (c .before .before .before .before .before .before .before .before .before .args .t3) (search needs) in
     let c2 = c .before .before in
     let c4 = c2 .before .before in
     let c6 = c4 .before .before in
@@ -54,7 +54,7 @@ returns-3 c =
 returns-4 : tie.Need-returns-4
 unfolding surfaceWalk
 returns-4 c =
-    let whole = of-one (λ b. projectedOf (result (surfaceWalk (num (c .before .before .before .before .before .args .gamma)) (num (c .before .before .before .before .before .args .norm)) b))) nan (c .before .before .before .before .before .args .t3) (search needs) in
+    let whole = of-one (λ b. walkedOf (traced (surfaceWalk (num (c .before .before .before .before .before .args .gamma)) (num (c .before .before .before .before .before .args .norm)) b))) nan (c .before .before .before .before .before .args .t3) (search needs) in
     let c2 = c .before .before in
     let c4 = c2 .before .before in
     let t0 = simp (c4 .exp-on-path .ensures) at (c2 .n3 .given .1) in

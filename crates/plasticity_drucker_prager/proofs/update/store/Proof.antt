@@ -6,17 +6,17 @@ use Rattle.plasticity_drucker_prager.proofs.update.store.Tie as tie
 
 returns : tie.Need-returns
 returns c =
-    let b = c .before .before in
-    let f = b .before .before .before .before .before .recompose .ensures in
-    let t0 = simp (b .is-finite3 .ensures, b .before .is-finite2 .ensures, b .before .before .is-finite .ensures, b .before .before .before .row-finite .ensures, b .before .before .before .before .mat-finite .ensures, f) at (c .before .if1 .taken) in
+    let c2 = c .before .before in
+    let f = c2 .before .recompose .ensures in
+    let t0 = simp (c2 .finite-results .ensures, f) at (c .before .if1 .taken) in
     simp (c .state-of .ensures, f, store-law, t0)
 
 returns-2 : tie.Need-returns-2
 returns-2 c =
-    let b = c .before .before in
-    let f = b .before .before .before .before .before .recompose .ensures in
-    let t0 = simp (b .is-finite3 .ensures, b .before .is-finite2 .ensures, b .before .before .is-finite .ensures, b .before .before .before .row-finite .ensures, b .before .before .before .before .mat-finite .ensures, f) at (c .before .if1 .left) in
+    let c2 = c .before .before in
+    let f = c2 .before .recompose .ensures in
+    let t0 = simp (c2 .finite-results .ensures, f) at (c .before .if1 .left) in
     simp (c .refuse .ensures, store-law, t0)
 
 pub store-spec : {M : Type 1} → statement M
-store-spec = tie.close (tie.spec (λ c κs. search needs) (λ c κs. search needs) (λ c κs. search needs) (λ c κs. search needs) (λ c κs. search needs) (λ c κs. search needs) (λ c κs. search needs) (λ c κs. search needs) returns returns-2)
+store-spec = tie.close (tie.spec (λ c κs. search needs) (λ c κs. search needs) (λ c κs. search needs) (λ c κs. search needs) returns returns-2)

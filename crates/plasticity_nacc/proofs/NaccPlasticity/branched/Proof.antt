@@ -1,4 +1,4 @@
--- `plasticity_nacc::NaccPlasticity::branched` answers `steppedOf (result (branchWalk self t sigma alpha))`.
+-- `plasticity_nacc::NaccPlasticity::branched` answers `steppedOf (traced (branchWalk three-axes self t s sigma alpha))`.
 use borrow.Author.Needs.{needs}
 use Rattle.plasticity_nacc.specs.Nacc.{branchWalk}
 use Rattle.plasticity_nacc.proofs.Laws.{shape-then, pressures}

@@ -1,4 +1,4 @@
--- `plasticity_nacc::NaccPlasticity::crossed` answers `answerAs (result (crossWalk self t (num c) d0 d1 alpha))`.
+-- `plasticity_nacc::NaccPlasticity::crossed` answers `numberAs (traced (crossWalk self t (num c) d0 d1 alpha))`.
 use borrow.Author.Needs.{needs}
 use Rattle.walk.specs.Expr.{zero-number}
 use Rattle.plasticity_nacc.specs.Nacc.{crossWalk}

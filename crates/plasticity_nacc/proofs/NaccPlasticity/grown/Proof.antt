@@ -1,4 +1,4 @@
--- `plasticity_nacc::NaccPlasticity::grown` answers `answerAs (result (growWalk self (num x) j alpha))`.
+-- `plasticity_nacc::NaccPlasticity::grown` answers `numberAs (traced (growWalk self (num x) j alpha))`.
 use borrow.Author.Needs.{needs}
 use Rattle.walk.specs.Expr.{num, value, zero-number}
 use Rattle.walk.specs.Steps.{root-told}

@@ -1,4 +1,4 @@
--- `plasticity_nacc::NaccPlasticity::hardening_step` answers `answerAs (result (hardenWalk self t alpha))`.
+-- `plasticity_nacc::NaccPlasticity::hardening_step` answers `numberAs (traced (hardenWalk (num d) self t alpha))`.
 use borrow.Author.Needs.{needs}
 use Rattle.plasticity_nacc.specs.Nacc.{hardenWalk}
 use Rattle.plasticity_nacc.proofs.NaccPlasticity.hardening_step.Statement.{statement}

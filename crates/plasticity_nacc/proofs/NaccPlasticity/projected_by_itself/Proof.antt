@@ -1,4 +1,4 @@
--- `plasticity_nacc::NaccPlasticity::projected_by_itself` answers `projectedOf (result (projectCall self f u sigma vt alpha))`.
+-- `plasticity_nacc::NaccPlasticity::projected_by_itself` answers `walkedOf (traced (projectCall self f u sigma vt alpha))`.
 use borrow.Author.Needs.{needs}
 use Rattle.plasticity_nacc.specs.Nacc.{projectCall}
 use Rattle.plasticity_nacc.proofs.Laws.{project-inputs, project-law, project-alpha}

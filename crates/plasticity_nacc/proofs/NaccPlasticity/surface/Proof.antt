@@ -1,7 +1,7 @@
--- `plasticity_nacc::NaccPlasticity::surface` answers `asBranch b (result (surfaceWalk self t alpha))`.
+-- `plasticity_nacc::NaccPlasticity::surface` answers `asBranch b (traced (surfaceWalk three-axes self t s alpha))`.
 use borrow.Author.Needs.{needs}
-use Rattle.walk.specs.Exact.{number-then}
 use Rattle.plasticity_nacc.specs.Nacc.{surfaceWalk}
+use Rattle.plasticity_nacc.proofs.Laws.{alpha-then}
 use Rattle.plasticity_nacc.proofs.NaccPlasticity.surface.Statement.{statement}
 use Rattle.plasticity_nacc.proofs.NaccPlasticity.surface.Tie as tie
 
@@ -11,7 +11,7 @@ returns c =
     let c2 = c .before .before in
     let c4 = c2 .before .before in
     let t0 = simp (c4 .hardened .ensures) at (c2 .a .given .1) in
-    simp (c .land .ensures, t0, number-then)
+    simp (c .land .ensures, t0, alpha-then)
 
 returns-2 : tie.Need-returns-2
 unfolding surfaceWalk
@@ -19,7 +19,7 @@ returns-2 c =
     let c2 = c .before .before in
     let c4 = c2 .before .before in
     let t0 = simp (c4 .hardened .ensures) at (c2 .n .given .1) in
-    simp (c .refused-step .ensures, t0, number-then)
+    simp (c .refused-step .ensures, t0, alpha-then)
 
 pub surface-spec : {M : Type 1} → statement M
 surface-spec =

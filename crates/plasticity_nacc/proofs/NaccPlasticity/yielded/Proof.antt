@@ -1,4 +1,4 @@
--- `plasticity_nacc::NaccPlasticity::yielded` answers `steppedOf (result (yieldWalk self t sigma alpha))`.
+-- `plasticity_nacc::NaccPlasticity::yielded` answers `steppedOf (traced (yieldWalk three-axes self t s sigma alpha))`.
 use borrow.Author.Needs.{needs}
 use Rattle.plasticity_nacc.specs.Nacc.{yieldWalk}
 use Rattle.plasticity_nacc.proofs.Laws.{shape-then, small-number}
@@ -11,10 +11,9 @@ returns c =
     let c1 = c .before in
     let c2 = c1 .before in
     let c3 = c2 .before in
-    let c5 = c3 .before .before in
-    let t0 = simp (c2 .is-number .ensures, c3 .y1 .ensures, c5 .y0 .ensures) at (c1 .if1 .taken) in
-    let t1 = simp (c3 .y1 .ensures, c5 .y0 .ensures) at (c .if2 .taken) in
-    simp (c3 .y1 .ensures, c5 .y0 .ensures, t0, t1, shape-then, small-number)
+    let t0 = simp (c2 .is-number .ensures, c3 .y .ensures) at (c1 .if1 .taken) in
+    let t1 = simp (c3 .y .ensures) at (c .if2 .taken) in
+    simp (c3 .y .ensures, t0, t1, shape-then, small-number)
 
 returns-2 : tie.Need-returns-2
 unfolding yieldWalk
@@ -23,10 +22,9 @@ returns-2 c =
     let c2 = c1 .before in
     let c3 = c2 .before in
     let c4 = c3 .before in
-    let c6 = c4 .before .before in
-    let t0 = simp (c3 .is-number .ensures, c4 .y1 .ensures, c6 .y0 .ensures) at (c2 .if1 .taken) in
-    let t1 = simp (c4 .y1 .ensures, c6 .y0 .ensures) at (c1 .if2 .left) in
-    simp (c .surface .ensures, c4 .y1 .ensures, c6 .y0 .ensures, t0, t1, shape-then, small-number)
+    let t0 = simp (c3 .is-number .ensures, c4 .y .ensures) at (c2 .if1 .taken) in
+    let t1 = simp (c4 .y .ensures) at (c1 .if2 .left) in
+    simp (c .surface .ensures, c4 .y .ensures, t0, t1, shape-then, small-number)
 
 returns-3 : tie.Need-returns-3
 unfolding yieldWalk
@@ -34,12 +32,8 @@ returns-3 c =
     let c1 = c .before in
     let c2 = c1 .before in
     let c3 = c2 .before in
-    let c5 = c3 .before .before in
-    let t0 = simp (c2 .is-number .ensures, c3 .y1 .ensures, c5 .y0 .ensures) at (c1 .if1 .left) in
-    simp (c .refused-step .ensures, c3 .y1 .ensures, c5 .y0 .ensures, t0, shape-then, small-number)
+    let t0 = simp (c2 .is-number .ensures, c3 .y .ensures) at (c1 .if1 .left) in
+    simp (c .refused-step .ensures, c3 .y .ensures, t0, shape-then, small-number)
 
 pub yielded-spec : {M : Type 1} → statement M
-yielded-spec =
-    tie.close
-    (tie.spec (λ c κs. search needs) (λ c κs. search needs) (λ c κs. search needs) (λ c κs. search needs) (λ c κs. search needs) returns returns-2
-    returns-3)
+yielded-spec = tie.close (tie.spec (λ c κs. search needs) (λ c κs. search needs) (λ c κs. search needs) (λ c κs. search needs) returns returns-2 returns-3)

@@ -1,9 +1,9 @@
--- `plasticity_nacc::surface::roots` answers `asBranch b (result (rootsWalk e alpha))`.
+-- `plasticity_nacc::surface::roots` answers `asBranch b (traced (rootsWalk e alpha))`.
 use borrow.Author.Needs.{needs}
 use mathlib.Core.Path.{_∙_}
 use lib.Ieee.{nan}
 use Rattle.tensor.specs.Axes.{of-one}
-use Rattle.walk.specs.Walk.{result}
+use Rattle.reason.specs.Traced.{traced}
 use Rattle.plasticity_nacc.specs.Nacc.{rootsWalk, asBranch}
 use Rattle.plasticity_nacc.proofs.surface.roots.Statement.{statement}
 use Rattle.plasticity_nacc.proofs.surface.roots.Tie as tie
@@ -19,7 +19,7 @@ returns c =
     let c11 = c9 .before .before in
     let c12 = c11 .before in
     let a = c12 .args in
-    let whole = of-one (λ e. asBranch (a .b) (result (rootsWalk e (a .alpha)))) nan (a .t2) (search needs) in
+    let whole = of-one (λ e. asBranch (a .b) (traced (rootsWalk e (a .alpha)))) nan (a .t2) (search needs) in
     let t0 = simp (c11 .sqrt-on-path .ensures) at (c9 .x .given .1) in
     let t1 = simp (c7 .sqrt-on-path2 .ensures) at (c5 .y .given .1) in
     let t2 = simp (c3 .sqrt-on-path3 .ensures) at (c1 .z .given .1) in
@@ -36,7 +36,7 @@ returns-2 c =
     let c12 = c10 .before .before in
     let c13 = c12 .before in
     let a = c13 .args in
-    let whole = of-one (λ e. asBranch (a .b) (result (rootsWalk e (a .alpha)))) nan (a .t2) (search needs) in
+    let whole = of-one (λ e. asBranch (a .b) (traced (rootsWalk e (a .alpha)))) nan (a .t2) (search needs) in
     let t0 = simp (c12 .sqrt-on-path .ensures) at (c10 .x .given .1) in
     let t1 = simp (c8 .sqrt-on-path2 .ensures) at (c6 .y .given .1) in
     let t2 = simp (c4 .sqrt-on-path3 .ensures) at (c2 .n .given .1) in
@@ -51,7 +51,7 @@ returns-3 c =
     let c8 = c6 .before .before in
     let c9 = c8 .before in
     let a = c9 .args in
-    let whole = of-one (λ e. asBranch (a .b) (result (rootsWalk e (a .alpha)))) nan (a .t2) (search needs) in
+    let whole = of-one (λ e. asBranch (a .b) (traced (rootsWalk e (a .alpha)))) nan (a .t2) (search needs) in
     let t0 = simp (c8 .sqrt-on-path .ensures) at (c6 .x .given .1) in
     let t1 = simp (c4 .sqrt-on-path2 .ensures) at (c2 .n2 .given .1) in
     (simp (c .refused-step2 .ensures, t0, t1)) ∙ whole
@@ -63,7 +63,7 @@ returns-4 c =
     let c4 = c2 .before .before in
     let c5 = c4 .before in
     let a = c5 .args in
-    let whole = of-one (λ e. asBranch (a .b) (result (rootsWalk e (a .alpha)))) nan (a .t2) (search needs) in
+    let whole = of-one (λ e. asBranch (a .b) (traced (rootsWalk e (a .alpha)))) nan (a .t2) (search needs) in
     let t0 = simp (c4 .sqrt-on-path .ensures) at (c2 .n3 .given .1) in
     (simp (c .refused-step3 .ensures, t0)) ∙ whole
 

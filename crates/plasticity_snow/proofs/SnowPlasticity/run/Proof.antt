@@ -11,31 +11,29 @@ unfolding hardenWalk
 returns c =
     let c2 = c .before .before in
     let c4 = c2 .before .before in
-    let c7 = c4 .before .before .before in
-    let c8 = c7 .before in
-    let c9 = c8 .before in
-    let c11 = c9 .before .before in
-    let a = c11 .args in
-    let law = run-law (a .self) (a .u) (a .vt) (a .s) (c11 .pre) in
-    let t0 = simp (c4 .exp-on-path .ensures, c7 .product2 .ensures, c8 .product .ensures, c9 .project-deformation-gradient .ensures) at (c2 .h .given .1) in
-    simp (c .store .ensures, c4 .exp-on-path .ensures, c7 .product2 .ensures, c8 .product .ensures, c9 .project-deformation-gradient .ensures, t0, law, value-product, store-law)
+    let c5 = c4 .before in
+    let c6 = c5 .before in
+    let c7 = c6 .before in
+    let c9 = c7 .before .before in
+    let t0 = simp (c4 .exp-on-path .ensures, c5 .exponent .ensures, c6 .determinant .ensures, c7 .project-deformation-gradient .ensures) at (c2 .h .given .1) in
+    let a = c9 .args in
+    simp (c .store .ensures, c4 .exp-on-path .ensures, c5 .exponent .ensures, c6 .determinant .ensures, c7 .project-deformation-gradient .ensures, t0, run-law (a .self) (a .u) (a .vt) (a .s) (c9 .pre), value-product, store-law)
 
 returns-2 : tie.Need-returns-2
 unfolding hardenWalk
 returns-2 c =
     let c2 = c .before .before in
     let c4 = c2 .before .before in
-    let c7 = c4 .before .before .before in
-    let c8 = c7 .before in
-    let c9 = c8 .before in
-    let c11 = c9 .before .before in
-    let a = c11 .args in
-    let law = run-law (a .self) (a .u) (a .vt) (a .s) (c11 .pre) in
-    let t0 = simp (c4 .exp-on-path .ensures, c7 .product2 .ensures, c8 .product .ensures, c9 .project-deformation-gradient .ensures) at (c2 .n .given .1) in
-    simp (c .refuse .ensures, c4 .exp-on-path .ensures, c7 .product2 .ensures, c8 .product .ensures, c9 .project-deformation-gradient .ensures, t0, law, value-product, store-law)
+    let c5 = c4 .before in
+    let c6 = c5 .before in
+    let c7 = c6 .before in
+    let c9 = c7 .before .before in
+    let t0 = simp (c4 .exp-on-path .ensures, c5 .exponent .ensures, c6 .determinant .ensures, c7 .project-deformation-gradient .ensures) at (c2 .n .given .1) in
+    let a = c9 .args in
+    simp (c .refuse .ensures, c4 .exp-on-path .ensures, c5 .exponent .ensures, c6 .determinant .ensures, c7 .project-deformation-gradient .ensures, t0, run-law (a .self) (a .u) (a .vt) (a .s) (c9 .pre), value-product, store-law)
 
 pub run-spec : {M : Type 1} → statement M
 run-spec =
     tie.close
-    (tie.spec (λ c κs. search needs) (λ c κs. search needs) (λ c κs. search needs) (λ c κs. search needs) (λ c. search needs) (λ c κs. search needs)
-    (λ c. search needs) (λ c κs. search needs) returns returns-2)
+    (tie.spec (λ c κs. search needs) (λ c κs. search needs) (λ c κs. search needs) (λ c κs. search needs)
+    (λ c. search needs) (λ c κs. search needs) (λ c. search needs) (λ c κs. search needs) returns returns-2)

@@ -24,8 +24,8 @@ room-for-all-requires c κs =
     let s = c .before .before .before .before in
     fits-of (length (s .args .xs .now) / floats) (s .args .zones .now) (s .args .n) (s .pre .1) .most
 
-pass-all-requires : tie.Need-pass-all-requires
-pass-all-requires c κs =
+pass-array-requires : tie.Need-pass-array-requires
+pass-array-requires c κs =
     let s = c .before .before .before .before .before .before .before .before in
     let a = s .args in
     let f = fits-of (length (a .xs .now) / floats) (a .zones .now) (a .n) (s .pre .1) in
@@ -42,12 +42,12 @@ returns c =
     let z = sized-of (a .xs .now) (a .out .now) (a .zones .now) (a .n) (s .pre .0) (s .pre .1) .particles in
     let e = c .before .before .before .before .before .before .before .before .before .recount .ensures in
     let room = ap (λ (ts : List Tally). roomIn ts (a .n)) (sym e) ∙ sym (c .before .before .before .before .before .before .before .before .room-for-all .ensures) ∙ c .before .before .before .before .before .before .before .if1 .taken in
-    let p = c .before .before .before .before .pass-all .ensures in (
+    let p = c .before .before .before .before .pass-array .ensures in (
       simp (s .pre .0, s .pre .1, room),
       (
-        simp (s .pre .0, s .pre .1, room) (p .1 .0 ∙ ap (worked law (a .xs .now)) z),
+        simp (s .pre .0, s .pre .1, room) (p .1 ∙ ap (worked law (a .xs .now)) z),
         (
-          simp (s .pre .0, s .pre .1, room) (p .1 .1 ∙ ap (answers law (a .xs .now)) z),
+          simp (s .pre .0, s .pre .1, room) (p .2 ∙ ap (answers law (a .xs .now)) z),
           simp (s .pre .0, s .pre .1, room) (p .0 ∙ ap (byZone (talliedIn law (a .xs .now) (a .zones .now) (length (a .zones .now))) 0) e ∙ ap (λ (k : ℕ). byZone (talliedIn law (a .xs .now) (a .zones .now) k) 0 (recounted (a .zones .now) (a .held))) z),
         ),
       ),
@@ -62,4 +62,4 @@ returns-2 c =
 pub pass-fitting-spec : {M : Type 1} → statement M
 pass-fitting-spec =
     tie.close
-    (tie.spec recount-requires room-for-all-requires pass-all-requires (λ c. search needs) (λ c. search needs) returns returns-2)
+    (tie.spec recount-requires room-for-all-requires pass-array-requires (λ c. search needs) (λ c. search needs) returns returns-2)

@@ -1,0 +1,142 @@
+"""Slices of a slope: flat particles, of two axes, by the four plastic laws (docs/RULES.md, section 7)."""
+from __future__ import annotations
+
+import itertools
+from typing import Any, Iterable, Optional, Union
+
+from ._arguments import doubles, first_not_finite, number
+from ._library import ask, words
+from ._table import ANSWERS, FLAT_FLOATS, FLAT_PHASE, SHEET_FLOATS
+from .laws import Plasticity
+from .outcome import Passed, Stored, Untouched, worked
+from .particle import PLACES
+from .refusal import LENGTH, NOT_FINITE, Refused
+
+MATRICES = ("deformation_gradient", "u", "v_t")
+SCALARS = PLACES[SHEET_FLOATS - (FLAT_FLOATS - FLAT_PHASE):SHEET_FLOATS]
+
+
+def _matrix(name: str) -> list[str]:
+    return ["%s[%d][%d]" % (name, row, column) for row in range(2) for column in range(2)]
+
+
+# The name of each float of a flat record.
+FLAT_PLACES = (
+    *_matrix("deformation_gradient"),
+    *_matrix("u"),
+    "singular_values[0]",
+    "singular_values[1]",
+    *_matrix("v_t"),
+    *SCALARS,
+)
+
+
+class FlatParticle:
+    """A particle of a flat section, at rest unless told otherwise: 20 floats, with the names of a Particle and no determinant.
+
+    deformation_gradient, u, v_t   two rows of two each, with F = U diag(sigma) V^T: the caller's own decomposition
+    singular_values                sigma, two floats
+    phase, plastic_deformation_gradient_det, plastic_hardening, elastic_hardening, log_vol_gain, nacc_alpha   as a Particle's"""
+
+    __slots__ = ("deformation_gradient", "u", "singular_values", "v_t") + SCALARS
+
+    def __init__(self, **parts: Any) -> None:
+        for name in MATRICES:
+            setattr(self, name, [[1.0, 0.0], [0.0, 1.0]])
+        self.singular_values = [1.0, 1.0]
+        for name in SCALARS:
+            setattr(self, name, 0.0 if name in ("log_vol_gain", "nacc_alpha") else 1.0)
+        for name, value in parts.items():
+            setattr(self, name, value)
+
+    @classmethod
+    def stretched(cls, sigma: Iterable[float]) -> FlatParticle:
+        """A whole particle stretched along the axes: F is diag(sigma), U and V^T the identity."""
+        a, b = sigma
+        return cls(deformation_gradient=[[a, 0.0], [0.0, b]], singular_values=[a, b])
+
+    @classmethod
+    def from_floats(cls, floats: Iterable[float]) -> FlatParticle:
+        """The particle of 20 floats in the record's order: F, U, sigma, V^T, the six scalars."""
+        particle = cls()
+        particle._take([number("FlatParticle.from_floats", "floats", x) for x in floats])
+        return particle
+
+    def _take(self, held: list[float]) -> None:
+        if len(held) != FLAT_FLOATS:
+            raise Refused(LENGTH, "FlatParticle.from_floats", place="floats, which has %d entries and not %d" % (len(held), FLAT_FLOATS))
+        left = iter(held)
+        for name in self.__slots__:
+            if name in MATRICES:
+                setattr(self, name, [list(itertools.islice(left, 2)) for _ in range(2)])
+            else:
+                setattr(self, name, list(itertools.islice(left, 2)) if name == "singular_values" else next(left))
+
+    def floats(self) -> list[float]:
+        """The 20 floats in the record's order."""
+        held: list[float] = []
+        for name in self.__slots__:
+            value = getattr(self, name)
+            if name in MATRICES:
+                held += [x for row in value for x in row]
+            elif name == "singular_values":
+                held += value
+            else:
+                held.append(value)
+        if len(held) != FLAT_FLOATS:
+            raise Refused(LENGTH, "FlatParticle.floats", place="the parts, which have %d floats and not %d" % (len(held), FLAT_FLOATS))
+        return held
+
+    def update(self, model: Plasticity) -> Union[Untouched, Stored]:
+        """The law on this particle in two axes, in place. A refused particle keeps every bit."""
+        told = "FlatParticle.update"
+        _law(told, model)
+        room, answer = doubles(told, "particle", self.floats()), words(ANSWERS)
+        status = ask("flat_update", model.model, doubles(told, "the law", model.parameters()), room, answer)
+        if status:
+            raise Refused(status, told, place=_place(model, list(room)) if status == NOT_FINITE else None)
+        self._take(list(room))
+        return worked(answer[0], answer[1])
+
+    def __eq__(self, other: object) -> bool:
+        return isinstance(other, FlatParticle) and self.floats() == other.floats()
+
+    __hash__ = None  # type: ignore[assignment]
+
+    def __repr__(self) -> str:
+        return "FlatParticle(%s)" % ", ".join("%s=%r" % (name, getattr(self, name)) for name in self.__slots__)
+
+
+def _law(told: str, model: Any) -> None:
+    if not isinstance(model, Plasticity):
+        raise TypeError("%s: model is a %s and must be a Plasticity" % (told, type(model).__name__))
+
+
+def _place(model: Plasticity, floats: list[float]) -> Optional[str]:
+    """Where the first float is that is not finite: in the parameters, then in the record."""
+    names = itertools.chain(("the law's " + name for name in model.names()), FLAT_PLACES)
+    return first_not_finite(itertools.chain(model.parameters(), floats), names)
+
+
+def flat_pass(model: Plasticity, particles: Iterable[FlatParticle]) -> Passed:
+    """The plastic law on every flat particle, in place. The pass goes on after a refused one, which keeps every bit."""
+    told, held = "flat_pass", list(particles)
+    _law(told, model)
+    for k, particle in enumerate(held):
+        if not isinstance(particle, FlatParticle):
+            raise TypeError("%s: particles[%d] is a %s and must be a FlatParticle" % (told, k, type(particle).__name__))
+    room = doubles(told, "particles", (x for particle in held for x in particle.floats()))
+    answers, counts = words(len(held) * ANSWERS), words(3)
+    status = ask("flat_pass", model.model, doubles(told, "the law", model.parameters()), room, answers, counts)
+    if status:
+        raise Refused(status, told)
+
+    def refusal(k: int, number: int) -> Refused:
+        place = _place(model, room[FLAT_FLOATS * k:FLAT_FLOATS * (k + 1)]) if number == NOT_FINITE else None
+        return Refused(number, told, k, place)
+
+    passed = Passed(answers, list(counts), refusal)
+    for k, (particle, outcome) in enumerate(zip(held, passed.outcomes)):
+        if not isinstance(outcome, Refused):
+            particle._take(room[FLAT_FLOATS * k:FLAT_FLOATS * (k + 1)])
+    return passed

@@ -1,0 +1,17 @@
+-- `flat::matrix::mat_finite` answers `matFinite m`.
+use borrow.Author.Needs.{needs}
+use mathlib.Core.List.{[]}
+use Rattle.flat.specs.Axes.{of-one}
+use Rattle.tensor.specs.Finite.{matFinite}
+use Rattle.flat.proofs.matrix.mat_finite.Statement.{statement}
+use Rattle.flat.proofs.matrix.mat_finite.Tie as tie
+
+returns : tie.Need-returns
+returns c =
+    simp (c .row-finite2 .ensures, c .before .before .row-finite .ensures)
+    (of-one matFinite [] (c .before .before .before .before .args .t1) (search needs))
+
+pub mat-finite-spec : {M : Type 1} → statement M
+mat-finite-spec =
+    tie.close
+    (tie.spec (λ c. search needs) (λ c κs. search needs) (λ c. search needs) (λ c κs. search needs) returns)

@@ -1,0 +1,16 @@
+-- `flat::matrix::row_sub` answers `rowSubOf a b`.
+use borrow.Author.Needs.{needs}
+use lib.Ieee.{nan}
+use Rattle.flat.specs.Axes.{of-two}
+use Rattle.tensor.specs.Matrix.{rowSubOf}
+use Rattle.flat.proofs.matrix.row_sub.Statement.{statement}
+use Rattle.flat.proofs.matrix.row_sub.Tie as tie
+
+returns : tie.Need-returns
+unfolding rowSubOf
+returns c = of-two rowSubOf nan nan (c .args .t1) (c .args .t2) (search needs) (search needs)
+
+pub row-sub-spec : {M : Type 1} → statement M
+row-sub-spec =
+    tie.close
+    (tie.spec (λ c. search needs) (λ c. search needs) (λ c. search needs) (λ c. search needs) returns)

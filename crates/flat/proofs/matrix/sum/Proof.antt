@@ -1,0 +1,16 @@
+-- `flat::matrix::sum` answers `sumOf e`.
+use borrow.Author.Needs.{needs}
+use lib.Ieee.{nan}
+use Rattle.flat.specs.Axes.{of-one}
+use Rattle.tensor.specs.Matrix.{sumOf}
+use Rattle.flat.proofs.matrix.sum.Statement.{statement}
+use Rattle.flat.proofs.matrix.sum.Tie as tie
+
+returns : tie.Need-returns
+unfolding sumOf
+returns c = of-one sumOf nan (c .args .t1) (search needs)
+
+pub sum-spec : {M : Type 1} → statement M
+sum-spec =
+    tie.close
+    (tie.spec (λ c. search needs) (λ c. search needs) returns)

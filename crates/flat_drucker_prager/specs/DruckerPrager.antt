@@ -1,0 +1,80 @@
+-- Drucker-Prager on two axes (document 02, ticket 13; plasticity_drucker_prager.rs with DIM = 2): the walk of three axes with 2 for their number.
+use mathlib.Core.List.{List, [], _∷_, _++_}
+use Prim.Native.Nat.{ℕ}
+use lib.Ieee.{Float}
+use Rattle.answers.specs.declared.Answer.{Answer}
+use Rattle.answers.specs.declared.Answer.the-variants as answers
+use Rattle.tensor.specs.Matrix.{zero, one}
+use Rattle.plasticity.specs.declared.Outcome.{Outcome}
+use Rattle.plasticity.specs.declared.Outcome.the-variants as outcome
+use Rattle.walk.specs.Expr.{Expr, value}
+use Rattle.walk.specs.Constants.{two}
+use Rattle.walk.specs.Matrix.{product}
+use Rattle.walk.specs.Walk.{Walk, inputs, end, _then_, Ended, given, refused, result}
+use Rattle.plasticity_drucker_prager.specs.declared.DruckerPragerPlasticity.{DruckerPragerPlasticity}
+use Rattle.plasticity_drucker_prager.specs.Law.{parametersOf}
+use Rattle.plasticity_drucker_prager.specs.Projection.{Way, isotropic, expanding, inside, surface, Returned}
+use Rattle.plasticity_drucker_prager.specs.DruckerPrager.{scalarsOf, measureWalk, lawWalk}
+use Rattle.flat.specs.State as law
+use Rattle.flat.specs.Update.{Change, untouched, updatedOf, floatsOf, storeWalk}
+use Rattle.flat.specs.declared.State.{State}
+use Rattle.flat.specs.declared.Updated.{Updated}
+use Rattle.flat_drucker_prager.specs.declared.Projected.{Projected}
+
+-- the number of axes
+abbrev pub dim : Expr
+dim = two
+
+-- new singular values
+unfoldable pub movedWalk : DruckerPragerPlasticity → List Float → Float → List (List Float) → List (List Float) → State → Walk Change
+movedWalk p sigma dq u vt s =
+    measureWalk p (product (s .sigma)) (product sigma) dq (s .scalars) then (λ m.
+    storeWalk 19 u sigma vt (m .determinant ∷ m .hardening ∷ m .gain ∷ [])
+    (scalarsOf (value (m .determinant)) (value (m .hardening)) (value (m .gain)) (s .scalars)) dq s)
+
+-- after the projection
+unfoldable pub wayWalk : DruckerPragerPlasticity → Way → List Float → Float → List (List Float) → List (List Float) → State → Walk Change
+wayWalk p (inside x) sigma dq u vt s = end untouched
+wayWalk p (isotropic x) sigma dq u vt s = movedWalk p sigma dq u vt s
+wayWalk p (expanding x) sigma dq u vt s = movedWalk p sigma dq u vt s
+wayWalk p (surface x norm) sigma dq u vt s = movedWalk p sigma dq u vt s
+
+unfoldable pub runWalk : DruckerPragerPlasticity → List (List Float) → List (List Float) → State → Walk Change
+runWalk p u vt s = lawWalk dim p (s .sigma) (s .scalars) (end untouched) (λ q. wayWalk p (q .way) (q .sigma) (q .dq) u vt s)
+
+-- parameters first
+unfoldable pub floats : DruckerPragerPlasticity → List (List Float) → List (List Float) → State → List Float
+floats p u vt s = parametersOf p ++ floatsOf u vt s
+
+unfoldable pub druckerWalk : DruckerPragerPlasticity → List (List Float) → List (List Float) → State → Walk Change
+druckerWalk p u vt s = inputs (floats p u vt s) (runWalk p u vt s)
+
+abbrev pub druckerUpdate : DruckerPragerPlasticity → List (List Float) → List (List Float) → State → Updated
+druckerUpdate p u vt s = updatedOf s (result (druckerWalk p u vt s))
+
+-- ---- as the code hands it on: zeros stand beside a refusal
+abbrev pub outcomeOf : Way → Float → Outcome
+outcomeOf (isotropic d) dq = outcome.Stored dq
+outcomeOf (expanding x) dq = outcome.Stored dq
+outcomeOf (inside x) dq = outcome.Untouched
+outcomeOf (surface x norm) dq = outcome.Stored dq
+
+abbrev pub refusedProjection : ℕ → Projected
+refusedProjection n = record { outcome = outcome.Refused n; sigma = zero ∷ zero ∷ [] }
+
+abbrev pub projectedOf : Ended Returned → Projected
+projectedOf (given q) = record { outcome = outcomeOf (q .way) (q .dq); sigma = q .sigma }
+projectedOf (refused n) = refusedProjection n
+
+abbrev pub tipOf : Answer → Projected
+tipOf (answers.Value norm) = record { outcome = outcome.Stored norm; sigma = one ∷ one ∷ [] }
+tipOf (answers.Refused n) = refusedProjection n
+
+abbrev pub surfacedOf : Float → Ended (List Float) → Projected
+surfacedOf gamma (given sigma) = record { outcome = outcome.Stored gamma; sigma = sigma }
+surfacedOf gamma (refused n) = refusedProjection n
+
+abbrev pub followedOf : Outcome → DruckerPragerPlasticity → List Float → List (List Float) → List (List Float) → State → Updated
+followedOf outcome.Untouched p sigma u vt s = law.untouchedOf s
+followedOf (outcome.Stored dq) p sigma u vt s = updatedOf s (result (movedWalk p sigma dq u vt s))
+followedOf (outcome.Refused n) p sigma u vt s = law.refused n s

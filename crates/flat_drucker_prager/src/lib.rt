@@ -1,0 +1,13 @@
+// Drucker-Prager on two axes (ticket 13): the axes' number is 2 in the strain, the deviatoric part and gamma; the slope is that of three axes.
+mod choice;
+mod projection;
+mod update;
+
+use plasticity::Outcome;
+pub use update::update_particle;
+
+// Untouched with the singular values as they came, stored with dq and the new ones, or refused; zeros stand beside a refusal.
+pub struct Projected {
+    pub outcome: Outcome,
+    pub sigma: [f64; 2],
+}

@@ -1,0 +1,157 @@
+-- What is handed from one piece of the walk to the next, as the code hands it on; and the powers' range.
+use mathlib.Core.Bool.{Bool, true, false, cond, _&&_}
+use mathlib.Core.List.{List, [], _∷_}
+use mathlib.Core.Path.{_≡_, refl, sym, ap, _∙_}
+use Prim.Native.Nat.{ℕ}
+use native.Mathlib.Omega.{arith}
+use lib.Ieee as Ieee
+use lib.Ieee.{Float}
+use Rattle.answers.specs.Range.{ranged, onPath, inRange, sideOf}
+use Rattle.answers.specs.Refusals.{noNumber}
+use Rattle.answers.specs.declared.Answer.{Answer}
+use Rattle.answers.specs.declared.Answer.the-variants as answers
+use Rattle.numbers.specs.Floats.{finite, isNumber, maxOf}
+use Rattle.thirds.specs.Thirds as thirds
+use Rattle.tensor.specs.Axes.{allOf}
+use Rattle.tensor.specs.Matrix.{zero}
+use Rattle.tensor.specs.Finite.{rowFinite, matFinite}
+use Rattle.plasticity.specs.State.{scalarsFinite}
+use Rattle.walk.specs.Expr.{num, value}
+use Rattle.walk.specs.Walk.{Walk, third, two-thirds, minus-two-thirds, at, answerOf, _then_, Ended, given, refused, result}
+use Rattle.walk.specs.Exact.{andThen, result-then}
+use Rattle.walk.specs.Every.{and-right}
+use Rattle.reason.specs.declared.Number.{Number}
+use Rattle.reason.specs.declared.Number.the-variants as number
+use Rattle.reason.specs.Traced.{Traced, reached, stopped, traced, untraced, numberAs}
+use Rattle.reason.proofs.Laws.{result-traced}
+use Rattle.plasticity_nacc.specs.declared.NaccArguments.{NaccArguments}
+use Rattle.plasticity_nacc.specs.declared.NaccPlasticity.{NaccPlasticity}
+use Rattle.plasticity_nacc.specs.Law.{argumentsFloats, argumentsFinite}
+use Rattle.plasticity_nacc.specs.declared.Trial.{Trial}
+use Rattle.plasticity_nacc.specs.Axes.{two-axes}
+use Rattle.plasticity_nacc.specs.Formulas.{low}
+use Rattle.plasticity_nacc.specs.Nacc.{Way, upper, lower, inside, surface, Shape, Landed, tipWalk, ends, pressWalk, stepsWalk, scalarsOf}
+use Rattle.plasticity_nacc.proofs.Laws as nacc
+use Rattle.flat.specs.State.{inputsFinite, stateFinite, rowsFinite, keptOf}
+use Rattle.flat.specs.Update.{updatedOf, inputs-finite, store-law}
+use Rattle.flat.specs.declared.State.{State}
+use Rattle.flat_nacc.specs.Nacc.{withinOf, storedWalk, wayWalk, runWalk, floats, shapedOf, outcomeOf, steppedOf, followedOf}
+
+-- ---- the inputs
+pub inputs-law : (a : NaccArguments) (u vt : List (List Float)) (s : State) → allOf finite (floats a u vt s) ≡ argumentsFinite a && inputsFinite u vt s
+unfolding floats
+inputs-law a u vt s = inputs-finite (argumentsFloats a) u vt s
+
+-- alpha is one of them
+pub run-alpha : (a : NaccArguments) (u vt : List (List Float)) (s : State) → argumentsFinite a && inputsFinite u vt s ≡ true → finite (s .scalars .alpha) ≡ true
+run-alpha a u vt s h =
+    let x = s .scalars in
+    let before = finite (x .phase) && finite (x .«plastic_determinant») && finite (x .«plastic_hardening») && finite (x .«elastic_hardening») && finite (x .«log_gain») in
+    and-right before (finite (x .alpha))
+    (and-right (rowsFinite (s .f) && rowFinite (s .sigma)) (scalarsFinite x)
+    (and-right (matFinite u && matFinite vt) (stateFinite s) (and-right (argumentsFinite a) (inputsFinite u vt s) h)))
+
+-- ---- what lies within the range of one power lies within that of the others
+abbrev answer-of : Bool → Bool → ℕ → Float → Answer
+answer-of a b m u = cond a (cond b (answers.Value u) (answers.Refused m)) (answers.Refused noNumber)
+
+given-of : (a b : Bool) (m : ℕ) (x v u : Float) → answer-of a b m x ≡ answers.Value v → answer-of a b m u ≡ answers.Value u
+given-of true true m x v u h = refl
+given-of true false m x v u h = absurd (let z : _≡_ {A = ℕ} 0 1 = cc in omega arith)
+given-of false b m x v u h = absurd (let z : _≡_ {A = ℕ} 0 1 = cc in omega arith)
+
+refused-of : (a b : Bool) (m n : ℕ) (x u : Float) → answer-of a b m x ≡ answers.Refused n → answer-of a b m u ≡ answers.Refused n
+refused-of true true m n x u h = absurd (let z : _≡_ {A = ℕ} 0 1 = cc in omega arith)
+refused-of true false m n x u h = h
+refused-of false b m n x u h = h
+
+module _ (x : Float) where
+  within-given : (v u : Float) → withinOf x ≡ answers.Value v → onPath x (ranged thirds.low thirds.high x u) ≡ answers.Value u
+  within-given v u h = given-of (isNumber x) (inRange thirds.low thirds.high x) (sideOf thirds.low thirds.high x) x v u h
+
+  within-refused : (n : ℕ) (u : Float) → withinOf x ≡ answers.Refused n → onPath x (ranged thirds.low thirds.high x u) ≡ answers.Refused n
+  within-refused n u h = refused-of (isNumber x) (inRange thirds.low thirds.high x) (sideOf thirds.low thirds.high x) n x u h
+
+pub inverse-given : (x : Float) {v : Float} → withinOf x ≡ answers.Value v → answerOf minus-two-thirds x ≡ answers.Value (at minus-two-thirds x)
+inverse-given x {v} h = within-given x v (at minus-two-thirds x) h
+
+pub inverse-refused : (x : Float) {n : ℕ} → withinOf x ≡ answers.Refused n → answerOf minus-two-thirds x ≡ answers.Refused n
+inverse-refused x {n} h = within-refused x n (at minus-two-thirds x) h
+
+pub rooted-given : (x : Float) {v : Float} → withinOf x ≡ answers.Value v → answerOf third x ≡ answers.Value (at third x)
+rooted-given x {v} h = within-given x v (at third x) h
+
+pub rooted-refused : (x : Float) {n : ℕ} → withinOf x ≡ answers.Refused n → answerOf third x ≡ answers.Refused n
+rooted-refused x {n} h = within-refused x n (at third x) h
+
+pub squared-given : (x : Float) {v : Float} → withinOf x ≡ answers.Value v → answerOf two-thirds x ≡ answers.Value (at two-thirds x)
+squared-given x {v} h = within-given x v (at two-thirds x) h
+
+pub squared-refused : (x : Float) {n : ℕ} → withinOf x ≡ answers.Refused n → answerOf two-thirds x ≡ answers.Refused n
+squared-refused x {n} h = within-refused x n (at two-thirds x) h
+
+-- ---- the law's pieces tell the step of a refusal: it is left here
+pub steps-law : (p : NaccPlasticity) (sigma : List Float) (alpha : Float) → finite alpha ≡ true
+    → result (stepsWalk two-axes p sigma alpha) ≡ result (pressWalk two-axes p (num (maxOf (Ieee.neg alpha) zero)) sigma alpha)
+steps-law p sigma alpha h =
+    let v = pressWalk two-axes p (num (maxOf (Ieee.neg alpha) zero)) sigma alpha in
+    result-traced (stepsWalk two-axes p sigma alpha) ∙ ap untraced (nacc.steps-law two-axes p sigma alpha h) ∙ sym (result-traced v)
+
+module _ {B : Type 0} (g : Float → Ended B) where
+  abbrev pub numbered : Number → Ended B
+  numbered (number.Value x) = g x
+  numbered (number.Refused n step) = refused n
+
+  handed-on : (x : Traced Float) → andThen (untraced x) g ≡ numbered (numberAs x)
+  handed-on (reached v) = refl
+  handed-on (stopped n step) = refl
+
+-- the new alpha is handed on to what follows it
+pub alpha-then : {B : Type 0} (w : Walk Float) (g : Float → Walk B) → result (w then g) ≡ numbered (λ a. result (g a)) (numberAs (traced w))
+alpha-then w g = result-then w g ∙ ap (λ x. andThen x (λ a. result (g a))) (result-traced w) ∙ handed-on (λ a. result (g a)) (traced w)
+
+-- ---- one piece after the other
+ended : (w : Way) → ((alpha : Float) → outcomeOf w alpha ≡ outcomeOf (surface alpha alpha) alpha) → (x : Ended Shape)
+    → steppedOf (andThen x (λ q. result (ends w q))) ≡ shapedOf x
+ended w h (given q) = ap (λ o. record { outcome = o; sigma = q .sigma }) (h (q .alpha))
+ended w h (refused n) = refl
+
+pub upper-then : (x y : Float) (v : Walk Shape) → steppedOf (result (v then ends (upper x y))) ≡ shapedOf (result v)
+upper-then x y v = ap steppedOf (result-then v (ends (upper x y))) ∙ ended (upper x y) (λ alpha. refl) (result v)
+
+lower-then : (x y : Float) (v : Walk Shape) → steppedOf (result (v then ends (lower x y))) ≡ shapedOf (result v)
+lower-then x y v = ap steppedOf (result-then v (ends (lower x y))) ∙ ended (lower x y) (λ alpha. refl) (result v)
+
+-- at the lower tip
+pub lower-law : (p : NaccPlasticity) (t : Trial) (alpha x : Float)
+    → steppedOf (result (tipWalk two-axes p (num x) (t .j) alpha then ends (lower (t .p) (value (low p (num (t .p0)))))))
+    ≡ shapedOf (result (tipWalk two-axes p (num x) (t .j) alpha))
+lower-law p t alpha x = lower-then (t .p) (value (low p (num (t .p0)))) (tipWalk two-axes p (num x) (t .j) alpha)
+
+pub surface-then : (x y : Float) (v : Walk Shape) → steppedOf (result (v then ends (surface x y))) ≡ shapedOf (result v)
+surface-then x y v = ap steppedOf (result-then v (ends (surface x y))) ∙ ended (surface x y) (λ alpha. refl) (result v)
+
+module _ (u vt : List (List Float)) (s : State) where
+  stores : (q : Shape) → updatedOf s (result (storedWalk q u vt s)) ≡ keptOf u (q .sigma) vt (finite (q .alpha)) (scalarsOf (q .alpha) (s .scalars)) (q .alpha) s
+  unfolding storedWalk
+  stores q = store-law 30 u (q .sigma) vt (num (q .alpha) ∷ []) (scalarsOf (q .alpha) (s .scalars)) (q .alpha) s
+
+  way-law : (w : Way) (q : Shape) → updatedOf s (result (wayWalk w q u vt s)) ≡ followedOf (outcomeOf w (q .alpha)) (q .sigma) u vt s
+  unfolding wayWalk
+  way-law (upper x y) q = stores q
+  way-law (lower x y) q = stores q
+  way-law (inside x y) q = refl
+  way-law (surface x y) q = stores q
+
+  follows : (x : Ended Landed)
+      → updatedOf s (andThen x (λ q. result (wayWalk (q .way) (q .shape) u vt s))) ≡ followedOf (steppedOf x .outcome) (steppedOf x .sigma) u vt s
+  follows (given q) = way-law (q .way) (q .shape)
+  follows (refused n) = refl
+
+  pub run-law : (p : NaccPlasticity)
+      → updatedOf s (result (runWalk p u vt s))
+      ≡ followedOf (steppedOf (result (stepsWalk two-axes p (s .sigma) (s .scalars .alpha))) .outcome) (steppedOf (result (stepsWalk two-axes p (s .sigma) (s .scalars .alpha))) .sigma) u vt s
+  unfolding runWalk
+  run-law p =
+      let w = stepsWalk two-axes p (s .sigma) (s .scalars .alpha) in
+      ap (updatedOf s) (result-then w (λ q. wayWalk (q .way) (q .shape) u vt s)) ∙ follows (result w)

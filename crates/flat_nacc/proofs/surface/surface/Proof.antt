@@ -1,0 +1,25 @@
+-- `flat_nacc::surface::surface` answers `shapedOf (result (surfaceWalk two-axes p t s alpha))`.
+use borrow.Author.Needs.{needs}
+use Rattle.plasticity_nacc.specs.Nacc.{surfaceWalk}
+use Rattle.flat_nacc.proofs.Laws.{alpha-then}
+use Rattle.flat_nacc.proofs.surface.surface.Statement.{statement}
+use Rattle.flat_nacc.proofs.surface.surface.Tie as tie
+
+returns : tie.Need-returns
+unfolding surfaceWalk
+returns c =
+    let c2 = c .before .before in
+    let c4 = c2 .before .before in
+    let t0 = simp (c4 .hardened .ensures) at (c2 .a .given .1) in
+    simp (c .land .ensures, t0, alpha-then)
+
+returns-2 : tie.Need-returns-2
+unfolding surfaceWalk
+returns-2 c =
+    let c2 = c .before .before in
+    let c4 = c2 .before .before in
+    let t0 = simp (c4 .hardened .ensures) at (c2 .n .given .1) in
+    simp (c .refused-step .ensures, t0, alpha-then)
+
+pub surface-spec : {M : Type 1} → statement M
+surface-spec = tie.close (tie.spec (λ c κs. search needs) (λ c. search needs) (λ c κs. search needs) (λ c. search needs) (λ c κs. search needs) returns returns-2)

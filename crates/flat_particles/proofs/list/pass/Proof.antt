@@ -1,0 +1,33 @@
+-- `flat_particles::list::pass` meets its contract: by the sizes.
+use mathlib.Core.Path.{sym, _∙_}
+use Prim.Native.Nat.{_*_, _/_}
+use lib.Dec.{eqb}
+use lib.ListN.{length}
+use borrow.Author.Tests.{eqb-true}
+use Rattle.numbers.proofs.Laws.{and-both}
+use Rattle.flat_particles.specs.Layout.{floats}
+use borrow.Author.Needs.{needs}
+use Rattle.flat_particles.proofs.list.pass.Statement.{statement}
+use Rattle.flat_particles.proofs.list.pass.Tie as tie
+
+pass-all-requires : tie.Need-pass-all-requires
+pass-all-requires c κs =
+    let a = c .before .before .before .before .before .before .args in
+    let w = sym (c .before .before .before .well-sized .ensures) ∙ c .before .before .if1 .taken in
+    let t = and-both (eqb (length (a .xs .now) / floats * floats) (length (a .xs .now))) (eqb (length (a .xs .now) / floats * 2) (length (a .out .now))) w in
+    (sym (eqb-true _ _ (t .0)), sym (eqb-true _ _ (t .1)))
+
+returns : tie.Need-returns
+returns c =
+    let e = c .before .before .before .before .pass-all .ensures in
+    let b = c .before .before .before .before .before .before .before in
+    let t = sym (b .before .well-sized .ensures) ∙ b .if1 .taken in
+    (simp (e .0, t), (simp (e .1 .0, t), simp (e .1 .1, t)))
+
+returns-2 : tie.Need-returns-2
+returns-2 c = let t = sym (c .before .well-sized .ensures) ∙ c .if1 .left in (simp t, (simp t, simp t))
+
+pub pass-spec : {M : Type 1} → statement M
+pass-spec =
+    tie.close
+    (tie.spec (λ c κs. search needs) pass-all-requires (λ c. search needs) (λ c. search needs) returns returns-2)

@@ -1,0 +1,4 @@
+pub mod Branches
+pub mod Indexed
+pub mod Update
+pub mod Cases

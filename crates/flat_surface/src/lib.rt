@@ -1,0 +1,1 @@
+// No code: the statement stands in specs/, its proof in proofs/.

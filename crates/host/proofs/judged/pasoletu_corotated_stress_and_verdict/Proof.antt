@@ -1,0 +1,22 @@
+-- `host::judged::pasoletu_corotated_stress_and_verdict` meets its contract.
+use borrow.Author.Needs.{needs}
+use Rattle.host.specs.Judged.{corotatedStressAndVerdict}
+use Rattle.host.proofs.judged.pasoletu_corotated_stress_and_verdict.Statement.{statement}
+use Rattle.host.proofs.judged.pasoletu_corotated_stress_and_verdict.Tie as tie
+
+returns : tie.Need-returns
+unfolding corotatedStressAndVerdict
+returns c =
+    let p = c .before .before .before .before .put-judged .ensures in
+    let e0 = c .before .before .before .before .before .before .before .sized-judged .ensures in
+    let e1 = c .before .before .before .before .before .before .before .before .flagged-judged .ensures in
+    let e2 = c .before .before .before .before .before .before .before .before .before .word .ensures in
+    let e3 = c .before .before .before .before .before .before .before .before .before .before .stress-and-verdict .ensures in
+    let e4 = c .before .before .before .before .before .before .before .before .before .before .before .limits .ensures in
+    let e5 = c .before .before .before .before .before .before .before .before .before .before .before .before .corotated .ensures in
+    (simp (p .0, e0, e1, e2, e3, e4, e5), (simp (p .1 .0, e0, e1, e2, e3, e4, e5), simp (p .1 .1, e0, e1, e2, e3, e4, e5)))
+
+pub pasoletu-corotated-stress-and-verdict-spec : {M : Type 1} → statement M
+pasoletu-corotated-stress-and-verdict-spec =
+    tie.close
+    (tie.spec (λ c κs. search needs) (λ c κs. search needs) (λ c κs. search needs) (λ c κs. search needs) (λ c κs. search needs) (λ c κs. search needs) (λ c κs. search needs) (λ c. search needs) (λ c. search needs) returns)

@@ -1,0 +1,5 @@
+pub mod Back
+pub mod Fitting
+pub mod Hosts
+pub mod Kept
+pub mod Pieces

@@ -1,0 +1,82 @@
+-- The calls of a sheet in parts, their state a host's list of words (RULES, sections 6 and 7).
+use mathlib.Core.Bool.{Bool, cond, _&&_}
+use mathlib.Core.List.{List, [], _∷_}
+use Prim.Native.Nat.{ℕ}
+use lib.Dec.{eqb}
+use lib.ListN.{length}
+use Rattle.answers.specs.Refusals.{wrongLength}
+use Rattle.parts.specs.declared.Told.{Told}
+use Rattle.parts.specs.Parts.{Work, works, begun, lent, parted, partAnswer, endAnswer}
+use Rattle.parts_words.specs.Words.{stateLength, stateWords, arrivalAt}
+
+-- how many records are complete, and how many the sheet says it has, 0 before that is known
+abbrev pub progressLength : ℕ
+progressLength = 2
+
+abbrev pub progressOf : Told → List ℕ
+progressOf t = t .complete ∷ t .arrival .header .count ∷ []
+
+-- the lent lists of a call
+pub record Lists : Type 0 where
+  pub state : List ℕ
+  pub records : List ℕ
+  pub answers : List ℕ
+  pub progress : List ℕ
+
+abbrev pub lists : List ℕ → List ℕ → List ℕ → List ℕ → Lists
+lists state xs out p = record { state = state; records = xs; answers = out; progress = p }
+
+-- 8 before all else; nothing is written then
+abbrev pub fits : Lists → Bool
+fits c = eqb (length (c .state)) stateLength && eqb (length (c .progress)) progressLength && lent (c .records) (c .answers)
+
+abbrev pub workAt : Lists → Work
+workAt c = works (arrivalAt (c .state)) (c .records) (c .answers)
+
+-- ---- the beginning
+abbrev pub beginCode : List ℕ → ℕ
+beginCode state = cond (eqb (length state) stateLength) 0 wrongLength
+
+abbrev pub beginState : List ℕ → List ℕ
+beginState state = cond (eqb (length state) stateLength) (stateWords begun) state
+
+-- ---- a part
+abbrev pub partTold : Lists → List ℕ → Told
+partTold c l = partAnswer (workAt c) l
+
+abbrev pub partWork : Lists → List ℕ → Work
+partWork c l = parted (workAt c) l
+
+abbrev pub partCode : Lists → List ℕ → ℕ
+partCode c l = cond (fits c) (partTold c l .refusal) wrongLength
+
+abbrev pub partLists : Lists → List ℕ → Lists
+partLists c l =
+    cond (fits c)
+    (lists (stateWords (partTold c l .arrival)) (partWork c l .records) (partWork c l .answers) (progressOf (partTold c l)))
+    c
+
+-- ---- the end
+abbrev pub endTold : Lists → Told
+endTold c = endAnswer (arrivalAt (c .state)) (c .records) (c .answers)
+
+abbrev pub endCode : Lists → ℕ
+endCode c = cond (fits c) (endTold c .refusal) wrongLength
+
+abbrev pub endLists : Lists → Lists
+endLists c =
+    cond (fits c) (lists (stateWords (endTold c .arrival)) (c .records) (c .answers) (progressOf (endTold c))) c
+
+-- ---- parts handed in, one call after the other
+unfoldable pub handed : Lists → List (List ℕ) → Lists
+handed c [] = c
+handed c (l ∷ ls) = handed (partLists c l) ls
+
+-- how far a sheet has come, in a host's lists
+abbrev pub carried : Work → List ℕ → Lists
+carried w p = lists (stateWords (w .arrival)) (w .records) (w .answers) p
+
+-- the progress after them
+unfoldable pub progressAfter : Work → List (List ℕ) → List ℕ → List ℕ
+progressAfter w [] p = p
+progressAfter w (l ∷ ls) p = progressAfter (parted w l) ls (progressOf (partAnswer w l))

@@ -1,0 +1,108 @@
+-- Ticket 8 of a record: it is refused exactly where the pass refuses it, by the same number; else the last test on its law's path is told, and the
+-- pass leaves what that path ends with.
+use mathlib.Core.Bool.{Bool, true, false, cond, _&&_}
+use mathlib.Core.List.{List}
+use mathlib.Core.Option.{none}
+use mathlib.Core.Path.{_≡_, refl, sym, ap, _∙_}
+use native.Mathlib.Omega.{arith}
+use Prim.Native.Nat.{ℕ}
+use lib.Ieee.{Float}
+use Rattle.numbers.specs.Floats.{finite}
+use Rattle.plasticity.specs.State.{refused}
+use Rattle.plasticity.specs.declared.State.{State}
+use Rattle.plasticity.specs.declared.Updated.{Updated}
+use Rattle.record.specs.Layout.{placeDeterminant, floatAt, uAt, vtAt, stateAt, recordFinite, determinantRight}
+use Rattle.walk.specs.Walk.{given}
+use Rattle.walk.specs.Exact.{path, final, last}
+use Rattle.walk.specs.Update.{updatedOf}
+use Rattle.reason.specs.declared.Reason.{Reason}
+use Rattle.reason.specs.declared.Reason.the-variants as reason
+use Rattle.reason.specs.Reason.{lastOr}
+use Rattle.reason.specs.Told.{reasonNumber, outcomeNumber, number-told, last-told, number-of, last-of}
+use Rattle.walk.specs.Reason.{quiet}
+use Rattle.plasticity_snow.specs.declared.SnowPlasticity.{SnowPlasticity}
+use Rattle.plasticity_snow.specs.Snow.{snowWalk}
+use Rattle.plasticity_snow.specs.Reason.{boundsOf}
+use Rattle.plasticity_snow.proofs.Why.{snow-branchless}
+use Rattle.model.specs.declared.Model.{Model}
+use Rattle.model.specs.declared.Model.the-variants.{Snow, Rankine, DruckerPrager, Nacc}
+use Rattle.model.specs.Model.{modelFinite, modelUpdate, modelWalk, modelReason, modelLast}
+use Rattle.particles.specs.Plain.{updatedAt, kept, measured, lawAt, keptBy, recordLaw}
+use Rattle.record_why.specs.declared.Cause.{Cause}
+use Rattle.record_why.specs.declared.Cause.the-variants.{Told, Parameter, Record}
+use Rattle.record_why.specs.Why.{recordReason, toldOf, numberOf}
+
+-- ---- by the model's law
+-- Snow makes no test
+snow-last : (p : SnowPlasticity) (u vt : List (List Float)) (s : State) (r : Reason) → lastOr r (last (path (snowWalk p u vt s))) ≡ r
+snow-last p u vt s r = ap (lastOr r) (quiet (snowWalk p u vt s) (snow-branchless p u vt s) none)
+
+module _ (u vt : List (List Float)) (s : State) where
+  pub model-number : (m : Model) → reasonNumber (modelReason m u vt s) ≡ outcomeNumber (modelUpdate m u vt s .outcome)
+  model-number (Snow p) = number-told (boundsOf p (s .sigma)) refl s (modelWalk (Snow p) u vt s)
+  model-number (Rankine a) = number-of s (modelWalk (Rankine a) u vt s)
+  model-number (DruckerPrager p) = number-of s (modelWalk (DruckerPrager p) u vt s)
+  model-number (Nacc a) = number-of s (modelWalk (Nacc a) u vt s)
+
+  abbrev Last : Model → Type 0
+  Last m = (modelReason m u vt s ≡ modelLast m u vt s) × (modelUpdate m u vt s ≡ updatedOf s (given (final (modelWalk m u vt s))))
+
+  pub model-last : (m : Model) → reasonNumber (modelReason m u vt s) ≡ 0 → Last m
+  model-last (Snow p) e =
+      let q = last-told (boundsOf p (s .sigma)) refl s (modelWalk (Snow p) u vt s) e in
+      (q .0 ∙ snow-last p u vt s (boundsOf p (s .sigma)), q .1)
+  model-last (Rankine a) e = last-of s (modelWalk (Rankine a) u vt s) e
+  model-last (DruckerPrager p) e = last-of s (modelWalk (DruckerPrager p) u vt s) e
+  model-last (Nacc a) e = last-of s (modelWalk (Nacc a) u vt s) e
+
+-- ---- of a record
+module _ (m : Model) (p r : List ℕ) where
+  abbrev s : State
+  s = stateAt r
+
+  abbrev told : Reason
+  told = modelReason m (uAt r) (vtAt r) s
+
+  abbrev new : Updated
+  new = modelUpdate m (uAt r) (vtAt r) s
+
+  abbrev reasons : Bool → Bool → Bool → Bool → ℕ → ℕ → Cause
+  reasons a b c e i j = cond a (cond b (Told (cond c (cond e told (reason.Refused 3 41)) (reason.Refused 11 40))) (Record i)) (Parameter j)
+
+  abbrev laws : Bool → Bool → Bool → Bool → Updated
+  laws a b c e = cond (a && b) (cond c (cond e new (refused 3 (new .state))) (refused 11 s)) (refused 1 s)
+
+  same : (a b c e : Bool) (i j : ℕ) → numberOf (reasons a b c e i j) ≡ outcomeNumber (laws a b c e .outcome)
+  same false b c e i j = refl
+  same true false c e i j = refl
+  same true true false e i j = refl
+  same true true true false i j = refl
+  same true true true true i j = model-number (uAt r) (vtAt r) s m
+
+  abbrev stored : Bool
+  stored = finite (floatAt (kept m (new .outcome) r (new .state)) placeDeterminant)
+
+  -- "A refusal gives the number": the pass's own
+  pub number-same : numberOf (toldOf m p r) ≡ outcomeNumber (recordLaw m r .outcome)
+  unfolding toldOf recordReason recordLaw lawAt updatedAt
+  number-same = same (modelFinite m) (recordFinite r) (determinantRight r) stored _ _
+
+  abbrev Ends : Cause → Updated → Type 0
+  Ends w d =
+      (w ≡ Told (modelLast m (uAt r) (vtAt r) s)) × (d ≡ updatedOf s (given (final (modelWalk m (uAt r) (vtAt r) s))))
+
+  ends : (a b c e : Bool) (i j : ℕ) → numberOf (reasons a b c e i j) ≡ 0 → Ends (reasons a b c e i j) (laws a b c e)
+  ends false b c e i j h = absurd (omega arith)
+  ends true false c e i j h = absurd (omega arith)
+  ends true true false e i j h = absurd (omega arith)
+  ends true true true false i j h = absurd (omega arith)
+  ends true true true true i j h = let q = model-last (uAt r) (vtAt r) s m h in (ap Told (q .0), q .1)
+
+  -- "a named test is the last of those made .. and that branch gives the stored record"
+  pub last-gives : numberOf (toldOf m p r) ≡ 0 → Ends (toldOf m p r) (lawAt m r)
+  unfolding toldOf recordReason lawAt updatedAt
+  last-gives h = ends (modelFinite m) (recordFinite r) (determinantRight r) stored _ _ h
+
+  pub after-gives : numberOf (toldOf m p r) ≡ 0 → recordLaw m r .after ≡ keptBy m (updatedOf s (given (final (modelWalk m (uAt r) (vtAt r) s)))) r .after
+  unfolding recordLaw
+  after-gives h = ap (λ d. keptBy m d r .after) (last-gives h .1)
