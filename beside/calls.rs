@@ -145,32 +145,42 @@ pub struct Particle {
     alpha: f64,
 }
 
-/// A law's update of each particle, with what `before` does ahead of it. The law is made once.
-pub fn pass(model: usize, p: &[u64], list: &mut [Particle], before: impl Fn(&Particle)) {
-    match model {
-        0 => {
-            let law = SnowPlasticity { min_epsilon: f(p, 0), max_epsilon: f(p, 1), hardening_coeff: f(p, 2) };
-            each(list, before, |x| law.update_particle(&mut x.f, &mut x.elastic, &mut x.det))
-        }
-        1 => {
-            let law = RankinePlasticity::new(f(p, 0), f(p, 1), f(p, 2), f(p, 3));
-            each(list, before, |x| law.update_particle(&mut x.f, &mut x.plastic))
-        }
-        2 => {
-            let law = drucker_prager(p);
-            each(list, before, |x| law.update_particle(x.phase, &mut x.f, &mut x.det, &mut x.plastic, &mut x.gain))
-        }
-        _ => {
-            let law = NaccPlasticity::with_m(f(p, 0), f(p, 1), f(p, 2), f(p, 3) == 1.0, f(p, 4), f(p, 5));
-            each(list, before, |x| law.update_particle(&mut x.f, &mut x.alpha))
+/// A list, and what is done with each of its particles beside the law's update.
+pub trait Each {
+    fn each(self, update: impl Fn(&mut Particle));
+}
+
+/// What the second does with a particle comes ahead of the update.
+pub struct After<'a, B: Fn(&Particle)>(pub &'a mut [Particle], pub B);
+
+impl<B: Fn(&Particle)> Each for After<'_, B> {
+    fn each(self, update: impl Fn(&mut Particle)) {
+        for x in self.0 {
+            (self.1)(x);
+            update(x);
         }
     }
 }
 
-fn each(list: &mut [Particle], before: impl Fn(&Particle), update: impl Fn(&mut Particle)) {
-    for x in list {
-        before(x);
-        update(x);
+/// A law's update of each particle of a list. The law is made once.
+pub fn pass(model: usize, p: &[u64], list: impl Each) {
+    match model {
+        0 => {
+            let law = SnowPlasticity { min_epsilon: f(p, 0), max_epsilon: f(p, 1), hardening_coeff: f(p, 2) };
+            list.each(|x| law.update_particle(&mut x.f, &mut x.elastic, &mut x.det))
+        }
+        1 => {
+            let law = RankinePlasticity::new(f(p, 0), f(p, 1), f(p, 2), f(p, 3));
+            list.each(|x| law.update_particle(&mut x.f, &mut x.plastic))
+        }
+        2 => {
+            let law = drucker_prager(p);
+            list.each(|x| law.update_particle(x.phase, &mut x.f, &mut x.det, &mut x.plastic, &mut x.gain))
+        }
+        _ => {
+            let law = NaccPlasticity::with_m(f(p, 0), f(p, 1), f(p, 2), f(p, 3) == 1.0, f(p, 4), f(p, 5));
+            list.each(|x| law.update_particle(&mut x.f, &mut x.alpha))
+        }
     }
 }
 
@@ -179,7 +189,7 @@ fn update(model: usize, p: &[u64], o: &mut [u64]) {
     let s = |k| f(o, k);
     let (f, factors) = (matrix(o, 0), [0.0; 21]);
     let mut x = Particle { f, factors, phase: s(30), det: s(31), plastic: s(32), elastic: s(33), gain: s(34), alpha: s(35) };
-    pass(model, p, std::slice::from_mut(&mut x), |_| ());
+    pass(model, p, After(std::slice::from_mut(&mut x), |_| ()));
     put_matrix(o, x.f);
     for (k, s) in [x.phase, x.det, x.plastic, x.elastic, x.gain, x.alpha].iter().enumerate() {
         o[30 + k] = s.to_bits();

@@ -1,5 +1,6 @@
 //! Times of ours beside the Rust, in one run: medians of interleaved rounds, CPU time; and instructions, by callgrind.
-//! timing WORK [--count]: WORK is the folder with libuntouched.so; --count is how the program runs itself under callgrind.
+//! timing WORK [--count | --growth]: WORK is the folder with libuntouched.so, and speed.tsv is left there; --count is how the program
+//! runs itself under callgrind; --growth tells besides how a pass grows with its list.
 mod callgrind;
 #[path = "../../calls.rs"]
 #[allow(dead_code)]
@@ -8,6 +9,8 @@ mod calls;
 #[allow(dead_code)]
 #[rustfmt::skip]
 mod externs;
+mod fair;
+mod growth;
 #[path = "../../library.rs"]
 mod library;
 mod records;
@@ -15,6 +18,7 @@ mod sides;
 
 use calls::{BARE, FLOATS};
 use externs::*;
+use fair::FairPass;
 use records::{bits, drawn, Draw, LAWS};
 use sides::*;
 use std::collections::BTreeMap;
@@ -39,7 +43,8 @@ fn laws(work: &str) -> Vec<Row> {
             let (p, records) = (bits(law.parameters), drawn(model, units));
             let rust = |columns, updates| some(RustPass::new(model, &p, &records, columns, updates));
             let untouched = untouched(&file).and_then(|updates| rust(true, Box::new(updates)));
-            let sides = vec![some(OurPass::new(model, &p, &records)), untouched, rust(false, Box::new(less_svd))];
+            let fair = some(FairPass::new(model, &p, &records));
+            let sides = vec![some(OurPass::new(model, &p, &records)), untouched, rust(false, Box::new(less_svd)), fair];
             rows.push(Row { name: format!("{}, {units}", law.name), units, sides });
         }
     }
@@ -214,6 +219,8 @@ fn cell(x: Option<f64>, places: usize) -> String {
     format!("{:>10}", x.map_or("-".to_string(), |x| format!("{x:.places$}")))
 }
 
+type Counts = Option<BTreeMap<String, f64>>;
+
 /// The figures of the sides, and ours over each of the others.
 fn figures(v: &[Option<f64>]) -> String {
     let ratio = |k: usize| Some(v[0]? / v[k]?);
@@ -221,8 +228,8 @@ fn figures(v: &[Option<f64>]) -> String {
     plain.chain((1..v.len()).map(|k| cell(ratio(k), 2))).collect()
 }
 
-/// A line a row: ns, then instructions. Answers our ns of each row.
-fn table(title: &str, sides: &[&str], rows: &mut [Row], counts: &Option<BTreeMap<String, f64>>) -> Vec<f64> {
+/// A line a row: ns, then instructions; the same in `told`, a line a side. Answers our ns of each row.
+fn table(title: &str, sides: &[&str], rows: &mut [Row], counts: &Counts, told: &mut String) -> Vec<f64> {
     let ratios = sides[1..].iter().map(|s| format!("{:>10}", format!("/{s}")));
     let heads: String = sides.iter().map(|s| format!("{s:>10}")).chain(ratios).collect();
     let wide = heads.len();
@@ -233,9 +240,23 @@ fn table(title: &str, sides: &[&str], rows: &mut [Row], counts: &Option<BTreeMap
         let count = |k: usize| counts.as_ref()?.get(&format!("{} {k}", row.name)).map(|n| n / row.units as f64);
         let instructions: Vec<Option<f64>> = (0..sides.len()).map(count).collect();
         println!("{:<34}{}  |{}", row.name, figures(&ns), figures(&instructions));
+        let word = |x: Option<f64>| x.map_or("-".to_string(), |x| format!("{x:.1}"));
+        for (k, side) in sides.iter().enumerate() {
+            told.push_str(&format!("{}\t{side}\t{}\t{}\n", row.name, word(ns[k]), word(instructions[k])));
+        }
         ours.extend(ns[0]);
     }
     ours
+}
+
+/// How a pass grows: records a second, and what a plain copy of the list does.
+fn grow(told: &mut String) {
+    println!("\nRecords a second of a law's pass, by the clock, the best of a few turns, beside a plain copy of the list");
+    println!("{:<18}{:>10}{:>9}{:>16}{:>16}", "", "records", "threads", "ours", "copied");
+    for g in growth::all(|model| drawn(model, 4096)) {
+        println!("{:<18}{:>10}{:>9}{:>16.0}{:>16.0}", g.law, g.count, g.threads, g.ours, g.copied);
+        told.push_str(&format!("grown\t{}\t{}\t{}\t{:.0}\t{:.0}\n", g.law, g.count, g.threads, g.ours, g.copied));
+    }
 }
 
 fn load() -> String {
@@ -247,7 +268,7 @@ fn main() {
     let work = &args[1];
     let (mut laws, mut functions, mut sheets) = (laws(work), functions(), sheets());
     let (mut factors, mut factored) = (factors(work), factored(work));
-    if args.len() > 2 {
+    if args.iter().any(|a| a == "--count") {
         let rows = laws.iter_mut().chain(&mut factors).chain(&mut factored);
         rows.chain(&mut functions).chain(&mut sheets).for_each(count);
         return;
@@ -256,6 +277,7 @@ fn main() {
     laws.iter_mut().chain(&mut factored).for_each(agree);
     factors.iter_mut().for_each(same_values);
     println!("Ours beside the Rust: CPU time, medians of interleaved rounds; the machine's load {}", load());
+    let mut told = format!("load\t{}\n", load());
     if laws[0].sides[1].is_none() {
         println!("The untouched Rust is LEFT OUT: nalgebra could not be fetched, or --no-untouched.");
     }
@@ -266,20 +288,25 @@ fn main() {
         println!("{:<15} equal shares of: {}", law.name, law.branches.join("; "));
     }
     let title =
-        "A record of a law's pass, factors given, beside the untouched Rust's update and the same less its SVD (factors given)";
-    table(title, &["ours", "Rust", "less SVD"], &mut laws, &counts);
+        "A record of a law's pass, factors given, beside the untouched Rust's update, the same less its SVD (factors given), and that with ours' duties";
+    table(title, &["ours", "Rust", "less SVD", "fair"], &mut laws, &counts, &mut told);
     table(
         "A record's factors, worked and checked, beside nalgebra's SVD, unchecked",
         &["ours", "nalgebra"],
         &mut factors,
         &counts,
+        &mut told,
     );
     let title = "A record of a law's pass that factors first, beside the untouched Rust's update with its SVD";
-    table(title, &["ours", "Rust"], &mut factored, &counts);
-    table("A call of an elementary function, beside std's", &["ours", "std"], &mut functions, &counts);
-    let ns = table("A record of a full sheet", &["ours"], &mut sheets, &counts);
+    table(title, &["ours", "Rust"], &mut factored, &counts, &mut told);
+    table("A call of an elementary function, beside std's", &["ours", "std"], &mut functions, &counts, &mut told);
+    let ns = table("A record of a full sheet", &["ours"], &mut sheets, &counts, &mut told);
     for (floats, ns) in [BARE, FLOATS].iter().zip(&ns) {
         println!("read_sheet of {floats} floats a record: {:.0} MB/s", *floats as f64 * 8.0 / ns * 1e3);
     }
+    if args.iter().any(|a| a == "--growth") {
+        grow(&mut told);
+    }
     println!("\nThe machine's load at the end {}", load());
+    std::fs::write(format!("{work}/speed.tsv"), told).unwrap();
 }

@@ -1,4 +1,4 @@
-//! What is timed: ours, the untouched Rust, and the Rust less its SVD; our factors and nalgebra's.
+//! What is timed: ours, the untouched Rust, the Rust less its SVD, and the same with ours' duties (`fair.rs`); our factors and nalgebra's.
 use crate::calls::{self, Particle, BARE, FLOATS};
 use crate::externs::{pasoletu_factor_list, pasoletu_pass, pasoletu_pass_factored, pasoletu_read_sheet, pasoletu_run_sheet};
 use crate::library::Library;
@@ -183,7 +183,12 @@ fn beside_factors() -> &'static [f64; 21] {
 
 /// The same files, each particle's factors given.
 pub fn less_svd(model: usize, p: &[u64], list: &mut [Particle]) {
-    calls::pass(model, p, list, |x| unsafe { FACTORS = &x.factors });
+    calls::pass(model, p, calls::After(list, given));
+}
+
+/// The factors of this particle are those handed back next.
+pub fn given(x: &Particle) {
+    unsafe { FACTORS = &x.factors };
 }
 
 // Not asked for in this build: std's functions win over the trait's, and no pass asks for principal stresses.

@@ -22,7 +22,8 @@ pub unsafe extern "C" fn untouched_call(n: usize, i: *const u64, o: *mut u64) {
 /// The pointers are to the law's parameters and n particles.
 #[no_mangle]
 pub unsafe extern "C" fn untouched_pass(model: usize, p: *const u64, list: *mut calls::Particle, n: usize) {
-    calls::pass(model, lent(p, calls::parameters(model)), std::slice::from_raw_parts_mut(list, n), |_| ());
+    let list = calls::After(std::slice::from_raw_parts_mut(list, n), |_| ());
+    calls::pass(model, lent(p, calls::parameters(model)), list);
 }
 
 fn matrix(i: &[f64]) -> Matrix3<f64> {

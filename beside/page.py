@@ -1,0 +1,145 @@
+#!/usr/bin/env python3
+"""Makes docs/SPEED.md and docs/speed.svg from what beside/speed --page has measured.
+
+  beside/page.py WORK       WORK holds speed.tsv and libours.a
+"""
+import pathlib
+import platform
+import subprocess
+import sys
+
+DOCS = pathlib.Path(__file__).resolve().parent.parent / "docs"
+LAWS = [("snow", "Snow", 1.2), ("rankine", "Rankine", 1.2), ("drucker_prager", "Drucker-Prager", 1.2), ("nacc", "NACC", 1.5)]
+
+HEAD = """# Speed
+
+Made by `beside/speed --page` and not by hand: ours beside the Rust in one run on one machine. Instructions are counted (callgrind) and stay; times sway
+with the machine's load, {load} here. {processor}. [beside/README.md](../beside/README.md) says what is timed.
+
+**The fair rival** is the Rust less its SVD with the duties of ours around each update: 1 over parameters and all 37 floats, 11, the record put back where a result
+isn't finite, the determinant of the new F stored, answers and counts written (`beside/timing/src/fair.rs`). The untouched Rust tests nothing.
+
+![ours over the fair rival](speed.svg)
+"""
+
+LIMITS = """
+## What limits the rest
+- **The root by digits.** 54 digits, each of which waits for the last, and no division: the field box divides slowly, and this is its price where a processor divides fast.
+  NACC takes five to nine roots a record, Drucker-Prager one or two, Rankine one.
+- **The elementary functions** are worked in whole numbers with a proved distance; the table above has each beside std's, which promises none.
+- **What the rival leaves out**: the ranges and NaNs inside an update, whether a record is untouched, the new sigma.
+- **Factors**: the check is exact over whole numbers, nalgebra's SVD is not checked.
+"""
+
+
+def read(file):
+    rows, grown, load = {}, [], "unknown"
+    for line in file.read_text().splitlines():
+        words = line.split("\t")
+        if words[0] == "load":
+            load = words[1]
+        elif words[0] == "grown":
+            grown.append((words[1], int(words[2]), int(words[3]), float(words[4]), float(words[5])))
+        else:
+            number = [None if w == "-" else float(w) for w in words[2:4]]
+            rows.setdefault(words[0], {})[words[1]] = number
+    return rows, grown, load
+
+
+def over(a, b, places=2):
+    return "left out" if a is None or b is None else f"{a / b:.{places}f}"
+
+
+def figure(x, places=0):
+    return "left out" if x is None else f"{x:,.{places}f}"
+
+
+def table(heads, lines):
+    out = ["| " + " | ".join(heads) + " |", "|" + "---|" * len(heads)]
+    return "\n".join(out + ["| " + " | ".join(line) + " |" for line in lines]) + "\n"
+
+
+def beside(rows, name, other):
+    ours, theirs = rows[name]["ours"], rows[name].get(other, [None, None])
+    return [figure(ours[0]), figure(theirs[0]), over(ours[0], theirs[0]), figure(ours[1]), figure(theirs[1]), over(ours[1], theirs[1])]
+
+
+def heads(other):
+    return ["ns: ours", other, "ours over it", "instructions: ours", other, "ours over it"]
+
+
+def laws(rows):
+    for key, title, target in LAWS:
+        row = rows[f"{key}, 4096"]
+        yield [title, *beside(rows, f"{key}, 4096", "fair"), f"{target}", over(row["ours"][0], row.get("Rust", [None])[0])]
+
+
+def growth(grown):
+    for law, count, threads, ours, copied in grown:
+        title = dict((key, title) for key, title, _ in LAWS)[law]
+        yield [title, f"{count:,}", str(threads), f"{ours / 1e6:.2f}", f"{copied / 1e6:.1f}", f"{ours * 296 / 1e9:.2f}", f"{copied * 296 / 1e9:.1f}"]
+
+
+def processor():
+    for line in pathlib.Path("/proc/cpuinfo").read_text().splitlines():
+        if line.startswith("model name"):
+            return "Processor: " + line.split(":", 1)[1].strip()
+    return "Processor: " + platform.machine()
+
+
+def code_bytes(archive):
+    told = subprocess.run(["size", "-t", archive], capture_output=True, text=True)
+    return int(told.stdout.splitlines()[-1].split()[0]) if told.returncode == 0 else None
+
+
+def picture(rows):
+    """A pair of bars a law: ours over the fair rival in time and in instructions, and the target as a line."""
+    parts, high = [], 0.0
+    bars = []
+    for key, title, target in LAWS:
+        row = rows[f"{key}, 4096"]
+        ratios = [None if None in (a, b) else a / b for a, b in zip(row["ours"], row["fair"])]
+        bars.append((title, target, ratios))
+        high = max([high, target] + [r for r in ratios if r is not None])
+    scale, base = 200 / high, 240
+    for k, (title, target, ratios) in enumerate(bars):
+        left = 60 + 130 * k
+        for n, (ratio, colour) in enumerate(zip(ratios, ["#2c6e9b", "#9bbcd1"])):
+            if ratio is not None:
+                tall = ratio * scale
+                parts.append(f'<rect x="{left + 40 * n}" y="{base - tall:.1f}" width="36" height="{tall:.1f}" fill="{colour}"/>')
+                parts.append(f'<text x="{left + 40 * n + 18}" y="{base - tall - 4:.1f}" text-anchor="middle">{ratio:.2f}</text>')
+        y = base - target * scale
+        parts.append(f'<line x1="{left - 8}" x2="{left + 84}" y1="{y:.1f}" y2="{y:.1f}" stroke="#b03a2e" stroke-dasharray="5 3"/>')
+        parts.append(f'<text x="{left + 38}" y="{base + 18}" text-anchor="middle">{title}</text>')
+    legend = '<text x="60" y="285">dark: time; light: instructions; dashed: the target. Ours over the fair rival, a record of 4,096.</text>'
+    body = "\n".join(parts + [f'<line x1="40" x2="580" y1="{base}" y2="{base}" stroke="#333"/>', legend])
+    return f'<svg xmlns="http://www.w3.org/2000/svg" width="600" height="300" font-family="sans-serif" font-size="12">\n<rect width="600" height="300" fill="white"/>\n{body}\n</svg>\n'
+
+
+def main():
+    work = pathlib.Path(sys.argv[1])
+    rows, grown, load = read(work / "speed.tsv")
+    text = HEAD.format(load=load, processor=processor())
+    text += "\n## A record of a law's pass, factors given, beside the fair rival\n"
+    text += table(["", *heads("fair"), "target", "ns over the untouched Rust's"], laws(rows))
+    text += "\n## Factors worked here and checked, beside nalgebra's SVD, unchecked\n"
+    text += table(["", *heads("nalgebra")], ([t, *beside(rows, f"factors of {k}, 4096", "nalgebra")] for k, t, _ in LAWS))
+    text += "\n## A record of the pass that factors first, beside the untouched Rust's update (target 1.5)\n"
+    text += table(["", *heads("Rust")], ([t, *beside(rows, f"factored {k}, 4096", "Rust")] for k, t, _ in LAWS))
+    text += "\n## A call of an elementary function, beside std's\n"
+    functions = [name for name, sides in rows.items() if "std" in sides]
+    text += table(["", *heads("std")], ([f, *beside(rows, f, "std")] for f in functions))
+    text += "\n## A record of a full sheet of 200\n"
+    sheets = [name for name in rows if name.startswith(("read_sheet", "run_sheet"))]
+    text += table(["", "ns", "instructions"], ([s, figure(rows[s]["ours"][0], 1), figure(rows[s]["ours"][1])] for s in sheets))
+    text += "\n## How it grows: by the clock, the best of a few turns\n"
+    text += table(["", "records", "threads", "million records a second", "copied, the same", "GB a second", "copied"], growth(grown))
+    size = code_bytes(work / "libours.a")
+    text += f"\nThe library's code: {figure(size)} bytes (`size`).\n"
+    (DOCS / "SPEED.md").write_text(text + LIMITS)
+    (DOCS / "speed.svg").write_text(picture(rows))
+    print("beside: docs/SPEED.md and docs/speed.svg are made")
+
+
+main()
