@@ -19,6 +19,8 @@ enum {
     FULL_MISSED,  // 13 told as 12
     NEIGHBOUR,    // the numbers stored of two zones exchanged
     OTHER_FIELD,  // an outcome counted as refused, not as stored
+    OTHER_U,      // a bit of U changed where a flat record is stored
+    LAST_KEPT,    // the last flat record of a pass as it came
 };
 
 static int fault_is(int kind) {
@@ -88,6 +90,27 @@ static uint8_t broken_pass_with_failure(uint64_t model, const uint64_t *p, size_
                                         uint64_t *r, size_t nr, uint64_t *a, size_t na, uint64_t *c, size_t nc) {
     uint8_t n = pasoletu_pass_with_failure(model, p, np, l, nl, law, nw, r, nr, a, na, c, nc);
     peeked(l, 8 * nl);
+    if (n == 0 && na && a[0] == 2)
+        a[1] = turned(a[1]);
+    return spoiled(n, r, nr, c, nc);
+}
+
+// What all calls can do wrong is left to the pass, which is compared with this.
+static uint8_t broken_flat_update(uint64_t model, const uint64_t *p, size_t np, uint64_t *r, size_t nr, uint64_t *a, size_t na) {
+    uint8_t n = pasoletu_flat_update(model, p, np, r, nr, a, na);
+    if (fault_is(OTHER_U) && n == 0 && a[0] == 1)
+        r[5] ^= 1;
+    return turned(n);
+}
+
+static uint8_t broken_flat_pass(uint64_t model, const uint64_t *p, size_t np, uint64_t *r, size_t nr, uint64_t *a, size_t na, uint64_t *c, size_t nc) {
+    uint64_t came[FLAT_FLOATS];
+    if (nr >= FLAT_FLOATS)
+        memcpy(came, r + nr - FLAT_FLOATS, sizeof came);
+    uint8_t n = pasoletu_flat_pass(model, p, np, r, nr, a, na, c, nc);
+    peeked(p, 8 * np);
+    if (fault_is(LAST_KEPT) && n == 0 && nr)
+        memcpy(r + nr - FLAT_FLOATS, came, sizeof came);
     if (n == 0 && na && a[0] == 2)
         a[1] = turned(a[1]);
     return spoiled(n, r, nr, c, nc);
@@ -194,6 +217,8 @@ static uint8_t broken_pass_with_failure_by_zone(uint64_t model, const uint64_t *
 #define pasoletu_update broken_update
 #endif
 #define pasoletu_pass broken_pass
+#define pasoletu_flat_update broken_flat_update
+#define pasoletu_flat_pass broken_flat_pass
 #define pasoletu_pass_with_failure broken_pass_with_failure
 #define pasoletu_fill_determinants broken_fill_determinants
 #define pasoletu_read_sheet broken_read_sheet

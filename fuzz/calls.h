@@ -4,6 +4,7 @@
 #include <stdint.h>
 
 #define FLOATS 37
+#define FLAT_FLOATS 20
 #define MOST 200
 // Models from LAWS up name the same laws, for sheets whose records have all floats; those below have BARE a record.
 #define LAWS 4

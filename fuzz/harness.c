@@ -1,5 +1,5 @@
 // One fuzz target a build, chosen by TARGET: 0 read_sheet, 1 run_sheet, 2 update, 3 pass, 4 pass_with_failure,
-// 5 write_sheet, 6 parts, 7 tallies.
+// 5 write_sheet, 6 parts, 7 tallies, 8 flat.
 // README.md says what is checked. The first thing that does not hold is printed, and the run stops there.
 #include "rooms.h"
 #include "calls.h"
@@ -11,6 +11,14 @@
 #include <stdarg.h>
 #define SHEETS (TARGET < 2 || TARGET == 5 || TARGET == 6) // an input is a sheet's bytes
 #define JUDGED (TARGET == 4 || TARGET == 7) // limits and a corotated law stand in it
+#define FLAT (TARGET == 8) // its records have two axes and no determinant
+// Where a record's parts stand, F first, and how many floats it has.
+#define AXES (FLAT ? 2 : 3)
+#define U_AT (AXES * AXES)
+#define SIGMA_AT (2 * U_AT)
+#define VT_AT (SIGMA_AT + AXES)
+#define PHASE_AT (VT_AT + U_AT)
+#define WIDTH (FLAT ? FLAT_FLOATS : FLOATS)
 #include "mutate.h"
 
 #define ROOM (MOST * FLOATS)
@@ -47,7 +55,7 @@ static void check_room(const struct room *r, const char *what) {
             fault("%s: word %ld from the end is %016llx and should be %016llx", what, (long)(all - k), (unsigned long long)w[k], (unsigned long long)want[k]);
 }
 
-// ---- one record: pasoletu_update alone, and what RULES says of any answer
+// ---- one record: pasoletu_update alone (pasoletu_flat_update of a flat one), and what RULES says of any answer
 
 struct done {
     uint8_t status;
@@ -67,8 +75,12 @@ static double snow_clamped(const uint64_t *p, uint64_t sigma) {
 }
 
 static double snow_determinant(const uint64_t *p, const uint64_t *was) {
-    double old = value(was[18]) * value(was[19]) * value(was[20]);
-    return value(was[31]) * (old / (snow_clamped(p, was[18]) * snow_clamped(p, was[19]) * snow_clamped(p, was[20])));
+    double old = value(was[SIGMA_AT]), new = snow_clamped(p, was[SIGMA_AT]);
+    for (int k = 1; k < AXES; k++) {
+        old *= value(was[SIGMA_AT + k]);
+        new *= snow_clamped(p, was[SIGMA_AT + k]);
+    }
+    return value(was[PHASE_AT + 1]) * (old / new);
 }
 
 // Section 6: Snow asks one function, the exponential. 2 comes exactly where its argument lies below -700, 10 exactly where above 700.
@@ -82,30 +94,32 @@ static void check_stored(uint64_t model, const uint64_t *p, const uint64_t *was,
     static const uint8_t named[LAWS][6] = {{0, 1, 0, 1, 0, 0}, {0, 0, 1, 0, 0, 0}, {0, 1, 1, 0, 1, 0}, {0, 0, 0, 0, 0, 1}};
     const uint64_t *r = d->record;
     model %= LAWS;
-    check(finite_words(r, FLOATS) && finite_words(d->answer + 1, 1), "a stored float is not finite", model, 0);
-    check(r[BARE] == determinant(r), "the stored determinant is not that of F: bits, should be", r[BARE], determinant(r));
-    for (int k = 9; k < BARE; k++) {
-        int free = (k >= 18 && k < 21) || (k >= 30 && named[model][k - 30]);
+    check(finite_words(r, WIDTH) && finite_words(d->answer + 1, 1), "a stored float is not finite", model, 0);
+    if (!FLAT)
+        check(r[BARE] == determinant(r), "the stored determinant is not that of F: bits, should be", r[BARE], determinant(r));
+    for (int k = U_AT; k < PHASE_AT + 6; k++) {
+        int free = (k >= SIGMA_AT && k < VT_AT) || (k >= PHASE_AT && named[model][k - PHASE_AT]);
         check(free || r[k] == was[k], "an update changed a float that its law does not name: place, bits", k, r[k]);
     }
-    for (int i = 0; i < 3; i++)
-        for (int j = 0; j < 3; j++) {
-            double a[3];
-            for (int k = 0; k < 3; k++)
-                a[k] = value(r[9 + 3 * i + k]) * value(r[18 + k]) * value(r[21 + 3 * k + j]);
-            check(bits(a[0] + a[1] + a[2]) == r[3 * i + j], "F is not U sigma V^T: place, bits", 3 * i + j, r[3 * i + j]);
+    for (int i = 0; i < AXES; i++)
+        for (int j = 0; j < AXES; j++) {
+            double f = value(r[U_AT + AXES * i]) * value(r[SIGMA_AT]) * value(r[VT_AT + j]);
+            for (int k = 1; k < AXES; k++)
+                f += value(r[U_AT + AXES * i + k]) * value(r[SIGMA_AT + k]) * value(r[VT_AT + AXES * k + j]);
+            check(bits(f) == r[AXES * i + j], "F is not U sigma V^T: place, bits", AXES * i + j, r[AXES * i + j]);
         }
-    static const int amount[LAWS] = {33, 32, -1, 35};
+    static const int amount[LAWS] = {3, 2, 2, 5};
+    uint64_t before = was[PHASE_AT + amount[model]], stored = r[PHASE_AT + amount[model]];
     if (model == 2)
-        check(bits(value(was[32]) + value(d->answer[1])) == r[32], "dq is not what the hardening grew by", d->answer[1], r[32]);
+        check(bits(value(before) + value(d->answer[1])) == stored, "dq is not what the hardening grew by", d->answer[1], stored);
     else
-        check(d->answer[1] == r[amount[model]], "the amount is not the float that was stored", d->answer[1], r[amount[model]]);
+        check(d->answer[1] == stored, "the amount is not the float that was stored", d->answer[1], stored);
     if (model == 0) {
-        for (int k = 0; k < 3; k++)
-            check(bits(snow_clamped(p, was[18 + k])) == r[18 + k], "a sigma is not clamped: bits, should be", r[18 + k], bits(snow_clamped(p, was[18 + k])));
-        double det = snow_determinant(p, was), x = value(p[2]) * (1.0 - det), h = value(r[33]);
-        check(bits(det) == r[31], "Snow's plastic determinant", r[31], bits(det));
-        check(fabs(h - exp(x)) <= ldexp(exp(x), -44), "Snow's elastic hardening is not the exponential", r[33], bits(exp(x)));
+        for (int k = SIGMA_AT; k < VT_AT; k++)
+            check(bits(snow_clamped(p, was[k])) == r[k], "a sigma is not clamped: bits, should be", r[k], bits(snow_clamped(p, was[k])));
+        double det = snow_determinant(p, was), x = value(p[2]) * (1.0 - det), h = value(stored);
+        check(bits(det) == r[PHASE_AT + 1], "Snow's plastic determinant", r[PHASE_AT + 1], bits(det));
+        check(fabs(h - exp(x)) <= ldexp(exp(x), -44), "Snow's elastic hardening is not the exponential", stored, bits(exp(x)));
     }
 }
 
@@ -144,11 +158,11 @@ static void tell(uint64_t model, const uint64_t *was, const struct done *d) {
     if (d->status || d->answer[0] == 0)
         return;
     unsigned same = 0;
-    for (int k = 0; k < 3; k++) {
-        same |= (d->record[18 + k] == was[18 + k]) << k;
-        same |= (d->record[18 + k] == d->record[18 + (k + 1) % 3]) << (3 + k);
+    for (int k = 0; k < AXES; k++) {
+        same |= (d->record[SIGMA_AT + k] == was[SIGMA_AT + k]) << k;
+        same |= (d->record[SIGMA_AT + k] == d->record[SIGMA_AT + (k + 1) % AXES]) << (3 + k);
     }
-    same |= (d->record[18] == ONE) << 6;
+    same |= (d->record[SIGMA_AT] == ONE) << 6;
     met[128 + model * 128 + same] = 1;
 }
 
@@ -156,29 +170,30 @@ static int lengths_fit(uint64_t model, size_t np) {
     return model >= MODELS || np == FIELDS[model];
 }
 
-// pasoletu_update on a record, with the lengths given; what it leaves is checked against everything that RULES says of it.
+// An update of a record, with the lengths given; what it leaves is checked against everything that RULES says of it.
 static struct done updated(uint64_t model, const uint64_t *p, size_t np, const uint64_t *was, size_t nr, size_t na) {
     struct done d = {0};
     uint64_t *r = lend(&one_room, was, nr), *a = lend(&two_room, NULL, na);
-    d.status = pasoletu_update(model, show(&parameters_room, p, np), np, r, nr, a, na);
-    if (!lengths_fit(model, np) || nr != FLOATS || na != 2) {
+    const uint64_t *shown = show(&parameters_room, p, np);
+    d.status = FLAT ? pasoletu_flat_update(model, shown, np, r, nr, a, na) : pasoletu_update(model, shown, np, r, nr, a, na);
+    if (!lengths_fit(model, np) || nr != WIDTH || na != 2) {
         check(d.status == 8, "update with lists of the wrong length: answer", d.status, 8);
     } else if (model >= MODELS || !flag_fits(model, p)) {
         check(d.status == 6, "update with an unknown model or flag: answer", d.status, 6);
     } else {
-        int one = !finite_words(p, np) || !finite_words(was, FLOATS);
+        int one = !finite_words(p, np) || !finite_words(was, WIDTH);
         check((d.status == 1) == one, "refusal 1 comes exactly where a float is not finite: answer, should be 1", d.status, one);
-        int eleven = !one && was[BARE] != determinant(was);
+        int eleven = !FLAT && !one && was[BARE] != determinant(was);
         check((d.status == 11) == eleven, "refusal 11 comes exactly where the stored determinant has other bits than F's, and after 1: answer, should be 11", d.status, eleven);
         check(d.status <= 3 || d.status == 10 || d.status == 11, "update: answer", d.status, 0);
         if (model % LAWS == 0 && !one && !eleven)
             check_side(p, was, d.status);
         if (d.status == 0) {
             check(a[0] <= 1 && (a[0] == 1 || a[1] == 0), "update's answer places", a[0], a[1]);
-            memcpy(d.record, r, sizeof d.record);
+            memcpy(d.record, r, 8 * WIDTH);
             memcpy(d.answer, a, sizeof d.answer);
             if (a[0] == 1) {
-                memcpy(wanted(&one_room, FLOATS), r, sizeof d.record);
+                memcpy(wanted(&one_room, WIDTH), r, 8 * WIDTH);
                 check_stored(model, p, was, &d);
             }
             memcpy(wanted(&two_room, 2), a, sizeof d.answer);
@@ -190,7 +205,7 @@ static struct done updated(uint64_t model, const uint64_t *p, size_t np, const u
     return d;
 }
 
-// ---- lists: what a pass is to leave, from pasoletu_update alone on each record
+// ---- lists: what a pass is to leave, from the update alone on each record
 
 struct judge {
     uint64_t limits[3], law[5];
@@ -203,13 +218,13 @@ static int want_failed[MOST];
 static void want_pass(uint64_t model, const uint64_t *p, const struct judge *j, const uint64_t *records, size_t count) {
     memset(want_counts, 0, sizeof want_counts);
     for (size_t k = 0; k < count; k++) {
-        const uint64_t *r = records + k * FLOATS;
+        const uint64_t *r = records + k * WIDTH;
         int fails = 0;
         struct done d = {0};
         if (j && !(finite_words(j->limits, 2) && finite_words(j->law, 4)))
             d.status = 1;
         else
-            d = updated(model, p, FIELDS[model], r, FLOATS, 2);
+            d = updated(model, p, FIELDS[model], r, WIDTH, 2);
         // the verdict on the record that the law leaves, whose phase is still the one that came
         if (j && !d.status && !judged(j->limits, j->law, d.record, &fails))
             d.status = 3;
@@ -217,7 +232,7 @@ static void want_pass(uint64_t model, const uint64_t *p, const struct judge *j, 
             d.record[30] = 0;
         if (j)
             met[640 + model % LAWS * 16 + (d.status ? d.status : 4 + fails * 2 + d.answer[0])] = 1;
-        memcpy(want_records + k * FLOATS, d.status ? r : d.record, sizeof d.record);
+        memcpy(want_records + k * WIDTH, d.status ? r : d.record, 8 * WIDTH);
         want_answers[2 * k] = d.status ? 2 : d.answer[0];
         want_answers[2 * k + 1] = d.status ? d.status : d.answer[1];
         want_counts[d.status ? 2 : d.answer[0]]++;
@@ -228,9 +243,9 @@ static void want_pass(uint64_t model, const uint64_t *p, const struct judge *j, 
 }
 
 static void one_pass(uint64_t model, const uint64_t *p, size_t np, const struct judge *j, const uint64_t *records, size_t nr, size_t na, size_t nc) {
-    size_t count = nr / FLOATS, places = j ? 4 : 3;
+    size_t count = nr / WIDTH, places = j ? 4 : 3;
     uint8_t want = 0;
-    if (!lengths_fit(model, np) || nr % FLOATS || na != 2 * count || nc != places || (j && (j->nl != 2 || j->nw != 4)))
+    if (!lengths_fit(model, np) || nr % WIDTH || na != 2 * count || nc != places || (j && (j->nl != 2 || j->nw != 4)))
         want = 8;
     else if (model >= MODELS || !flag_fits(model, p) || (j && !is_flag(j->law[0])))
         want = 6;
@@ -239,7 +254,8 @@ static void one_pass(uint64_t model, const uint64_t *p, size_t np, const struct 
     uint64_t *r = lend(&records_room, records, nr), *a = lend(&answers_room, NULL, na), *c = lend(&out_room, NULL, nc);
     const uint64_t *shown = show(&parameters_room, p, np);
     uint8_t got = j ? pasoletu_pass_with_failure(model, shown, np, show(&limits_room, j->limits, j->nl), j->nl, show(&law_room, j->law, j->nw), j->nw, r, nr, a, na, c, nc)
-                    : pasoletu_pass(model, shown, np, r, nr, a, na, c, nc);
+                : FLAT ? pasoletu_flat_pass(model, shown, np, r, nr, a, na, c, nc)
+                       : pasoletu_pass(model, shown, np, r, nr, a, na, c, nc);
     check(got == want, "a pass: answer, should be", got, want);
     if (!want) {
         memcpy(wanted(&records_room, nr), want_records, 8 * nr);
@@ -603,14 +619,14 @@ static void law_target(const uint8_t *b, size_t n) {
         words_taken(j.law, 4);
     }
     size_t left = (n - from.at) / 8;
-    size_t nr = left < PASSED * FLOATS ? left / FLOATS * FLOATS : PASSED * FLOATS;
+    size_t nr = left < PASSED * WIDTH ? left / WIDTH * WIDTH : PASSED * WIDTH;
     if (TARGET == 2)
         nr = FLOATS;
     words_taken(records, nr);
-    size_t na = nr / FLOATS * 2, nc = TARGET == 4 ? 4 : 3;
+    size_t na = nr / WIDTH * 2, nc = TARGET == 4 ? 4 : 3;
     switch (lengths & 0x3f) {
     case 1: nr += 1; break;
-    case 2: nr += nr ? -1 : BARE; break;
+    case 2: nr += nr ? -1 : WIDTH - 1; break;
     case 3: na += 1; break;
     case 4: na += na ? -1 : 2; break;
     case 5: nc += 1; break;
@@ -625,6 +641,8 @@ static void law_target(const uint8_t *b, size_t n) {
         one_judged(0, &j, records, held, ns, nv);
         one_judged(1, &j, records, held, ns, nv);
     }
+    if (FLAT)
+        updated(model, p, np, records, nr % WIDTH ? nr % (2 * WIDTH) : WIDTH, 2 + na % 2);
     if (TARGET == 2)
         updated(model, p, np, records, nr, na);
     else

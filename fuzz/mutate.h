@@ -31,7 +31,7 @@ struct layout {
 };
 
 static size_t floats_of(size_t model) {
-    return SHEETS ? sheet_floats(model) : FLOATS;
+    return SHEETS ? sheet_floats(model) : WIDTH;
 }
 
 static struct layout layout(const uint8_t *b, size_t n) {
@@ -93,29 +93,29 @@ static void put_determinant(uint8_t *b) {
 
 // A record that a law may take: factors near the identity or turned, sigma spread by one of some widths.
 static void put_record(uint8_t *b, size_t floats) {
-    double r[BARE], c = cos(between(0.0, 6.3)), s = sqrt(1.0 - c * c);
+    double r[BARE], *scalars = r + PHASE_AT, c = cos(between(0.0, 6.3)), s = sqrt(1.0 - c * c);
     double width[] = {1e-9, 1e-3, 0.03, 0.3, 2.0, 41.0}, w = width[below(6)], shift = below(2) ? 0.0 : between(-w, w);
-    double turn[9] = {c, -s, 0, s, c, 0, 0, 0, 1};
-    for (int k = 0; k < 9; k++) {
-        r[9 + k] = below(8) ? turn[k] : between(-1.0, 1.0);
-        r[21 + k] = k % 4 == 0;
+    double turn[2][9] = {{c, -s, 0, s, c, 0, 0, 0, 1}, {c, -s, s, c}};
+    for (int k = 0; k < U_AT; k++) {
+        r[U_AT + k] = below(8) ? turn[FLAT][k] : between(-1.0, 1.0);
+        r[VT_AT + k] = k % (AXES + 1) == 0;
         r[k] = between(-1.0, 1.0);
     }
-    for (int k = 0; k < 3; k++)
-        r[18 + k] = exp(shift + between(-w, w));
+    for (int k = 0; k < AXES; k++)
+        r[SIGMA_AT + k] = exp(shift + between(-w, w));
     if (!below(4))
-        r[18 + below(3)] = r[18];
-    r[30] = (double[]){1.0, 0.0, 0.5, -0.0}[below(4)];
-    r[31] = below(4) ? between(0.5, 1.5) : between(-100.0, 100.0);
-    r[32] = below(2) ? 1.0 : pow(10.0, between(-3.0, 6.0));
-    r[33] = between(0.0, 3.0);
-    r[34] = below(2) ? 0.0 : between(-0.2, 0.2);
-    r[35] = between(-0.5, 0.1);
-    stretch(r + 9, 27);
-    if (!below(24)) // flat, of either zero, or too far stretched
-        for (int k = 0; k < 9; k++)
+        r[SIGMA_AT + below(AXES)] = r[SIGMA_AT];
+    scalars[0] = (double[]){1.0, 0.0, 0.5, -0.0}[below(4)];
+    scalars[1] = below(4) ? between(0.5, 1.5) : between(-100.0, 100.0);
+    scalars[2] = below(2) ? 1.0 : pow(10.0, between(-3.0, 6.0));
+    scalars[3] = between(0.0, 3.0);
+    scalars[4] = below(2) ? 0.0 : between(-0.2, 0.2);
+    scalars[5] = between(-0.5, 0.1);
+    stretch(r + U_AT, PHASE_AT + 6 - U_AT);
+    if (!below(24)) // of no volume, of either zero, or too far stretched
+        for (int k = 0; k < U_AT; k++)
             r[k] = below(2) ? 0.0 : below(2) ? -0.0 : below(2) ? 1.0 : r[k] * 1e150;
-    for (int k = 0; k < BARE; k++)
+    for (int k = 0; k < PHASE_AT + 6; k++)
         put_word(b + 8 * k, r[k]);
     if (floats == FLOATS)
         put_determinant(b);

@@ -6,7 +6,9 @@ answer what a test needs. What tools/built does is tried in a repository of two 
 """
 import os
 import pathlib
+import random
 import shutil
+import struct
 import subprocess
 import tempfile
 import textwrap
@@ -112,6 +114,41 @@ class Command(InFolder):
     def test_nothing_is_said_without_explain(self):
         self.assertEqual(self.slope(self.sheet, answer="sheet refused 4\n").stderr, b"")
 
+    def test_why_tells_each_float_in_short(self):
+        d = random.Random(8)
+        odd = [0, 1 << 63, 1, 0x000fffffffffffff, 0x0010000000000000, 0x7fefffffffffffff, 0x7ff0000000000000, 0xfff0000000000000, 0x7ff8000000000001,
+               0x3ff0000000000000, 0x3f1a36e2eb1c432d, 0x408f400000000000, 0x412e848000000000, 0x800fffffffffffff]
+        pairs = [(x, d.getrandbits(64)) for x in odd] + [(d.getrandbits(64), d.getrandbits(64)) for _ in range(150)]
+
+        def short(bits):
+            x = struct.unpack("<d", struct.pack("<Q", bits))[0]
+            return "%s (%016x)" % ("nan" if x != x else "%.3g" % x, bits)
+        line = "%d let go: with one strain returned the next stress %s was within the softened strength %s; one strain was returned\n"
+        given, want = ("particles %d\n%send\n" % (len(pairs), "".join(line % (k, spell(a), spell(b)) for k, (a, b) in enumerate(pairs)))
+                       for spell in ("{:016x}".format, short))
+        self.ended(self.slope("--why", self.sheet, answer=given), 0, want)
+        zeros = "particles 1\n0 let go: no shape is left in its strains, %s%s %s are zero; sigma are all ones\nend\n"
+        self.ended(self.slope("--why", self.sheet, answer=zeros % ("0" * 16, " 8" + "0" * 15, "0" * 16)), 0, zeros % ("0 (%s)" % ("0" * 16), " -0 (8%s)" % ("0" * 15), "0 (%s)" % ("0" * 16)))
+
+    def test_why_leaves_other_lines_alone(self):
+        answer = "particles 2\n0 clamped, sigma by its bound: neither lower upper\n1 refused 1 at step 0, float 20\nend\n"
+        self.ended(self.slope("--why", self.sheet, answer=answer), 3, answer)
+        self.ended(self.slope("--why", "--explain", self.sheet, answer=answer), 3, answer, "particle 1 is refused by 1: ")
+        self.ended(self.slope("--why", self.sheet, answer="sheet refused 4\n"), 3, "sheet refused 4\n")
+
+    def test_why_of_one_particle(self):
+        program = script(self.folder / "program", "#!/bin/sh\ncat >/dev/null\nprintf 'particles 9\\n%s said\\nend\\n' \"$*\"\n")
+        for words, handed in (("--why", "--why"), ("--why=7", "--why 7"), ("--why=0", "--why 0"), ("--why=0070", "--why 70"), ("--why=000", "--why 0")):
+            ran = self.run_command(SLOPE, words, self.sheet, PASOLETU_SLOPE=program)
+            self.assertEqual(ran.stdout.decode(), "particles 9\n%s said\nend\n" % handed)
+        line = "particles 9\n7 stayed: left alone by its flag; untouched\nend\n"
+        self.assertEqual(self.ended(self.slope("--why=7", self.sheet, answer=line), 0, line).stderr, b"")
+        self.ended(self.slope("--why=9", self.sheet, answer="particles 9\nend\n"), 2, "particles 9\nend\n", "%s has no particle 9: it has 9, counted from 0" % self.sheet)
+        self.assertEqual(self.ended(self.slope("--why=9", self.sheet, answer="sheet refused 4\n"), 3).stderr, b"")
+        for words in ("--why=", "--why=x", "--why=-1"):
+            self.ended(self.slope(words, self.sheet), 2, "", "--why=N needs a particle's number")
+        self.ended(self.slope("--why", "-o", "new.sheet", self.sheet), 2, "", "leave --why out")
+
     def writes(self, *words, updated=b"\7", answer=ANSWER, sheet=b""):
         """The command round a program that writes `updated` where it is asked for the sheet."""
         (self.folder / "answer").write_text(answer)
@@ -215,6 +252,22 @@ class Proved(InFolder):
             self.assertEqual(told[0], lines[0])
             self.assertEqual([line for line in told if line.endswith(" refused 11")], [line for line in lines if line.endswith(" refused 11")])
             (self.folder / "new.sheet").unlink()
+
+    def test_why(self):
+        """Of each sample, a line a particle that says what its answer does; that of one particle alone is the same line."""
+        outcomes = {"stayed:": "untouched", "let": "stored", "clamped,": "stored", "refused": "refused"}
+        for path in sorted((TOP / "samples").glob("*.sheet")):
+            answers, told = (self.run_command(SLOPE, *words, path, PASOLETU_SLOPE=proved_program()) for words in ((), ("--why",)))
+            self.assertEqual((answers.returncode, b""), (told.returncode, told.stderr), path.name)
+            answers, told = answers.stdout.decode().splitlines(), told.stdout.decode().splitlines()
+            self.assertEqual((answers[0], answers[-1], len(answers)), (told[0], told[-1], len(told)), path.name)
+            for answer, line in zip(answers[1:-1], told[1:-1]):
+                number, outcome = answer.split()[:2]
+                self.assertEqual((line.split()[0], outcomes[line.split()[1]]), (number, outcome), path.name)
+                if outcome == "refused":
+                    self.assertTrue(line.startswith(answer + " at step "), (answer, line))
+            one = self.run_command(SLOPE, "--why=%d" % (len(told) - 3), path, PASOLETU_SLOPE=proved_program())
+            self.assertEqual(one.stdout.decode().splitlines(), [told[0], told[-2], told[-1]], path.name)
 
     def test_the_documents_example(self):
         sheet = TOP / "samples" / "snow.sheet"

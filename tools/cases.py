@@ -357,7 +357,15 @@ LAWS = [snow, rankine, drucker_prager, nacc]
 
 
 def recompose(u, sigma, vt):
-    return [u[3 * i] * sigma[0] * vt[j] + u[3 * i + 1] * sigma[1] * vt[3 + j] + u[3 * i + 2] * sigma[2] * vt[6 + j] for i in range(3) for j in range(3)]
+    """U sigma V^T in as many axes as there are sigma."""
+    n = len(sigma)
+
+    def entry(i, j):
+        total = u[n * i] * sigma[0] * vt[j]
+        for k in range(1, n):
+            total += u[n * i + k] * sigma[k] * vt[n * k + j]
+        return total
+    return [entry(i, j) for i in range(n) for j in range(n)]
 
 
 def taken(p, r):

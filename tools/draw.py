@@ -3,6 +3,8 @@
 
   tools/draw.py X.sheet OUT.svg [--png] [--program bin/slope | --answers FILE] [--second]
                 [--limits PRINCIPAL SHEAR --corotated FLAG CFL LAMBDA MU]
+  tools/draw.py --flat LIST.csv OUT.svg --model MODEL [--parameters NAME=VALUE ..] [--png]
+  tools/draw.py --flat LIST.json OUT.svg [--png]
 
 A name may be `-`: standard input, or standard output. The plane is chosen by the model, so that a particle is inside exactly where the law
 tests that it is:
@@ -20,6 +22,15 @@ picture says so. --program runs the program on the sheet and takes the outcomes 
 with such lines. Where they differ from the records' own, the picture and the exit status say so.
 --limits and --corotated run the pass with failure (docs/RULES.md, section 7), which the program has not.
 --png also writes OUT.png, with rsvg-convert, inkscape or magick.
+
+There is no sheet of flat records (docs/RULES.md, section 7): with --flat a list of them is drawn, of any length, as the proved library's flat
+pass leaves it; it has no second implementation here. The list is a table as tools/sheet.py takes it, with F, U and V^T of four entries
+(F11 F12 F21 F22; in a JSON four numbers or two rows of two), sigma1 and sigma2, and the six scalars; F alone is not taken. A row of 20
+numbers, in a CSV without a row of names, is a record as it stands. The planes:
+  Snow            both sigma, with the clamp's box
+  Rankine         both log strains, with the tensile cut-off lambda S + 2 mu a = s
+  Drucker-Prager  both strains, with the cone
+  NACC            pressure p and shear q, with the ellipse
 """
 import argparse
 import math
@@ -55,12 +66,25 @@ class Plane:
     """`key` is what the surface of a record depends on, `surface` its points for a key, `key_name` how the legend calls it."""
 
     branches = ()  # what the law does to a stored particle, from 1 on, where it is one of several (docs/STEPS.md)
+    shape, places, of = sheet.SOLID, sheet.PLACES, "sheet"
+    floor = False  # whether nothing lies below 0
 
     def __init__(self, p):
         self.p = p
 
+    def sigma(self, r):
+        at = 2 * self.shape.axes ** 2
+        return r[at:at + self.shape.axes]
+
+    def scalar(self, r, name):
+        return r[self.shape.places.index(name)]
+
     def key(self, r):
         return 0.0
+
+    def corners(self, shown):
+        """Points that the picture is to have in it."""
+        return [(0.0, 0.0)]
 
     def region(self, surface):
         """The points round the inside: the surface, and back along the line that no particle can cross."""
@@ -72,11 +96,14 @@ class Snow(Plane):
     title, x_name, y_name, key_name = "Snow", "smallest sigma (no unit)", "largest sigma (no unit)", None
 
     def point(self, r, after):
-        return min(r[18:21]), max(r[18:21])
+        return min(self.sigma(r)), max(self.sigma(r))
 
     def surface(self, key, box):
         low, high = 1.0 - self.p[0], 1.0 + self.p[1]
         return [(low, low), (low, high), (high, high)]
+
+    def corners(self, shown):
+        return self.surface(0.0, None)
 
     def limit(self):
         """A line that no particle can cross, and its name."""
@@ -89,11 +116,11 @@ class Rankine(Plane):
     key_name = "s"
 
     def point(self, r, after):
-        e = [math.log(x) for x in r[18:21]]
+        e = [math.log(x) for x in self.sigma(r)]
         return e[0] + e[1] + e[2], max(e)
 
     def key(self, r):
-        return self.p[2] - (r[32] - 1.0)
+        return self.p[2] - (self.scalar(r, "plastic_hardening") - 1.0)
 
     def surface(self, s, box):
         lame, mu, _ = cases.moduli(self.p[0], self.p[1])
@@ -108,20 +135,28 @@ class DruckerPrager(Plane):
     branches = "sigma all ones", "returned to the cone"
     title, x_name, y_name = "Drucker-Prager", "sum of the strains (no unit)", "norm of the deviatoric strain (no unit)"
     key_name = "plastic hardening"
+    floor = True
+
+    def strains(self, r, after):
+        gain = 0.0 if after else self.scalar(r, "log_gain")
+        return [math.log(x) + gain / self.shape.axes for x in self.sigma(r)]
 
     def point(self, r, after):
-        gain = 0.0 if after else r[34]
-        e = [math.log(x) + gain / 3.0 for x in r[18:21]]
+        e = self.strains(r, after)
         t = e[0] + e[1] + e[2]
         return t, math.hypot(*[x - t / 3.0 for x in e])
 
     def key(self, r):
-        return r[32]
+        return self.scalar(r, "plastic_hardening")
 
-    def surface(self, q, box):
+    def slope(self, q):
+        """How much of the deviatoric part's norm the cone has for each part of a negative sum."""
         h0, h1, h2, h3, lame, mu = self.p[:6]
         s = math.sin(h0 + (h1 * q - h3) * math.exp(-h2 * q))
-        k = (3.0 * lame + 2.0 * mu) / (2.0 * mu) * math.sqrt(2.0 / 3.0) * 2.0 * s / (3.0 - s)
+        return (self.shape.axes * lame + 2.0 * mu) / (2.0 * mu) * math.sqrt(2.0 / 3.0) * 2.0 * s / (3.0 - s)
+
+    def surface(self, q, box):
+        k = self.slope(q)
         return [(x, -k * x) for x in (min(box[0], -1e-9), 0.0)]
 
     def limit(self):
@@ -132,6 +167,7 @@ class Nacc(Plane):
     branches = "upper tip", "lower tip", "returned to the ellipse"
     title, x_name, y_name = "NACC", "pressure p (in the unit of Young's modulus)", "shear q (in the unit of Young's modulus)"
     key_name = "p0"
+    floor = True
 
     def moduli(self):
         _, mu, kappa = cases.moduli(self.p[0], self.p[1])
@@ -139,13 +175,14 @@ class Nacc(Plane):
 
     def point(self, r, after):
         mu, kappa = self.moduli()
-        v = [x * x for x in r[18:21]]
-        j = r[18] * r[19] * r[20]
-        s = [mu * j ** (-2.0 / 3.0) * (x - sum(v) / 3.0) for x in v]
-        return -(kappa / 2.0) * (j - 1.0 / j) * j, math.sqrt(1.5) * math.hypot(*s)
+        d = self.shape.axes
+        v = [x * x for x in self.sigma(r)]
+        j = math.prod(self.sigma(r))
+        s = [mu * j ** (-2.0 / d) * (x - sum(v) / d) for x in v]
+        return -(kappa / 2.0) * (j - 1.0 / j) * j, math.sqrt((6.0 - d) / 2.0) * math.hypot(*s)
 
     def key(self, r):
-        return self.moduli()[1] * (1.0e-5 + math.sinh(self.p[4] * max(-r[35], 0.0)))
+        return self.moduli()[1] * (1.0e-5 + math.sinh(self.p[4] * max(-self.scalar(r, "alpha"), 0.0)))
 
     def surface(self, p0, box):
         beta, m = self.p[2], self.p[5]
@@ -154,10 +191,78 @@ class Nacc(Plane):
         turns = [math.pi * k / 60.0 for k in range(61)]
         return [(centre - half * math.cos(t), tall * math.sin(t)) for t in turns]
 
+    def corners(self, shown):
+        return [(0.0, 0.0)] + [x for k in shown for x in self.surface(k, None)]
+
     def limit(self):
         return (lambda x: 0.0), None
 
 
+class Flat:
+    """What is other of a flat record: two axes, of which the plane has one each, and no branch is told."""
+
+    branches, shape, places, of = (), sheet.FLAT, sheet.FLAT.places, "list"
+    floor = False
+
+    def region(self, surface):
+        return surface
+
+
+class FlatSnow(Flat, Snow):
+    title, x_name, y_name = "Snow in two axes", "first sigma (no unit)", "second sigma (no unit)"
+
+    def point(self, r, after):
+        return tuple(self.sigma(r))
+
+    def surface(self, key, box):
+        low, high = 1.0 - self.p[0], 1.0 + self.p[1]
+        return [(low, low), (low, high), (high, high), (high, low), (low, low)]
+
+    def limit(self):
+        return (lambda x: x), "both sigma equal"
+
+
+class FlatRankine(Flat, Rankine):
+    title, x_name, y_name = "Rankine in two axes", "first log strain (no unit)", "second log strain (no unit)"
+
+    def point(self, r, after):
+        return tuple(math.log(x) for x in self.sigma(r))
+
+    def surface(self, s, box):
+        """lambda S + 2 mu a = s, first with the second strain as the larger, then with the first."""
+        lame, mu, _ = cases.moduli(self.p[0], self.p[1])
+        corner = s / (2.0 * mu + 2.0 * lame)
+        left, low = min(box[0], corner), min(box[2], corner)
+        return [(left, (s - lame * left) / (2.0 * mu + lame)), (corner, corner), ((s - lame * low) / (2.0 * mu + lame), low)]
+
+    def region(self, surface):
+        return surface + [(surface[0][0], surface[-1][1])]
+
+    def limit(self):
+        return (lambda x: x), "both strains equal"
+
+
+class FlatDruckerPrager(Flat, DruckerPrager):
+    title, x_name, y_name = "Drucker-Prager in two axes", "first strain (no unit)", "second strain (no unit)"
+
+    def point(self, r, after):
+        return tuple(self.strains(r, after))
+
+    def surface(self, q, box):
+        """The deviatoric part's norm is the strains' difference over root 2."""
+        k, t = math.sqrt(2.0) * max(self.slope(q), 0.0), min(box[0] + box[2], -1e-9)
+        return [(t * (1.0 - k) / 2.0, t * (1.0 + k) / 2.0), (0.0, 0.0), (t * (1.0 + k) / 2.0, t * (1.0 - k) / 2.0)]
+
+    def limit(self):
+        return (lambda x: x), "both strains equal"
+
+
+class FlatNacc(Flat, Nacc):
+    title = "NACC in two axes"
+    floor = True
+
+
+FLAT_PLANES = {"snow": FlatSnow, "rankine": FlatRankine, "drucker_prager": FlatDruckerPrager, "nacc": FlatNacc}
 PLANES = {"snow": Snow, "rankine": Rankine, "drucker_prager": DruckerPrager, "nacc": Nacc}
 
 
@@ -199,13 +304,22 @@ def by_library(pasoletu, data, failure):
     def branch(particle):
         told = read.model.reason(particle)
         return told.branch if isinstance(told, pasoletu.Tested) else 1 if isinstance(told, pasoletu.Clamped) else None
-
-    def numbers(outcome):
-        if isinstance(outcome, pasoletu.Stored):
-            return 1, outcome.amount
-        return (2, outcome.number) if isinstance(outcome, pasoletu.Refused) else (0, 0)
     came = [branch(particle) for particle in pasoletu.read_sheet(data).particles]
-    return [Particle(before, after.floats(), *numbers(outcome), failed, k) for before, (after, outcome, failed), k in zip(records, worked, came)]
+    return [Particle(before, after.floats(), *numbers(pasoletu, outcome), failed, k) for before, (after, outcome, failed), k in zip(records, worked, came)]
+
+
+def numbers(pasoletu, outcome):
+    """An outcome's code, and its amount or refusal."""
+    if isinstance(outcome, pasoletu.Stored):
+        return 1, outcome.amount
+    return (2, outcome.number) if isinstance(outcome, pasoletu.Refused) else (0, 0)
+
+
+def by_flat_pass(pasoletu, model, p, records):
+    """Flat records as the proved library's flat pass leaves them."""
+    held = [pasoletu.FlatParticle.from_floats(r) for r in records]
+    passed = pasoletu.flat_pass(pasoletu.law(sheet.MODELS.index(model), p), held)
+    return [Particle(r, after.floats(), *numbers(pasoletu, outcome), False) for r, after, outcome in zip(records, held, passed.outcomes)]
 
 
 def by_second(data, failure):
@@ -456,7 +570,7 @@ def particles_drawn(c, plane, particles):
         if q.code == 1 and b and q.branch and plane.branches:
             c.label(*b, "ABC"[q.branch - 1], STORED)
     if particles and not spots:
-        c.text(LEFT + WIDE / 2, TOP + HIGH / 2, "No particle of this sheet has a place in the plane.", 14, REFUSED, "middle")
+        c.text(LEFT + WIDE / 2, TOP + HIGH / 2, "No particle of this %s has a place in the plane." % plane.of, 14, REFUSED, "middle")
     return outside
 
 
@@ -516,21 +630,21 @@ def not_finite(names, floats):
     return ", ".join(found[:3]) + (" and %d more" % (len(found) - 3) if len(found) > 3 else "")
 
 
-def why(model, p, q):
+def why(plane, model, q):
     """What of its inputs a refused particle is refused for, where that can be named."""
     if q.value == WRONG_DETERMINANT:
         return "determinant is %r, that of F %r" % (q.before[cases.BARE], cases.determinant(q.before[:9]))
     if q.value != NOT_FINITE:
         return ""
-    return not_finite(["parameter " + name for name in sheet.PARAMETERS[model]], p) or not_finite(sheet.PLACES, q.before)
+    return not_finite(["parameter " + name for name in sheet.PARAMETERS[model]], plane.p) or not_finite(plane.places, q.before)
 
 
-def refusals(model, p, particles):
+def refusals(plane, model, particles):
     """Each refusal that there is with its words, each followed by the particles that have it."""
     groups = {}
     for k, q in enumerate(particles):
         if q.code == 2:
-            groups.setdefault(q.value, {}).setdefault(why(model, p, q), []).append(k)
+            groups.setdefault(q.value, {}).setdefault(why(plane, model, q), []).append(k)
     for number, reasons in sorted(groups.items()):
         yield "refused by %d: %s%s" % (number, sheet.REFUSALS.get(number, "unknown"), "; no place in the plane" if number == NOT_FINITE else "")
         for reason, who in reasons.items():
@@ -539,7 +653,7 @@ def refusals(model, p, particles):
 
 def listed(c, plane, model, particles, y):
     """Writes which particles are refused, and which others have no place, from the height y on; the height at which it ends."""
-    lines = [(line, REFUSED) for line in refusals(model, plane.p, particles)]
+    lines = [(line, REFUSED) for line in refusals(plane, model, particles)]
     nowhere = [k for k, q in enumerate(particles) if not q.places(plane)[0] and not q.not_finite()]
     if nowhere:
         lines.append(("also without a place: " + ranges(nowhere), GREY))
@@ -560,15 +674,12 @@ def wrapped(words, width):
     return lines
 
 
-def box_of(plane, model, taken, shown):
+def box_of(plane, taken, shown):
     """What the picture shows of the plane."""
     points = [x for q in taken for x in q.places(plane) if x]
-    corners = [(0.0, 0.0)] if model in ("rankine", "drucker_prager", "nacc") else plane.surface(0.0, None)
-    if model == "nacc":
-        corners += [x for k in shown for x in plane.surface(k, None)]
-    points += [x for x in corners if all(map(math.isfinite, x))] or [(0.0, 0.0)]
+    points += [x for x in plane.corners(shown) if all(map(math.isfinite, x))] or [(0.0, 0.0)]
     box = (*span([x for x, _ in points]), *span([y for _, y in points]))
-    return box[:2] + (-0.03 * box[3],) + box[3:] if model in ("drucker_prager", "nacc") else box
+    return box[:2] + (-0.03 * box[3],) + box[3:] if plane.floor else box
 
 
 def surfaces_drawn(c, plane, shown):
@@ -586,11 +697,10 @@ def head_of(name, particles, failure):
     return head + (", %d failed" % sum(q.failed for q in particles) if failure else "")
 
 
-def picture(name, model, p, particles, failure, caption, warnings):
-    plane = PLANES[model](p)
+def picture(name, plane, model, particles, failure, caption, warnings):
     taken = [q for q in particles if q.code != 2] or particles
     found, shown = keys_of(plane, taken)
-    c = Canvas(box_of(plane, model, taken, shown))
+    c = Canvas(box_of(plane, taken, shown))
     axes(c, plane)
     surfaces_drawn(c, plane, shown)
     outside = particles_drawn(c, plane, particles)
@@ -639,28 +749,57 @@ def failure_of(args):
     return args.limits, args.corotated
 
 
-def caption_of(model, p, failure):
+def caption_of(plane, model, failure):
+    p = plane.p
     lines = ["Parameters: " + ", ".join("%s\u00a0%.6g" % x for x in zip(sheet.PARAMETERS[model], p)) + "."]
     if failure:
         limits, (split, _, lame, mu) = failure
         lines.append("Failure: limits %g (principal) and %g (shear); corotated law: split %g, lambda %.6g, mu %.6g." % (*limits, split, lame, mu))
     if model == "drucker_prager":
-        lines.append("Before: log sigma + gain/3, which the law tests; after: log of the stored sigma, where the law put it.")
+        lines.append("Before: log sigma + gain/%d, which the law tests; after: log of the stored sigma, where the law put it." % plane.shape.axes)
     if model == "nacc":
         lines.append("NACC's return keeps the sum of the squares of sigma, not their product: the pressure may change, and a particle end off its ellipse.")
     return lines
 
 
+def drawn(args, plane, model, particles, failure, caption, warnings):
+    name = pathlib.Path(shell.called(args.sheet, "standard input")).name
+    shell.write(args.svg, picture(name, plane, model, particles, failure, caption, warnings).encode())
+    if args.png:
+        to_png(args.svg)
+
+
+def draw_flat(args):
+    if args.second or args.program or args.answers or args.limits or args.corotated:
+        raise Wrong("--flat draws the library's flat pass: leave --second, --program, --answers, --limits and --corotated away")
+    where = shell.called(args.sheet, "standard input")
+    with shell.reading(args.sheet) as stream:
+        model, _, p, records = sheet.from_table(stream, args.sheet, args.model, False, sheet.pairs(args.parameters), where, sheet.FLAT)
+        records = list(records)
+    for flag, x in zip(sheet.PARAMETERS[model], p):
+        if flag in sheet.FLAGS and repr(x) not in ("0.0", "1.0"):
+            raise Wrong("%s: refused by 6: %s is 0 or 1" % (where, flag))
+    plane = FLAT_PLANES[model](p)
+    particles = by_flat_pass(shell.package(), model, p, records)
+    caption = caption_of(plane, model, None) + ["Flat records, of two axes. Outcomes and the records after the pass: %s." % PROVED]
+    drawn(args, plane, model, particles, None, caption, [])
+
+
 def draw(args):
     if not args.svg.endswith(".svg") and (args.svg != "-" or args.png):
         raise Wrong("%s: the picture's name must end in .svg%s" % (args.svg, "" if args.png else ", or be - for standard output"))
+    if args.flat:
+        return draw_flat(args)
+    if args.model or args.parameters:
+        raise Wrong("a sheet says its model and parameters itself: leave --model and --parameters away, or add --flat for a list of flat records")
     failure = failure_of(args)
     data = sheet.read(args.sheet)
     model, _, p, _ = sheet.load(data, args.sheet)
     particles, who, warnings = worked(data, failure, args.second)
     if warnings and not args.second:
         print("draw.py: %s" % warnings[0], file=sys.stderr)
-    caption = caption_of(model, p, failure)
+    plane = PLANES[model](p)
+    caption = caption_of(plane, model, failure)
     lines, where = answers(args, data)
     differ = []
     if lines is None:
@@ -670,10 +809,7 @@ def draw(args):
         differ = taken_from(lines, particles, who == SECOND, where)
     if differ:
         warnings = warnings + ["The outcomes differ from the records' own at particle %s%s." % (", ".join(map(str, differ[:8])), " and others" if len(differ) > 8 else "")]
-    name = pathlib.Path(shell.called(args.sheet, "standard input")).name
-    shell.write(args.svg, picture(name, model, p, particles, failure, caption, warnings).encode())
-    if args.png:
-        to_png(args.svg)
+    drawn(args, plane, model, particles, failure, caption, warnings)
     if differ:
         raise Wrong(warnings[-1] + " The picture says so too.")
 
@@ -687,8 +823,11 @@ def strict(text):
 
 def main(argv=None):
     about = argparse.ArgumentParser(description=__doc__, formatter_class=argparse.RawDescriptionHelpFormatter, usage=argparse.SUPPRESS)
-    about.add_argument("sheet", metavar="X.sheet|-")
+    about.add_argument("sheet", metavar="X.sheet|LIST|-")
     about.add_argument("svg", metavar="OUT.svg|-")
+    about.add_argument("--flat", action="store_true", help="draw a list of flat records")
+    about.add_argument("--model")
+    about.add_argument("--parameters", nargs="*", default=[], metavar="NAME=VALUE")
     about.add_argument("--png", action="store_true")
     about.add_argument("--second", action="store_true")
     which = about.add_mutually_exclusive_group()

@@ -65,11 +65,23 @@ DEFAULTS["drucker_prager"]["only_active_when_failed"] = 0.0
 REFUSALS = {r.number: r.what for r in TABLE.refusals}
 ELASTIC = ["young_modulus", "poisson_ratio"]
 SCALARS = {"phase": 1.0, "plastic_determinant": 1.0, "plastic_hardening": 1.0, "elastic_hardening": 1.0, "log_gain": 0.0, "alpha": 0.0}
-ENTRIES = {"F": 9, "U": 9, "sigma": 3, "V^T": 9}
-COLUMNS = {name: [name + ("%d%d" % (k // 3 + 1, k % 3 + 1) if n == 9 else "%d" % (k + 1)) for k in range(n)] for name, n in ENTRIES.items()}
 DETERMINANT = "determinant"
-PLACES = [place for places in COLUMNS.values() for place in places] + [*SCALARS, DETERMINANT]
-IDENTITY = [1.0, 0.0, 0.0, 0.0, 1.0, 0.0, 0.0, 0.0, 1.0]
+
+
+class Shape:
+    """Of a record in so many axes: how many entries each of its matrices has, the names of its floats but the determinant, the identity."""
+
+    def __init__(self, axes):
+        square = axes * axes
+        self.axes, self.entries = axes, {"F": square, "U": square, "sigma": axes, "V^T": square}
+        self.columns = {name: [name + ("%d%d" % (k // axes + 1, k % axes + 1) if n == square else "%d" % (k + 1)) for k in range(n)] for name, n in self.entries.items()}
+        self.places = [place for places in self.columns.values() for place in places] + [*SCALARS]
+        self.identity = [float(k % (axes + 1) == 0) for k in range(square)]
+
+
+SOLID, FLAT = Shape(3), Shape(2)
+ENTRIES, COLUMNS, IDENTITY = SOLID.entries, SOLID.columns, SOLID.identity
+PLACES = [*SOLID.places, DETERMINANT]
 MOST = 200
 MOST_BYTES = 2 + 8 * 8 + 2 + MOST * 8 * (cases.BARE + 1)
 LONGEST_CELL = 1100  # a double's longest exact decimal has 1,077 characters
@@ -78,6 +90,7 @@ LONGEST_FIELD = 1 << 24  # of the CSV reader, so that an over-long cell is still
 DECIMAL = re.compile(r"[+-]?([0-9]+\.?[0-9]*|\.[0-9]+)([eE][+-]?[0-9]+)?")
 NOT_FINITE = re.compile(r"[+-]?(nan|inf|infinity)", re.IGNORECASE)
 BITS = re.compile(r"0[xX][0-9a-fA-F]{16}")
+BITS_OR_DECIMAL = re.compile("|".join("(%s)" % x.pattern for x in (BITS, DECIMAL, NOT_FINITE)), re.IGNORECASE)
 
 
 # ---- numbers
@@ -165,30 +178,36 @@ def numpys(f, where):
     return u.ravel().tolist(), sigma.tolist(), vt.ravel().tolist()
 
 
-def matrices(given, where):
-    """The 30 floats F, U, sigma, V^T from those that are given."""
-    have = sorted(given)
+def matrices(given, where, shape):
+    """The floats F, U, sigma, V^T from those that are given."""
+    have, identity, n = sorted(given), shape.identity, shape.axes
     if have == ["F", "U", "V^T", "sigma"]:
         f, u, s, vt = given["F"], given["U"], given["sigma"], given["V^T"]
+    elif have == ["F"] and shape is FLAT:
+        raise Wrong("%s: F alone has no factors here, since the library works none of two axes: give U, sigma and V^T too" % where)
     elif have == ["F"]:
         f = given["F"]
         u, s, vt = decompose(f, where)
     elif have == ["sigma"]:
         s = given["sigma"]
-        f, u, vt = [s[0], 0.0, 0.0, 0.0, s[1], 0.0, 0.0, 0.0, s[2]], IDENTITY, IDENTITY
+        f, u, vt = [s[k // n] if k % (n + 1) == 0 else 0.0 for k in range(n * n)], identity, identity
     elif have == ["U", "V^T", "sigma"]:
         u, s, vt = given["U"], given["sigma"], given["V^T"]
         f = cases.recompose(u, s, vt)
     elif not have:
-        f, u, s, vt = IDENTITY, IDENTITY, [1.0, 1.0, 1.0], IDENTITY
+        f, u, s, vt = identity, identity, [1.0] * n, identity
     else:
-        raise Wrong("%s: of the matrices only %s: give F alone, sigma alone, U sigma V^T, all four, or none" % (where, ", ".join(have)))
+        alone = "" if shape is FLAT else "F alone, "
+        raise Wrong("%s: of the matrices only %s: give %ssigma alone, U sigma V^T, all four, or none" % (where, ", ".join(have), alone))
     return list(f) + list(u) + list(s) + list(vt)
 
 
-def record(given, scalars, where):
-    """The 37 floats; the determinant is that of F where it isn't given."""
-    r = cases.completed(matrices(given, where) + [scalars.get(name, SCALARS[name]) for name in SCALARS])
+def record(given, scalars, where, shape=SOLID):
+    """The 37 floats; the determinant is that of F where it isn't given. Of a flat record the 20."""
+    r = matrices(given, where, shape) + [scalars.get(name, SCALARS[name]) for name in SCALARS]
+    if shape is FLAT:
+        return r
+    r = cases.completed(r)
     return r[:cases.BARE] + [scalars.get(DETERMINANT, r[cases.BARE])]
 
 
@@ -232,18 +251,29 @@ def with_moduli(have, where):
 # ---- tables: each gives the law, whether the sheet keeps determinants, its parameters, and the records one by one as they are asked for
 
 
-def from_json(text, where):
+def from_table(stream, name, model, kept, given, where, shape=SOLID):
+    if name.endswith(".csv") or name == "-" and model:
+        return from_csv(stream, model, kept, given, where, shape)
+    if name.endswith(".json") or name == "-":
+        if model or given or kept:
+            raise Wrong("%s: a JSON says its model, determinants and parameters itself: leave --model, --determinants and --parameters away" % where)
+        return from_json(text_of(stream, where), where, shape)
+    raise Wrong("%s: the name must end in .csv or .json, or be - for standard input" % where)
+
+
+def from_json(text, where, shape=SOLID):
     whole = parsed(text, where)
     if not isinstance(whole, dict) or "model" not in whole or not isinstance(whole.get("particles"), list) or not isinstance(whole.get("parameters", {}), dict):
         raise Wrong('%s: a JSON sheet is {"model": .., "parameters": {..}, "particles": [..]}' % where)
-    unknown = sorted(whole.keys() - {"model", "determinants", "parameters", "particles"})
+    names = ["model", *(["determinants"] if shape is SOLID else []), "parameters"]
+    unknown = sorted(whole.keys() - {*names, "particles"})
     if unknown:
-        raise Wrong("%s: unknown name %s beside model, determinants, parameters and particles" % (where, shown(unknown[0])))
+        raise Wrong("%s: unknown name %s beside %s and particles" % (where, shown(unknown[0]), ", ".join(names)))
     kept = whole.get("determinants", False)
     if not isinstance(kept, bool):
         raise Wrong("%s: determinants is %s, and should be true or false" % (where, shown(kept)))
     model = model_of(whole["model"], where)
-    records = (json_record(p, kept, "%s, particle %d" % (where, k)) for k, p in enumerate(whole["particles"]))
+    records = (json_record(p, kept, "%s, particle %d" % (where, k), shape) for k, p in enumerate(whole["particles"]))
     return model, kept, parameters(model, whole.get("parameters", {}), where), records
 
 
@@ -264,86 +294,94 @@ def parsed(text, where):
         raise Wrong("%s: this is no JSON of a sheet: it has lists in lists without end" % where)
 
 
-def json_record(particle, kept, where):
+def json_record(particle, kept, where, shape=SOLID):
+    if shape is FLAT and isinstance(particle, list):
+        return numbers(particle, len(shape.places), where)
     if not isinstance(particle, dict):
         raise Wrong("%s: a particle is an object with names such as sigma and phase" % where)
     given, scalars = {}, {}
     for name, value in particle.items():
         if name in SCALARS or kept and name == DETERMINANT:
             scalars[name] = number(value, "%s, %s" % (where, name))
-        elif name in ENTRIES:
-            given[name] = entries(name, value, "%s, %s" % (where, name))
-        elif name == DETERMINANT:
+        elif name in shape.entries:
+            given[name] = entries(name, value, "%s, %s" % (where, name), shape)
+        elif name == DETERMINANT and shape is SOLID:
             raise Wrong('%s: this sheet keeps no determinants: add "determinants": true beside its model' % where)
         else:
-            raise Wrong("%s: unknown name %s: the names are %s" % (where, shown(name), ", ".join([*ENTRIES, *SCALARS])))
-    return record(given, scalars, where)
+            raise Wrong("%s: unknown name %s: the names are %s" % (where, shown(name), ", ".join([*shape.entries, *SCALARS])))
+    return record(given, scalars, where, shape)
 
 
-def entries(name, value, where):
-    """The numbers of a list, or of rows of three."""
+def entries(name, value, where, shape):
+    """The numbers of a list, or of its rows."""
     rows = value if isinstance(value, list) else [value]
-    flat = [x for row in rows for x in row] if all(isinstance(row, list) and len(row) == 3 for row in rows) else rows
-    if len(flat) != ENTRIES[name]:
-        raise Wrong("%s: %d numbers, not %d" % (where, len(flat), ENTRIES[name]))
-    return [number(x, "%s entry %d" % (where, k + 1)) for k, x in enumerate(flat)]
+    in_rows = all(isinstance(row, list) and len(row) == shape.axes for row in rows)
+    return numbers([x for row in rows for x in row] if in_rows else rows, shape.entries[name], where)
 
 
-def from_csv(stream, model, kept, given, where):
+def numbers(given, count, where):
+    if len(given) != count:
+        raise Wrong("%s: %d numbers, not %d" % (where, len(given), count))
+    return [number(x, "%s entry %d" % (where, k + 1)) for k, x in enumerate(given)]
+
+
+def from_csv(stream, model, kept, given, where, shape=SOLID):
     if model is None:
         raise Wrong("%s: a CSV has no place for the model: add --model snow, or one of %s" % (where, ", ".join(MODELS[1:])))
     model = model_of(model, "--model")
-    return model, kept, parameters(model, given, "--parameters"), csv_records(stream, kept, where)
+    return model, kept, parameters(model, given, "--parameters"), csv_records(stream, kept, where, shape)
 
 
-def csv_records(stream, kept, where):
+def csv_records(stream, kept, where, shape=SOLID):
     csv.field_size_limit(LONGEST_FIELD)
     with io.TextIOWrapper(stream, encoding="utf-8-sig", newline="") as text:
         rows = csv.reader(text, strict=True)
         try:
-            names = header(next(rows, []), kept, "%s, row 1" % where)
-            particles = filter(None, rows)
+            top = next(rows, [])
+            bare = shape is FLAT and len(top) == len(shape.places) and BITS_OR_DECIMAL.fullmatch(top[0].strip(" \t"))
+            names = shape.places if bare else header(top, kept, "%s, row 1" % where, shape)
+            particles = filter(None, itertools.chain([top] if bare else [], rows))
             first = next(particles, None)
             if first is None:
                 raise Wrong("%s: the table is a row of column names alone: write a row below it for each particle" % where)
             for row in itertools.chain([first], particles):
-                yield csv_record(names, row, "%s, row %d" % (where, rows.line_num))
+                yield csv_record(names, row, "%s, row %d" % (where, rows.line_num), shape)
         except csv.Error as e:
             raise Wrong("%s, row %d: this is no CSV (%s)" % (where, rows.line_num, e))
         except UnicodeDecodeError:
             raise Wrong("%s, after row %d: this is no text in UTF-8" % (where, rows.line_num))
 
 
-def header(names, kept, where):
+def header(names, kept, where, shape):
     if not names:
         raise Wrong("%s: it is empty, and should name the columns" % where)
     if len(names) == 1 and ";" in names[0]:
         raise Wrong("%s: the columns are parted by semicolons: part them by commas, and write decimals with a point" % where)
     for k, name in enumerate(names):
-        if name == DETERMINANT and not kept:
+        if name == DETERMINANT and shape is SOLID and not kept:
             raise Wrong("%s, column %d: this sheet keeps no determinants: add --determinants" % (where, k + 1))
-        if name not in PLACES:
-            raise Wrong("%s, column %d: unknown column %s: columns are, letter by letter, F11 .. F33, U11 .. U33, sigma1 .. sigma3, V^T11 .. V^T33, %s"
-                        % (where, k + 1, shown(name), ", ".join(SCALARS)))
+        if name not in shape.places and not (kept and name == DETERMINANT):
+            raise Wrong("%s, column %d: unknown column %s: columns are, letter by letter, %s, %s"
+                        % (where, k + 1, shown(name), ", ".join("%s .. %s" % (places[0], places[-1]) for places in shape.columns.values()), ", ".join(SCALARS)))
         if name in names[:k]:
             raise Wrong("%s, column %d: column %s stands there twice" % (where, k + 1, shown(name)))
     return names
 
 
-def csv_record(names, row, where):
+def csv_record(names, row, where, shape):
     if len(row) != len(names):
         raise Wrong("%s: %d cells under %d columns" % (where, len(row), len(names)))
     cells = {name: number(cell, "%s, column %d (%s)" % (where, k + 1, name)) for k, (name, cell) in enumerate(zip(names, row)) if cell.strip(" \t")}
     if not cells:
         raise Wrong("%s: every cell is empty: give a number, or take the row away" % where)
     given = {}
-    for name, places in COLUMNS.items():
+    for name, places in shape.columns.items():
         missing = [place for place in places if place not in cells]
         if 0 < len(missing) < len(places):
             raise Wrong("%s: %s has %d of its %d entries: %s is missing" % (where, name, len(places) - len(missing), len(places), ", ".join(missing)))
         if not missing:
             given[name] = [cells[place] for place in places]
-    return record(given, cells, where)
+    return record(given, cells, where, shape)
 
 
 # ---- sheets
@@ -452,14 +490,7 @@ def pairs(given):
 def make(args):
     where = shell.called(args.table, "standard input")
     with shell.reading(args.table) as stream:
-        if args.table.endswith(".csv") or args.table == "-" and args.model:
-            told = from_csv(stream, args.model, args.determinants, pairs(args.parameters), where)
-        elif args.table.endswith(".json") or args.table == "-":
-            if args.model or args.parameters or args.determinants:
-                raise Wrong("%s: a JSON says its model, determinants and parameters itself: leave --model, --determinants and --parameters away" % where)
-            told = from_json(text_of(stream, where), where)
-        else:
-            raise Wrong("%s: the name must end in .csv or .json, or be - for standard input" % where)
+        told = from_table(stream, args.table, args.model, args.determinants, pairs(args.parameters), where)
         (make_several if args.split else make_one)(*told, args.sheet, where)
 
 

@@ -409,7 +409,7 @@ class Sheets(InFolder):
         self.one_sentence(ran("sheet.py", "print", "/dev/zero"), "/dev/zero: sheet refused 7")
 
 
-class Pictures(InFolder):
+class Drawn(InFolder):
     def drawn(self, path, *options, by=("--second",)):
         out = self.folder / "out.svg"
         out.unlink(missing_ok=True)
@@ -438,6 +438,8 @@ class Pictures(InFolder):
     def rings(self, root):
         return sum(e.get("stroke") in (draw.GREY, draw.STORED) for e in root.iter("{http://www.w3.org/2000/svg}circle")) - 3  # in the legend
 
+
+class Pictures(Drawn):
     def test_samples_are_those_of_the_script(self):
         for name in samples.SAMPLES:
             self.assertEqual((HERE.parent / "samples" / (name + ".sheet")).read_bytes(), samples.sample(name), name)
@@ -665,6 +667,131 @@ class Pictures(InFolder):
 
     def test_numbers_of_options_are_strict(self):
         self.assertIn(b"'1_0' is no number", ran("draw.py", SAMPLES[0], "-", "--limits", "1_0", "1").stderr)
+
+
+class FlatLists(Drawn):
+    """Lists of flat records, and their pictures."""
+    VALUES = {"snow": cases.SNOW, "rankine": [1e6, 0.3, 3000.0, 1000.0], "drucker_prager": [0.6, 0.15, 0.2, 0.17, 5e5, 4e5, 0.0, 1.0],
+              "nacc": [1e4, 0.3, 0.05, 1.0, 3.0, 2.36]}
+    RECORD = [0.5, -2.0, 1.0, 0.0, 0.0, -1.0, 1.0, 0.0, 1.0, 2.0, 1.0, 0.0, -0.25, 1.0, 0.5, 1.25, 1.5, 1.75, -0.125, -0.0625]
+
+    def options(self, model):
+        return ["--flat", "--model", model, "--parameters", *("%s=%r" % pair for pair in zip(sheet.PARAMETERS[model], self.VALUES[model]))]
+
+    def read(self, name, text, model=None):
+        with open(self.file(name, text), "rb") as stream:
+            _, _, _, records = sheet.from_table(stream, name, model, False, {}, name, sheet.FLAT)
+            return list(records)
+
+    def drawn_flat(self, model, rows):
+        """The picture of rows, each of two sigma and a plastic hardening."""
+        table = self.file("list.csv", "\n".join(["sigma1,sigma2,plastic_hardening", *(",".join(map(repr, row)) for row in rows)]))
+        status, err, root = self.drawn(table, *self.options(model), by=())
+        self.assertEqual((status, err), (0, ""))
+        return root
+
+    def test_a_list_is_read(self):
+        names, numbers = ",".join(sheet.FLAT.places), ",".join(map(repr, self.RECORD))
+        self.assertEqual(len(sheet.FLAT.places), 20)
+        self.assertEqual(self.read("a.csv", "%s\n%s\n" % (names, numbers), "snow"), [self.RECORD])
+        self.assertEqual(self.read("a.csv", "%s\n%s\n" % (numbers, numbers), "snow"), [self.RECORD] * 2)
+        r = self.RECORD
+        by_name = {"F": [r[0:2], r[2:4]], "U": r[4:8], "sigma": r[8:10], "V^T": [r[10:12], r[12:14]]} | dict(zip(sheet.SCALARS, r[14:]))
+        self.assertEqual(self.read("a.json", json.dumps({"model": "snow", "particles": [by_name, r]})), [r, r])
+        del by_name["F"]
+        self.assertEqual(self.read("a.json", json.dumps({"model": "snow", "particles": [by_name]})), [[0.5, -2.0, 1.0, 0.0] + r[4:]])
+        whole = [0.5, 0.0, 0.0, 2.0, 1.0, 0.0, 0.0, 1.0, 0.5, 2.0, 1.0, 0.0, 0.0, 1.0, 1.0, 1.0, 1.0, 1.0, 0.0, 0.0]
+        self.assertEqual(self.read("a.csv", "sigma1,sigma2\n0.5,2\n", "snow"), [whole])
+
+    def test_what_is_no_list_is_told(self):
+        for words, text in (("F alone has no factors here", "F11,F12,F21,F22\n1,0,0,1\n"), ("unknown column 'sigma3'", "sigma1,sigma2,sigma3\n1,1,1\n"),
+                            ("unknown column 'determinant': columns are, letter by letter, F11 .. F22, U11 .. U22, sigma1 .. sigma2, V^T11 .. V^T22, phase", "determinant\n1\n"),
+                            ("19 cells under 20 columns", ",".join("1" * 20) + "\n" + ",".join("1" * 19)), ("sigma has 1 of its 2 entries", "sigma1\n1\n")):
+            status, err, root = self.drawn(self.file("list.csv", text), *self.options("snow"), by=())
+            self.assertEqual((status, root, err.count("\n")), (1, None, 1), err)
+            self.assertIn(words, err)
+        for words, particle in (("particle 0: 19 numbers, not 20", [1] * 19), ("F: 9 numbers, not 4", {"F": [1] * 9}), ("unknown name 'determinant'", {"determinant": 1})):
+            with self.assertRaisesRegex(shell.Wrong, words):
+                self.read("a.json", json.dumps({"model": "snow", "particles": [particle]}))
+        with self.assertRaisesRegex(shell.Wrong, "unknown name 'determinants' beside model, parameters and particles"):
+            self.read("a.json", json.dumps({"model": "snow", "determinants": True, "particles": []}))
+
+    def test_options_that_do_not_fit(self):
+        table = self.file("list.csv", "sigma1,sigma2\n1,1\n")
+        for words, options in (("leave --second,", [*self.options("snow"), "--second"]), ("leave --second,", [*self.options("snow"), "--limits", 1, 1, "--corotated", 1, 1, 1, 1]),
+                               ("has no place for the model", ["--flat"]), ("add --flat for a list of flat records", ["--model", "snow"]),
+                               ("refused by 6: hardening_enabled is 0 or 1", [x.replace("enabled=1.0", "enabled=-0.0") for x in self.options("nacc")])):
+            status, err, root = self.drawn(table, *options, by=())
+            self.assertEqual((status, root), (1, None), err)
+            self.assertIn(words, err)
+
+    def test_without_a_library(self):
+        with unittest.mock.patch.object(shell, "package", side_effect=shell.NoLibrary("there is none")):
+            self.assertEqual(self.drawn(self.file("list.csv", "sigma1,sigma2\n1,1\n"), *self.options("snow"), by=()), (1, "draw.py: there is none\n", None))
+
+    def test_nothing_that_is_not_finite_has_a_place(self):
+        for model, p in self.VALUES.items():
+            plane = draw.FLAT_PLANES[model](p)
+            self.assertIsNotNone(draw.place(plane, self.RECORD, False), model)
+            for k in range(20):
+                for x in NOT_FINITE:
+                    self.assertIsNone(draw.place(plane, self.RECORD[:k] + [x] + self.RECORD[k + 1:], True), (model, k, x))
+
+    def test_the_surfaces(self):
+        """Each point of a surface satisfies the law's own test with equality."""
+        box = (-0.01, 0.01, -0.012, 0.01)
+        lame, mu, _ = cases.moduli(1e6, 0.3)
+        points = draw.FLAT_PLANES["rankine"](self.VALUES["rankine"]).surface(2500.0, box)
+        for e in points:
+            self.assertAlmostEqual(lame * sum(e) + 2.0 * mu * max(e), 2500.0, 6)
+        self.assertEqual((points[0][0], points[2][1]), (-0.01, -0.012))
+        cone = draw.FLAT_PLANES["drucker_prager"](self.VALUES["drucker_prager"])
+        for a, b in cone.surface(0.5, box):
+            s = math.sin(0.6 + (0.15 * 0.5 - 0.17) * math.exp(-0.2 * 0.5))
+            alpha = math.sqrt(2.0 / 3.0) * 2.0 * s / (3.0 - s)
+            t = a + b
+            self.assertAlmostEqual(math.hypot(a - t / 2.0, b - t / 2.0) + (2.0 * 5e5 + 2.0 * 4e5) / (2.0 * 4e5) * t * alpha, 0.0, 12)
+        ellipse = draw.FLAT_PLANES["nacc"](self.VALUES["nacc"])
+        for p, q in ellipse.surface(100.0, None):
+            self.assertAlmostEqual((1.0 + 2.0 * 0.05) * q * q + 2.36 ** 2 * (p + 0.05 * 100.0) * (p - 100.0), 0.0, 6)
+
+    @unittest.skipUnless(LIBRARY, "there is no proved library")
+    def test_each_law_is_drawn(self):
+        d = random.Random(13)
+        rows = [[math.exp(d.uniform(-0.05, 0.05)), math.exp(d.uniform(-0.05, 0.05)), d.choice([0.0, 1.0])] for _ in range(300)] + [[math.nan, 1.0, 1.0], [0.0, 1.0, 1.0]]
+        for model in self.VALUES:
+            root = self.drawn_flat(model, rows)
+            told = self.told(root)
+            head = next(t for t in self.said(root) if t.startswith("list.csv: 302 particles, "))
+            refused = 1 if model == "snow" else 2  # Snow clamps the zero
+            self.assertTrue(head.endswith(", %d refused" % refused), (model, head))
+            self.assertIn("in two axes", told)
+            self.assertIn("refused by 1: an input is NaN or infinite; no place in the plane particle 300: F11 is nan, sigma1 is nan", told)
+            self.assertIn("Flat records, of two axes. Outcomes and the records after the pass: the proved library.", told)
+
+    @unittest.skipUnless(LIBRARY, "there is no proved library")
+    def test_stored_particles_end_on_their_surface(self):
+        d, p = random.Random(14), self.VALUES["rankine"]
+        lame, mu, _ = cases.moduli(*p[:2])
+        plane, seen = draw.FLAT_PLANES["rankine"](p), [0, 0]
+        records = [sheet.record({"sigma": [math.exp(d.uniform(-0.02, 0.02)) for _ in range(2)]}, {"plastic_hardening": d.uniform(1.0, 500.0)}, "", sheet.FLAT) for _ in range(400)]
+        for q in draw.by_flat_pass(LIBRARY, "rankine", p, records):
+            s, stress = plane.key(q.before), [lame * sum(e) + 2.0 * mu * max(e) for e in q.places(plane)]
+            self.assertLess(q.code, 2)
+            seen[q.code] += 1
+            if q.code == 1:
+                self.assertGreater(stress[0], s)
+                self.assertLessEqual(abs(stress[1] - s), (2.0 * mu + 2.0 * lame) * 2.0 ** -40)
+            else:
+                self.assertLessEqual(stress[0], s)
+        self.assertTrue(min(seen) > 50, seen)
+
+    @unittest.skipUnless(LIBRARY, "there is no proved library")
+    def test_standard_input_and_output(self):
+        table = ",".join(map(repr, self.RECORD)) + "\n"
+        got = ran("draw.py", "--flat", "-", "-", "--model", "snow", input=table.encode())
+        self.assertEqual((got.returncode, got.stderr), (0, b""))
+        self.assertIn(b"standard input: 1 particles, 0 untouched, 1 stored, 0 refused", got.stdout)
 
 
 class Second(unittest.TestCase):

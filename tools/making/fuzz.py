@@ -25,7 +25,7 @@ def made(table):
     """The whole file."""
     told = {c.name: c.value for group in table.constants for c in group.rows}
     laws = [m for _ in range(2) for m in table.models]
-    lines = [f"#define FLOATS {table.floats}", f"#define MOST {told['SHEET_MOST']}"]
+    lines = [f"#define FLOATS {table.floats}", f"#define FLAT_FLOATS {told['FLAT_FLOATS']}", f"#define MOST {told['SHEET_MOST']}"]
     lines += ["// Models from LAWS up name the same laws, for sheets whose records have all floats; those below have BARE a record."]
     lines += [f"#define LAWS {told['WITH_DETERMINANT']}", f"#define MODELS {len(laws)}", f"#define BARE {told['SHEET_FLOATS']}"]
     lines += ["// How many parameters each model has, and the place of its flag or -1."]

@@ -69,8 +69,10 @@ class FlatParticle:
         for name in self.__slots__:
             if name in MATRICES:
                 setattr(self, name, [list(itertools.islice(left, 2)) for _ in range(2)])
+            elif name == "singular_values":
+                setattr(self, name, list(itertools.islice(left, 2)))
             else:
-                setattr(self, name, list(itertools.islice(left, 2)) if name == "singular_values" else next(left))
+                setattr(self, name, next(left))
 
     def floats(self) -> list[float]:
         """The 20 floats in the record's order."""

@@ -22,7 +22,7 @@ class Reasons(unittest.TestCase):
         law = pasoletu.RankinePlasticity.new(young_modulus=1000.0, poisson_ratio=0.25, tensile_strength=10.0, softening_rate=1.0)
         self.assertEqual(law.reason(Particle()), Tested(4, True, 0, (bits(0.0), bits(10.0))))
         mu, lame = 400.0, 400.0
-        for sigma, test, held, branch in (([1.1, 0.9, 0.9], 5, True, 1), ([1.1, 1.1, 0.7], 6, True, 2), ([1.1, 1.1, 1.1], 6, False, 3)):
+        for sigma, test, held, branch in (([1.1, 0.9, 0.9], 5, True, 1), ([1.1, 1.1, 0.8], 6, True, 2), ([1.1, 1.1, 1.1], 6, False, 3)):
             told = law.reason(Particle.stretched(sigma))
             self.assertEqual((told.test, told.held, told.branch), (test, held, branch))
             c, b, a = sorted(math.log(x) for x in sigma)

@@ -13,15 +13,18 @@ fn rankine() -> Model {
 fn snow_names_the_bound_that_last_changed_it() {
     let crossed = Model::Snow(SnowPlasticity { min_epsilon: -2.0, max_epsilon: -0.5, hardening_coeff: 1.0 });
     assert_eq!(crossed.reason(&Particle::REST).unwrap(), Reason::Clamped([Bound::Upper; 3]));
+    let told = Model::Snow(SnowPlasticity::new()).reason(&stretched([1.0, 0.5, 2.0])).unwrap();
+    assert_eq!(told, Reason::Clamped([Bound::Neither, Bound::Lower, Bound::Upper]));
+    // 0 over 0 in the plastic determinant
     let zero = Model::Snow(SnowPlasticity { min_epsilon: 1.0, max_epsilon: 1.0, hardening_coeff: 1.0 });
-    assert_eq!(zero.reason(&stretched([-0.0, 0.0, 1.0])).unwrap(), Reason::Clamped([Bound::Lower, Bound::Neither, Bound::Neither]));
+    assert_eq!(zero.reason(&stretched([-0.0, 0.0, 1.0])).unwrap(), Reason::Refused { number: 3, step: 3, place: None });
 }
 
 #[test]
 fn rankine_names_its_last_test() {
     let told = rankine().reason(&Particle::REST).unwrap();
     assert_eq!(told, Reason::Tested { test: 4, held: true, branch: 0, compared: [0.0_f64.to_bits(), 10.0_f64.to_bits()] });
-    for (sigma, test, held, branch) in [([1.1, 0.9, 0.9], 5, true, 1), ([1.1, 1.1, 0.7], 6, true, 2), ([1.1, 1.1, 1.1], 6, false, 3)] {
+    for (sigma, test, held, branch) in [([1.1, 0.9, 0.9], 5, true, 1), ([1.1, 1.1, 0.8], 6, true, 2), ([1.1, 1.1, 1.1], 6, false, 3)] {
         let mut particle = stretched(sigma);
         match rankine().reason(&particle).unwrap() {
             Reason::Tested { test: t, held: h, branch: b, compared } => {
