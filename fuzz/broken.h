@@ -21,6 +21,7 @@ enum {
     OTHER_FIELD,  // an outcome counted as refused, not as stored
     OTHER_U,      // a bit of U changed where a flat record is stored
     LAST_KEPT,    // the last flat record of a pass as it came
+    OFF_SURFACE,  // a flat sigma of Rankine's a little off, with its F
 };
 
 static int fault_is(int kind) {
@@ -95,11 +96,22 @@ static uint8_t broken_pass_with_failure(uint64_t model, const uint64_t *p, size_
     return spoiled(n, r, nr, c, nc);
 }
 
+// By the pass and the update alike, so that they agree.
+static void off_surface(uint64_t model, uint64_t *r, const uint64_t *a) {
+    if (!fault_is(OFF_SURFACE) || a[0] != 1 || model % LAWS != 1)
+        return;
+    r[8] = bits(value(r[8]) * (1.0 + 0x1p-30));
+    for (int k = 0; k < 4; k++)
+        r[k] = bits(value(r[4 + k / 2 * 2]) * value(r[8]) * value(r[10 + k % 2]) + value(r[5 + k / 2 * 2]) * value(r[9]) * value(r[12 + k % 2]));
+}
+
 // What all calls can do wrong is left to the pass, which is compared with this.
 static uint8_t broken_flat_update(uint64_t model, const uint64_t *p, size_t np, uint64_t *r, size_t nr, uint64_t *a, size_t na) {
     uint8_t n = pasoletu_flat_update(model, p, np, r, nr, a, na);
     if (fault_is(OTHER_U) && n == 0 && a[0] == 1)
         r[5] ^= 1;
+    if (n == 0)
+        off_surface(model, r, a);
     return turned(n);
 }
 
@@ -111,6 +123,8 @@ static uint8_t broken_flat_pass(uint64_t model, const uint64_t *p, size_t np, ui
     peeked(p, 8 * np);
     if (fault_is(LAST_KEPT) && n == 0 && nr)
         memcpy(r + nr - FLAT_FLOATS, came, sizeof came);
+    for (size_t k = 0; n == 0 && k < nr / FLAT_FLOATS; k++)
+        off_surface(model, r + k * FLAT_FLOATS, a + 2 * k);
     if (n == 0 && na && a[0] == 2)
         a[1] = turned(a[1]);
     return spoiled(n, r, nr, c, nc);

@@ -62,6 +62,8 @@ struct done {
     uint64_t record[FLOATS], answer[2];
 };
 
+static unsigned long surfaces; // records that demand 3 was asked of
+
 static double larger(double a, double b) {
     return b < a ? a : b;
 }
@@ -89,6 +91,24 @@ static void check_side(const uint64_t *p, const uint64_t *was, uint8_t status) {
     check((status == 2) == (x < -700.0) && (status == 10) == (x > 700.0), "Snow's exponential, refused by its argument's side: answer, argument", status, bits(x));
 }
 
+// Demand 3: in its ranges the sigma that Rankine stored put the largest principal stress on the yield surface, here by the machine's logarithms.
+static void check_surface(const uint64_t *p, const uint64_t *was, const uint64_t *r) {
+    double young = value(p[0]), poisson = value(p[1]), hardening = value(was[PHASE_AT + 2]), s = value(p[2]) - (hardening - 1.0);
+    double mu = young / (2.0 * (1.0 + poisson)), lambda = young * poisson / ((1.0 + poisson) * (1.0 - 2.0 * poisson));
+    double whole = 2.0 * mu + AXES * lambda, sum = 0.0, most = -INFINITY;
+    int within = mu >= 1.0 && mu <= 0x1p40 && lambda >= 0.0 && lambda <= 0x1p40 && fabs(s) <= 4.0 * whole;
+    for (int k = SIGMA_AT; k < VT_AT; k++) {
+        double strain = log(value(r[k]));
+        sum += strain;
+        most = larger(most, strain);
+        within = within && fabs(log(value(was[k]))) <= 4.0;
+    }
+    double stress = lambda * sum + 2.0 * mu * most;
+    check(!within || fabs(stress - s) <= ldexp(whole, -39), "Rankine's stored sigma are not on the yield surface: stress, should be", bits(stress), bits(s));
+    check(value(r[PHASE_AT + 2]) <= value(p[2]), "Rankine's stored hardening is over the strength", r[PHASE_AT + 2], p[2]);
+    surfaces += within;
+}
+
 // Section 7: F is recomposed, U and V^T stay, and of the six scalars only those that the law names may change.
 static void check_stored(uint64_t model, const uint64_t *p, const uint64_t *was, const struct done *d) {
     static const uint8_t named[LAWS][6] = {{0, 1, 0, 1, 0, 0}, {0, 0, 1, 0, 0, 0}, {0, 1, 1, 0, 1, 0}, {0, 0, 0, 0, 0, 1}};
@@ -114,6 +134,8 @@ static void check_stored(uint64_t model, const uint64_t *p, const uint64_t *was,
         check(bits(value(before) + value(d->answer[1])) == stored, "dq is not what the hardening grew by", d->answer[1], stored);
     else
         check(d->answer[1] == stored, "the amount is not the float that was stored", d->answer[1], stored);
+    if (model == 1)
+        check_surface(p, was, r);
     if (model == 0) {
         for (int k = SIGMA_AT; k < VT_AT; k++)
             check(bits(snow_clamped(p, was[k])) == r[k], "a sigma is not clamped: bits, should be", r[k], bits(snow_clamped(p, was[k])));
@@ -139,6 +161,8 @@ static void print_met(void) {
     }
     for (int k = 0; k < (TARGET % 5 && TARGET != 6 ? LAWS : 0); k++)
         fprintf(stderr, "met: %s untouched %lu, stored %lu, refused 1: %lu, 2: %lu, 3: %lu, 10: %lu, 11: %lu\n", names[k], outcomes[k][0], outcomes[k][1], outcomes[k][2], outcomes[k][3], outcomes[k][4], outcomes[k][5], outcomes[k][6]);
+    if (TARGET == 2 || FLAT)
+        fprintf(stderr, "met: rankine in demand 3's ranges %lu\n", surfaces);
     if (TARGET == 3)
         fprintf(stderr, "met: lists filled %lu, refused 8: %lu\n", fills[0], fills[8]);
     for (int k = 0; k < (TARGET == 7 ? CALLS : 0); k++)
