@@ -112,7 +112,7 @@ def picture(rows):
         y = base - target * scale
         parts.append(f'<line x1="{left - 8}" x2="{left + 84}" y1="{y:.1f}" y2="{y:.1f}" stroke="#b03a2e" stroke-dasharray="5 3"/>')
         parts.append(f'<text x="{left + 38}" y="{base + 18}" text-anchor="middle">{title}</text>')
-    legend = '<text x="60" y="285">dark: time; light: instructions; dashed: the target. Ours over the fair rival, a record of 4,096.</text>'
+    legend = '<text x="60" y="285">ours over the fair rival: time dark, instructions light, the target dashed</text>'
     body = "\n".join(parts + [f'<line x1="40" x2="580" y1="{base}" y2="{base}" stroke="#333"/>', legend])
     return f'<svg xmlns="http://www.w3.org/2000/svg" width="600" height="300" font-family="sans-serif" font-size="12">\n<rect width="600" height="300" fill="white"/>\n{body}\n</svg>\n'
 
