@@ -4,25 +4,39 @@ use mathlib.Core.Bool.{Bool, true, false, not, _&&_}
 use mathlib.Core.List.{List}
 use Prim.Native.Nat.{ℕ, _+_, _/_, _%_, _^_, _<_, _≤_}
 use native.Mathlib.Omega.{arith}
-use lib.Dec.{T, ltb, eqb}
-use borrow.Author.Tests.{ltb-true, ltb-false, eq-eqb, ne-eqb}
+use lib.Dec.{T, eqb}
+use lib.Bits.{bitAnd, bitOr, and-le-l, and-le-r, or-lt, or-add-and}
+use borrow.Author.Tests.{ltb-true, ltb-false, lt-ltb, le-ltb, eq-eqb, ne-eqb}
 use lib.Ieee.{Float, nan, inf, fin, isNan, binary64, ofBits, nanBits}
 use lib.Ieee.Bits.{nanBits-is}
 use Rattle.numbers.specs.Floats.{finite}
 use Rattle.numbers.proofs.Laws.{and-both, finite-bits}
 use Rattle.tensor.specs.Finite.{rowFinite, matFinite, rowsFinite}
 use Rattle.plasticity.specs.State.{scalarsFinite, stateFinite, inputsFinite}
-use Rattle.record.specs.Layout.{layout, place, placeF, placeSigma, placeDeterminant, floatAt, rowAt, matAt, rowsAt, uAt, vtAt, stateAt, recordFinite}
+use Rattle.record.specs.Layout.{layout, place, placeF, placeSigma, placeDeterminant, floatAt, rowAt, matAt, rowsAt, uAt, vtAt, stateAt, recordFinite, low}
 
-below-ones : (e : ℕ) → e < 2048 → ltb e 2047 ≡ not (eqb e 2047)
-below-ones e h = go (ltb e 2047) refl
+-- a pattern with no sign, its exponent one more, is low where that exponent was not all ones
+below-ones : (m : ℕ) → m < 2 ^ 63 → low (m + 2 ^ 52) ≡ not (eqb (m / 2 ^ 52) 2047)
+below-ones m h = go (low (m + 2 ^ 52)) refl
   where
-    go : (b : Bool) → ltb e 2047 ≡ b → b ≡ not (eqb e 2047)
-    go true q = let k = ltb-true e 2047 q in rw (ne-eqb e 2047 (λ g. absurd (omega arith))) refl
-    go false q = let k = ltb-false e 2047 q in rw (eq-eqb e 2047 (omega arith)) refl
+    go : (b : Bool) → low (m + 2 ^ 52) ≡ b → b ≡ not (eqb (m / 2 ^ 52) 2047)
+    go true q = let k = ltb-true (m + 2 ^ 52) (2 ^ 63) q in rw (ne-eqb (m / 2 ^ 52) 2047 (λ g. absurd (omega arith))) refl
+    go false q = let k = ltb-false (m + 2 ^ 52) (2 ^ 63) q in rw (eq-eqb (m / 2 ^ 52) 2047 (omega arith)) refl
 
-pub word : (n : ℕ) → ltb (n % 2 ^ 63 / 2 ^ 52) 2047 ≡ finite (ofBits binary64 n)
-word n = below-ones (n % 2 ^ 63 / 2 ^ 52) (omega arith) ∙ sym (finite-bits n)
+pub lifted : (n : ℕ) → low (n % 2 ^ 63 + 2 ^ 52) ≡ finite (ofBits binary64 n)
+lifted n = below-ones (n % 2 ^ 63) (omega arith) ∙ sym (finite-bits n)
+
+-- an OR is low where both are
+pub or-low : (a b : ℕ) → low (bitOr a b) ≡ low a && low b
+or-low a b = go (low a) (low b) refl refl
+  where
+    sum : bitOr a b + bitAnd a b ≡ a + b
+    sum = or-add-and a b
+
+    go : (p q : Bool) → low a ≡ p → low b ≡ q → low (bitOr a b) ≡ p && q
+    go true true p q = lt-ltb (bitOr a b) (2 ^ 63) (or-lt 63 a b (ltb-true a (2 ^ 63) p) (ltb-true b (2 ^ 63) q))
+    go true false p q = le-ltb (bitOr a b) (2 ^ 63) (omega (arith, sum, and-le-l a b, ltb-false b (2 ^ 63) q))
+    go false d p q = le-ltb (bitOr a b) (2 ^ 63) (omega (arith, sum, and-le-r a b, ltb-false a (2 ^ 63) p))
 
 finite-number : (x : Float) → finite x ≡ true → T (not (isNan x))
 unfolding finite isNan
