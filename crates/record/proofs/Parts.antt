@@ -5,12 +5,15 @@ use mathlib.Core.List.{List}
 use Prim.Native.Nat.{ℕ, _+_, _/_, _%_, _^_, _<_, _≤_}
 use native.Mathlib.Omega.{arith}
 use lib.Dec.{T, eqb}
+use lib.ListN.{length, getD}
 use lib.Bits.{bitAnd, bitOr, and-le-l, and-le-r, or-lt, or-add-and}
 use borrow.Author.Tests.{ltb-true, ltb-false, lt-ltb, le-ltb, eq-eqb, ne-eqb}
 use lib.Ieee.{Float, nan, inf, fin, isNan, binary64, ofBits, nanBits}
 use lib.Ieee.Bits.{nanBits-is}
 use Rattle.numbers.specs.Floats.{finite}
 use Rattle.numbers.proofs.Laws.{and-both, finite-bits}
+use Rattle.tensor.specs.Axes.{of-one}
+use Rattle.tensor.specs.declared.Rows.{Rows}
 use Rattle.tensor.specs.Finite.{rowFinite, matFinite, rowsFinite}
 use Rattle.plasticity.specs.State.{scalarsFinite, stateFinite, inputsFinite}
 use Rattle.record.specs.Layout.{layout, place, placeF, placeSigma, placeDeterminant, floatAt, rowAt, matAt, rowsAt, uAt, vtAt, stateAt, recordFinite, low}
@@ -38,7 +41,7 @@ or-low a b = go (low a) (low b) refl refl
     go true false p q = le-ltb (bitOr a b) (2 ^ 63) (omega (arith, sum, and-le-l a b, ltb-false b (2 ^ 63) q))
     go false d p q = le-ltb (bitOr a b) (2 ^ 63) (omega (arith, sum, and-le-r a b, ltb-false a (2 ^ 63) p))
 
-finite-number : (x : Float) → finite x ≡ true → T (not (isNan x))
+pub finite-number : (x : Float) → finite x ≡ true → T (not (isNan x))
 unfolding finite isNan
 finite-number nan f = subst T (sym f) tt
 finite-number (inf s) f = tt
@@ -53,6 +56,13 @@ three-parts a b c q =
     let t = and-both (a && b) c q in
     let u = and-both a b (t .0) in
     (u .0, u .1, t .1)
+
+-- of a row, and of three rows
+pub entries-parts : (v : List Float) → length v ≡ 3 → rowFinite v ≡ true → (finite (getD v 0 nan) ≡ true) × (finite (getD v 1 nan) ≡ true) × (finite (getD v 2 nan) ≡ true)
+entries-parts v h q = three-parts (finite (getD v 0 nan)) (finite (getD v 1 nan)) (finite (getD v 2 nan)) (of-one rowFinite nan v h ∙ q)
+
+pub rows-parts : (m : Rows) → rowsFinite m ≡ true → (rowFinite (m .r0) ≡ true) × (rowFinite (m .r1) ≡ true) × (rowFinite (m .r2) ≡ true)
+rows-parts m q = three-parts (rowFinite (m .r0)) (rowFinite (m .r1)) (rowFinite (m .r2)) q
 
 -- whether part k of a record, a scalar, is finite
 abbrev Scalar : List ℕ → ℕ → Bool

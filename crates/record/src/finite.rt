@@ -11,7 +11,7 @@ ghost use lib.Ieee.{binary64};
 ghost use Rattle.numbers.specs.Floats.{finite};
 ghost use Rattle.tensor.specs.Finite.{rowFinite, matFinite, rowsFinite};
 ghost use Rattle.plasticity.specs.State.{scalarsFinite};
-ghost use Rattle.record.specs.Layout.{floats, placeF, rowAt, matAt, rowsAt, uAt, vtAt, stateAt, recordFinite, determinantRight, low};
+ghost use Rattle.record.specs.Layout.{floats, placeF, rowAt, matAt, rowsAt, uAt, vtAt, stateAt, recordFinite, determinantRight, low, bits};
 
 // A sign's bit.
 const SIGN: u64 = 0x8000_0000_0000_0000;
@@ -71,6 +71,14 @@ fn read_word(n: u64) -> f64
     ensures { λ x. ⌜ x ≡ Ieee.ofBits binary64 n ⌝ }
 {
     f64::from_bits(n)
+}
+
+// The pattern of a finite float.
+pub fn finite_bits(x: f64) -> u64
+    requires { ⌜ finite x ≡ true ⌝ }
+    ensures { λ n. ⌜ n ≡ bits x ⌝ }
+{
+    f64::to_bits(x)
 }
 
 fn read_row(r: &[u64], at: usize) -> [f64; 3]
