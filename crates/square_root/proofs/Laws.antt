@@ -11,6 +11,23 @@ use Rattle.square_root.specs.declared.digits.Begun.{Begun}
 pub fits : (a b : ℕ) → a ≤ 2 ^ 32 → b < 2 ^ 32 → a * b < 2 ^ 64
 fits a b h l = omega (arith, mul-le-mul {n₁ = a} {m₁ = b} {n₂ = 2 ^ 32} {m₂ = 2 ^ 32 - 1} h (omega arith))
 
+-- ---- a guess d that is too high is above zero; what one less takes from its products and its square
+pub above-zero : (a b d q : ℕ) → a < q → q ≡ b * d → 0 < d
+above-zero a b zero q h e = absurd (omega arith)
+above-zero a b (suc d) q h e = omega arith
+
+pub product-less : (b d : ℕ) → 0 < d → b * (d - 1) + b ≡ b * d
+product-less b d h = go (d - 1) (omega arith)
+  where
+    go : (k : ℕ) → d ≡ suc k → b * k + b ≡ b * d
+    go k e = rw e (omega arith)
+
+pub given-back : (b d v t : ℕ) → 0 < d → b * d + v ≡ t → b * (d - 1) + (v + b) ≡ t
+given-back b d v t h e = omega (arith, product-less b d h)
+
+pub square-less : (d : ℕ) → 0 < d → (d - 1) * (d - 1) + (d + d - 1) ≡ d * d
+square-less d h = omega (arith, product-less d d h, product-less (d - 1) d h)
+
 -- ---- the first digit, of n: so small that nothing overflows
 pub sum-small : (a b : ℕ) → a + b ≤ a * a + b
 sum-small zero b = omega arith
@@ -23,17 +40,11 @@ bounds n s a b w =
     (omega arith, h)
 
 -- ---- the second digit, g, after the root r with the rest p: twice the root taken g times from p * 2 ^ 26 leaves u
-module _ (r p g u : ℕ) (a : 2 ^ 26 ≤ r) (b : r < 2 ^ 27) (l : p ≤ r + r) (e : (r + r) * g + u ≡ p * 2 ^ 26) where
-  pub few : (g ≤ 2 ^ 26) × (g * g ≤ 2 ^ 52)
-  few =
-      let h = le-of-mul-le-mul-left {m = g} {n = 2 ^ 26} {k = r + r} (omega (arith, mul-le-mul-right (2 ^ 26) l)) (omega arith) in
-      (h, omega (arith, mul-le-mul h h))
+pub few : (r p g u : ℕ) → 0 < r → p ≤ r + r → (r + r) * g + u ≡ p * 2 ^ 26 → g ≤ 2 ^ 26
+few r p g u o l e = le-of-mul-le-mul-left {m = g} {n = 2 ^ 26} {k = r + r} (omega (arith, mul-le-mul-right (2 ^ 26) l)) (omega arith)
 
-  pub fitting : g * g ≤ u * 2 ^ 26 → (r * 2 ^ 26 + g) * (r * 2 ^ 26 + g) + (u * 2 ^ 26 - g * g) ≡ (r * r + p) * 2 ^ 52
-  fitting h = omega arith
-
-  pub lowered : (k : ℕ) → r * 2 ^ 26 + g ≡ suc k → k * k + (u * 2 ^ 26 + (r * 2 ^ 26 + g) + k - g * g) ≡ (r * r + p) * 2 ^ 52
-  lowered k q = omega (arith, ap (λ z. z * z) q, few .1)
+pub square-few : (g : ℕ) → g ≤ 2 ^ 26 → g * g ≤ 2 ^ 52
+square-few g h = omega (arith, mul-le-mul h h)
 
 -- ---- both digits: whether the root or the next one up is nearer
 pub down : (n : ℕ) (s : Begun) → Whole (n * 2 ^ 52) s → s .rest ≤ s .root → Nearest n (s .root)

@@ -1,5 +1,6 @@
 // The root by hand in base 2^26: two digits, one after the other, with no division and no table. A guess of each comes from
-// a guess of 1 / sqrt(n). Nothing is proved of a guess: it is taken where it is not too high, and raised until it is right.
+// a guess of 1 / sqrt(n). Nothing is proved of a guess: it is lowered while it is too high, and raised until it is right.
+// These guesses are never lowered, and seldom raised.
 ghost use mathlib.Core.Path.{_≡_};
 ghost use Prim.Native.Nat.{_+_, _*_, _^_, _≤_, _<_};
 ghost use Rattle.square_root.specs.Digits.{numberOf, Whole, Nearest, RootAt};
@@ -37,7 +38,7 @@ fn reciprocal(n: u64) -> u64
     newton(0xbfff_fffe, x, newton(0xc000_c000, x, y))
 }
 
-// The root raised until one more would be too high: after a good guess, seldom and then once.
+// The root raised until one more would be too high.
 fn raised(s: Begun) -> Begun
     requires { ⌜ s .root + s .rest < 2 ^ 63 ⌝ }
     ensures { λ o. ⌜ Whole (numberOf s) o ⌝ }
@@ -51,36 +52,36 @@ fn raised(s: Begun) -> Begun
     Begun { root, rest }
 }
 
-// The first digit, guessed: the root of n, or a little less.
+// The first digit, guessed: the root of n, or a little less. Its square goes along: asked for in the test alone, it has the
+// compiler work the guess three times.
 fn first(n: u64, y: u64) -> Begun
     requires { ⌜ (n < 2 ^ 54) × (y < 2 ^ 32) ⌝ }
     ensures { λ s. ⌜ numberOf s ≡ n ⌝ }
 {
-    let guess = n / 0x40_0000 * y / 0x10_0000_0000 % 0x800_0000;
-    let square = guess * guess;
-    if square <= n {
-        Begun {
-            root: guess,
-            rest: n - square,
-        }
-    } else {
-        Begun { root: 0, rest: n }
+    let mut root = n / 0x40_0000 * y / 0x10_0000_0000 % 0x800_0000;
+    let mut square = root * root;
+    while n < square {
+        square -= root + root - 1;
+        root -= 1;
+    }
+    Begun {
+        root,
+        rest: n - square,
     }
 }
 
-// b taken from a as often as guessed, or not at all where that is too often; then on while 2^32 or more are left, which
-// after a good guess they never are.
+// b taken from a as often as guessed: less often where that is too often, and more often while 2^32 or more are left.
 fn taken(a: u64, b: u64, guess: u64) -> Share
     requires { ⌜ (0 < b) × (b < 2 ^ 32) × (guess < 2 ^ 32) ⌝ }
     ensures { λ t. ⌜ (b * t .times + t .rest ≡ a) × (t .rest < 2 ^ 32) ⌝ }
 {
-    let product = b * guess;
-    let mut times = 0;
-    let mut rest = a;
-    if product <= a {
-        times = guess;
-        rest = a - product;
+    let mut times = guess;
+    let mut product = b * guess;
+    while a < product {
+        product -= b;
+        times -= 1;
     }
+    let mut rest = a - product;
     while 0x1_0000_0000 <= rest {
         rest -= b;
         times += 1;
@@ -88,27 +89,30 @@ fn taken(a: u64, b: u64, guess: u64) -> Share
     Share { times, rest }
 }
 
-// The second digit, guessed: rest * 2^26 over twice the root, or a little less. Where its square does not fit into what
-// that leaves, it is one less.
+// The second digit, guessed: rest * 2^26 over twice the root, or a little less, and so low that its square fits into what
+// that leaves.
 fn second(s: Begun, y: u64) -> Begun
     requires { ⌜ (2 ^ 26 ≤ s .root) × (s .root < 2 ^ 27) × (s .rest ≤ s .root + s .root) × (y < 2 ^ 32) ⌝ }
     ensures { λ o. ⌜ (numberOf o ≡ numberOf s * 2 ^ 52) × (o .root + o .rest < 2 ^ 63) ⌝ }
 {
-    let guess = s.rest * y / 0x2_0000_0000 % 0x800_0000;
-    let t = taken(s.rest * 0x400_0000, s.root + s.root, guess);
-    let digit = t.times;
-    let root = s.root * 0x400_0000 + digit;
-    let rest = t.rest * 0x400_0000;
-    let square = digit * digit;
-    if square <= rest {
-        Begun {
-            root,
-            rest: rest - square,
-        }
-    } else {
-        let less = root - 1;
-        let rest = rest + root + less - square;
-        Begun { root: less, rest }
+    let root = s.root;
+    let b = root + root;
+    let t = taken(
+        s.rest * 0x400_0000,
+        b,
+        s.rest * y / 0x2_0000_0000 % 0x800_0000,
+    );
+    let mut digit = t.times;
+    let mut rest = t.rest * 0x400_0000;
+    let mut square = digit * digit;
+    while rest < square {
+        rest += b * 0x400_0000;
+        digit -= 1;
+        square = digit * digit;
+    }
+    Begun {
+        root: root * 0x400_0000 + digit,
+        rest: rest - square,
     }
 }
 
