@@ -67,9 +67,9 @@ fn refused(o: Outcome) -> bool
     }
 }
 
-// Of a judge's record.
-fn verdict(j: Judge, phase: f64, d: Updated) -> Verdict
-    ensures { λ r. ⌜ r ≡ verdictBy j phase d ⌝ }
+// Of a judge's record. Only a judge asks for the phase.
+fn verdict(j: Judge, r: &[u64], d: Updated) -> Verdict
+    ensures { λ v. ⌜ v ≡ verdictBy j (stateAt (now (r .entry)) .scalars .phase) d ⌝ }
 {
     match j {
         Judge::Nobody => Verdict::No,
@@ -79,7 +79,7 @@ fn verdict(j: Judge, phase: f64, d: Updated) -> Verdict
             if refused(o) {
                 Verdict::No
             } else {
-                verdict_after(l, e, phase, left)
+                verdict_after(l, e, record::float(r, record::PHASE), left)
             }
         }
     }
@@ -139,10 +139,9 @@ fn finite_step(m: Model, j: Judge, r: &mut [u64]) -> Stepped
     ensures failed { λ x. ⌜ x .failed ≡ marked (verdictBy j (stateAt (now (r .entry)) .scalars .phase) (lawAt m (now (r .entry)))) (now (r .entry)) (recordLaw m (now (r .entry))) .failed ⌝ }
     ensures record { λ x. ⌜ now (r .exit) ≡ marked (verdictBy j (stateAt (now (r .entry)) .scalars .phase) (lawAt m (now (r .entry)))) (now (r .entry)) (recordLaw m (now (r .entry))) .after ⌝ }
 {
-    let phase = record::float(&r[..], record::PHASE);
     let x = law::updated(m, &r[..]);
     let d = x.updated;
-    let v = verdict(j, phase, d);
+    let v = verdict(j, &r[..], d);
     mark(m, x, v, r)
 }
 

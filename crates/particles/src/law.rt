@@ -9,7 +9,9 @@ ghost use mathlib.Core.List.{List};
 ghost use Prim.Native.Nat.{ℕ};
 ghost use lib.ListN.{length};
 ghost use Rattle.answers.specs.Refusals.{notFinite, wrongDeterminant};
-ghost use Rattle.plasticity.specs.State.{refused};
+ghost use lib.Ieee.{Float};
+ghost use Rattle.plasticity.specs.State.{stateFinite, refused};
+ghost use Rattle.plasticity.specs.declared.Outcome.the-variants.{Stored};
 ghost use Rattle.record.specs.Layout.{floats, recordFinite};
 ghost use Rattle.model.specs.declared.Model.{Model};
 ghost use Rattle.model.specs.Model.{modelFinite};
@@ -33,6 +35,7 @@ fn unstored(d: Updated) -> Left
 
 // An update that would store a determinant that isn't finite is refused by 3.
 fn measured(d: Updated) -> Left
+    requires { ⌜ ((a : Float) → d .outcome ≡ Stored a → stateFinite (d .state) ≡ true) ⌝ }
     ensures updated { λ x. ⌜ ((m : Model) (r : List ℕ) → length r ≡ floats → recordFinite r ≡ true → x .updated ≡ measured m r d) ⌝ }
     ensures determinant { λ x. ⌜ ((r : List ℕ) → length r ≡ floats → Beside (x .updated .outcome) r (x .updated .state) (x .determinant)) ⌝ }
 {

@@ -16,7 +16,7 @@ returns-2 c =
     let t = c .before .before .before .enum-told2 .given .1 in
     let f = sym (c .before .word-finite .ensures) ∙ c .if1 .taken in (
       λ m r k q. let d = c .before .before .determinant-with .ensures .1 r (omega arith) in simp (t, stored-last m r s k, ← d, f),
-      λ r k. rw t (c .before .before .determinant-with .ensures .1 r (omega arith) ∙ sym (bare-determinant r s)),
+      λ r k. rw t (c .before .before .determinant-with .ensures .1 r (omega arith) ∙ sym (bare-determinant r s), c .before .before .before .before .before .before .before .pre _ t),
     )
 
 returns-3 : tie.Need-returns-3

@@ -4,6 +4,7 @@ use borrow.Author.Needs.{needs}
 use borrow.Author.Tests.{eq-eqb, ne-eqb}
 use Rattle.record.specs.Layout.{determinantAt, determinantRight}
 use Rattle.record.proofs.Parts.{record-inputs}
+use Rattle.model.proofs.StoredFinite.{stored-finite}
 use Rattle.particles.specs.declared.law.Left.{Left}
 use Rattle.particles.specs.Plain.{updatedAt}
 use Rattle.particles.proofs.NotFinite.{law-right, law-wrong}
@@ -14,6 +15,13 @@ update-tested-requires : tie.Need-update-tested-requires
 update-tested-requires c κs =
     let s = c .before .before .before .before .before .before .before .before in
     rw (c .before .before .before .before .before .before .read-state .ensures, c .read-vt .ensures, c .before .read-u .ensures) (record-inputs (s .args .r .now) (s .pre .1))
+
+measured-requires : tie.Need-measured-requires
+measured-requires c κs a e =
+    let b = c .before in
+    let m = b .before .before .before .before .before .before .before .before .args .m in
+    let q = c .update-tested .ensures in
+    rw q (stored-finite m (b .before .read-u .result) (b .read-vt .result) (b .before .before .before .before .before .before .read-state .result) (update-tested-requires b κs) a (rw q at e) .0)
 
 returns : tie.Need-returns
 unfolding updatedAt determinantRight determinantAt
@@ -49,4 +57,4 @@ returns-2 c =
 pub updated-spec : {M : Type 1} → statement M
 updated-spec =
     tie.close
-    (tie.spec (λ c κs. search needs) (λ c. search needs) (λ c κs. search needs) (λ c κs. search needs) (λ c κs. search needs) update-tested-requires (λ c κs. search needs) (λ c κs. search needs) (λ c κs. search needs) returns returns-2)
+    (tie.spec (λ c κs. search needs) (λ c. search needs) (λ c κs. search needs) (λ c κs. search needs) (λ c κs. search needs) update-tested-requires measured-requires (λ c κs. search needs) (λ c κs. search needs) returns returns-2)
