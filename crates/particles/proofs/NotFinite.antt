@@ -33,7 +33,7 @@ use Rattle.particles.specs.Plain.{updatedAt, measured, lawAt, keptBy, re
 use Rattle.particles.specs.declared.judged.Judge.{Judge}
 use Rattle.particles.specs.declared.judged.Judge.the-variants.{Nobody, By}
 use Rattle.particles.specs.Pass.{Worked}
-use Rattle.particles.specs.Judged.{judgeFinite, unlessRefused, verdictBy, judgedAt, refusedRecord, marked, failureLaw, finiteBy, lawBy}
+use Rattle.particles.specs.Judged.{judgeFinite, unlessRefused, judgedAt, refusedRecord, marked, failureLaw, markedBy, finiteBy, lawBy}
 
 -- ---- a law whose inputs aren't all finite
 module _ (u vt : List (List Float)) (s : State) where
@@ -111,7 +111,7 @@ module _ (m : Model) (r : List ℕ) where
 
   -- all of them are finite
   pub finite-first : (j : Judge) → finiteBy j && recordFinite r ≡ true
-      → (recordFinite r ≡ true) × (lawBy m j r ≡ marked (verdictBy j (stateAt r .scalars .phase) (lawAt m r)) r (recordLaw m r))
+      → (recordFinite r ≡ true) × (lawBy m j r ≡ markedBy m j r)
   unfolding failureLaw judgedAt
   finite-first Nobody q = (q, refl)
   finite-first (By l e) q = let h = and-both (judgeFinite l e) (recordFinite r) q in (h .1, rw (h .0) refl)

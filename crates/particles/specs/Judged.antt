@@ -75,11 +75,16 @@ failedBy (Refused n) = false
 unfoldable pub failureLaw : Model → MaximumStressFailure → CorotatedLinearElasticity → List ℕ → Worked
 failureLaw m l e r = cond (judgeFinite l e) (marked (judgedAt m l e r) r (recordLaw m r)) (refusedRecord notFinite r)
 
--- by a judge, or by nobody: then the law is all
+-- of finite inputs: the law, and the verdict on what it leaves
+abbrev pub markedBy : Model → Judge → List ℕ → Worked
+markedBy m j r = marked (verdictBy j (stateAt r .scalars .phase) (lawAt m r)) r (recordLaw m r)
+
+-- a judge's own inputs; nobody has any
 abbrev pub finiteBy : Judge → Bool
 finiteBy Nobody = true
 finiteBy (By l e) = judgeFinite l e
 
+-- by a judge, or by nobody: then the law is all
 abbrev pub lawBy : Model → Judge → List ℕ → Worked
 lawBy m Nobody = recordLaw m
 lawBy m (By l e) = failureLaw m l e

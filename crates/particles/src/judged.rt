@@ -15,12 +15,12 @@ ghost use mathlib.Core.Path.{_≡_};
 ghost use mathlib.Core.Bool.{true, cond};
 ghost use lib.Dec.{eqb};
 ghost use lib.ListN.{length};
-ghost use Rattle.record.specs.Layout.{floats, stateAt, recordFinite};
+ghost use Rattle.record.specs.Layout.{floats, recordFinite};
 ghost use Rattle.failure_maximum_stress.specs.Failure.{verdictOf};
 ghost use Rattle.failure_maximum_stress.specs.declared.Verdict.{Verdict};
 ghost use Rattle.failure_maximum_stress.specs.declared.Verdict.the-variants as verdict;
-ghost use Rattle.particles.specs.Judged.{verdictAfter, unlessRefused, verdictBy, marked, outcomeBy, failedBy, finiteBy, lawBy};
-ghost use Rattle.particles.specs.Plain.{keptBy, lawAt, recordLaw, Beside};
+ghost use Rattle.particles.specs.Judged.{verdictAfter, unlessRefused, verdictBy, marked, outcomeBy, failedBy, markedBy, finiteBy, lawBy};
+ghost use Rattle.particles.specs.Plain.{keptBy, Beside};
 
 // Nobody, or these limits on the stress by this law.
 pub enum Judge {
@@ -96,6 +96,7 @@ fn outcome_by(v: Verdict, o: Outcome) -> Outcome
     }
 }
 
+// And a yes fails the record.
 fn failed_by(v: Verdict) -> bool
     ensures { λ b. ⌜ b ≡ failedBy v ⌝ }
 {
@@ -135,9 +136,9 @@ fn mark(m: Model, x: Left, v: Verdict, r: &mut [u64]) -> Stepped
 // One finite record, with a finite judge: the law first, then the verdict on what it leaves.
 fn finite_step(m: Model, j: Judge, r: &mut [u64]) -> Stepped
     requires { ⌜ (length (now r) ≡ floats) × (recordFinite (now r) ≡ true) ⌝ }
-    ensures outcome { λ x. ⌜ x .outcome ≡ marked (verdictBy j (stateAt (now (r .entry)) .scalars .phase) (lawAt m (now (r .entry)))) (now (r .entry)) (recordLaw m (now (r .entry))) .outcome ⌝ }
-    ensures failed { λ x. ⌜ x .failed ≡ marked (verdictBy j (stateAt (now (r .entry)) .scalars .phase) (lawAt m (now (r .entry)))) (now (r .entry)) (recordLaw m (now (r .entry))) .failed ⌝ }
-    ensures record { λ x. ⌜ now (r .exit) ≡ marked (verdictBy j (stateAt (now (r .entry)) .scalars .phase) (lawAt m (now (r .entry)))) (now (r .entry)) (recordLaw m (now (r .entry))) .after ⌝ }
+    ensures outcome { λ x. ⌜ x .outcome ≡ markedBy m j (now (r .entry)) .outcome ⌝ }
+    ensures failed { λ x. ⌜ x .failed ≡ markedBy m j (now (r .entry)) .failed ⌝ }
+    ensures record { λ x. ⌜ now (r .exit) ≡ markedBy m j (now (r .entry)) .after ⌝ }
 {
     let x = law::updated(m, &r[..]);
     let d = x.updated;
