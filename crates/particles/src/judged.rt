@@ -15,7 +15,7 @@ ghost use mathlib.Core.Path.{_≡_};
 ghost use mathlib.Core.Bool.{true, cond};
 ghost use lib.Dec.{eqb};
 ghost use lib.ListN.{length};
-ghost use Rattle.record.specs.Layout.{floats, recordFinite};
+ghost use Rattle.record.specs.Layout.{floats, stateAt, recordFinite};
 ghost use Rattle.failure_maximum_stress.specs.Failure.{verdictOf};
 ghost use Rattle.failure_maximum_stress.specs.declared.Verdict.{Verdict};
 ghost use Rattle.failure_maximum_stress.specs.declared.Verdict.the-variants as verdict;
@@ -67,7 +67,7 @@ fn refused(o: Outcome) -> bool
     }
 }
 
-// Of a judge's record. Only a judge asks for the phase.
+// By nobody it is no, and a refused law skips it. Only a judge reads the phase.
 fn verdict(j: Judge, r: &[u64], d: Updated) -> Verdict
     ensures { λ v. ⌜ v ≡ verdictBy j (stateAt (now (r .entry)) .scalars .phase) d ⌝ }
 {
