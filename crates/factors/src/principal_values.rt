@@ -5,7 +5,8 @@ use crate::angle;
 use crate::check;
 use crate::sweep;
 ghost use mathlib.Core.Path.{_≡_};
-ghost use Rattle.factors.specs.PrincipalValues.{mirroredOf, levelPairOf, levelStepOf, levelledOf, principalOf, principalAccepted};
+ghost use Rattle.factors.specs.Sweeps.{sweepBy};
+ghost use Rattle.factors.specs.PrincipalValues.{mirroredOf, levelPairOf, levelledOf, principalOf, principalAccepted};
 
 // The lower triangle with the diagonal, mirrored.
 fn mirrored(f: [[f64; 3]; 3]) -> [[f64; 3]; 3]
@@ -34,21 +35,32 @@ fn level_pair(w: Work) -> Work
     sweep::next(sweep::both(w, y, y))
 }
 
-fn level_step(w: Work) -> Work
-    ensures { λ x. ⌜ x ≡ levelStepOf w ⌝ }
+// A sweep: each pair of axes once.
+fn level_sweep(x: Work) -> Work
+    ensures { λ r. ⌜ r ≡ sweepBy levelPairOf x ⌝ }
 {
-    if sweep::settled(w) {
-        return w;
+    let mut w = x;
+    let mut i = 0;
+    while i < sweep::PAIRS {
+        w = level_pair(w);
+        i += 1;
     }
-    level_pair(level_pair(level_pair(w)))
+    w
 }
 
 fn levelled(f: [[f64; 3]; 3]) -> Work
     ensures { λ x. ⌜ x ≡ levelledOf f ⌝ }
 {
-    level_step(level_step(level_step(level_step(level_step(level_step(level_step(level_step(sweep::start(
-        f,
-    )))))))))
+    let mut w = sweep::start(f);
+    let mut i = 0;
+    while i < sweep::SWEEPS {
+        if sweep::settled(w) {
+            return w;
+        }
+        w = level_sweep(w);
+        i += 1;
+    }
+    w
 }
 
 // The principal values of the lower triangle of f, and their axes as the rows of a matrix.
