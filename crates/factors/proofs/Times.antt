@@ -1,6 +1,6 @@
 -- Work done over and over, as a loop counts it. Assumes nothing.
-use mathlib.Core.Path.{_≡_, ap, _∙_, sym}
-use mathlib.Core.Bool.{Bool, true, false, cond}
+use mathlib.Core.Path.{_≡_, ap}
+use mathlib.Core.Bool.{true, false}
 use Prim.Native.Nat.{ℕ, suc, _+_, _-_, _≤_, _<_}
 use native.Mathlib.Omega.{arith}
 use Rattle.factors.specs.declared.Work.{Work}

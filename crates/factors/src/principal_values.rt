@@ -5,8 +5,11 @@ use crate::angle;
 use crate::check;
 use crate::sweep;
 ghost use mathlib.Core.Path.{_≡_};
+ghost use mathlib.Core.Bool.{true};
+ghost use Rattle.exact.specs.Units.{mag};
+ghost use Rattle.factors.specs.Check.{largestIn};
 ghost use Rattle.factors.specs.Sweeps.{sweepBy};
-ghost use Rattle.factors.specs.PrincipalValues.{mirroredOf, levelPairOf, levelledOf, principalOf, principalAccepted};
+ghost use Rattle.factors.specs.PrincipalValues.{mirroredOf, levelPairOf, levelledOf, principalOf, mirroredAccepted, principalAccepted};
 
 // The lower triangle with the diagonal, mirrored.
 fn mirrored(f: [[f64; 3]; 3]) -> [[f64; 3]; 3]
@@ -77,17 +80,37 @@ pub fn principal_of(f: [[f64; 3]; 3]) -> Principal
     Principal { values, axes }
 }
 
-// Whether they pass the check; signs are free.
-pub fn principal_accepted(f: [[f64; 3]; 3], x: Principal) -> bool
-    ensures { λ r. ⌜ r ≡ principalAccepted f x ⌝ }
+// Whether a test in floats shows that they pass the check, g being mirrored and m the largest size in it; and the same without a doubt.
+fn surely(g: [[f64; 3]; 3], x: Principal, m: f64) -> bool
+    ensures { λ r. ⌜ (r ≡ true → mag m ≡ largestIn g → mirroredAccepted g x ≡ true) ⌝ }
 {
     let p = x.axes;
     let s = x.values;
     let q = tensor::transpose(tensor::of_rows(p));
-    let g = mirrored(f);
+    nearness::surely_near(q, s, q, g, m) & nearness::surely_orthogonal(q)
+}
+
+fn exactly(g: [[f64; 3]; 3], x: Principal, m: f64) -> bool
+    ensures { λ r. ⌜ (mag m ≡ largestIn g → r ≡ mirroredAccepted g x) ⌝ }
+{
+    let p = x.axes;
+    let s = x.values;
+    let q = tensor::transpose(tensor::of_rows(p));
     tensor::mat_finite(g)
         & tensor::rows_finite(p)
         & tensor::row_finite(s)
-        & nearness::near_all(q, s, q, g, check::largest(g))
+        & nearness::near_all(q, s, q, g, m)
         & nearness::orthogonal(q)
+}
+
+// Whether they pass the check; signs are free.
+pub fn principal_accepted(f: [[f64; 3]; 3], x: Principal) -> bool
+    ensures { λ r. ⌜ r ≡ principalAccepted f x ⌝ }
+{
+    let g = mirrored(f);
+    let m = check::largest(g);
+    if surely(g, x, m) {
+        return true;
+    }
+    exactly(g, x, m)
 }
