@@ -1,8 +1,10 @@
 -- Work done over and over, as a loop counts it. Assumes nothing.
-use mathlib.Core.Path.{_≡_, ap}
-use mathlib.Core.Bool.{true, false}
+use mathlib.Core.Path.{_≡_, refl, sym, ap, _∙_, subst}
+use mathlib.Core.Bool.{Bool, true, false, not, _&&_}
 use Prim.Native.Nat.{ℕ, suc, _+_, _-_, _≤_, _<_}
 use native.Mathlib.Omega.{arith}
+use lib.Dec.{T, ltb, ltb→lt, nltb→le}
+use Rattle.numbers.proofs.Laws.{and-both}
 use Rattle.factors.specs.declared.Work.{Work}
 use Rattle.factors.specs.Sweeps.{times, stays, sweepBy, settledOf, stepBy}
 
@@ -19,10 +21,22 @@ module _ (n i : ℕ) (g : Work → Work) (w : Work) where
       left : (n i : ℕ) → n ≤ i → n - i ≡ 0
       left n i h = omega arith
 
--- a sweep that finds something to turn, and one that doesn't
-module _ (g : Work → Work) (w : Work) where
-  pub goes-on : settledOf w ≡ false → stepBy g w ≡ sweepBy g w
-  goes-on h = simp h
+-- the loop over sweeps goes on while some are left and w is not settled
+pub going : (n i : ℕ) (s : Bool) → ltb i n && not s ≡ true → (i < n) × (s ≡ false)
+going n i s h = (ltb→lt i n (subst T (sym (and-both (ltb i n) (not s) h .0)) tt), unsettled s (and-both (ltb i n) (not s) h .1))
+  where
+    unsettled : (s : Bool) → not s ≡ true → s ≡ false
+    unsettled true e = sym e
+    unsettled false e = refl
 
-  pub ends : (n : ℕ) → settledOf w ≡ true → times n (stepBy g) w ≡ w
-  ends n h = stays n (stepBy g) w (simp h)
+module _ (n i : ℕ) (g : Work → Work) (w : Work) where
+  pub goes-on : settledOf w ≡ false → i < n → times (n - i) (stepBy g) w ≡ times (n - (i + 1)) (stepBy g) (sweepBy g w)
+  goes-on e h = once-more n i (stepBy g) w h ∙ ap (times (n - (i + 1)) (stepBy g)) (simp e)
+
+  pub ends : (s : Bool) → settledOf w ≡ s → ltb i n && not s ≡ false → times (n - i) (stepBy g) w ≡ w
+  ends true e h = stays (n - i) (stepBy g) w (simp e)
+  ends false e h = none-left n i (stepBy g) w (nltb→le i n (subst (λ (b : Bool). T (not b)) (sym (alone (ltb i n) h)) tt))
+    where
+      alone : (b : Bool) → b && true ≡ false → b ≡ false
+      alone true h = h
+      alone false h = refl

@@ -56,10 +56,7 @@ fn levelled(f: [[f64; 3]; 3]) -> Work
 {
     let mut w = sweep::start(f);
     let mut i = 0;
-    while i < sweep::SWEEPS {
-        if sweep::settled(w) {
-            return w;
-        }
+    while (i < sweep::SWEEPS) & !sweep::settled(w) {
         w = level_sweep(w);
         i += 1;
     }

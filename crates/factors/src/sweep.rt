@@ -189,10 +189,7 @@ fn worked(f: [[f64; 3]; 3]) -> Work
 {
     let mut w = start(f);
     let mut i = 0;
-    while i < SWEEPS {
-        if settled(w) {
-            return w;
-        }
+    while (i < SWEEPS) & !settled(w) {
         w = sweep(w);
         i += 1;
     }

@@ -4,7 +4,7 @@ use Prim.Native.Nat.{_+_, _-_}
 use native.Mathlib.Omega.{arith}
 use borrow.Author.Needs.{needs}
 use Rattle.factors.specs.Sweeps.{sweeps, times, pairOf, stepOf, workedOf}
-use Rattle.factors.proofs.Times.{once-more, none-left, goes-on, ends}
+use Rattle.factors.proofs.Times.{going, goes-on, ends}
 use Rattle.factors.proofs.sweep.worked.Statement.{statement}
 use Rattle.factors.proofs.sweep.worked.Tie as tie
 
@@ -17,29 +17,29 @@ abbrev μ-loop : tie.MeasureT-loop
 loop-holds : tie.Need-loop-holds Inv-loop μ-loop
 loop-holds c = refl
 
-returns : tie.Need-returns Inv-loop μ-loop
-unfolding workedOf stepOf
-returns c =
-    let s = c .before .before .before in
-    let l = s .loop in
-    sym (ends pairOf (l .w) (sweeps - l .i) (sym (c .before .settled .ensures) ∙ c .if1 .taken)) ∙ l .inv ∙ ap (times sweeps stepOf) (s .before .start .ensures)
+add-i : tie.Need-add-i Inv-loop μ-loop
+add-i c = search (needs, going sweeps (c .before .before .before .loop .i) (c .before .before .settled .result) (c .before .if1 .taken) .0)
+
+loop-less : tie.Need-loop-less Inv-loop μ-loop
+loop-less c = omega (arith, going sweeps (c .before .before .before .loop .i) (c .before .before .settled .result) (c .before .if1 .taken) .0)
 
 loop-again : tie.Need-loop-again Inv-loop μ-loop
 unfolding stepOf
 loop-again c =
-    let l = c .before .before .before .before .loop in
-    ap (times (sweeps - (l .i + 1)) stepOf) (c .sweep .ensures ∙ sym (goes-on pairOf (l .w) (sym (c .before .before .settled .ensures) ∙ c .before .if1 .left)))
-    ∙ sym (once-more sweeps (l .i) stepOf (l .w) (omega arith)) ∙ l .inv
+    let l = c .before .before .before .loop in
+    let s = c .before .before .settled in
+    let h = going sweeps (l .i) (s .result) (c .before .if1 .taken) in
+    ap (times (sweeps - (l .i + 1)) stepOf) (c .sweep .ensures) ∙ sym (goes-on sweeps (l .i) pairOf (l .w) (sym (s .ensures) ∙ h .1) (h .0)) ∙ l .inv
 
-returns-2 : tie.Need-returns-2 Inv-loop μ-loop
-unfolding workedOf
-returns-2 c =
-    let s = c .before in
-    let l = s .loop in
-    sym (none-left sweeps (l .i) stepOf (l .w) (omega arith)) ∙ l .inv ∙ ap (times sweeps stepOf) (s .before .start .ensures)
+returns : tie.Need-returns Inv-loop μ-loop
+unfolding workedOf stepOf
+returns c =
+    let s = c .before .settled in
+    let l = c .before .before .loop in
+    sym (ends sweeps (l .i) pairOf (l .w) (s .result) (sym (s .ensures)) (c .if1 .left)) ∙ l .inv ∙ ap (times sweeps stepOf) (c .before .before .before .start .ensures)
 
 pub worked-spec : {M : Type 1} → statement M
 worked-spec =
     tie.close
-    (tie.spec Inv-loop μ-loop (λ c κs. search needs) loop-holds (λ c κs. search needs) returns (λ c κs. search needs)
-    (λ c. search needs) (λ c. search needs) loop-again returns-2)
+    (tie.spec Inv-loop μ-loop (λ c κs. search needs) loop-holds (λ c κs. search needs) (λ c κs. search needs) add-i
+    loop-less loop-again returns)
