@@ -25,8 +25,7 @@ isn't finite, the determinant of the new F stored, answers and counts written (`
 
 LIMITS = """
 ## What limits the rest
-- **The root by digits.** 54 digits, each of which waits for the last, and no division: the field box divides slowly, and this is its price where a processor divides fast.
-  NACC takes five to nine roots a record, Drucker-Prager one or two, Rankine one.
+- **The root by digits.** Two digits of base 2^26, a guess of each made exact by whole numbers, and no division; NACC takes three roots a record on average here, Drucker-Prager and Rankine up to one.
 - **The elementary functions** are worked in whole numbers with a proved distance; the table above has each beside std's, which promises none.
 - **What the rival leaves out**: the ranges and NaNs inside an update, whether a record is untouched, the new sigma.
 - **Factors**: the check is exact over whole numbers, nalgebra's SVD is not checked.
