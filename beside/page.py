@@ -8,6 +8,7 @@ import platform
 import subprocess
 import sys
 
+BYTES_BEFORE = 131_252
 DOCS = pathlib.Path(__file__).resolve().parent.parent / "docs"
 LAWS = [("snow", "Snow", 1.2), ("rankine", "Rankine", 1.2), ("drucker_prager", "Drucker-Prager", 1.2), ("nacc", "NACC", 1.5)]
 
@@ -24,8 +25,7 @@ isn't finite, the determinant of the new F stored, answers and counts written (`
 
 LIMITS = """
 ## What limits the rest
-- **The root by digits.** 54 digits, each of which waits for the last, and no division: the field box divides slowly, and this is its price where a processor divides fast.
-  NACC takes five to nine roots a record, Drucker-Prager one or two, Rankine one.
+- **The root by digits.** Two digits of base 2^26, a guess of each made exact by whole numbers, and no division; NACC takes three roots a record on average here, Drucker-Prager and Rankine up to one.
 - **The elementary functions** are worked in whole numbers with a proved distance; the table above has each beside std's, which promises none.
 - **What the rival leaves out**: the ranges and NaNs inside an update, whether a record is untouched, the new sigma.
 - **Factors**: the check is exact over whole numbers, nalgebra's SVD is not checked.
@@ -33,17 +33,19 @@ LIMITS = """
 
 
 def read(file):
-    rows, grown, load = {}, [], "unknown"
+    rows, grown, night, load = {}, [], None, "unknown"
     for line in file.read_text().splitlines():
         words = line.split("\t")
         if words[0] == "load":
             load = words[1]
+        elif words[0] == "night":
+            night = (int(words[1]), float(words[2]), int(words[3]))
         elif words[0] == "grown":
             grown.append((words[1], int(words[2]), int(words[3]), float(words[4]), float(words[5])))
         else:
             number = [None if w == "-" else float(w) for w in words[2:4]]
             rows.setdefault(words[0], {})[words[1]] = number
-    return rows, grown, load
+    return rows, grown, night, load
 
 
 def over(a, b, places=2):
@@ -72,6 +74,20 @@ def laws(rows):
     for key, title, target in LAWS:
         row = rows[f"{key}, 4096"]
         yield [title, *beside(rows, f"{key}, 4096", "fair"), f"{target}", over(row["ours"][0], row.get("Rust", [None])[0])]
+
+
+def principal(row):
+    """What the stress with its verdict takes more than the stress alone, beside nalgebra's principal values of that stress."""
+    ours = [None if None in (a, b) else a - b for a, b in zip(row["ours"], row["stress"])]
+    rows = {"principal": {"ours": ours, "nalgebra": row["nalgebra"]}}
+    return ["stress and verdict less the stress", *beside(rows, "principal", "nalgebra")]
+
+
+def sheets_a_second(night):
+    if night is None:
+        return "Left out: GNU parallel is not there.\n"
+    count, seconds, processors = night
+    return f"{count:,} full sheets of 200 records by `tools/night` took {seconds:,.0f} seconds on {processors} processors: {count / seconds:,.0f} sheets a second.\n"
 
 
 def growth(grown):
@@ -119,12 +135,14 @@ def picture(rows):
 
 def main():
     work = pathlib.Path(sys.argv[1])
-    rows, grown, load = read(work / "speed.tsv")
+    rows, grown, night, load = read(work / "speed.tsv")
     text = HEAD.format(load=load, processor=processor())
     text += "\n## A record of a law's pass, factors given, beside the fair rival\n"
     text += table(["", *heads("fair"), "target", "ns over the untouched Rust's"], laws(rows))
     text += "\n## Factors worked here and checked, beside nalgebra's SVD, unchecked\n"
     text += table(["", *heads("nalgebra")], ([t, *beside(rows, f"factors of {k}, 4096", "nalgebra")] for k, t, _ in LAWS))
+    text += "\n## Principal values worked here and checked, beside nalgebra's, unchecked (target 2)\n"
+    text += table(["", *heads("nalgebra")], [principal(rows["stress and verdict, 4096"])])
     text += "\n## A record of the pass that factors first, beside the untouched Rust's update (target 1.5)\n"
     text += table(["", *heads("Rust")], ([t, *beside(rows, f"factored {k}, 4096", "Rust")] for k, t, _ in LAWS))
     text += "\n## A call of an elementary function, beside std's\n"
@@ -135,8 +153,10 @@ def main():
     text += table(["", "ns", "instructions"], ([s, figure(rows[s]["ours"][0], 1), figure(rows[s]["ours"][1])] for s in sheets))
     text += "\n## How it grows: by the clock, the best of a few turns\n"
     text += table(["", "records", "threads", "million records a second", "copied, the same", "GB a second", "copied"], growth(grown))
-    size = code_bytes(work / "libours.a")
-    text += f"\nThe library's code: {figure(size)} bytes (`size`).\n"
+    text += "\n## A night\n"
+    text += sheets_a_second(night)
+    text += "\n## The library's code\n"
+    text += f"{figure(code_bytes(work / 'libours.a'))} bytes (`size`); {BYTES_BEFORE:,} before the passes were made faster.\n"
     (DOCS / "SPEED.md").write_text(text + LIMITS)
     (DOCS / "speed.svg").write_text(picture(rows))
     print("beside: docs/SPEED.md and docs/speed.svg are made")

@@ -1,6 +1,7 @@
 //! Times of ours beside the Rust, in one run: medians of interleaved rounds, CPU time; and instructions, by callgrind.
 //! timing WORK [--count | --growth]: WORK is the folder with libuntouched.so, and speed.tsv is left there; --count is how the program
-//! runs itself under callgrind; --growth tells besides how a pass grows with its list.
+//! runs itself under callgrind; --growth tells besides how a pass grows with its list, and
+//! leaves 100 sheets in WORK/sheets.
 mod callgrind;
 #[path = "../../calls.rs"]
 #[allow(dead_code)]
@@ -63,6 +64,15 @@ fn factors(work: &str) -> Vec<Row> {
     (0..LAWS.len()).map(row).collect()
 }
 
+/// A record's stress with its verdict, its stress alone, and the Rust's verdict on that stress: the principal values and their check are what
+/// the first has more than the second.
+fn verdicts(work: &str) -> Vec<Row> {
+    let records = drawn(1, 4096);
+    let theirs = TheirVerdict::new(&format!("{work}/libuntouched.so"), &records).map(|side| Box::new(side) as Box<dyn Side>);
+    let ours = |judged: bool| some(OurStress { records: records.clone(), judged });
+    vec![Row { name: "stress and verdict, 4096".to_string(), units: 4096, sides: vec![ours(true), ours(false), theirs] }]
+}
+
 /// A law's pass that factors first beside the untouched Rust's update, which does too.
 fn factored(work: &str) -> Vec<Row> {
     let file = format!("{work}/libuntouched.so");
@@ -99,16 +109,33 @@ fn functions() -> Vec<Row> {
     FUNCTIONS.iter().map(row).collect()
 }
 
-/// A full sheet of 200 records: model, parameters, the count in two groups, records, with their determinants or without. It must give
-/// what the list does.
+/// A full sheet of 200 records: model, parameters, the count in two groups, records, with their determinants or without.
+fn spelt(number: usize, records: &[u64]) -> Vec<u8> {
+    let floats = if number < LAWS.len() { BARE } else { FLOATS };
+    let mut bytes = vec![number as u8];
+    bytes.extend(LAWS[number % LAWS.len()].parameters.iter().flat_map(|x| x.to_le_bytes()));
+    bytes.extend([200 % 128 + 128, 200u8 / 128]);
+    bytes.extend(records.chunks(FLOATS).flat_map(|r| &r[..floats]).flat_map(|x| x.to_le_bytes()));
+    bytes
+}
+
+/// Full sheets of every law, for a night's run.
+fn write_sheets(folder: &str, count: usize) {
+    std::fs::create_dir_all(folder).unwrap();
+    let lists: Vec<Vec<u64>> = (0..LAWS.len()).map(|model| drawn(model, 4096)).collect();
+    for k in 0..count {
+        let from = k * 37 % 3896 * FLOATS;
+        let records = &lists[k % LAWS.len()][from..from + 200 * FLOATS];
+        std::fs::write(format!("{folder}/{k:03}.sheet"), spelt(LAWS.len() + k % LAWS.len(), records)).unwrap();
+    }
+}
+
+/// A sheet read, or read and run. It must give what the list does.
 fn sheet(number: usize, run: bool) -> Row {
     let (model, floats) = (number % LAWS.len(), if number < LAWS.len() { BARE } else { FLOATS });
     let law = &LAWS[model];
-    let mut bytes = vec![number as u8];
-    bytes.extend(law.parameters.iter().flat_map(|x| x.to_le_bytes()));
-    bytes.extend([200 % 128 + 128, 200u8 / 128]);
     let records = drawn(model, 200);
-    bytes.extend(records.chunks(FLOATS).flat_map(|r| &r[..floats]).flat_map(|x| x.to_le_bytes()));
+    let bytes = spelt(number, &records);
     let (mut sheet, mut list) = (Sheet::new(bytes, run), OurPass::new(model, &bits(law.parameters), &records));
     sheet.run();
     if run {
@@ -267,9 +294,9 @@ fn main() {
     let args: Vec<String> = std::env::args().collect();
     let work = &args[1];
     let (mut laws, mut functions, mut sheets) = (laws(work), functions(), sheets());
-    let (mut factors, mut factored) = (factors(work), factored(work));
+    let (mut factors, mut verdicts, mut factored) = (factors(work), verdicts(work), factored(work));
     if args.iter().any(|a| a == "--count") {
-        let rows = laws.iter_mut().chain(&mut factors).chain(&mut factored);
+        let rows = laws.iter_mut().chain(&mut factors).chain(&mut verdicts).chain(&mut factored);
         rows.chain(&mut functions).chain(&mut sheets).for_each(count);
         return;
     }
@@ -297,6 +324,13 @@ fn main() {
         &counts,
         &mut told,
     );
+    table(
+        "A record's stress with the verdict by its principal values, checked, beside its stress alone and nalgebra's values of it, unchecked",
+        &["ours", "stress", "nalgebra"],
+        &mut verdicts,
+        &counts,
+        &mut told,
+    );
     let title = "A record of a law's pass that factors first, beside the untouched Rust's update with its SVD";
     table(title, &["ours", "Rust"], &mut factored, &counts, &mut told);
     table("A call of an elementary function, beside std's", &["ours", "std"], &mut functions, &counts, &mut told);
@@ -306,6 +340,7 @@ fn main() {
     }
     if args.iter().any(|a| a == "--growth") {
         grow(&mut told);
+        write_sheets(&format!("{work}/sheets"), 100);
     }
     println!("\nThe machine's load at the end {}", load());
     std::fs::write(format!("{work}/speed.tsv"), told).unwrap();

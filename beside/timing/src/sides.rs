@@ -1,6 +1,9 @@
 //! What is timed: ours, the untouched Rust, the Rust less its SVD, and the same with ours' duties (`fair.rs`); our factors and nalgebra's.
 use crate::calls::{self, Particle, BARE, FLOATS};
-use crate::externs::{pasoletu_factor_list, pasoletu_pass, pasoletu_pass_factored, pasoletu_read_sheet, pasoletu_run_sheet};
+use crate::externs::{
+    pasoletu_factor_list, pasoletu_neo_hookean_stress_and_verdict, pasoletu_pass, pasoletu_pass_factored, pasoletu_read_sheet,
+    pasoletu_record_neo_hookean_fpk_stress, pasoletu_run_sheet,
+};
 use crate::library::Library;
 use crate::records::completed;
 use std::hint::black_box;
@@ -125,6 +128,68 @@ impl Side for TheirFactors {
     }
     fn records(&self) -> Vec<u64> {
         self.records.iter().map(|x| x.to_bits()).collect()
+    }
+}
+
+/// cfl_coeff, lambda and mu of a neo-Hookean law, and limits on its stress.
+const LAW: [f64; 3] = [0.9, 27778.0, 41667.0];
+const LIMITS: [f64; 2] = [1000.0, 1000.0];
+
+/// The nine words of a record's stress, with the verdict by its principal values or without.
+fn stress(record: &[u64], judged: bool, out: &mut [u64; 9]) -> u8 {
+    let (law, limits) = (LAW.map(f64::to_bits), LIMITS.map(f64::to_bits));
+    let (r, o) = (record.as_ptr(), out.as_mut_ptr());
+    let mut verdict = 0;
+    unsafe {
+        if judged {
+            pasoletu_neo_hookean_stress_and_verdict(law.as_ptr(), 3, limits.as_ptr(), 2, r, FLOATS, o, 9, &mut verdict, 1)
+        } else {
+            pasoletu_record_neo_hookean_fpk_stress(law.as_ptr(), 3, r, FLOATS, o, 9)
+        }
+    }
+}
+
+/// Each record's stress, with the verdict or without.
+pub struct OurStress {
+    pub records: Vec<u64>,
+    pub judged: bool,
+}
+
+impl Side for OurStress {
+    fn run(&mut self) {
+        for r in self.records.chunks_exact(FLOATS) {
+            let mut out = [0; 9];
+            assert_eq!(stress(r, self.judged, &mut out), 0);
+            black_box(out);
+        }
+    }
+}
+
+type Failed = extern "C" fn(*const f64, f64, f64) -> bool;
+
+/// The Rust's verdict on the stresses that ours worked, by nalgebra's principal values, where build 1 is there.
+pub struct TheirVerdict {
+    failed: Failed,
+    stresses: Vec<[f64; 9]>,
+}
+
+impl TheirVerdict {
+    pub fn new(file: &str, records: &[u64]) -> Option<Self> {
+        let failed = unsafe { std::mem::transmute::<usize, Failed>(Library::open(file)?.find("untouched_failed")?) };
+        let worked = |r: &[u64]| {
+            let mut out = [0; 9];
+            assert_eq!(stress(r, true, &mut out), 0);
+            out.map(f64::from_bits)
+        };
+        Some(TheirVerdict { failed, stresses: records.chunks_exact(FLOATS).map(worked).collect() })
+    }
+}
+
+impl Side for TheirVerdict {
+    fn run(&mut self) {
+        for s in &self.stresses {
+            black_box((self.failed)(s.as_ptr(), LIMITS[0], LIMITS[1]));
+        }
     }
 }
 

@@ -1,5 +1,5 @@
-//! Build 1 as a library of four C calls: a call of the text, a law's updates of a list, nalgebra's factors of a matrix, and one of
-//! nalgebra's own operations.
+//! Build 1 as a library of five C calls: a call of the text, a law's updates of a list, nalgebra's factors of a matrix, the verdict on a
+//! stress, and one of nalgebra's own operations.
 #[path = "../../calls.rs"]
 #[allow(dead_code)]
 mod calls;
@@ -46,6 +46,15 @@ pub unsafe extern "C" fn untouched_factors(f: *const f64, out: *mut f64) {
         }
         o[9 + r] = s.singular_values[r];
     }
+}
+
+/// The verdict on a stress, by nalgebra's principal values of it.
+/// # Safety
+/// The pointer is to the nine floats of a stress.
+#[no_mangle]
+pub unsafe extern "C" fn untouched_failed(stress: *const f64, max_principal: f64, max_shear: f64) -> bool {
+    let limits = sparkl::dynamics::models::MaximumStressFailure::new(max_principal, max_shear);
+    limits.particle_failed(&Matrix3::from_row_slice(std::slice::from_raw_parts(stress, 9)))
 }
 
 /// One of nalgebra's operations; matrices by columns. 0 where there is no answer.

@@ -6,6 +6,7 @@ use lib.Dec.{ltb}
 use lib.Ieee as Ieee
 use lib.Ieee.{Float, binary64, ofBits}
 use Rattle.exact.specs.Units.{mag, sgn}
+use Rattle.exponential.specs.declared.Quotient.{Quotient}
 use Rattle.exponential.specs.Entries.{coarseOf, fineOf}
 
 -- the range from -700 to 700
@@ -43,10 +44,14 @@ raisedOf b = cond (ltb b (2 ^ 61)) (2 ^ 61) b
 unfoldable pub packOf : ℕ → ℕ → ℕ
 packOf e b = cond (ltb (raisedOf b) (2 ^ 62)) ((e - 1) * 2 ^ 52 + raisedOf b / 512) (e * 2 ^ 52 + raisedOf b / 1024)
 
--- the bits of exp u, and of exp (- u): 2^k exp r where u = k ln 2 + r, and exp r / 2^k where u + r = k ln 2
+-- the exponent's field and the rest r: u = k ln 2 + r, and where the sign is set u + r = k ln 2
+abbrev pub quotientOf : Bool → ℕ → Quotient
+quotientOf false u = record { field = 1023 + belowOf u; rest = u - timesOf (belowOf u) }
+quotientOf true u = record { field = 1023 - aboveOf u; rest = timesOf (aboveOf u) - u }
+
+-- the bits of exp u, and of exp (- u): 2^k exp r, and exp r / 2^k
 unfoldable pub expBits : Bool → ℕ → ℕ
-expBits false u = packOf (1023 + belowOf u) (partOf (u - timesOf (belowOf u)))
-expBits true u = packOf (1023 - aboveOf u) (partOf (timesOf (aboveOf u) - u))
+expBits negative u = let q = quotientOf negative u in packOf (q .field) (partOf (q .rest))
 
 -- x in units of 2^-53, rounded to 0
 abbrev pub cutOf : Float → ℕ

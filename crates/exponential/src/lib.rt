@@ -18,7 +18,7 @@ ghost use Rattle.exact.specs.Units.{sgn};
 ghost use Rattle.series.specs.ExpNear.{ExpNear};
 ghost use Rattle.answers.specs.Range.{inRange, bare, onPath};
 ghost use Rattle.exponential.specs.Exp.{expRanged};
-ghost use Rattle.exponential.specs.Worked.{low, high, timesOf, raisedOf, packOf, expBits, cutOf, expOf};
+ghost use Rattle.exponential.specs.Worked.{low, high, timesOf, raisedOf, packOf, quotientOf, expBits, cutOf, expOf};
 
 // k ln 2, in units of 2^-53.
 fn times(k: u64) -> u64
@@ -52,19 +52,40 @@ fn pack(e: u64, b: u64) -> u64
     }
 }
 
+// The exponent's field, and the rest in units of 2^-53.
+struct Quotient {
+    field: u64,
+    rest: u64,
+}
+
+// u, or - u, as a multiple of ln 2 and a rest that is not negative.
+fn divided(negative: bool, u: u64) -> Quotient
+    requires { ⌜ u ≤ 700 * 2 ^ 53 ⌝ }
+    ensures { λ q. ⌜ q ≡ quotientOf negative u ⌝ }
+{
+    if negative {
+        let k = ((u + 0x1_ffff_ffff) / 0x2_0000_0000 * 1549082005 + 0x3_ffff_ffff_ffff)
+            / 0x4_0000_0000_0000;
+        Quotient {
+            field: 1023 - k,
+            rest: times(k) - u,
+        }
+    } else {
+        let k = u / 0x2_0000_0000 * 1549082004 / 0x4_0000_0000_0000;
+        Quotient {
+            field: 1023 + k,
+            rest: u - times(k),
+        }
+    }
+}
+
 // The bits of exp (u / 2^53), or of exp (- u / 2^53).
 fn exp_bits(negative: bool, u: u64) -> u64
     requires { ⌜ u ≤ 700 * 2 ^ 53 ⌝ }
     ensures { λ n. ⌜ n ≡ expBits negative u ⌝ }
 {
-    if negative {
-        let k = ((u + 0x1_ffff_ffff) / 0x2_0000_0000 * 1549082005 + 0x3_ffff_ffff_ffff)
-            / 0x4_0000_0000_0000;
-        pack(1023 - k, exp_part(times(k) - u))
-    } else {
-        let k = u / 0x2_0000_0000 * 1549082004 / 0x4_0000_0000_0000;
-        pack(1023 + k, exp_part(u - times(k)))
-    }
+    let q = divided(negative, u);
+    pack(q.field, exp_part(q.rest))
 }
 
 // The size of x in units of 2^-53, rounded down.

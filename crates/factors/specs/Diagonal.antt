@@ -25,7 +25,7 @@ use Rattle.factors.specs.declared.Work.{Work}
 use Rattle.factors.specs.declared.Factors.{Factors}
 use Rattle.factors.specs.declared.Principal.{Principal}
 use Rattle.factors.specs.Turns.{sizeOf, tinyOf}
-use Rattle.factors.specs.Sweeps.{sweeps, entry, pairOf, nextOf, sweepBy, settledOf, stepBy, stepOf, times, startOf, workedOf, signedRowOf, factorsOf, identityRows, takenOf}
+use Rattle.factors.specs.Sweeps.{sweeps, entry, pairOf, nextOf, sweepBy, settledOf, stepBy, stepOf, stays, startOf, workedOf, signedRowOf, factorsOf, identityRows, takenOf}
 use Rattle.factors.specs.PrincipalValues.{mirroredOf, levelPairOf, levelStepOf, levelledOf, principalOf, principalAccepted, readOf}
 use Rattle.factors.specs.Answers.{factoredOf, principalsOf}
 use Rattle.factors.specs.Check.{notBelow, acceptedOf, largestIn}
@@ -49,10 +49,6 @@ pair-skips w g h = simp (zero-tiny (entry w 0 1) (w .least) g, zero-tiny (entry 
 level-skips : Skips levelPairOf
 unfolding levelPairOf
 level-skips w g h = simp (zero-tiny (entry w 0 1) (w .least) g, zero-tiny (entry w 1 0) (w .least) h)
-
-stays : (n : ℕ) (g : Work → Work) (w : Work) → g w ≡ w → times n g w ≡ w
-stays Nat.zero g w e = refl
-stays (suc n) g w e = ap (times n g) e ∙ stays n g w e
 
 either : (b : Bool) (w x : Work) → x ≡ w → cond b w x ≡ w
 either true w x e = refl

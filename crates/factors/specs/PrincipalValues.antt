@@ -32,8 +32,11 @@ unfoldable pub principalOf : List (List Float) → Principal
 principalOf f = readOf (levelledOf (mirroredOf f))
 
 -- the rows of the axes, taken as columns, are U and V
-unfoldable pub principalAccepted : List (List Float) → Principal → Bool
-principalAccepted f x =
-    matFinite (mirroredOf f) && rowsFinite (x .axes) && rowFinite (x .values)
-    && nearAll (transposeOf (ofRows (x .axes))) (x .values) (transposeOf (ofRows (x .axes))) (mirroredOf f) (largestIn (mirroredOf f))
+abbrev pub mirroredAccepted : List (List Float) → Principal → Bool
+mirroredAccepted g x =
+    matFinite g && rowsFinite (x .axes) && rowFinite (x .values)
+    && nearAll (transposeOf (ofRows (x .axes))) (x .values) (transposeOf (ofRows (x .axes))) g (largestIn g)
     && orthogonalOf (transposeOf (ofRows (x .axes)))
+
+unfoldable pub principalAccepted : List (List Float) → Principal → Bool
+principalAccepted f x = mirroredAccepted (mirroredOf f) x

@@ -1,5 +1,6 @@
 -- The sweeps (ticket 6: "by a number of sweeps fixed in docs"), as they are worked: each works the first two axes three times over,
 -- counting the axes from the next one after each time. docs/FACTORS.md has them in words.
+use mathlib.Core.Path.{_≡_, refl, ap, _∙_}
 use mathlib.Core.Bool.{Bool, cond, _&&_}
 use mathlib.Core.List.{List}
 use Prim.Native.Nat.{ℕ, zero, suc}
@@ -101,6 +102,10 @@ stepOf w = stepBy pairOf w
 abbrev pub times : ℕ → (Work → Work) → Work → Work
 times zero g w = w
 times (suc n) g w = times n g (g w)
+
+pub stays : (n : ℕ) (g : Work → Work) (w : Work) → g w ≡ w → times n g w ≡ w
+stays zero g w e = refl
+stays (suc n) g w e = ap (times n g) e ∙ stays n g w e
 
 -- ---- from F to its factors
 abbrev pub identityRows : Rows

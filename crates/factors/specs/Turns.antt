@@ -50,7 +50,7 @@ halfAngleOf x y =
 
 -- by nothing where y is at most e in size
 unfoldable pub halfTurnOf : Float → Float → Float → Turn
-halfTurnOf x y e = halfAngleOf x (cond (tinyOf y e) zero y)
+halfTurnOf x y e = cond (tinyOf y e) (record { c = one; s = Ieee.neg zero }) (halfAngleOf x y)
 
 unfoldable pub afterOf : Turn → Turn → Turn
 afterOf a b = record { c = sub (mul (a .c) (b .c)) (mul (a .s) (b .s)); s = add (mul (a .s) (b .c)) (mul (a .c) (b .s)) }

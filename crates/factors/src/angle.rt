@@ -1,7 +1,6 @@
 // The turns that bring a matrix nearer to a diagonal. Nothing is proved of how near: the check judges what comes out.
 use crate::Turn;
 ghost use mathlib.Core.Path.{_≡_};
-ghost use mathlib.Core.Bool.{cond};
 ghost use Rattle.factors.specs.Turns.{sizeOf, tinyOf, ratioOf, quarterOf, doubledOf, steepOf, backOf, halfTurnOf, afterOf};
 
 // The root of 1/2.
@@ -18,12 +17,6 @@ pub fn tiny(x: f64, e: f64) -> bool
     ensures { λ r. ⌜ r ≡ tinyOf x e ⌝ }
 {
     (x == 0.0) | (size(x) <= e)
-}
-
-fn pick(b: bool, x: f64, y: f64) -> f64
-    ensures { λ r. ⌜ r ≡ cond b x y ⌝ }
-{
-    if b { x } else { y }
 }
 
 fn ratio(n: f64, d: f64) -> f64
@@ -81,11 +74,15 @@ pub fn back(t: Turn) -> Turn
 pub fn half_turn(x: f64, y: f64, e: f64) -> Turn
     ensures { λ t. ⌜ t ≡ halfTurnOf x y e ⌝ }
 {
-    let z = pick(tiny(y, e), 0.0, y);
-    let high = size(x) < size(z);
-    let r = ratio(pick(high, x, z), pick(high, z, x));
-    let t = doubled(quarter(r));
-    if high { steep(r, t) } else { back(t) }
+    if tiny(y, e) {
+        return Turn { c: 1.0, s: -0.0 };
+    }
+    if size(x) < size(y) {
+        let r = ratio(x, y);
+        steep(r, doubled(quarter(r)))
+    } else {
+        back(doubled(quarter(ratio(y, x))))
+    }
 }
 
 // By the angles of both.

@@ -1,6 +1,7 @@
 // The check of factors, exact over whole numbers.
 use crate::Factors;
 ghost use mathlib.Core.Path.{_≡_};
+ghost use mathlib.Core.Bool.{true};
 ghost use Rattle.exact.specs.Units.{mag};
 ghost use Rattle.factors.specs.Check.{Size, larger, largestOf, largestIn, notBelow, acceptedOf};
 
@@ -42,9 +43,24 @@ fn not_below(s: [f64; 3]) -> bool
     (0.0 <= s[0]) & (0.0 <= s[1]) & (0.0 <= s[2])
 }
 
-// Whether the factors of f pass the check.
-pub fn accepted(f: [[f64; 3]; 3], x: Factors) -> bool
-    ensures { λ r. ⌜ r ≡ acceptedOf f x ⌝ }
+// Whether a test in floats shows that the factors of f pass the check; m is the largest size in f.
+fn surely(f: [[f64; 3]; 3], x: Factors, m: f64) -> bool
+    ensures { λ r. ⌜ (r ≡ true → mag m ≡ largestIn f → acceptedOf f x ≡ true) ⌝ }
+{
+    let p = x.u;
+    let q = x.vt;
+    let s = x.sigma;
+    let u = tensor::of_rows(p);
+    let v = tensor::transpose(tensor::of_rows(q));
+    not_below(s)
+        & nearness::surely_near(u, s, v, f, m)
+        & nearness::surely_orthogonal(u)
+        & nearness::surely_orthogonal(v)
+}
+
+// The same without a doubt.
+fn exactly(f: [[f64; 3]; 3], x: Factors, m: f64) -> bool
+    ensures { λ r. ⌜ (mag m ≡ largestIn f → r ≡ acceptedOf f x) ⌝ }
 {
     let p = x.u;
     let q = x.vt;
@@ -56,7 +72,18 @@ pub fn accepted(f: [[f64; 3]; 3], x: Factors) -> bool
         & tensor::row_finite(s)
         & tensor::rows_finite(q)
         & not_below(s)
-        & nearness::near_all(u, s, v, f, largest(f))
+        & nearness::near_all(u, s, v, f, m)
         & nearness::orthogonal(u)
         & nearness::orthogonal(v)
+}
+
+// Whether the factors of f pass the check.
+pub fn accepted(f: [[f64; 3]; 3], x: Factors) -> bool
+    ensures { λ r. ⌜ r ≡ acceptedOf f x ⌝ }
+{
+    let m = largest(f);
+    if surely(f, x, m) {
+        return true;
+    }
+    exactly(f, x, m)
 }

@@ -5,7 +5,11 @@ use crate::angle;
 use crate::check;
 use crate::sweep;
 ghost use mathlib.Core.Path.{_≡_};
-ghost use Rattle.factors.specs.PrincipalValues.{mirroredOf, levelPairOf, levelStepOf, levelledOf, principalOf, principalAccepted};
+ghost use mathlib.Core.Bool.{true};
+ghost use Rattle.exact.specs.Units.{mag};
+ghost use Rattle.factors.specs.Check.{largestIn};
+ghost use Rattle.factors.specs.Sweeps.{sweepBy};
+ghost use Rattle.factors.specs.PrincipalValues.{mirroredOf, levelPairOf, levelledOf, principalOf, mirroredAccepted, principalAccepted};
 
 // The lower triangle with the diagonal, mirrored.
 fn mirrored(f: [[f64; 3]; 3]) -> [[f64; 3]; 3]
@@ -34,21 +38,29 @@ fn level_pair(w: Work) -> Work
     sweep::next(sweep::both(w, y, y))
 }
 
-fn level_step(w: Work) -> Work
-    ensures { λ x. ⌜ x ≡ levelStepOf w ⌝ }
+// A sweep: each pair of axes once.
+fn level_sweep(x: Work) -> Work
+    ensures { λ r. ⌜ r ≡ sweepBy levelPairOf x ⌝ }
 {
-    if sweep::settled(w) {
-        return w;
+    let mut w = x;
+    let mut i = 0;
+    while i < sweep::PAIRS {
+        w = level_pair(w);
+        i += 1;
     }
-    level_pair(level_pair(level_pair(w)))
+    w
 }
 
 fn levelled(f: [[f64; 3]; 3]) -> Work
     ensures { λ x. ⌜ x ≡ levelledOf f ⌝ }
 {
-    level_step(level_step(level_step(level_step(level_step(level_step(level_step(level_step(sweep::start(
-        f,
-    )))))))))
+    let mut w = sweep::start(f);
+    let mut i = 0;
+    while (i < sweep::SWEEPS) & !sweep::settled(w) {
+        w = level_sweep(w);
+        i += 1;
+    }
+    w
 }
 
 // The principal values of the lower triangle of f, and their axes as the rows of a matrix.
@@ -65,17 +77,37 @@ pub fn principal_of(f: [[f64; 3]; 3]) -> Principal
     Principal { values, axes }
 }
 
-// Whether they pass the check; signs are free.
-pub fn principal_accepted(f: [[f64; 3]; 3], x: Principal) -> bool
-    ensures { λ r. ⌜ r ≡ principalAccepted f x ⌝ }
+// Whether a test in floats shows that they pass the check, g being mirrored and m the largest size in it; and the same without a doubt.
+fn surely(g: [[f64; 3]; 3], x: Principal, m: f64) -> bool
+    ensures { λ r. ⌜ (r ≡ true → mag m ≡ largestIn g → mirroredAccepted g x ≡ true) ⌝ }
 {
     let p = x.axes;
     let s = x.values;
     let q = tensor::transpose(tensor::of_rows(p));
-    let g = mirrored(f);
+    nearness::surely_near(q, s, q, g, m) & nearness::surely_orthogonal(q)
+}
+
+fn exactly(g: [[f64; 3]; 3], x: Principal, m: f64) -> bool
+    ensures { λ r. ⌜ (mag m ≡ largestIn g → r ≡ mirroredAccepted g x) ⌝ }
+{
+    let p = x.axes;
+    let s = x.values;
+    let q = tensor::transpose(tensor::of_rows(p));
     tensor::mat_finite(g)
         & tensor::rows_finite(p)
         & tensor::row_finite(s)
-        & nearness::near_all(q, s, q, g, check::largest(g))
+        & nearness::near_all(q, s, q, g, m)
         & nearness::orthogonal(q)
+}
+
+// Whether they pass the check; signs are free.
+pub fn principal_accepted(f: [[f64; 3]; 3], x: Principal) -> bool
+    ensures { λ r. ⌜ r ≡ principalAccepted f x ⌝ }
+{
+    let g = mirrored(f);
+    let m = check::largest(g);
+    if surely(g, x, m) {
+        return true;
+    }
+    exactly(g, x, m)
 }

@@ -5,10 +5,15 @@ use crate::Work;
 use crate::angle;
 use tensor::Rows;
 ghost use mathlib.Core.Path.{_≡_};
-ghost use Rattle.factors.specs.Sweeps.{upOf, downOf, turnedOf, mixedOf, columnsOf, bothOf, pairOf, cycleRowOf, cycleOf, nextOf, settledOf, stepOf, leastOf, startOf, workedOf, signedRowOf, factorsOf};
+ghost use Rattle.factors.specs.Sweeps.{upOf, downOf, turnedOf, mixedOf, columnsOf, bothOf, pairOf, cycleRowOf, cycleOf, nextOf, sweepBy, settledOf, leastOf, startOf, workedOf, signedRowOf, factorsOf};
 
 // 2^-51.
 const LEAST: f64 = 4.440892098500626e-16;
+
+// The pairs of axes, and the number of sweeps.
+pub(crate) const PAIRS: u64 = 3;
+
+pub(crate) const SWEEPS: u64 = 8;
 
 fn up(a: [f64; 3], d: [f64; 3], r: Turn) -> [f64; 3]
     ensures { λ x. ⌜ x ≡ upOf a d r ⌝ }
@@ -147,14 +152,17 @@ pub(crate) fn settled(w: Work) -> bool
         & angle::tiny(c[1], e)
 }
 
-// A sweep: each pair of axes once. Where nothing is left to turn it ends the work.
-fn step(w: Work) -> Work
-    ensures { λ x. ⌜ x ≡ stepOf w ⌝ }
+// A sweep: each pair of axes once.
+fn sweep(x: Work) -> Work
+    ensures { λ r. ⌜ r ≡ sweepBy pairOf x ⌝ }
 {
-    if settled(w) {
-        return w;
+    let mut w = x;
+    let mut i = 0;
+    while i < PAIRS {
+        w = pair(w);
+        i += 1;
     }
-    pair(pair(pair(w)))
+    w
 }
 
 fn row_size(a: [f64; 3]) -> f64
@@ -175,11 +183,17 @@ pub(crate) fn start(f: [[f64; 3]; 3]) -> Work
     Work { m, u, v: u, least }
 }
 
-// Eight sweeps.
+// Eight sweeps, or as many as leave nothing to turn.
 fn worked(f: [[f64; 3]; 3]) -> Work
     ensures { λ x. ⌜ x ≡ workedOf f ⌝ }
 {
-    step(step(step(step(step(step(step(step(start(f)))))))))
+    let mut w = start(f);
+    let mut i = 0;
+    while (i < SWEEPS) & !settled(w) {
+        w = sweep(w);
+        i += 1;
+    }
+    w
 }
 
 // The row of U^T, its sign changed with that of a sigma below 0.

@@ -1,1 +1,3 @@
+pub mod Ends
 pub mod KindLaws
+pub mod StoredFinite

@@ -17,6 +17,8 @@ use Rattle.exact.specs.Ring.{ring, var, con, _:+_, _:-_, _:*_}
 use Rattle.exact.specs.Value.{val, signed, abs-val, add-val, mul-val}
 use Rattle.exact.specs.OrderLe.{le-val, between-finite}
 use Rattle.exact.specs.Normal.{above-positive, below-positive}
+use Rattle.numbers.specs.Floats.{finite}
+use Rattle.numbers.proofs.Laws.{finite-is}
 use Rattle.tensor.specs.Axes.{entries}
 use Rattle.nearness.specs.Near.{exactSum, near}
 use Rattle.nearness.specs.Quick.{Tame, Bounded, RowBounded, Sound, two, fourfold}
@@ -127,10 +129,10 @@ within-both z k h l = rw (abs-is z) (go z k h l)
     go (negsuc a) zero h l = omega arith
     go (negsuc a) (suc k) h l = omega arith
 
-not-below : (s : Bool) (m : ℕ) → pos 0 ≤ᶻ signed s m → signed s m ≡ pos m
-not-below false m h = refl
-not-below true zero h = refl
-not-below true (suc m) h = absurd (omega arith)
+within-signed : (z : ℤ) (s : Bool) (k : ℕ) → negℤ (signed s k) ≤ᶻ z → z ≤ᶻ signed s k → abs z ≤ k
+within-signed z false k h l = within-both z k h l
+within-signed z true zero h l = within-both z zero h l
+within-signed z true (suc k) h l = absurd (omega arith)
 
 pub naught-fine : Fin64 (ofBits binary64 0)
 unfolding ofBits fits
@@ -140,13 +142,15 @@ pub naught-val : val (ofBits binary64 0) ≡ pos 0
 unfolding val mag L ofBits
 naught-val = refl
 
--- 0 ≤ t, -t ≤ x and x ≤ t
-pub bounded : (x t : Float) → T (fits binary64 x) → T (le (ofBits binary64 0) t) → T (le (neg t) x) → T (le x t) → Fin64 t → Fin64 x × (mag x ≤ mag t)
+-- -t ≤ x and x ≤ t, so that t is not below 0
+pub bounded : (x t : Float) → T (fits binary64 x) → T (le (neg t) x) → T (le x t) → Fin64 t → Fin64 x × (mag x ≤ mag t)
 unfolding val
-bounded x t f a b c g =
+bounded x t f b c g =
     let h : Fin64 x = (between-finite (neg t) x t (neg-fine t g .0) (g .0) b c, f) in
-    let e : val t ≡ pos (mag t) = not-below (sgn t) (mag t) (rw naught-val at (le-val (ofBits binary64 0) t naught-fine g a)) in
-    (h, rw (abs-val x) at (within-both (val x) (mag t) (subst (λ (z : ℤ). negℤ z ≤ᶻ val x) e (rw (neg-val t g) at (le-val (neg t) x (neg-fine t g) h b))) (subst (λ (z : ℤ). val x ≤ᶻ z) e (le-val x t h g c))))
+    (h, rw (abs-val x) at (within-signed (val x) (sgn t) (mag t) (rw (neg-val t g) at (le-val (neg t) x (neg-fine t g) h b)) (le-val x t h g c)))
+
+pub bounded-finite : (x t : Float) → Bounded x t → finite x ≡ true
+bounded-finite x t h = finite-is x ∙ is-true _ (h .0 .0)
 
 abbrev pub lowest : Float
 lowest = ofBits binary64 0x0170_0000_0000_0000
@@ -274,7 +278,7 @@ sumOf u s v f =
     (mul binary64 (mul binary64 (getD s 2 nan) (getD u 2 nan)) (getD v 2 nan)))
     (neg f)
 
-pub surely-is : (u s v : List Float) (f m : Float) → length u ≡ 3 → length s ≡ 3 → length v ≡ 3 → Sound u s v m → (Fin64 m → Bounded f m)
+pub surely-is : (u s v : List Float) (f m : Float) → length u ≡ 3 → length s ≡ 3 → length v ≡ 3 → Sound u s v m → Bounded f m
     → (Fin64 (mul binary64 m tiny) → Bounded (sumOf u s v f) (mul binary64 m tiny)) → near u s v f (mag m) ≡ true
 surely-is u s v f m lu ls lv h hf hd =
     let g = h .scale in
@@ -286,5 +290,5 @@ surely-is u s v f m lu ls lv h hf hd =
     let d = hd (e .0) in
     sym (λ i. near (entries nan u lu i) (entries nan s ls i) (entries nan v lv i) f (mag m))
     ∙ surely-near (getD u 0 nan) (getD u 1 nan) (getD u 2 nan) (getD s 0 nan) (getD s 1 nan) (getD s 2 nan) (getD v 0 nan) (getD v 1 nan) (getD v 2 nan) f m (g .0) (g .1)
-    (a .at0) (a .at1) (a .at2) (c .at0 .0, le-trans (c .at0 .1) (q .1)) (c .at1 .0, le-trans (c .at1 .1) (q .1)) (c .at2 .0, le-trans (c .at2 .1) (q .1)) (b .at0) (b .at1) (b .at2) (hf (g .0))
+    (a .at0) (a .at1) (a .at2) (c .at0 .0, le-trans (c .at0 .1) (q .1)) (c .at1 .0, le-trans (c .at1 .1) (q .1)) (c .at2 .0, le-trans (c .at2 .1) (q .1)) (b .at0) (b .at1) (b .at2) hf
     (le-trans (mul-le-mul-right (2 ^ 41) (d .1)) (e .1))

@@ -1,18 +1,22 @@
--- From all entries to a row of them and to one; and U U ^ T is alike on both sides of its diagonal. Assumes nothing.
-use mathlib.Core.Path.{_≡_, refl, sym, ap, ap₂, _∙_}
+-- From a row of entries to one; 1 as the scale; and U U ^ T is alike on both sides of its diagonal. Assumes nothing.
+use mathlib.Core.Path.{_≡_, refl, sym, ap, ap₂, _∙_, subst}
 use mathlib.Core.Bool.{Bool, true, false, _&&_}
 use mathlib.Core.List.{List, [], _∷_}
 use Prim.Native.Nat.{ℕ, _*_, _^_}
-use lib.Dec.{leb}
+use native.Mathlib.Nat.{le-refl}
+use lib.Dec.{leb, lit≤}
 use lib.IntN.{ℤ, pos, _+ℤ_, _-ℤ_, _*ℤ_}
 use lib.ListN.{getD}
-use lib.Ieee.{Float}
-use Rattle.exact.specs.Units.{L}
+use lib.Ieee.{Float, add, fits, ofBits, round}
+use Rattle.exact.specs.Units.{L, mag, Fin64}
+use Rattle.exact.specs.Positives.{one-is}
 use Rattle.exact.specs.Integers.{abs, *-comm, *-assoc}
 use Rattle.exact.specs.Value.{val}
+use Rattle.numbers.specs.Floats.{finite}
 use Rattle.tensor.specs.Matrix.{zero, one, three}
+use Rattle.tensor.specs.Finite.{rowFinite}
 use Rattle.nearness.specs.Near.{exactSum, near, nearRow, nearAll, orthogonalOf}
-use Rattle.nearness.specs.Quick.{RowBounded, Sound, SoundRow, SoundAll, two}
+use Rattle.nearness.specs.Quick.{Tame, Bounded, RowBounded, Sound, SoundRow, two, fourfold}
 
 module _ {u s : List Float} {v : List (List Float)} {m : Float} (h : SoundRow u s v m) where
   one-of : {a : List Float} → RowBounded a two → Sound u s a m
@@ -26,19 +30,6 @@ module _ {u s : List Float} {v : List (List Float)} {m : Float} (h : SoundRow u 
 
   pub sound2 : Sound u s (getD v 2 []) m
   sound2 = one-of (h .right .row2)
-
-module _ {u : List (List Float)} {s : List Float} {v : List (List Float)} {m : Float} (h : SoundAll u s v m) where
-  row-of : {a : List Float} → RowBounded a two → SoundRow a s v m
-  row-of {a} r = record { scale = h .scale; sigma = h .sigma; left = r; right = h .right }
-
-  pub row0 : SoundRow (getD u 0 []) s v m
-  row0 = row-of (h .left .row0)
-
-  pub row1 : SoundRow (getD u 1 []) s v m
-  row1 = row-of (h .left .row1)
-
-  pub row2 : SoundRow (getD u 2 []) s v m
-  row2 = row-of (h .left .row2)
 
 -- ---- both sides of the diagonal
 turn : (a b c : ℤ) → a *ℤ b *ℤ c ≡ c *ℤ b *ℤ a
@@ -75,3 +66,30 @@ orthogonal-six a b c =
     six-of-nine (near a ones a one L) (near a ones b zero L) (near a ones c zero L) (near b ones b one L) (near b ones c zero L) (near c ones c one L)
     ∙ (λ i. (near a ones a one L && near a ones b zero L && near a ones c zero L) && (near-turned a ones b zero L i && near b ones b one L && near b ones c zero L)
     && (near-turned a ones c zero L i && near-turned b ones c zero L i && near c ones c one L))
+
+-- ---- 1 as the scale
+unit-scale : Fin64 one × Tame (mag one)
+unfolding ofBits fits mag L
+unit-scale = ((tt, tt), record { some = lit≤ tt; room = lit≤ tt })
+
+one-bounded : Bounded one (fourfold one)
+unfolding ofBits fits mag L add round
+one-bounded = ((tt, tt), lit≤ tt)
+
+ones-finite : rowFinite ones ≡ true
+unfolding ofBits finite
+ones-finite = refl
+
+pub unit-sound : {a b : List Float} → RowBounded a two → RowBounded b two → Sound a ones b one
+unit-sound h k = record { scale = unit-scale; sigma = record { at0 = one-bounded; at1 = one-bounded; at2 = one-bounded; fine = ones-finite }; left = h; right = k }
+
+-- what U U ^ T is held to
+pub on-diagonal : Bounded one one
+on-diagonal = (unit-scale .0, le-refl (mag one))
+
+pub off-diagonal : Bounded zero one
+unfolding ofBits fits mag L
+off-diagonal = ((tt, tt), lit≤ tt)
+
+pub of-unit : (u v : List Float) (f : Float) → near u ones v f (mag one) ≡ true → near u ones v f L ≡ true
+of-unit u v f h = subst (λ (k : ℕ). near u ones v f k ≡ true) (one-is .0) h

@@ -1,13 +1,10 @@
 use crate::Term;
 use crate::float;
 use crate::multiply;
-use crate::quick;
 use crate::walk;
 ghost use mathlib.Core.Path.{_≡_};
-ghost use mathlib.Core.Bool.{true};
 ghost use Rattle.exact.specs.Units.{mag};
 ghost use Rattle.nearness.specs.Near.{near};
-ghost use Rattle.nearness.specs.Quick.{Sound};
 ghost use Rattle.nearness.specs.Terms.{TripleOf};
 
 // 2^-20.
@@ -20,14 +17,10 @@ fn triple(a: f64, b: f64, c: f64) -> Term
     multiply::product(float::units(a), float::units(b), float::units(c))
 }
 
-// Whether the sum of the products u s v lies within m / 2^40 of f, exactly. Where `sound` is true the quick test is tried first.
-pub fn near(sound: bool, u: [f64; 3], s: [f64; 3], v: [f64; 3], f: f64, m: f64) -> bool
-    requires { ⌜ (sound ≡ true → Sound u s v m) ⌝ }
+// Whether the sum of the products u s v lies within m / 2^40 of f, exactly.
+pub fn near(u: [f64; 3], s: [f64; 3], v: [f64; 3], f: f64, m: f64) -> bool
     ensures { λ r. ⌜ r ≡ near u s v f (mag m) ⌝ }
 {
-    if quick::surely(sound, u, s, v, f, m) {
-        return true;
-    }
     walk::within(
         triple(u[0], s[0], v[0]),
         triple(u[1], s[1], v[1]),

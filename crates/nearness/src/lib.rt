@@ -8,6 +8,8 @@ mod walk;
 
 pub use all::near_all;
 pub use all::orthogonal;
+pub use quick::surely_near;
+pub use quick::surely_orthogonal;
 
 // A float in units of 2^-1074: n * 2^e of them, with a sign.
 pub struct Whole {

@@ -8,6 +8,7 @@ use Rattle.tensor.specs.Matrix as tensor
 use Rattle.tensor.specs.Matrix.{recomposeOf, rowsOf}
 use Rattle.tensor.specs.Finite.{rowFinite, matFinite}
 use Rattle.plasticity.specs.State.{refused}
+use Rattle.plasticity.specs.declared.Outcome.{Outcome}
 use Rattle.plasticity.specs.declared.Outcome.the-variants as outcome
 use Rattle.plasticity.specs.declared.Scalars.{Scalars}
 use Rattle.plasticity.specs.declared.State.{State}
@@ -18,13 +19,12 @@ use Rattle.walk.specs.Matrix.{product}
 use Rattle.walk.specs.Update.{Change, untouched, stored, updatedOf, recomposed, floatsOf}
 use Rattle.reason.specs.Traced.{Traced, reached, stopped, traced}
 use Rattle.plasticity_drucker_prager.specs.declared.Branch.{Branch}
-use Rattle.plasticity_drucker_prager.specs.declared.Branch.the-variants as branches
 use Rattle.plasticity_drucker_prager.specs.declared.DruckerPragerPlasticity.{DruckerPragerPlasticity}
 use Rattle.plasticity_drucker_prager.specs.declared.Measured.{Measured}
 use Rattle.plasticity_drucker_prager.specs.declared.Measured.the-variants as measured
 use Rattle.plasticity_drucker_prager.specs.Law.{parametersOf}
 use Rattle.plasticity_drucker_prager.specs.Alpha.{dim, alphaWalk}
-use Rattle.plasticity_drucker_prager.specs.Projection.{zero, Way, isotropic, expanding, inside, surface, Returned, projectWalk}
+use Rattle.plasticity_drucker_prager.specs.Projection.{zero, Way, isotropic, expanding, inside, surface, Returned, projectWalk, outcomeOf}
 
 -- plastic determinant, plastic hardening and log gain are new
 abbrev pub scalarsOf : Float → Float → Float → Scalars → Scalars
@@ -120,12 +120,14 @@ finiteResults f sigma d h gain = (matFinite f && rowFinite sigma) && ((finite d 
 abbrev pub untouchedOf : State → Updated
 untouchedOf s = record { state = s; outcome = outcome.Untouched }
 
+-- the outcome is that of the projection
+abbrev pub byOutcome : Outcome → DruckerPragerPlasticity → List Float → List (List Float) → List (List Float) → State → Updated
+byOutcome outcome.Untouched p sigma u vt s = untouchedOf s
+byOutcome (outcome.Stored dq) p sigma u vt s = updatedOf s (result (movedWalk p sigma dq u vt s))
+byOutcome (outcome.Refused n) p sigma u vt s = refused n s
+
 abbrev pub followedOf : Branch → DruckerPragerPlasticity → List Float → Float → List (List Float) → List (List Float) → State → Updated
-followedOf (branches.Isotropic x y z) p sigma dq u vt s = updatedOf s (result (movedWalk p sigma dq u vt s))
-followedOf (branches.Expanding x y) p sigma dq u vt s = updatedOf s (result (movedWalk p sigma dq u vt s))
-followedOf (branches.Inside x y) p sigma dq u vt s = untouchedOf s
-followedOf (branches.Surface x y z) p sigma dq u vt s = updatedOf s (result (movedWalk p sigma dq u vt s))
-followedOf (branches.Refused n step) p sigma dq u vt s = refused n s
+followedOf b p sigma dq u vt s = byOutcome (outcomeOf b dq) p sigma u vt s
 
 abbrev pub druckerUpdate : DruckerPragerPlasticity → List (List Float) → List (List Float) → State → Updated
 druckerUpdate p u vt s = updatedOf s (result (druckerWalk p u vt s))

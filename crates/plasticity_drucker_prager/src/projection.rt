@@ -80,7 +80,7 @@ fn returned_projection(q: Projected) -> Projected
 }
 
 // Whether the values are new; dq is the amount.
-fn outcome_of(b: Branch, dq: f64) -> Outcome
+pub(crate) fn outcome_of(b: Branch, dq: f64) -> Outcome
     ensures { λ r. ⌜ r ≡ outcomeOf b dq ⌝ }
 {
     match b {

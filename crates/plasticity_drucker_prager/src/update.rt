@@ -1,8 +1,8 @@
 // The update of one particle.
-use crate::Branch;
 use crate::DruckerPragerPlasticity;
 use crate::Measured;
 use crate::Projected;
+use crate::projection;
 use crate::steps;
 use answers::Answer;
 use plasticity::Outcome;
@@ -154,12 +154,10 @@ impl DruckerPragerPlasticity {
     {
         let b = q.branch;
         let sigma = q.sigma;
-        match b {
-            Branch::Isotropic(_, _, _) => self.moved(sigma, q.dq, u, vt, s),
-            Branch::Expanding(_, _) => self.moved(sigma, q.dq, u, vt, s),
-            Branch::Inside(_, _) => untouched(s),
-            Branch::Surface(_, _, _) => self.moved(sigma, q.dq, u, vt, s),
-            Branch::Refused(n, _) => plasticity::refuse(n, s),
+        match projection::outcome_of(b, q.dq) {
+            Outcome::Untouched => untouched(s),
+            Outcome::Stored(dq) => self.moved(sigma, dq, u, vt, s),
+            Outcome::Refused(n) => plasticity::refuse(n, s),
         }
     }
 

@@ -247,8 +247,11 @@ abbrev pub steppedOf : Traced Landed → Stepped
 steppedOf (reached q) = record { branch = branchOf (q .way); sigma = q .shape .sigma; alpha = q .shape .alpha }
 steppedOf (stopped n step) = refusedStep n step
 
+abbrev pub besideZeros : Branch → Projected
+besideZeros b = record { branch = b; f = zeroRows; sigma = zeroRow; alpha = tensor.zero }
+
 abbrev pub refusedProjection : ℕ → ℕ → Projected
-refusedProjection n step = record { branch = Refused n step; f = zeroRows; sigma = zeroRow; alpha = tensor.zero }
+refusedProjection n step = besideZeros (Refused n step)
 
 abbrev pub walkedOf : Traced Result → Projected
 walkedOf (reached q) = record { branch = branchOf (q .way); f = q .f; sigma = q .shape .sigma; alpha = q .shape .alpha }
@@ -264,14 +267,7 @@ recomposedOf b u sigma vt alpha =
     (record { branch = b; f = rowsOf (recomposeOf u sigma vt); sigma = sigma; alpha = alpha })
     (refusedProjection noNumber 30)
 
-abbrev pub byBranch : Branch → List Float → Float → Rows → List (List Float) → List (List Float) → Projected
-byBranch (Upper x y) sigma alpha f u vt = recomposedOf (Upper x y) u sigma vt alpha
-byBranch (Lower x y) sigma alpha f u vt = recomposedOf (Lower x y) u sigma vt alpha
-byBranch (Inside x y) sigma alpha f u vt = record { branch = Inside x y; f = f; sigma = sigma; alpha = alpha }
-byBranch (Surface x y) sigma alpha f u vt = recomposedOf (Surface x y) u sigma vt alpha
-byBranch (Refused n step) sigma alpha f u vt = refusedProjection n step
-
--- as it is handed out: the branch and what it compared stay inside
+-- whether the values are new
 abbrev pub outcomeOf : Branch → Float → Outcome
 outcomeOf (Upper x y) alpha = outcome.Stored alpha
 outcomeOf (Lower x y) alpha = outcome.Stored alpha
@@ -279,18 +275,27 @@ outcomeOf (Inside x y) alpha = outcome.Untouched
 outcomeOf (Surface x y) alpha = outcome.Stored alpha
 outcomeOf (Refused n step) alpha = outcome.Refused n
 
+-- F is recomposed where they are
+abbrev pub recomposedBy : Outcome → Branch → List Float → Float → Rows → List (List Float) → List (List Float) → Projected
+recomposedBy outcome.Untouched b sigma alpha f u vt = record { branch = b; f = f; sigma = sigma; alpha = alpha }
+recomposedBy (outcome.Stored new) b sigma alpha f u vt = recomposedOf b u sigma vt new
+recomposedBy (outcome.Refused n) b sigma alpha f u vt = besideZeros b
+
+abbrev pub byBranch : Branch → List Float → Float → Rows → List (List Float) → List (List Float) → Projected
+byBranch b sigma alpha f u vt = recomposedBy (outcomeOf b alpha) b sigma alpha f u vt
+
+-- as it is handed out: the branch and what it compared stay inside
 abbrev pub resultsOf : Projected → Results
 resultsOf q = record { outcome = outcomeOf (q .branch) (q .alpha); f = q .f; sigma = q .sigma }
 
-abbrev pub storedAs : Rows → List Float → Float → State → Updated
-storedAs f sigma alpha s = record { state = stateOf f sigma alpha s; outcome = outcome.Stored alpha }
+-- the state is stored where the values are new
+abbrev pub byOutcome : Outcome → Rows → List Float → State → Updated
+byOutcome outcome.Untouched f sigma s = record { state = s; outcome = outcome.Untouched }
+byOutcome (outcome.Stored alpha) f sigma s = record { state = stateOf f sigma alpha s; outcome = outcome.Stored alpha }
+byOutcome (outcome.Refused n) f sigma s = law.refused n s
 
 abbrev pub storedBy : Branch → Rows → List Float → Float → State → Updated
-storedBy (Upper x y) f sigma alpha s = storedAs f sigma alpha s
-storedBy (Lower x y) f sigma alpha s = storedAs f sigma alpha s
-storedBy (Inside x y) f sigma alpha s = record { state = s; outcome = outcome.Untouched }
-storedBy (Surface x y) f sigma alpha s = storedAs f sigma alpha s
-storedBy (Refused n step) f sigma alpha s = law.refused n s
+storedBy b f sigma alpha s = byOutcome (outcomeOf b alpha) f sigma s
 
 abbrev pub naccUpdate : NaccPlasticity → List (List Float) → List (List Float) → State → Updated
 naccUpdate p u vt s = updatedOf s (result (naccWalk p u vt s))

@@ -17,10 +17,11 @@ ghost use Rattle.plasticity.specs.State.{inputsFinite};
 ghost use Rattle.walk.specs.Walk.{result};
 ghost use Rattle.walk.specs.Update.{updatedOf};
 ghost use Rattle.reason.specs.Traced.{traced};
-ghost use Rattle.plasticity_nacc.specs.Nacc.{outcomeOf, resultsOf, refusedProjection, recomposedOf, byBranch, walkedOf, projectedOf, projectInputs, projectCall, scalarsOf, stateOf, storedBy, runWalk, naccUpdate};
+ghost use Rattle.plasticity_nacc.specs.Nacc.{outcomeOf, resultsOf, besideZeros, refusedProjection, recomposedOf, byBranch, walkedOf, projectedOf, projectInputs, projectCall, scalarsOf, stateOf, storedBy, runWalk, naccUpdate};
 
-fn refused_projection(n: u8, step: u8) -> Projected
-    ensures { λ r. ⌜ r ≡ refusedProjection n step ⌝ }
+// Zeros beside the branch.
+fn beside_zeros(b: Branch) -> Projected
+    ensures { λ r. ⌜ r ≡ besideZeros b ⌝ }
 {
     let z = [0.0, 0.0, 0.0];
     let zeros = Rows {
@@ -29,11 +30,17 @@ fn refused_projection(n: u8, step: u8) -> Projected
         r2: z,
     };
     Projected {
-        branch: Branch::Refused(n, step),
+        branch: b,
         f: zeros,
         sigma: z,
         alpha: 0.0,
     }
+}
+
+fn refused_projection(n: u8, step: u8) -> Projected
+    ensures { λ r. ⌜ r ≡ refusedProjection n step ⌝ }
+{
+    beside_zeros(Branch::Refused(n, step))
 }
 
 // The results are given where all are finite.
@@ -60,23 +67,34 @@ fn recomposed(
     }
 }
 
+// Whether the values are new; alpha is the amount.
+fn outcome_of(b: Branch, alpha: f64) -> Outcome
+    ensures { λ r. ⌜ r ≡ outcomeOf b alpha ⌝ }
+{
+    match b {
+        Branch::Upper(_, _) => Outcome::Stored(alpha),
+        Branch::Lower(_, _) => Outcome::Stored(alpha),
+        Branch::Inside(_, _) => Outcome::Untouched,
+        Branch::Surface(_, _) => Outcome::Stored(alpha),
+        Branch::Refused(n, _) => Outcome::Refused(n),
+    }
+}
+
 // F is recomposed, but inside the yield surface as it came.
 pub(crate) fn projected(q: Stepped, f: Rows, u: [[f64; 3]; 3], vt: [[f64; 3]; 3]) -> Projected
     ensures { λ r. ⌜ r ≡ byBranch (q .branch) (q .sigma) (q .alpha) f u vt ⌝ }
 {
     let b = q.branch;
     let sigma = q.sigma;
-    match b {
-        Branch::Upper(x, y) => recomposed(Branch::Upper(x, y), u, sigma, vt, q.alpha),
-        Branch::Lower(x, y) => recomposed(Branch::Lower(x, y), u, sigma, vt, q.alpha),
-        Branch::Inside(x, y) => Projected {
-            branch: Branch::Inside(x, y),
+    match outcome_of(b, q.alpha) {
+        Outcome::Untouched => Projected {
+            branch: b,
             f,
             sigma,
             alpha: q.alpha,
         },
-        Branch::Surface(x, y) => recomposed(Branch::Surface(x, y), u, sigma, vt, q.alpha),
-        Branch::Refused(n, step) => refused_projection(n, step),
+        Outcome::Stored(alpha) => recomposed(b, u, sigma, vt, alpha),
+        Outcome::Refused(_) => beside_zeros(b),
     }
 }
 
@@ -111,37 +129,16 @@ fn stored(q: Projected, s: State) -> Updated
     let b = q.branch;
     let f = q.f;
     let sigma = q.sigma;
-    match b {
-        Branch::Upper(_, _) => Updated {
-            state: state_of(f, sigma, q.alpha, s),
-            outcome: Outcome::Stored(q.alpha),
-        },
-        Branch::Lower(_, _) => Updated {
-            state: state_of(f, sigma, q.alpha, s),
-            outcome: Outcome::Stored(q.alpha),
-        },
-        Branch::Inside(_, _) => Updated {
+    match outcome_of(b, q.alpha) {
+        Outcome::Untouched => Updated {
             state: s,
             outcome: Outcome::Untouched,
         },
-        Branch::Surface(_, _) => Updated {
-            state: state_of(f, sigma, q.alpha, s),
-            outcome: Outcome::Stored(q.alpha),
+        Outcome::Stored(alpha) => Updated {
+            state: state_of(f, sigma, alpha, s),
+            outcome: Outcome::Stored(alpha),
         },
-        Branch::Refused(n, _) => plasticity::refuse(n, s),
-    }
-}
-
-// Whether the values are new; alpha is the amount.
-fn outcome_of(b: Branch, alpha: f64) -> Outcome
-    ensures { λ r. ⌜ r ≡ outcomeOf b alpha ⌝ }
-{
-    match b {
-        Branch::Upper(_, _) => Outcome::Stored(alpha),
-        Branch::Lower(_, _) => Outcome::Stored(alpha),
-        Branch::Inside(_, _) => Outcome::Untouched,
-        Branch::Surface(_, _) => Outcome::Stored(alpha),
-        Branch::Refused(n, _) => Outcome::Refused(n),
+        Outcome::Refused(n) => plasticity::refuse(n, s),
     }
 }
 

@@ -15,6 +15,8 @@ use Rattle.walk.specs.Matrix.{dots}
 use Rattle.walk.specs.Update.{Change, untouched, stored, updatedOf, recomposed, floatsOf}
 use Rattle.plasticity_rankine.specs.declared.Branch.{Branch}
 use Rattle.plasticity_rankine.specs.declared.Branch.the-variants.{Untouched, One, Two, All, Refused}
+use Rattle.plasticity_rankine.specs.declared.Moves.{Moves}
+use Rattle.plasticity_rankine.specs.declared.Moves.the-variants as moves
 use Rattle.plasticity_rankine.specs.declared.RankineArguments.{RankineArguments}
 use Rattle.plasticity_rankine.specs.declared.RankinePlasticity.{RankinePlasticity}
 use Rattle.plasticity_rankine.specs.Law.{lawOf, parametersOf, argumentsFloats, moduli}
@@ -104,12 +106,22 @@ argumentsWalk a u vt s = inputs (floats (argumentsFloats a) u vt s) (moduli (law
 abbrev pub untouchedOf : State → Updated
 untouchedOf s = record { state = s; outcome = outcome.Untouched }
 
+-- whether strains move
+abbrev pub movesOf : Branch → Moves
+movesOf (Untouched x y) = moves.No
+movesOf (One x y) = moves.Yes
+movesOf (Two x y) = moves.Yes
+movesOf (All x y) = moves.Yes
+movesOf (Refused n) = moves.Refused n
+
+-- w where they do
+abbrev pub byMoves : Moves → Walk Change → State → Updated
+byMoves moves.No w s = untouchedOf s
+byMoves moves.Yes w s = updatedOf s (result w)
+byMoves (moves.Refused n) w s = law.refused n s
+
 abbrev pub followedOf : Branch → RankinePlasticity → List Float → List Float → List (List Float) → List (List Float) → State → Updated
-followedOf (Untouched x y) p old new u vt s = untouchedOf s
-followedOf (One x y) p old new u vt s = updatedOf s (result (movedWalk p old (nums new) u vt s))
-followedOf (Two x y) p old new u vt s = updatedOf s (result (movedWalk p old (nums new) u vt s))
-followedOf (All x y) p old new u vt s = updatedOf s (result (movedWalk p old (nums new) u vt s))
-followedOf (Refused n) p old new u vt s = law.refused n s
+followedOf b p old new u vt s = byMoves (movesOf b) (movedWalk p old (nums new) u vt s) s
 
 abbrev pub rankineUpdate : RankinePlasticity → List (List Float) → List (List Float) → State → Updated
 rankineUpdate p u vt s = updatedOf s (result (rankineWalk p u vt s))

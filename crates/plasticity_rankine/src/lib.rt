@@ -53,6 +53,13 @@ enum Branch {
     Refused(u8),
 }
 
+// Whether strains move; or the refusal's number.
+enum Moves {
+    No,
+    Yes,
+    Refused(u8),
+}
+
 // The branch taken and the strains after it, in index order; zeros beside a refusal.
 struct Projected {
     branch: Branch,

@@ -1,5 +1,6 @@
 // The update of one particle.
 use crate::Branch;
+use crate::Moves;
 use crate::Projected;
 use crate::RankinePlasticity;
 use answers::Answer;
@@ -17,7 +18,19 @@ ghost use Rattle.walk.specs.Expr.{num, value, nums};
 ghost use Rattle.walk.specs.Walk.{result};
 ghost use Rattle.walk.specs.Update.{updatedOf};
 ghost use Rattle.plasticity_rankine.specs.Law.{parametersFinite};
-ghost use Rattle.plasticity_rankine.specs.Rankine.{untouchedOf, stateOf, storeWalk, expsWalk, movedWalk, softStrength, followedOf, runWalk, rankineUpdate};
+ghost use Rattle.plasticity_rankine.specs.Rankine.{untouchedOf, stateOf, storeWalk, expsWalk, movedWalk, softStrength, movesOf, followedOf, runWalk, rankineUpdate};
+
+fn moves_of(b: Branch) -> Moves
+    ensures { λ r. ⌜ r ≡ movesOf b ⌝ }
+{
+    match b {
+        Branch::Untouched(_, _) => Moves::No,
+        Branch::One(_, _) => Moves::Yes,
+        Branch::Two(_, _) => Moves::Yes,
+        Branch::All(_, _) => Moves::Yes,
+        Branch::Refused(n) => Moves::Refused(n),
+    }
+}
 
 fn untouched(s: State) -> Updated
     ensures { λ r. ⌜ r ≡ untouchedOf s ⌝ }
@@ -133,12 +146,10 @@ impl RankinePlasticity {
     {
         let b = q.branch;
         let new = q.strains;
-        match b {
-            Branch::Untouched(_, _) => untouched(s),
-            Branch::One(_, _) => self.moved(e, new, u, vt, s),
-            Branch::Two(_, _) => self.moved(e, new, u, vt, s),
-            Branch::All(_, _) => self.moved(e, new, u, vt, s),
-            Branch::Refused(n) => plasticity::refuse(n, s),
+        match moves_of(b) {
+            Moves::No => untouched(s),
+            Moves::Yes => self.moved(e, new, u, vt, s),
+            Moves::Refused(n) => plasticity::refuse(n, s),
         }
     }
 

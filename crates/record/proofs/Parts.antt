@@ -4,27 +4,44 @@ use mathlib.Core.Bool.{Bool, true, false, not, _&&_}
 use mathlib.Core.List.{List}
 use Prim.Native.Nat.{ℕ, _+_, _/_, _%_, _^_, _<_, _≤_}
 use native.Mathlib.Omega.{arith}
-use lib.Dec.{T, ltb, eqb}
-use borrow.Author.Tests.{ltb-true, ltb-false, eq-eqb, ne-eqb}
+use lib.Dec.{T, eqb}
+use lib.ListN.{length, getD}
+use lib.Bits.{bitAnd, bitOr, and-le-l, and-le-r, or-lt, or-add-and}
+use borrow.Author.Tests.{ltb-true, ltb-false, lt-ltb, le-ltb, eq-eqb, ne-eqb}
 use lib.Ieee.{Float, nan, inf, fin, isNan, binary64, ofBits, nanBits}
 use lib.Ieee.Bits.{nanBits-is}
 use Rattle.numbers.specs.Floats.{finite}
 use Rattle.numbers.proofs.Laws.{and-both, finite-bits}
+use Rattle.tensor.specs.Axes.{of-one}
+use Rattle.tensor.specs.declared.Rows.{Rows}
 use Rattle.tensor.specs.Finite.{rowFinite, matFinite, rowsFinite}
 use Rattle.plasticity.specs.State.{scalarsFinite, stateFinite, inputsFinite}
-use Rattle.record.specs.Layout.{layout, place, placeF, placeSigma, placeDeterminant, floatAt, rowAt, matAt, rowsAt, uAt, vtAt, stateAt, recordFinite}
+use Rattle.record.specs.Layout.{layout, place, placeF, placeSigma, placeDeterminant, floatAt, rowAt, matAt, rowsAt, uAt, vtAt, stateAt, recordFinite, low}
 
-below-ones : (e : ℕ) → e < 2048 → ltb e 2047 ≡ not (eqb e 2047)
-below-ones e h = go (ltb e 2047) refl
+-- a pattern with no sign, its exponent one more, is low where that exponent was not all ones
+below-ones : (m : ℕ) → m < 2 ^ 63 → low (m + 2 ^ 52) ≡ not (eqb (m / 2 ^ 52) 2047)
+below-ones m h = go (low (m + 2 ^ 52)) refl
   where
-    go : (b : Bool) → ltb e 2047 ≡ b → b ≡ not (eqb e 2047)
-    go true q = let k = ltb-true e 2047 q in rw (ne-eqb e 2047 (λ g. absurd (omega arith))) refl
-    go false q = let k = ltb-false e 2047 q in rw (eq-eqb e 2047 (omega arith)) refl
+    go : (b : Bool) → low (m + 2 ^ 52) ≡ b → b ≡ not (eqb (m / 2 ^ 52) 2047)
+    go true q = let k = ltb-true (m + 2 ^ 52) (2 ^ 63) q in rw (ne-eqb (m / 2 ^ 52) 2047 (λ g. absurd (omega arith))) refl
+    go false q = let k = ltb-false (m + 2 ^ 52) (2 ^ 63) q in rw (eq-eqb (m / 2 ^ 52) 2047 (omega arith)) refl
 
-pub word : (n : ℕ) → ltb (n % 2 ^ 63 / 2 ^ 52) 2047 ≡ finite (ofBits binary64 n)
-word n = below-ones (n % 2 ^ 63 / 2 ^ 52) (omega arith) ∙ sym (finite-bits n)
+pub lifted : (n : ℕ) → low (n % 2 ^ 63 + 2 ^ 52) ≡ finite (ofBits binary64 n)
+lifted n = below-ones (n % 2 ^ 63) (omega arith) ∙ sym (finite-bits n)
 
-finite-number : (x : Float) → finite x ≡ true → T (not (isNan x))
+-- an OR is low where both are
+pub or-low : (a b : ℕ) → low (bitOr a b) ≡ low a && low b
+or-low a b = go (low a) (low b) refl refl
+  where
+    sum : bitOr a b + bitAnd a b ≡ a + b
+    sum = or-add-and a b
+
+    go : (p q : Bool) → low a ≡ p → low b ≡ q → low (bitOr a b) ≡ p && q
+    go true true p q = lt-ltb (bitOr a b) (2 ^ 63) (or-lt 63 a b (ltb-true a (2 ^ 63) p) (ltb-true b (2 ^ 63) q))
+    go true false p q = le-ltb (bitOr a b) (2 ^ 63) (omega (arith, sum, and-le-l a b, ltb-false b (2 ^ 63) q))
+    go false d p q = le-ltb (bitOr a b) (2 ^ 63) (omega (arith, sum, and-le-r a b, ltb-false a (2 ^ 63) p))
+
+pub finite-number : (x : Float) → finite x ≡ true → T (not (isNan x))
 unfolding finite isNan
 finite-number nan f = subst T (sym f) tt
 finite-number (inf s) f = tt
@@ -39,6 +56,13 @@ three-parts a b c q =
     let t = and-both (a && b) c q in
     let u = and-both a b (t .0) in
     (u .0, u .1, t .1)
+
+-- of a row, and of three rows
+pub entries-parts : (v : List Float) → length v ≡ 3 → rowFinite v ≡ true → (finite (getD v 0 nan) ≡ true) × (finite (getD v 1 nan) ≡ true) × (finite (getD v 2 nan) ≡ true)
+entries-parts v h q = three-parts (finite (getD v 0 nan)) (finite (getD v 1 nan)) (finite (getD v 2 nan)) (of-one rowFinite nan v h ∙ q)
+
+pub rows-parts : (m : Rows) → rowsFinite m ≡ true → (rowFinite (m .r0) ≡ true) × (rowFinite (m .r1) ≡ true) × (rowFinite (m .r2) ≡ true)
+rows-parts m q = three-parts (rowFinite (m .r0)) (rowFinite (m .r1)) (rowFinite (m .r2)) q
 
 -- whether part k of a record, a scalar, is finite
 abbrev Scalar : List ℕ → ℕ → Bool

@@ -2,8 +2,8 @@
 -- elastic hardening, log gain and alpha, and last F's determinant, each float as its bits. All offsets stand here.
 use mathlib.Core.Bool.{Bool, _&&_}
 use mathlib.Core.List.{List, [], _∷_, _++_}
-use Prim.Native.Nat.{ℕ, zero, suc, _+_, _*_}
-use lib.Dec.{eqb}
+use Prim.Native.Nat.{ℕ, zero, suc, _+_, _*_, _^_}
+use lib.Dec.{eqb, ltb}
 use lib.ListN.{getD, set}
 use lib.Ieee as Ieee
 use lib.Ieee.{Float, nan, binary64}
@@ -109,6 +109,10 @@ stateAt r =
 -- no float of the record is a NaN or an infinity
 abbrev pub recordFinite : List ℕ → Bool
 recordFinite r = inputsFinite (uAt r) (vtAt r) (stateAt r) && finite (floatAt r placeDeterminant)
+
+-- below a sign's bit, 2^63
+abbrev pub low : ℕ → Bool
+low n = ltb n (2 ^ 63)
 
 -- a NaN's bits are 7ff8000000000000
 abbrev pub bits : Float → ℕ

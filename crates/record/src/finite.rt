@@ -11,48 +11,59 @@ ghost use lib.Ieee.{binary64};
 ghost use Rattle.numbers.specs.Floats.{finite};
 ghost use Rattle.tensor.specs.Finite.{rowFinite, matFinite, rowsFinite};
 ghost use Rattle.plasticity.specs.State.{scalarsFinite};
-ghost use Rattle.record.specs.Layout.{floats, placeF, rowAt, matAt, rowsAt, uAt, vtAt, stateAt, recordFinite, determinantRight};
+ghost use Rattle.record.specs.Layout.{floats, placeF, rowAt, matAt, rowsAt, uAt, vtAt, stateAt, recordFinite, determinantRight, low, bits};
+
+// A sign's bit.
+const SIGN: u64 = 0x8000_0000_0000_0000;
+
+// A pattern with no sign, its exponent one more: it reaches the sign where the exponent was all ones.
+fn lifted(n: u64) -> u64
+    ensures { λ x. ⌜ low x ≡ finite (Ieee.ofBits binary64 n) ⌝ }
+{
+    n % SIGN + 0x10_0000_0000_0000
+}
 
 // Whether a pattern is a finite float's: its exponent is not all ones.
 pub fn word_finite(n: u64) -> bool
     ensures { λ b. ⌜ b ≡ finite (Ieee.ofBits binary64 n) ⌝ }
 {
-    n % 0x8000_0000_0000_0000 / 0x10_0000_0000_0000 < 2047
+    lifted(n) < SIGN
 }
 
-fn row_finite(r: &[u64], at: usize) -> bool
+fn row_lifted(r: &[u64], at: usize) -> u64
     requires { ⌜ at + 3 ≤ length (now r) ⌝ }
-    ensures { λ b. ⌜ b ≡ rowFinite (rowAt (now (r .entry)) at) ⌝ }
+    ensures { λ x. ⌜ low x ≡ rowFinite (rowAt (now (r .entry)) at) ⌝ }
 {
-    word_finite(r[at]) & word_finite(r[at + 1]) & word_finite(r[at + 2])
+    lifted(r[at]) | lifted(r[at + 1]) | lifted(r[at + 2])
 }
 
-fn mat_finite(r: &[u64], at: usize) -> bool
+fn mat_lifted(r: &[u64], at: usize) -> u64
     requires { ⌜ at + 9 ≤ length (now r) ⌝ }
-    ensures { λ b. ⌜ b ≡ matFinite (matAt (now (r .entry)) at) ⌝ }
+    ensures { λ x. ⌜ low x ≡ matFinite (matAt (now (r .entry)) at) ⌝ }
 {
-    row_finite(r, at) & row_finite(r, at + 3) & row_finite(r, at + 6)
+    row_lifted(r, at) | row_lifted(r, at + 3) | row_lifted(r, at + 6)
 }
 
-fn scalars_finite(r: &[u64]) -> bool
+fn scalars_lifted(r: &[u64]) -> u64
     requires { ⌜ length (now r) ≡ floats ⌝ }
-    ensures { λ b. ⌜ b ≡ scalarsFinite (stateAt (now (r .entry)) .scalars) ⌝ }
+    ensures { λ x. ⌜ low x ≡ scalarsFinite (stateAt (now (r .entry)) .scalars) ⌝ }
 {
-    word_finite(r[crate::PHASE])
-        & word_finite(r[crate::PLASTIC_DETERMINANT])
-        & word_finite(r[crate::PLASTIC_HARDENING])
-        & word_finite(r[crate::ELASTIC_HARDENING])
-        & word_finite(r[crate::LOG_GAIN])
-        & word_finite(r[crate::ALPHA])
+    lifted(r[crate::PHASE])
+        | lifted(r[crate::PLASTIC_DETERMINANT])
+        | lifted(r[crate::PLASTIC_HARDENING])
+        | lifted(r[crate::ELASTIC_HARDENING])
+        | lifted(r[crate::LOG_GAIN])
+        | lifted(r[crate::ALPHA])
 }
 
-// Whether every float of the record is finite.
+// Whether every float of the record is finite: one test of them all.
 pub fn all_finite(r: &[u64]) -> bool
     requires { ⌜ length (now r) ≡ floats ⌝ }
     ensures { λ b. ⌜ b ≡ recordFinite (now (r .entry)) ⌝ }
 {
-    let state = mat_finite(r, crate::F) & row_finite(r, crate::SIGMA) & scalars_finite(r);
-    mat_finite(r, crate::U) & mat_finite(r, crate::VT) & state & word_finite(r[crate::DETERMINANT])
+    let state = mat_lifted(r, crate::F) | row_lifted(r, crate::SIGMA) | scalars_lifted(r);
+    let inputs = mat_lifted(r, crate::U) | mat_lifted(r, crate::VT) | state;
+    inputs | lifted(r[crate::DETERMINANT]) < SIGN
 }
 
 fn read_word(n: u64) -> f64
@@ -60,6 +71,14 @@ fn read_word(n: u64) -> f64
     ensures { λ x. ⌜ x ≡ Ieee.ofBits binary64 n ⌝ }
 {
     f64::from_bits(n)
+}
+
+// The pattern of a finite float.
+pub fn finite_bits(x: f64) -> u64
+    requires { ⌜ finite x ≡ true ⌝ }
+    ensures { λ n. ⌜ n ≡ bits x ⌝ }
+{
+    f64::to_bits(x)
 }
 
 fn read_row(r: &[u64], at: usize) -> [f64; 3]

@@ -1,5 +1,6 @@
 -- `factors::principal_values::principal_accepted` meets its contract. Assumes nothing.
-use Rattle.factors.specs.PrincipalValues.{principalAccepted}
+use mathlib.Core.Path.{sym, ap, _∙_}
+use Rattle.factors.specs.PrincipalValues.{mirroredAccepted, principalAccepted}
 use borrow.Author.Needs.{needs}
 use Rattle.factors.proofs.principal_values.principal_accepted.Statement.{statement}
 use Rattle.factors.proofs.principal_values.principal_accepted.Tie as tie
@@ -7,11 +8,17 @@ use Rattle.factors.proofs.principal_values.principal_accepted.Tie as ti
 returns : tie.Need-returns
 unfolding principalAccepted
 returns c =
-    simp (c .orthogonal .ensures, c .before .near-all .ensures, c .before .before .largest .ensures .units, c .before .before .before .row-finite .ensures, c .before .before .before .before .rows-finite .ensures, c .before .before .before .before .before .mat-finite .ensures, c .before .before .before .before .before .before .mirrored .ensures, c .before .before .before .before .before .before .before .transpose .ensures, c .before .before .before .before .before .before .before .before .of-rows .ensures)
+    let l = c .before .before in
+    sym (c .before .surely .ensures (c .if1 .taken) (l .largest .ensures .units)) ∙ ap (λ g. mirroredAccepted g (l .before .before .args .x)) (l .before .mirrored .ensures)
+
+returns-2 : tie.Need-returns-2
+unfolding principalAccepted
+returns-2 c =
+    let l = c .before .before .before in
+    c .exactly .ensures (l .largest .ensures .units) ∙ ap (λ g. mirroredAccepted g (l .before .before .args .x)) (l .before .mirrored .ensures)
 
 pub principal-accepted-spec : {M : Type 1} → statement M
 principal-accepted-spec =
     tie.close
-    (tie.spec (λ c κs. search needs) (λ c κs. search needs) (λ c κs. search needs) (λ c κs. search needs)
-    (λ c κs. search needs) (λ c κs. search needs) (λ c κs. search needs) (λ c κs. search needs)
-    (λ c κs. search needs) returns)
+    (tie.spec (λ c κs. search needs) (λ c κs. search needs) (λ c κs. search needs) returns (λ c κs. search needs)
+    returns-2)

@@ -1,17 +1,45 @@
 -- `factors::sweep::worked` meets its contract. Assumes nothing.
-use Rattle.factors.specs.Sweeps.{workedOf}
+use mathlib.Core.Path.{_≡_, refl, sym, ap, _∙_}
+use Prim.Native.Nat.{_+_, _-_}
+use native.Mathlib.Omega.{arith}
 use borrow.Author.Needs.{needs}
+use Rattle.factors.specs.Sweeps.{sweeps, times, pairOf, stepOf, workedOf}
+use Rattle.factors.proofs.Times.{going, goes-on, ends}
 use Rattle.factors.proofs.sweep.worked.Statement.{statement}
 use Rattle.factors.proofs.sweep.worked.Tie as tie
 
-returns : tie.Need-returns
-unfolding workedOf
+abbrev Inv-loop : tie.InvT-loop
+Inv-loop w₀ i₀ w i = times (sweeps - i) stepOf w ≡ times sweeps stepOf w₀
+
+abbrev μ-loop : tie.MeasureT-loop
+μ-loop w₀ i₀ w i = sweeps - i
+
+loop-holds : tie.Need-loop-holds Inv-loop μ-loop
+loop-holds c = refl
+
+add-i : tie.Need-add-i Inv-loop μ-loop
+add-i c = search (needs, going sweeps (c .before .before .before .loop .i) (c .before .before .settled .result) (c .before .if1 .taken) .0)
+
+loop-less : tie.Need-loop-less Inv-loop μ-loop
+loop-less c = omega (arith, going sweeps (c .before .before .before .loop .i) (c .before .before .settled .result) (c .before .if1 .taken) .0)
+
+loop-again : tie.Need-loop-again Inv-loop μ-loop
+unfolding stepOf
+loop-again c =
+    let l = c .before .before .before .loop in
+    let s = c .before .before .settled in
+    let h = going sweeps (l .i) (s .result) (c .before .if1 .taken) in
+    ap (times (sweeps - (l .i + 1)) stepOf) (c .sweep .ensures) ∙ sym (goes-on sweeps (l .i) pairOf (l .w) (sym (s .ensures) ∙ h .1) (h .0)) ∙ l .inv
+
+returns : tie.Need-returns Inv-loop μ-loop
+unfolding workedOf stepOf
 returns c =
-    simp (c .step8 .ensures, c .before .step7 .ensures, c .before .before .step6 .ensures, c .before .before .before .step5 .ensures, c .before .before .before .before .step4 .ensures, c .before .before .before .before .before .step3 .ensures, c .before .before .before .before .before .before .step2 .ensures, c .before .before .before .before .before .before .before .step .ensures, c .before .before .before .before .before .before .before .before .start .ensures)
+    let s = c .before .settled in
+    let l = c .before .before .loop in
+    sym (ends sweeps (l .i) pairOf (l .w) (s .result) (sym (s .ensures)) (c .if1 .left)) ∙ l .inv ∙ ap (times sweeps stepOf) (c .before .before .before .start .ensures)
 
 pub worked-spec : {M : Type 1} → statement M
 worked-spec =
     tie.close
-    (tie.spec (λ c κs. search needs) (λ c κs. search needs) (λ c κs. search needs) (λ c κs. search needs)
-    (λ c κs. search needs) (λ c κs. search needs) (λ c κs. search needs) (λ c κs. search needs)
-    (λ c κs. search needs) returns)
+    (tie.spec Inv-loop μ-loop (λ c κs. search needs) loop-holds (λ c κs. search needs) (λ c κs. search needs) add-i
+    loop-less loop-again returns)

@@ -2,29 +2,19 @@
 use mathlib.Core.List.{[]}
 use Rattle.exact.specs.Units.{mag}
 use Rattle.tensor.specs.Axes.{of-two}
-use Rattle.nearness.proofs.Sounds.{row0, row1, row2}
 use Rattle.nearness.specs.Near.{nearAll}
 use borrow.Author.Needs.{needs}
 use Rattle.nearness.proofs.all.near_all.Statement.{statement}
 use Rattle.nearness.proofs.all.near_all.Tie as tie
 
-near-row-requires : tie.Need-near-row-requires
-near-row-requires c κs = λ h. row0 (c .before .before .ready .ensures h)
-
-near-row-requires-2 : tie.Need-near-row-requires-2
-near-row-requires-2 c κs = λ h. row1 (c .before .before .before .before .before .ready .ensures h)
-
-near-row-requires-3 : tie.Need-near-row-requires-3
-near-row-requires-3 c κs = λ h. row2 (c .before .before .before .before .before .before .before .before .ready .ensures h)
-
 returns : tie.Need-returns
 unfolding nearAll
 returns c =
     simp (c .near-row3 .ensures, c .before .before .before .near-row2 .ensures, c .before .before .before .before .before .before .near-row .ensures)
-    (let s = c .before .before .before .before .before .before .before .before .before .before in of-two (λ u f. nearAll u (s .args .s) (s .args .v) f (mag (s .args .m))) [] [] (s .args .t1) (s .args .t4) (search needs) (search needs))
+    (let s = c .before .before .before .before .before .before .before .before .before in of-two (λ u f. nearAll u (s .args .s) (s .args .v) f (mag (s .args .m))) [] [] (s .args .t1) (s .args .t4) (search needs) (search needs))
 
 pub near-all-spec : {M : Type 1} → statement M
 near-all-spec =
     tie.close
-    (tie.spec (λ c κs. search needs) (λ c. search needs) (λ c. search needs) near-row-requires (λ c. search needs)
-    (λ c. search needs) near-row-requires-2 (λ c. search needs) (λ c. search needs) near-row-requires-3 returns)
+    (tie.spec (λ c. search needs) (λ c. search needs) (λ c κs. search needs) (λ c. search needs) (λ c. search needs)
+    (λ c κs. search needs) (λ c. search needs) (λ c. search needs) (λ c κs. search needs) returns)

@@ -4,38 +4,21 @@ use mathlib.Core.List.{[]}
 use lib.ListN.{getD}
 use Rattle.exact.specs.Positives.{one-is}
 use Rattle.tensor.specs.Axes.{of-one}
-use Rattle.nearness.proofs.Sounds.{sound0, sound1, sound2, row0, row1, row2, orthogonal-six}
+use Rattle.nearness.proofs.Sounds.{orthogonal-six}
 use Rattle.nearness.specs.Near.{orthogonalOf}
 use borrow.Author.Needs.{needs}
 use Rattle.nearness.proofs.all.orthogonal.Statement.{statement}
 use Rattle.nearness.proofs.all.orthogonal.Tie as tie
 
-near-requires : tie.Need-near-requires
-near-requires c κs = λ h. sound0 (row0 (c .before .before .before .ready .ensures h))
-
-near-requires-2 : tie.Need-near-requires-2
-near-requires-2 c κs = λ h. sound1 (row0 (c .before .before .before .before .ready .ensures h))
-
-near-requires-3 : tie.Need-near-requires-3
-near-requires-3 c κs = λ h. sound2 (row0 (c .before .before .before .before .before .ready .ensures h))
-
-near-requires-4 : tie.Need-near-requires-4
-near-requires-4 c κs = λ h. sound1 (row1 (c .before .before .before .before .before .before .ready .ensures h))
-
-near-requires-5 : tie.Need-near-requires-5
-near-requires-5 c κs = λ h. sound2 (row1 (c .before .before .before .before .before .before .before .ready .ensures h))
-
-near-requires-6 : tie.Need-near-requires-6
-near-requires-6 c κs = λ h. sound2 (row2 (c .before .before .before .before .before .before .before .before .ready .ensures h))
-
 returns : tie.Need-returns
 returns c =
-    let u = c .before .before .before .before .before .before .before .before .before .before .args .t1 in
+    let u = c .before .before .before .before .before .before .before .before .before .args .t1 in
     simp (c .near6 .ensures, c .before .near5 .ensures, c .before .before .near4 .ensures, c .before .before .before .near3 .ensures, c .before .before .before .before .near2 .ensures, c .before .before .before .before .before .near .ensures, one-is .0)
     (orthogonal-six (getD u 0 []) (getD u 1 []) (getD u 2 []) ∙ of-one orthogonalOf [] u (search needs))
 
 pub orthogonal-spec : {M : Type 1} → statement M
 orthogonal-spec =
     tie.close
-    (tie.spec (λ c κs. search needs) (λ c. search needs) (λ c. search needs) (λ c. search needs) near-requires
-    near-requires-2 near-requires-3 near-requires-4 near-requires-5 near-requires-6 returns)
+    (tie.spec (λ c. search needs) (λ c. search needs) (λ c. search needs) (λ c κs. search needs)
+    (λ c κs. search needs) (λ c κs. search needs) (λ c κs. search needs) (λ c κs. search needs) (λ c κs. search needs)
+    returns)

@@ -1,7 +1,11 @@
 -- `particles::stored::write_state` meets its contract: what its calls ensure, on each path.
 use borrow.Author.Needs.{needs}
+use Rattle.particles.proofs.Written.{state-parts}
 use Rattle.particles.proofs.stored.write_state.Statement.{statement}
 use Rattle.particles.proofs.stored.write_state.Tie as tie
+
+write-scalars-requires : tie.Need-write-scalars-requires
+write-scalars-requires c κs = let s = c .before .before .before .before .before .before in (search needs, state-parts (s .args .s) (s .pre .1 .1) .2)
 
 returns : tie.Need-returns
 returns c = simp (c .before .before .write-scalars .ensures, c .before .before .before .before .before .before .write-shape .ensures)
@@ -9,4 +13,4 @@ returns c = simp (c .before .before .write-scalars .ensures, c .before .before .
 pub write-state-spec : {M : Type 1} → statement M
 write-state-spec =
     tie.close
-    (tie.spec (λ c κs. search needs) (λ c κs. search needs) (λ c. search needs) returns)
+    (tie.spec (λ c κs. search needs) write-scalars-requires (λ c. search needs) returns)

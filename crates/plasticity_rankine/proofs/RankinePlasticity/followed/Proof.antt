@@ -6,31 +6,23 @@ use Rattle.plasticity_rankine.proofs.RankinePlasticity.followed.Tie as 
 returns : tie.Need-returns
 returns c =
     let c1 = c .before in
-    simp (c .untouched .ensures, c1 .enum-told .given .1)
+    let t0 = simp (c1 .before .before .moves-of .ensures) at (c1 .enum-told .given .1) in
+    simp (c .untouched .ensures, t0)
 
 returns-2 : tie.Need-returns-2
 returns-2 c =
     let c1 = c .before in
-    simp (c .moved .ensures, c1 .enum-told2 .given .1)
+    let t0 = simp (c1 .before .before .moves-of .ensures) at (c1 .enum-told2 .given .1) in
+    simp (c .moved .ensures, t0)
 
 returns-3 : tie.Need-returns-3
 returns-3 c =
-    let c1 = c .before in
-    simp (c .moved2 .ensures, c1 .enum-told3 .given .1)
-
-returns-4 : tie.Need-returns-4
-returns-4 c =
-    let c1 = c .before in
-    simp (c .moved3 .ensures, c1 .enum-told4 .given .1)
-
-returns-5 : tie.Need-returns-5
-returns-5 c =
     let c2 = c .before .before in
-    simp (c .refuse .ensures, c2 .b .given .1)
+    let t0 = simp (c2 .before .before .moves-of .ensures) at (c2 .n .given .1) in
+    simp (c .refuse .ensures, t0)
 
 pub followed-spec : {M : Type 1} → statement M
 followed-spec =
     tie.close
-    (tie.spec (λ c. search needs) (λ c κs. search needs) (λ c. search needs) (λ c κs. search needs)
-    (λ c. search needs) (λ c κs. search needs) (λ c. search needs) (λ c κs. search needs) (λ c. search needs)
-    (λ c κs. search needs) returns returns-2 returns-3 returns-4 returns-5)
+    (tie.spec (λ c κs. search needs) (λ c. search needs) (λ c κs. search needs) (λ c. search needs) (λ c κs. search needs)
+    (λ c. search needs) (λ c κs. search needs) returns returns-2 returns-3)

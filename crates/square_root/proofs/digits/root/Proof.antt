@@ -1,64 +1,41 @@
 -- `square_root::digits::root` meets its contract. Assumes nothing.
-use Prim.Native.Nat.{ℕ, suc, _*_, _^_}
-use Rattle.square_root.specs.Digits.{Going}
-use Rattle.square_root.proofs.Laws.{Turning, start, small, more, lower, ended}
+use mathlib.Core.Path.{_∙_, ap, subst}
+use Prim.Native.Nat.{_*_, _^_}
+use native.Mathlib.Omega.{arith}
+use borrow.Author.Needs.{needs}
+use Rattle.square_root.specs.Digits.{Whole}
+use Rattle.square_root.proofs.Laws.{sum-small, bounds, down, up}
 use Rattle.square_root.proofs.digits.root.Statement.{statement}
 use Rattle.square_root.proofs.digits.root.Tie as tie
 use Rattle.square_root.proofs.digits.root.Reads as reads
 use Rattle.square_root.proofs.digits.root.Lts as lts
-use Rattle.square_root.proofs.digits.digit.Reads as digit-reads
+use Rattle.square_root.proofs.digits.first.Reads as first-reads
+use Rattle.square_root.proofs.digits.raised.Reads as raised-reads
+use Rattle.square_root.proofs.digits.reciprocal.Reads as reciprocal-reads
+use Rattle.square_root.proofs.digits.second.Reads as second-reads
 
-abbrev Inv-loop : tie.InvT-loop
-Inv-loop n s₀ s = Turning (n * 2 ^ 54) s
+raised-requires : tie.Need-raised-requires
+raised-requires c κs = omega (arith, sum-small (c .first .result .root) (c .first .result .rest))
 
-abbrev μ-loop : tie.MeasureT-loop
-μ-loop n s₀ s = s .r
+second-requires : tie.Need-second-requires
+second-requires c κs =
+    let p = c .before .before .before .pre in
+    let b = bounds (c .before .before .before .args .n) (c .raised .result) (p .0) (p .1) (subst (λ N. Whole N (c .raised .result)) (c .before .first .ensures) (c .raised .ensures)) in
+    (b .0, b .1, c .raised .ensures .last, c .before .before .reciprocal .ensures)
 
-loop-holds : tie.Need-loop-holds Inv-loop μ-loop
-loop-holds c = (18, start (c .args .n) (c .pre .1))
+both : (c : lts.After-raised2 (reciprocal-reads.Asked, reciprocal-reads.Learnt, first-reads.Asked, first-reads.Learnt, raised-reads.Asked, raised-reads.Learnt, second-reads.Asked, second-reads.Learnt) reads.Pre reads.Post) → Whole (c .before .before .before .before .before .args .n * 2 ^ 52) (c .raised2 .result)
+both c =
+    let e = c .before .second .ensures .0 ∙ ap (λ N. N * 2 ^ 52) (c .before .before .raised .ensures .is ∙ c .before .before .before .first .ensures) in
+    subst (λ N. Whole N (c .raised2 .result)) e (c .raised2 .ensures)
 
--- ---- a root begun, before a turn and after each of its digits
-abbrev Turn : Type 0
-Turn = lts.Then1 (digit-reads.Asked, digit-reads.Learnt) reads.Pre reads.Post Inv-loop μ-loop
+returns : tie.Need-returns
+returns c = up _ _ (both (c .before .before .before)) (c .before .if1 .taken)
 
-abbrev whole : Turn → ℕ
-whole c = c .before .before .before .args .n * 2 ^ 54
-
-turn : (c : Turn) → (i : ℕ) × Going (whole c) (suc (suc (suc (i * 3)))) (c .before .before .loop .s)
-turn c = more (whole c) (c .before .before .loop .s) (c .before .before .loop .inv) (c .if1 .taken)
-
-after-one : (c : lts.After-digit (digit-reads.Asked, digit-reads.Learnt) reads.Pre reads.Post Inv-loop μ-loop) → Going (whole (c .before)) (suc (suc (turn (c .before) .0 * 3))) (c .digit .result)
-after-one c = c .digit .ensures (whole (c .before)) (suc (suc (turn (c .before) .0 * 3))) (turn (c .before) .1)
-
-after-two : (c : lts.After-digit2 (digit-reads.Asked, digit-reads.Learnt) reads.Pre reads.Post Inv-loop μ-loop) → Going (whole (c .before .before)) (suc (turn (c .before .before) .0 * 3)) (c .digit2 .result)
-after-two c = c .digit2 .ensures (whole (c .before .before)) (suc (turn (c .before .before) .0 * 3)) (after-one (c .before))
-
-after-three : (c : lts.After-digit3 (digit-reads.Asked, digit-reads.Learnt) reads.Pre reads.Post Inv-loop μ-loop) → Going (whole (c .before .before .before)) (turn (c .before .before .before) .0 * 3) (c .digit3 .result)
-after-three c = c .digit3 .ensures (whole (c .before .before .before)) (turn (c .before .before .before) .0 * 3) (after-two (c .before))
-
-digit-requires : tie.Need-digit-requires Inv-loop μ-loop
-digit-requires c κs = small _ _ (c .before .before .loop .s) (turn c .1)
-
-digit-requires-2 : tie.Need-digit-requires-2 Inv-loop μ-loop
-digit-requires-2 c κs = small _ _ (c .digit .result) (after-one c)
-
-digit-requires-3 : tie.Need-digit-requires-3 Inv-loop μ-loop
-digit-requires-3 c κs = small _ _ (c .digit2 .result) (after-two c)
-
-loop-less : tie.Need-loop-less Inv-loop μ-loop
-loop-less c =
-    let t = c .before .before .before in
-    lower _ _ (t .before .before .loop .s) (c .digit3 .result) (turn t .1) (after-three c)
-
-loop-again : tie.Need-loop-again Inv-loop μ-loop
-loop-again c = (turn (c .before .before .before) .0, after-three c)
-
-returns : tie.Need-returns Inv-loop μ-loop
-returns c =
-    let b = c .before .before .before in
-    ended (b .before .args .n * 2 ^ 54) (b .loop .inv .0 * 3) (b .loop .s) (b .loop .inv .1) (c .before .if1 .left)
+returns-2 : tie.Need-returns-2
+returns-2 c = down _ _ (both (c .before .before)) (c .if1 .left)
 
 pub root-spec : {M : Type 1} → statement M
 root-spec =
     tie.close
-    (tie.spec Inv-loop μ-loop loop-holds digit-requires digit-requires-2 digit-requires-3 loop-less loop-again returns)
+    (tie.spec (λ c κs. search needs) (λ c κs. search needs) raised-requires second-requires (λ c κs. search needs)
+    (λ c. search needs) returns returns-2)

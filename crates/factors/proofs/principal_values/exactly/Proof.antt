@@ -1,0 +1,14 @@
+-- `factors::principal_values::exactly` meets its contract. Assumes nothing.
+use borrow.Author.Needs.{needs}
+use Rattle.factors.proofs.principal_values.exactly.Statement.{statement}
+use Rattle.factors.proofs.principal_values.exactly.Tie as tie
+
+returns : tie.Need-returns
+returns c = λ h.
+    simp (c .orthogonal .ensures, c .before .near-all .ensures, c .before .before .row-finite .ensures, c .before .before .before .rows-finite .ensures, c .before .before .before .before .mat-finite .ensures, c .before .before .before .before .before .transpose .ensures, c .before .before .before .before .before .before .of-rows .ensures, h)
+
+pub exactly-spec : {M : Type 1} → statement M
+exactly-spec =
+    tie.close
+    (tie.spec (λ c κs. search needs) (λ c κs. search needs) (λ c κs. search needs) (λ c κs. search needs)
+    (λ c κs. search needs) (λ c κs. search needs) (λ c κs. search needs) returns)
