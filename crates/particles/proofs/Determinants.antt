@@ -27,6 +27,7 @@ use Rattle.failure_maximum_stress.specs.declared.Verdict.the-variants.{No, Yes,
 use Rattle.elasticity_corotated_linear.specs.declared.CorotatedLinearElasticity.{CorotatedLinearElasticity}
 use Rattle.model.specs.declared.Model.{Model}
 use Rattle.model.specs.Model.{modelFinite}
+use Rattle.model.proofs.KindLaws.{and-true}
 use Rattle.particles.specs.Pass.{Worked, codeOf}
 use Rattle.particles.specs.Plain.{updatedAt, kept, lawAt, keptBy, recordLaw}
 use Rattle.particles.specs.Judged.{judgeFinite, verdictAfter, unlessRefused, judgedAt, refusedRecord, marked, failureLaw}
@@ -287,12 +288,8 @@ module _ (m : Model) (r : List ℕ) where
   unfolding lawAt updatedAt
   unrefused-law u = go (modelFinite m && inputs) refl
     where
-      last : (x : Bool) → x && true ≡ x
-      last true = refl
-      last false = refl
-
       finite-is : recordFinite r ≡ inputs
-      finite-is = ap (λ (b : Bool). inputs && b) (u .stored) ∙ last inputs
+      finite-is = ap (λ (b : Bool). inputs && b) (u .stored) ∙ and-true inputs
 
       go : (b : Bool) → modelFinite m && inputs ≡ b → lawAt m r ≡ updatedAt m r
       go true h = rw (finite-is, h, u .right, u .new) refl

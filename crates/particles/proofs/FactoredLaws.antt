@@ -11,9 +11,7 @@ use Rattle.tensor.specs.Matrix.{zero}
 use Rattle.plasticity.specs.declared.Outcome.{Outcome}
 use Rattle.plasticity.specs.declared.Outcome.the-variants.{Untouched, Stored, Refused}
 use Rattle.record.specs.Layout.{recordFinite, determinantRight}
-use Rattle.model.specs.declared.Model.{Model}
 use Rattle.particles.specs.Pass.{Worked}
-use Rattle.particles.specs.Plain.{recordLaw}
 use Rattle.particles.specs.Judged.{refusedRecord}
 use Rattle.particles.specs.Factored.{factorsAt, withFactors, factorRefusal, factorLaw, heldBy, orAsItCame, factoredLaw}
 use Rattle.particles.proofs.PassLaws.{Keeps}
@@ -94,7 +92,7 @@ factored-keeps inputs step k r = go inputs (eqb (factorRefusal r) 0)
     go true false = refl
     go false b = refl
 
--- a step without a verdict fails nobody
+-- factors by themselves fail nobody
 pub factor-unjudged : (r : List ℕ) → factorLaw r .failed ≡ false
 unfolding factorLaw
 factor-unjudged r = go (eqb (factorRefusal r) 0)
@@ -102,15 +100,6 @@ factor-unjudged r = go (eqb (factorRefusal r) 0)
     go : (b : Bool) → cond b (record { outcome = Stored zero; failed = false; after = withFactors r }) (refusedRecord (factorRefusal r) r) .failed ≡ false
     go true = refl
     go false = refl
-
-pub factored-unjudged : (inputs : Bool) (m : Model) (r : List ℕ) → factoredLaw inputs (recordLaw m) r .failed ≡ false
-unfolding factoredLaw recordLaw
-factored-unjudged inputs m r = go inputs (eqb (factorRefusal r) 0)
-  where
-    go : (a b : Bool) → cond a (cond b (orAsItCame r (recordLaw m (withFactors r))) (refusedRecord (factorRefusal r) r)) (refusedRecord 1 r) .failed ≡ false
-    go true true = refl
-    go true false = refl
-    go false b = refl
 
 -- factors that nothing refuses
 pub fine : (r : List ℕ) → factorRefusal r ≡ 0 → (recordFinite r ≡ true) × (determinantRight r ≡ true) × (factorsAt r .refusal ≡ 0)

@@ -1,13 +1,14 @@
 -- The pass with failure keeps a record's length; a record fails exactly on a yes where nothing is refused. Assumes nothing.
 use mathlib.Core.Path.{_≡_, refl, sym, ap, _∙_}
-use mathlib.Core.Bool.{Bool, true, false, cond, false≢true}
+use mathlib.Core.Bool.{Bool, true, false, cond, false≢true, true≢false}
 use mathlib.Core.List.{List}
 use Prim.Native.Nat.{ℕ}
 use lib.ListN.{length, length-set}
 use native.Mathlib.Omega.{arith}
 use lib.Dec.{eqb}
 use borrow.Author.Tests.{ne-eqb}
-use Rattle.record.specs.Layout.{stateAt}
+use Rattle.record.specs.Layout.{stateAt, putPhase}
+use Rattle.tensor.specs.Matrix.{zero}
 use lib.Ieee.{Float}
 use Rattle.walk.specs.Walk.{Walk, Ended, given, refused, result}
 use Rattle.walk.specs.Exact.{path}
@@ -15,14 +16,16 @@ use Rattle.walk.specs.Answers.{vectorAs, refusalIn, refused-when, stops-positiv
 use Rattle.failure_maximum_stress.specs.Failure.{verdictOf}
 use Rattle.plasticity.specs.declared.Outcome.{Outcome}
 use Rattle.plasticity.specs.declared.Outcome.the-variants as outcome
+use Rattle.plasticity.specs.declared.State.{State}
+use Rattle.plasticity.specs.declared.Updated.{Updated}
 use Rattle.failure_maximum_stress.specs.declared.MaximumStressFailure.{MaximumStressFailure}
 use Rattle.failure_maximum_stress.specs.declared.Verdict.{Verdict}
 use Rattle.failure_maximum_stress.specs.declared.Verdict.the-variants.{No, Yes, Refused}
 use Rattle.elasticity_corotated_linear.specs.declared.CorotatedLinearElasticity.{CorotatedLinearElasticity}
 use Rattle.model.specs.declared.Model.{Model}
 use Rattle.particles.specs.Pass.{Worked, codeOf}
-use Rattle.particles.specs.Plain.{lawAt, recordLaw}
-use Rattle.particles.specs.Judged.{verdictOn, judgeFinite, verdictAfter, unlessRefused, judgedAt, refusedRecord, marked, failureLaw}
+use Rattle.particles.specs.Plain.{kept, Beside, lawAt, keptBy, recordLaw}
+use Rattle.particles.specs.Judged.{verdictOn, judgeFinite, verdictAfter, unlessRefused, judgedAt, refusedRecord, marked, outcomeBy, failedBy, failureLaw}
 use Rattle.particles.specs.declared.step.Step.{Step}
 use Rattle.particles.specs.declared.step.Step.the-variants.{Plain, Judged, Factors, FactoredPlain, FactoredJudged}
 use Rattle.particles.specs.Step.{stepLaw}
@@ -41,6 +44,31 @@ failure-keeps m l e r = go (judgeFinite l e)
     go : (b : Bool) → length (cond b (marked (judgedAt m l e r) r (recordLaw m r)) (refusedRecord 1 r) .after) ≡ length r
     go true = marked-length (judgedAt m l e r) r (recordLaw m r) (record-keeps m r)
     go false = refl
+
+-- what a verdict leaves of an update: its outcome, whether the record failed, and the phase on a yes
+module _ (m : Model) (r : List ℕ) (d : Updated) where
+  abbrev Leaves : Verdict → Outcome → Bool → List ℕ → Type 0
+  Leaves v o f after = let w = marked v r (keptBy m d r) in (o ≡ w .outcome) × (f ≡ w .failed) × (after ≡ w .after)
+
+  module _ {o : Outcome} {q : List ℕ} where
+    written : {p : Outcome} → o ≡ p → q ≡ kept m o r (d .state) → q ≡ kept m p r (d .state)
+    written a b = b ∙ ap (λ (x : Outcome). kept m x r (d .state)) a
+
+    pub marked-yes : (v : Verdict) → o ≡ outcomeBy v (d .outcome) → q ≡ kept m o r (d .state) → failedBy v ≡ true → Leaves v o true (putPhase q zero)
+    marked-yes No a b f = absurd (false≢true f)
+    marked-yes Yes a b f = (a, refl, ap (λ (x : List ℕ). putPhase x zero) (written a b))
+    marked-yes (Refused n) a b f = absurd (false≢true f)
+
+    pub marked-no : (v : Verdict) → o ≡ outcomeBy v (d .outcome) → q ≡ kept m o r (d .state) → failedBy v ≡ false → Leaves v o false q
+    marked-no No a b f = (a, refl, written a b)
+    marked-no Yes a b f = absurd (true≢false f)
+    marked-no (Refused n) a b f = (a, refl, written a b)
+
+-- and what it leaves to be stored is the law's
+pub beside-left : (v : Verdict) (o : Outcome) (r : List ℕ) (s : State) (w : ℕ) → Beside o r s w → Beside (outcomeBy v o) r s w
+beside-left No o r s w h = h
+beside-left Yes o r s w h = h
+beside-left (Refused n) o r s w h = tt
 
 -- every step of a pass keeps a record's length
 pub step-keeps : (s : Step) → Keeps (stepLaw s)

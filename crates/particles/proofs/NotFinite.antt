@@ -24,12 +24,16 @@ use Rattle.plasticity_nacc.proofs.Laws as nacc-laws
 use Rattle.plasticity_nacc.specs.Law as nacc-law
 use Rattle.plasticity_nacc.specs.Nacc as nacc
 use Rattle.failure_maximum_stress.specs.declared.MaximumStressFailure.{MaximumStressFailure}
+use Rattle.failure_maximum_stress.specs.declared.Verdict.{Verdict}
 use Rattle.elasticity_corotated_linear.specs.declared.CorotatedLinearElasticity.{CorotatedLinearElasticity}
 use Rattle.model.specs.declared.Model.{Model}
 use Rattle.model.specs.declared.Model.the-variants.{Snow, Rankine, DruckerPrager, Nacc}
 use Rattle.model.specs.Model.{modelFinite, modelUpdate}
 use Rattle.particles.specs.Plain.{updatedAt, measured, lawAt, keptBy, recordLaw}
-use Rattle.particles.specs.Judged.{judgeFinite, verdictAfter, unlessRefused, judgedAt, refusedRecord, marked, failureLaw}
+use Rattle.particles.specs.declared.judged.Judge.{Judge}
+use Rattle.particles.specs.declared.judged.Judge.the-variants.{Nobody, By}
+use Rattle.particles.specs.Pass.{Worked}
+use Rattle.particles.specs.Judged.{judgeFinite, unlessRefused, judgedAt, refusedRecord, marked, failureLaw, markedBy, finiteBy, lawBy}
 
 -- ---- a law whose inputs aren't all finite
 module _ (u vt : List (List Float)) (s : State) where
@@ -88,24 +92,26 @@ module _ (m : Model) (r : List ℕ) where
   unfolding recordLaw
   refused-law f = ap (λ (d : Updated). keptBy m d r) (law-not-finite f)
 
-  -- ---- with failure: 1 comes first, of the record, the limits and the corotated law
-  module _ (l : MaximumStressFailure) (e : CorotatedLinearElasticity) where
-    same : {A : Type 0} (b : Bool) (x : A) → cond b x x ≡ x
-    same true x = refl
-    same false x = refl
+  -- ---- with a judge: 1 comes first, of the limits, the corotated law and the record
+  refused-failure : (l : MaximumStressFailure) (e : CorotatedLinearElasticity) → judgeFinite l e && recordFinite r ≡ false
+      → failureLaw m l e r ≡ refusedRecord notFinite r
+  unfolding failureLaw judgedAt recordLaw
+  refused-failure l e = go (judgeFinite l e) _
+    where
+      left : Verdict → Updated → Worked
+      left v d = marked (unlessRefused (d .outcome) v) r (keptBy m d r)
 
-    pub refused-first : recordFinite r && judgeFinite l e ≡ false → failureLaw m l e r ≡ refusedRecord notFinite r
-    unfolding failureLaw judgedAt recordLaw
-    refused-first q = go (recordFinite r) refl q
-      where
-        go : (b : Bool) → recordFinite r ≡ b → b && judgeFinite l e ≡ false → failureLaw m l e r ≡ refusedRecord notFinite r
-        go true p h = rw h refl
-        go false p h =
-            ap (λ (d : Updated). cond (judgeFinite l e) (marked (unlessRefused (d .outcome) (verdictAfter l e (stateAt r .scalars .phase) (d .state))) r (keptBy m d r)) (refusedRecord notFinite r))
-            (law-not-finite p) ∙ same (judgeFinite l e) (refusedRecord notFinite r)
+      go : (b : Bool) (v : Verdict) → b && recordFinite r ≡ false → cond b (left v (lawAt m r)) (refusedRecord notFinite r) ≡ refusedRecord notFinite r
+      go true v h = ap (left v) (law-not-finite h)
+      go false v h = refl
 
-    -- all of them are finite
-    pub finite-first : recordFinite r && judgeFinite l e ≡ true
-        → (recordFinite r ≡ true) × (failureLaw m l e r ≡ marked (judgedAt m l e r) r (recordLaw m r))
-    unfolding failureLaw
-    finite-first q = let h = and-both (recordFinite r) (judgeFinite l e) q in (h .0, rw (h .1) refl)
+  pub refused-first : (j : Judge) → finiteBy j && recordFinite r ≡ false → lawBy m j r ≡ refusedRecord notFinite r
+  refused-first Nobody q = refused-law q
+  refused-first (By l e) q = refused-failure l e q
+
+  -- all of them are finite
+  pub finite-first : (j : Judge) → finiteBy j && recordFinite r ≡ true
+      → (recordFinite r ≡ true) × (lawBy m j r ≡ markedBy m j r)
+  unfolding failureLaw judgedAt
+  finite-first Nobody q = (q, refl)
+  finite-first (By l e) q = let h = and-both (judgeFinite l e) (recordFinite r) q in (h .1, rw (h .0) refl)

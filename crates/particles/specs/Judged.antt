@@ -9,6 +9,7 @@ use Rattle.walk.specs.Walk.{Ended, given, refused, result}
 use Rattle.plasticity.specs.declared.Outcome.{Outcome}
 use Rattle.plasticity.specs.declared.Outcome.the-variants as outcome
 use Rattle.plasticity.specs.declared.State.{State}
+use Rattle.plasticity.specs.declared.Updated.{Updated}
 use Rattle.record.specs.Layout.{stateAt, putPhase}
 use Rattle.failure_maximum_stress.specs.declared.MaximumStressFailure.{MaximumStressFailure}
 use Rattle.failure_maximum_stress.specs.declared.Verdict.{Verdict}
@@ -18,6 +19,8 @@ use Rattle.elasticity_corotated_linear.specs.declared.CorotatedLinearElasticity
 use Rattle.elasticity_corotated_linear.specs.Law.{lawFinite}
 use Rattle.elasticity_corotated_linear.specs.Principal.{principalWalk}
 use Rattle.model.specs.declared.Model.{Model}
+use Rattle.particles.specs.declared.judged.Judge.{Judge}
+use Rattle.particles.specs.declared.judged.Judge.the-variants.{Nobody, By}
 use Rattle.particles.specs.Pass.{Worked}
 use Rattle.particles.specs.Plain.{lawAt, recordLaw}
 
@@ -40,6 +43,11 @@ unlessRefused outcome.Untouched v = v
 unlessRefused (outcome.Stored a) v = v
 unlessRefused (outcome.Refused n) v = No
 
+-- by a judge, or by nobody: then it is no
+abbrev pub verdictBy : Judge → Float → Updated → Verdict
+verdictBy Nobody phase d = No
+verdictBy (By l e) phase d = unlessRefused (d .outcome) (verdictAfter l e phase (d .state))
+
 unfoldable pub judgedAt : Model → MaximumStressFailure → CorotatedLinearElasticity → List ℕ → Verdict
 judgedAt m l e r = unlessRefused (lawAt m r .outcome) (verdictAfter l e (stateAt r .scalars .phase) (lawAt m r .state))
 
@@ -53,5 +61,30 @@ marked No r w = w
 marked Yes r w = record { outcome = w .outcome; failed = true; after = putPhase (w .after) zero }
 marked (Refused n) r w = refusedRecord n r
 
+-- the outcome that a verdict leaves, and whether the record failed
+abbrev pub outcomeBy : Verdict → Outcome → Outcome
+outcomeBy No o = o
+outcomeBy Yes o = o
+outcomeBy (Refused n) o = outcome.Refused n
+
+abbrev pub failedBy : Verdict → Bool
+failedBy No = false
+failedBy Yes = true
+failedBy (Refused n) = false
+
 unfoldable pub failureLaw : Model → MaximumStressFailure → CorotatedLinearElasticity → List ℕ → Worked
 failureLaw m l e r = cond (judgeFinite l e) (marked (judgedAt m l e r) r (recordLaw m r)) (refusedRecord notFinite r)
+
+-- of finite inputs: the law, and the verdict on what it leaves
+abbrev pub markedBy : Model → Judge → List ℕ → Worked
+markedBy m j r = marked (verdictBy j (stateAt r .scalars .phase) (lawAt m r)) r (recordLaw m r)
+
+-- a judge's own inputs; nobody has any
+abbrev pub finiteBy : Judge → Bool
+finiteBy Nobody = true
+finiteBy (By l e) = judgeFinite l e
+
+-- by a judge, or by nobody: then the law is all
+abbrev pub lawBy : Model → Judge → List ℕ → Worked
+lawBy m Nobody = recordLaw m
+lawBy m (By l e) = failureLaw m l e

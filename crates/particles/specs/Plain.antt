@@ -1,4 +1,5 @@
 -- What the model's law makes of one record (RULES, sections 6 and 7).
+use mathlib.Core.Path.{_≡_}
 use mathlib.Core.Bool.{false, cond, _&&_}
 use mathlib.Core.List.{List}
 use Prim.Native.Nat.{ℕ}
@@ -11,7 +12,7 @@ use Rattle.plasticity.specs.declared.Outcome.{Outcome}
 use Rattle.plasticity.specs.declared.Outcome.the-variants.{Untouched, Stored, Refused}
 use Rattle.plasticity.specs.declared.State.{State}
 use Rattle.plasticity.specs.declared.Updated.{Updated}
-use Rattle.record.specs.Layout.{floats, placeDeterminant, floatAt, uAt, vtAt, stateAt, recordFinite, determinantRight, putShape, putPlasticDeterminant, putPlasticHardening, putElasticHardening, putLogGain, putAlpha}
+use Rattle.record.specs.Layout.{floats, placeDeterminant, floatAt, uAt, vtAt, stateAt, recordFinite, determinantAt, determinantRight, putBare, putShape, putPlasticDeterminant, putPlasticHardening, putElasticHardening, putLogGain, putAlpha}
 use Rattle.model.specs.declared.Model.{Model}
 use Rattle.model.specs.declared.Model.the-variants.{Snow, Rankine, DruckerPrager, Nacc}
 use Rattle.model.specs.Model.{modelFinite, modelUpdate}
@@ -48,6 +49,12 @@ abbrev pub kept : Model → Outcome → List ℕ → State → List ℕ
 kept m Untouched r s = r
 kept m (Stored a) r s = putState m r s
 kept m (Refused n) r s = r
+
+-- the word beside an update is the determinant of the F that it stores, if it stores
+abbrev pub Beside : Outcome → List ℕ → State → ℕ → Type 0
+Beside Untouched r s w = Unit {0}
+Beside (Stored a) r s w = w ≡ determinantAt (putBare r s)
+Beside (Refused n) r s w = Unit {0}
 
 -- an update that would store a determinant that isn't finite is refused by 3
 abbrev pub measured : Model → List ℕ → Updated → Updated

@@ -1,11 +1,9 @@
 // Our own factors of a record, by themselves or before a step (RULES, section 7).
 use crate::judged;
-use crate::plain;
+use crate::judged::Judge;
 use crate::saved;
 use crate::step::Stepped;
-use elasticity_corotated_linear::CorotatedLinearElasticity;
 use factors::Factors;
-use failure_maximum_stress::MaximumStressFailure;
 use model::Model;
 use plasticity::Outcome;
 ghost use mathlib.Core.Path.{_≡_};
@@ -14,8 +12,7 @@ ghost use lib.Dec.{eqb};
 ghost use lib.ListN.{length};
 ghost use Rattle.record.specs.Layout.{floats};
 ghost use Rattle.model.specs.Model.{modelFinite};
-ghost use Rattle.particles.specs.Plain.{recordLaw};
-ghost use Rattle.particles.specs.Judged.{judgeFinite, failureLaw};
+ghost use Rattle.particles.specs.Judged.{finiteBy, lawBy};
 ghost use Rattle.particles.specs.Factored.{putFactors, withFactors, factorRefusal, factorLaw, heldBy, factoredLaw};
 
 fn write_factors(r: &mut [u64], x: Factors)
@@ -77,38 +74,14 @@ fn hold(o: Outcome, old: &[u64], r: &mut [u64])
     }
 }
 
-// Before the plastic law.
-pub fn plain_first(m: Model, r: &mut [u64]) -> Outcome
+// Before the law, and the verdict where there is a judge.
+pub fn first(m: Model, j: Judge, r: &mut [u64]) -> Stepped
     requires { ⌜ length (now r) ≡ floats ⌝ }
-    ensures { λ x. ⌜ (x ≡ factoredLaw (modelFinite m) (recordLaw m) (now (r .entry)) .outcome) × (now (r .exit) ≡ factoredLaw (modelFinite m) (recordLaw m) (now (r .entry)) .after) ⌝ }
+    ensures outcome { λ x. ⌜ x .outcome ≡ factoredLaw (modelFinite m && finiteBy j) (lawBy m j) (now (r .entry)) .outcome ⌝ }
+    ensures failed { λ x. ⌜ x .failed ≡ factoredLaw (modelFinite m && finiteBy j) (lawBy m j) (now (r .entry)) .failed ⌝ }
+    ensures record { λ x. ⌜ now (r .exit) ≡ factoredLaw (modelFinite m && finiteBy j) (lawBy m j) (now (r .entry)) .after ⌝ }
 {
-    if !model::model_finite(m) {
-        return Outcome::Refused(answers::NOT_FINITE);
-    }
-    let mut old = [0u64; record::FLOATS];
-    saved::copy(&r[..], &mut old);
-    let n = factor(r);
-    if n != 0 {
-        return Outcome::Refused(n);
-    }
-    let o = plain::step(m, r);
-    hold(o, &old, r);
-    o
-}
-
-// Before the plastic law and the verdict.
-pub fn judged_first(
-    m: Model,
-    l: MaximumStressFailure,
-    e: CorotatedLinearElasticity,
-    r: &mut [u64],
-) -> Stepped
-    requires { ⌜ length (now r) ≡ floats ⌝ }
-    ensures outcome { λ x. ⌜ x .outcome ≡ factoredLaw (modelFinite m && judgeFinite l e) (failureLaw m l e) (now (r .entry)) .outcome ⌝ }
-    ensures failed { λ x. ⌜ x .failed ≡ factoredLaw (modelFinite m && judgeFinite l e) (failureLaw m l e) (now (r .entry)) .failed ⌝ }
-    ensures record { λ x. ⌜ now (r .exit) ≡ factoredLaw (modelFinite m && judgeFinite l e) (failureLaw m l e) (now (r .entry)) .after ⌝ }
-{
-    if !(model::model_finite(m) & (l.limits_finite() & e.law_finite())) {
+    if !(model::model_finite(m) & judged::judge_finite(j)) {
         return Stepped {
             outcome: Outcome::Refused(answers::NOT_FINITE),
             failed: false,
@@ -123,7 +96,7 @@ pub fn judged_first(
             failed: false,
         };
     }
-    let d = judged::step(m, l, e, r);
+    let d = judged::step(m, j, r);
     let o = d.outcome;
     hold(o, &old, r);
     d

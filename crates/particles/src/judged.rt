@@ -1,7 +1,8 @@
-// One record of the pass with failure: the law, and then the verdict on what it leaves.
+// One record: its law, and then the verdict on what the law leaves, where there is a judge.
 use crate::law;
-use crate::plain;
+use crate::law::Left;
 use crate::step::Stepped;
+use crate::stored;
 use elasticity_corotated_linear::CorotatedLinearElasticity;
 use failure_maximum_stress::MaximumStressFailure;
 use failure_maximum_stress::Verdict;
@@ -16,9 +17,16 @@ ghost use lib.Dec.{eqb};
 ghost use lib.ListN.{length};
 ghost use Rattle.record.specs.Layout.{floats, recordFinite};
 ghost use Rattle.failure_maximum_stress.specs.Failure.{verdictOf};
+ghost use Rattle.failure_maximum_stress.specs.declared.Verdict.{Verdict};
 ghost use Rattle.failure_maximum_stress.specs.declared.Verdict.the-variants as verdict;
-ghost use Rattle.particles.specs.Judged.{verdictAfter, unlessRefused, judgedAt, marked, failureLaw};
-ghost use Rattle.particles.specs.Plain.{keptBy, recordLaw};
+ghost use Rattle.particles.specs.Judged.{verdictAfter, unlessRefused, verdictBy, marked, outcomeBy, failedBy, markedBy, finiteBy, lawBy};
+ghost use Rattle.particles.specs.Plain.{keptBy, Beside};
+
+// Nobody, or these limits on the stress by this law.
+pub enum Judge {
+    Nobody,
+    By(MaximumStressFailure, CorotatedLinearElasticity),
+}
 
 // A refused stress is handed on.
 fn verdict_on(l: MaximumStressFailure, stresses: VectorAnswer) -> Verdict
@@ -48,82 +56,116 @@ fn verdict_after(
     )
 }
 
-// A refused law skips the verdict.
-fn verdict(l: MaximumStressFailure, e: CorotatedLinearElasticity, phase: f64, d: Updated) -> Verdict
-    ensures { λ r. ⌜ r ≡ unlessRefused (d .outcome) (verdictAfter l e phase (d .state)) ⌝ }
+// Whether the law refused: then there is no verdict.
+fn refused(o: Outcome) -> bool
+    ensures { λ b. ⌜ ((v : Verdict) → unlessRefused o v ≡ cond b verdict.No v) ⌝ }
 {
-    let o = d.outcome;
-    let left = d.state;
     match o {
-        Outcome::Untouched => verdict_after(l, e, phase, left),
-        Outcome::Stored(_) => verdict_after(l, e, phase, left),
-        Outcome::Refused(_) => Verdict::No,
+        Outcome::Untouched => false,
+        Outcome::Stored(_) => false,
+        Outcome::Refused(_) => true,
+    }
+}
+
+// By nobody it is no, and a refused law skips it.
+fn verdict(j: Judge, phase: f64, d: Updated) -> Verdict
+    ensures { λ r. ⌜ r ≡ verdictBy j phase d ⌝ }
+{
+    match j {
+        Judge::Nobody => Verdict::No,
+        Judge::By(l, e) => {
+            let o = d.outcome;
+            let left = d.state;
+            if refused(o) {
+                Verdict::No
+            } else {
+                verdict_after(l, e, phase, left)
+            }
+        }
+    }
+}
+
+// A refused stress is the record's refusal, so that what the law left isn't written.
+fn outcome_by(v: Verdict, o: Outcome) -> Outcome
+    ensures { λ r. ⌜ r ≡ outcomeBy v o ⌝ }
+{
+    match v {
+        Verdict::No => o,
+        Verdict::Yes => o,
+        Verdict::Refused(n) => Outcome::Refused(n),
+    }
+}
+
+// And a yes fails the record.
+fn failed_by(v: Verdict) -> bool
+    ensures { λ b. ⌜ b ≡ failedBy v ⌝ }
+{
+    match v {
+        Verdict::No => false,
+        Verdict::Yes => true,
+        Verdict::Refused(_) => false,
     }
 }
 
 // What the law left is written, but where the stress is refused; a yes sets phase 0.0.
-fn mark(m: Model, d: Updated, v: Verdict, r: &mut [u64]) -> Stepped
-    requires { ⌜ length (now r) ≡ floats ⌝ }
-    ensures outcome { λ x. ⌜ x .outcome ≡ marked v (now (r .entry)) (keptBy m d (now (r .entry))) .outcome ⌝ }
-    ensures failed { λ x. ⌜ x .failed ≡ marked v (now (r .entry)) (keptBy m d (now (r .entry))) .failed ⌝ }
-    ensures record { λ x. ⌜ now (r .exit) ≡ marked v (now (r .entry)) (keptBy m d (now (r .entry))) .after ⌝ }
+fn mark(m: Model, x: Left, v: Verdict, r: &mut [u64]) -> Stepped
+    requires { ⌜ (length (now r) ≡ floats) × Beside (x .updated .outcome) (now r) (x .updated .state) (x .determinant) ⌝ }
+    ensures outcome { λ y. ⌜ y .outcome ≡ marked v (now (r .entry)) (keptBy m (x .updated) (now (r .entry))) .outcome ⌝ }
+    ensures failed { λ y. ⌜ y .failed ≡ marked v (now (r .entry)) (keptBy m (x .updated) (now (r .entry))) .failed ⌝ }
+    ensures record { λ y. ⌜ now (r .exit) ≡ marked v (now (r .entry)) (keptBy m (x .updated) (now (r .entry))) .after ⌝ }
 {
-    let o = d.outcome;
-    match v {
-        Verdict::No => {
-            plain::keep(m, d, r);
-            Stepped {
-                outcome: o,
-                failed: false,
-            }
+    let d = x.updated;
+    let s = d.state;
+    let left = d.outcome;
+    let o = outcome_by(v, left);
+    stored::keep(m, o, s, x.determinant, r);
+    if failed_by(v) {
+        r[record::PHASE] = numbers::bits_of(0.0);
+        Stepped {
+            outcome: o,
+            failed: true,
         }
-        Verdict::Yes => {
-            plain::keep(m, d, r);
-            r[record::PHASE] = numbers::bits_of(0.0);
-            Stepped {
-                outcome: o,
-                failed: true,
-            }
-        }
-        Verdict::Refused(n) => Stepped {
-            outcome: Outcome::Refused(n),
+    } else {
+        Stepped {
+            outcome: o,
             failed: false,
-        },
+        }
     }
 }
 
-// One finite record, with finite limits and corotated law: the law first, then the verdict on what it leaves.
-fn finite_step(
-    m: Model,
-    l: MaximumStressFailure,
-    e: CorotatedLinearElasticity,
-    r: &mut [u64],
-) -> Stepped
+// One finite record, with a finite judge: the law first, then the verdict on what it leaves.
+fn finite_step(m: Model, j: Judge, r: &mut [u64]) -> Stepped
     requires { ⌜ (length (now r) ≡ floats) × (recordFinite (now r) ≡ true) ⌝ }
-    ensures outcome { λ x. ⌜ x .outcome ≡ marked (judgedAt m l e (now (r .entry))) (now (r .entry)) (recordLaw m (now (r .entry))) .outcome ⌝ }
-    ensures failed { λ x. ⌜ x .failed ≡ marked (judgedAt m l e (now (r .entry))) (now (r .entry)) (recordLaw m (now (r .entry))) .failed ⌝ }
-    ensures record { λ x. ⌜ now (r .exit) ≡ marked (judgedAt m l e (now (r .entry))) (now (r .entry)) (recordLaw m (now (r .entry))) .after ⌝ }
+    ensures outcome { λ x. ⌜ x .outcome ≡ markedBy m j (now (r .entry)) .outcome ⌝ }
+    ensures failed { λ x. ⌜ x .failed ≡ markedBy m j (now (r .entry)) .failed ⌝ }
+    ensures record { λ x. ⌜ now (r .exit) ≡ markedBy m j (now (r .entry)) .after ⌝ }
 {
     let phase = record::float(&r[..], record::PHASE);
-    let d = law::updated(m, &r[..]);
-    let v = verdict(l, e, phase, d);
-    mark(m, d, v, r)
+    let x = law::updated(m, &r[..]);
+    let d = x.updated;
+    let v = verdict(j, phase, d);
+    mark(m, x, v, r)
 }
 
-// One record: limits and corotated law are inputs of it, and its patterns are tested at once, as by `plain::step`.
-pub fn step(
-    m: Model,
-    l: MaximumStressFailure,
-    e: CorotatedLinearElasticity,
-    r: &mut [u64],
-) -> Stepped
-    requires { ⌜ length (now r) ≡ floats ⌝ }
-    ensures outcome { λ x. ⌜ x .outcome ≡ failureLaw m l e (now (r .entry)) .outcome ⌝ }
-    ensures failed { λ x. ⌜ x .failed ≡ failureLaw m l e (now (r .entry)) .failed ⌝ }
-    ensures record { λ x. ⌜ now (r .exit) ≡ failureLaw m l e (now (r .entry)) .after ⌝ }
+// Limits and corotated law are inputs of each record.
+pub fn judge_finite(j: Judge) -> bool
+    ensures { λ b. ⌜ b ≡ finiteBy j ⌝ }
 {
-    if record::all_finite(&r[..]) & (l.limits_finite() & e.law_finite()) {
-        return finite_step(m, l, e, r);
+    match j {
+        Judge::Nobody => true,
+        Judge::By(l, e) => l.limits_finite() & e.law_finite(),
+    }
+}
+
+// One record. A float that isn't finite is the first refusal of every law, so all its patterns are tested at once.
+pub fn step(m: Model, j: Judge, r: &mut [u64]) -> Stepped
+    requires { ⌜ length (now r) ≡ floats ⌝ }
+    ensures outcome { λ x. ⌜ x .outcome ≡ lawBy m j (now (r .entry)) .outcome ⌝ }
+    ensures failed { λ x. ⌜ x .failed ≡ lawBy m j (now (r .entry)) .failed ⌝ }
+    ensures record { λ x. ⌜ now (r .exit) ≡ lawBy m j (now (r .entry)) .after ⌝ }
+{
+    if judge_finite(j) & record::all_finite(&r[..]) {
+        return finite_step(m, j, r);
     }
     Stepped {
         outcome: Outcome::Refused(answers::NOT_FINITE),

@@ -13,28 +13,49 @@ ghost use Rattle.plasticity.specs.State.{refused};
 ghost use Rattle.record.specs.Layout.{floats, recordFinite};
 ghost use Rattle.model.specs.declared.Model.{Model};
 ghost use Rattle.model.specs.Model.{modelFinite};
-ghost use Rattle.particles.specs.Plain.{measured, lawAt};
+ghost use Rattle.particles.specs.Plain.{measured, lawAt, Beside};
+
+// What the law leaves: the update, and beside it the determinant of the F that it stores, 0 where it stores none.
+pub struct Left {
+    pub updated: Updated,
+    pub determinant: u64,
+}
+
+// Nothing is stored.
+fn unstored(d: Updated) -> Left
+    ensures { λ x. ⌜ x ≡ record { updated = d; determinant = 0 } ⌝ }
+{
+    Left {
+        updated: d,
+        determinant: 0,
+    }
+}
 
 // An update that would store a determinant that isn't finite is refused by 3.
-fn measured(d: Updated) -> Updated
-    ensures { λ x. ⌜ ((m : Model) (r : List ℕ) → length r ≡ floats → recordFinite r ≡ true → x ≡ measured m r d) ⌝ }
+fn measured(d: Updated) -> Left
+    ensures updated { λ x. ⌜ ((m : Model) (r : List ℕ) → length r ≡ floats → recordFinite r ≡ true → x .updated ≡ measured m r d) ⌝ }
+    ensures determinant { λ x. ⌜ ((r : List ℕ) → length r ≡ floats → Beside (x .updated .outcome) r (x .updated .state) (x .determinant)) ⌝ }
 {
     let o = d.outcome;
     let s = d.state;
     let f = s.f;
     match o {
-        Outcome::Untouched => d,
+        Outcome::Untouched => unstored(d),
         Outcome::Stored(_) => {
-            if record::word_finite(record::determinant_with(f)) {
-                d
+            let w = record::determinant_with(f);
+            if record::word_finite(w) {
+                Left {
+                    updated: d,
+                    determinant: w,
+                }
             } else {
-                Updated {
+                unstored(Updated {
                     state: s,
                     outcome: Outcome::Refused(answers::NO_NUMBER),
-                }
+                })
             }
         }
-        Outcome::Refused(_) => d,
+        Outcome::Refused(_) => unstored(d),
     }
 }
 
@@ -54,15 +75,16 @@ fn wrong(m: Model, s: State) -> Updated
 }
 
 // The law on a finite record, where its determinant is right.
-pub fn updated(m: Model, r: &[u64]) -> Updated
+pub fn updated(m: Model, r: &[u64]) -> Left
     requires { ⌜ (length (now r) ≡ floats) × (recordFinite (now r) ≡ true) ⌝ }
-    ensures { λ x. ⌜ x ≡ lawAt m (now (r .entry)) ⌝ }
+    ensures updated { λ x. ⌜ x .updated ≡ lawAt m (now (r .entry)) ⌝ }
+    ensures determinant { λ x. ⌜ Beside (x .updated .outcome) (now (r .entry)) (x .updated .state) (x .determinant) ⌝ }
 {
     let s = record::read_state(r);
     let f = s.f;
     if r[record::DETERMINANT] == record::determinant_with(f) {
         measured(model::update_tested(m, record::read_u(r), record::read_vt(r), s))
     } else {
-        wrong(m, s)
+        unstored(wrong(m, s))
     }
 }

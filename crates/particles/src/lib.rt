@@ -7,7 +7,6 @@ mod judged;
 mod law;
 mod list;
 mod own;
-mod plain;
 mod saved;
 mod step;
 mod stored;

@@ -1,7 +1,8 @@
 // The pass over a lent list of records by any step.
 use crate::failure::FailureCounts;
 use crate::failure::PassedWithFailure;
-use crate::plain;
+use crate::judged;
+use crate::judged::Judge;
 use crate::step;
 use crate::step::Step;
 use crate::step::Stepped;
@@ -33,7 +34,8 @@ pub fn update_record(m: Model, r: &mut [u64]) -> Outcome
     ensures { λ x. ⌜ now (r .exit) ≡ recordAfter m (now (r .entry)) ⌝ }
 {
     if r.len() == record::FLOATS {
-        return plain::step(m, r);
+        let d = judged::step(m, Judge::Nobody, r);
+        return d.outcome;
     }
     Outcome::Refused(answers::LENGTH)
 }

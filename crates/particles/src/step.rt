@@ -1,7 +1,7 @@
 // The step that a pass takes with each record.
 use crate::factored;
 use crate::judged;
-use crate::plain;
+use crate::judged::Judge;
 use elasticity_corotated_linear::CorotatedLinearElasticity;
 use failure_maximum_stress::MaximumStressFailure;
 use model::Model;
@@ -46,10 +46,10 @@ pub fn take_step(s: Step, r: &mut [u64]) -> Stepped
     ensures record { λ x. ⌜ now (r .exit) ≡ stepLaw s (now (r .entry)) .after ⌝ }
 {
     match s {
-        Step::Plain(m) => unjudged(plain::step(m, r)),
-        Step::Judged(m, l, e) => judged::step(m, l, e, r),
+        Step::Plain(m) => judged::step(m, Judge::Nobody, r),
+        Step::Judged(m, l, e) => judged::step(m, Judge::By(l, e), r),
         Step::Factors => unjudged(factored::alone(r)),
-        Step::FactoredPlain(m) => unjudged(factored::plain_first(m, r)),
-        Step::FactoredJudged(m, l, e) => factored::judged_first(m, l, e, r),
+        Step::FactoredPlain(m) => factored::first(m, Judge::Nobody, r),
+        Step::FactoredJudged(m, l, e) => factored::first(m, Judge::By(l, e), r),
     }
 }

@@ -1,14 +1,17 @@
 -- Ticket 8 of a record: it is refused exactly where the pass refuses it, by the same number; else the last test on its law's path is told, and the
 -- pass leaves what that path ends with.
-use mathlib.Core.Bool.{Bool, true, false, cond, _&&_}
+use mathlib.Core.Bool.{Bool, true, false, cond, _&&_, true≢false}
 use mathlib.Core.List.{List}
 use mathlib.Core.Option.{none}
 use mathlib.Core.Path.{_≡_, refl, sym, ap, _∙_}
 use native.Mathlib.Omega.{arith}
 use Prim.Native.Nat.{ℕ}
 use lib.Ieee.{Float}
+use borrow.Author.Tests.{eq-eqb, ne-eqb}
 use Rattle.numbers.specs.Floats.{finite}
 use Rattle.plasticity.specs.State.{refused}
+use Rattle.plasticity.specs.declared.Outcome.{Outcome}
+use Rattle.plasticity.specs.declared.Outcome.the-variants as outcome
 use Rattle.plasticity.specs.declared.State.{State}
 use Rattle.plasticity.specs.declared.Updated.{Updated}
 use Rattle.record.specs.Layout.{placeDeterminant, floatAt, uAt, vtAt, stateAt, recordFinite, determinantRight}
@@ -27,10 +30,11 @@ use Rattle.plasticity_snow.proofs.Why.{snow-branchless}
 use Rattle.model.specs.declared.Model.{Model}
 use Rattle.model.specs.declared.Model.the-variants.{Snow, Rankine, DruckerPrager, Nacc}
 use Rattle.model.specs.Model.{modelFinite, modelUpdate, modelWalk, modelReason, modelLast}
-use Rattle.particles.specs.Plain.{updatedAt, kept, measured, lawAt, keptBy, recordLaw}
+use Rattle.particles.specs.Plain.{updatedAt, kept, lawAt, keptBy, recordLaw}
 use Rattle.record_why.specs.declared.Cause.{Cause}
 use Rattle.record_why.specs.declared.Cause.the-variants.{Told, Parameter, Record}
-use Rattle.record_why.specs.Why.{recordReason, toldOf, numberOf}
+use Rattle.particles.proofs.NotFinite.{last-finite, law-right}
+use Rattle.record_why.specs.Why.{reasonWith, recordReason, toldOf, numberOf}
 
 -- ---- by the model's law
 -- Snow makes no test
@@ -54,6 +58,33 @@ module _ (u vt : List (List Float)) (s : State) where
   model-last (Rankine a) e = last-of s (modelWalk (Rankine a) u vt s) e
   model-last (DruckerPrager p) e = last-of s (modelWalk (DruckerPrager p) u vt s) e
   model-last (Nacc a) e = last-of s (modelWalk (Nacc a) u vt s) e
+
+-- ---- of a record whose floats are finite and whose determinant is right
+module _ (m : Model) (r : List ℕ) (f : recordFinite r ≡ true) where
+  -- only a law that stores leaves a determinant that isn't finite
+  unrefused : (o : Outcome) (s : State) → finite (floatAt (kept m o r s) placeDeterminant) ≡ false → outcomeNumber o ≡ 0
+  unrefused outcome.Untouched s h = refl
+  unrefused (outcome.Stored a) s h = refl
+  unrefused (outcome.Refused n) s h = absurd (true≢false (sym (last-finite r f) ∙ h))
+
+  -- the pass's number tells the law's own reason from 3 of the new determinant
+  pub right-reason : determinantRight r ≡ true → reasonWith (modelReason m (uAt r) (vtAt r) (stateAt r)) (outcomeNumber (recordLaw m r .outcome)) ≡ recordReason m r
+  unfolding recordReason recordLaw updatedAt
+  right-reason d = rw (law-right m r f d, d) (go (finite (floatAt (kept m (new .outcome) r (new .state)) placeDeterminant)) refl)
+    where
+      new : Updated
+      new = modelUpdate m (uAt r) (vtAt r) (stateAt r)
+
+      told : Reason
+      told = modelReason m (uAt r) (vtAt r) (stateAt r)
+
+      number : reasonNumber told ≡ outcomeNumber (new .outcome)
+      number = model-number (uAt r) (vtAt r) (stateAt r) m
+
+      go : (e : Bool) → finite (floatAt (kept m (new .outcome) r (new .state)) placeDeterminant) ≡ e
+          → reasonWith told (outcomeNumber (cond e new (refused 3 (new .state)) .outcome)) ≡ cond e told (reason.Refused 3 41)
+      go true h = rw (eq-eqb (reasonNumber told) (outcomeNumber (new .outcome)) number) refl
+      go false h = rw (ne-eqb (reasonNumber told) 3 (λ z. let q = unrefused (new .outcome) (new .state) h in let n = number in omega arith)) refl
 
 -- ---- of a record
 module _ (m : Model) (p r : List ℕ) where

@@ -30,6 +30,10 @@ storedDeterminant = 40
 abbrev pub newDeterminant : ℕ
 newDeterminant = 41
 
+-- the law's own reason; but where the pass refuses by another number, 3 of the new determinant
+abbrev pub reasonWith : Reason → ℕ → Reason
+reasonWith q n = cond (eqb (reasonNumber q) n) q (reason.Refused noNumber newDeterminant)
+
 -- of a finite record: 11, then the law, then 3 of the determinant that would be stored
 unfoldable pub recordReason : Model → List ℕ → Reason
 recordReason m r =

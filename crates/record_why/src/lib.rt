@@ -7,18 +7,14 @@ pub use listed::call_refusal;
 pub use listed::words;
 use model::Model;
 use plasticity::Outcome;
-use plasticity::Updated;
 use reason::Reason;
 ghost use mathlib.Core.Path.{_≡_};
 ghost use mathlib.Core.Bool.{true};
-ghost use mathlib.Core.List.{List};
-ghost use Prim.Native.Nat.{ℕ};
 ghost use lib.ListN.{length};
-ghost use Rattle.numbers.specs.Floats.{finite};
-ghost use Rattle.record.specs.Layout.{floats, placeDeterminant, floatAt, recordFinite};
-ghost use Rattle.model.specs.declared.Model.{Model};
-ghost use Rattle.particles.specs.Plain.{kept};
-ghost use Rattle.record_why.specs.Why.{recordReason, toldOf, whyOf};
+ghost use Rattle.record.specs.Layout.{floats, recordFinite};
+ghost use Rattle.reason.specs.Told.{reasonNumber, outcomeNumber};
+ghost use Rattle.particles.specs.Plain.{recordLaw};
+ghost use Rattle.record_why.specs.Why.{reasonWith, recordReason, toldOf, whyOf};
 
 // The record's own steps: 11 comes before the law's, 3 of the new determinant after them.
 pub const STORED_DETERMINANT: u8 = 40;
@@ -35,17 +31,47 @@ pub enum Cause {
     Refused(u8),
 }
 
-// Whether the determinant that the record would then hold is finite.
-fn measured(d: Updated) -> bool
-    ensures { λ x. ⌜ ((m : Model) (r : List ℕ) → length r ≡ floats → recordFinite r ≡ true → x ≡ finite (floatAt (kept m (d .outcome) r (d .state)) placeDeterminant)) ⌝ }
+// The number that refuses, 0 where none does.
+fn outcome_number(o: Outcome) -> u8
+    ensures { λ n. ⌜ n ≡ outcomeNumber o ⌝ }
 {
-    let o = d.outcome;
-    let s = d.state;
-    let f = s.f;
     match o {
-        Outcome::Untouched => true,
-        Outcome::Stored(_) => record::word_finite(record::determinant_with(f)),
-        Outcome::Refused(_) => true,
+        Outcome::Untouched => 0,
+        Outcome::Stored(_) => 0,
+        Outcome::Refused(n) => n,
+    }
+}
+
+fn reason_number(q: Reason) -> u8
+    ensures { λ n. ⌜ n ≡ reasonNumber q ⌝ }
+{
+    match q {
+        Reason::Tested(_, _, _, _) => 0,
+        Reason::Zeros(_, _, _, _, _) => 0,
+        Reason::Flagged(_, _) => 0,
+        Reason::Clamped(_, _, _) => 0,
+        Reason::Refused(n, _) => n,
+    }
+}
+
+// By which the pass refuses the record: it is worked in a copy.
+fn record_number(m: Model, r: &[u64]) -> u8
+    requires { ⌜ length (now r) ≡ floats ⌝ }
+    ensures { λ n. ⌜ n ≡ outcomeNumber (recordLaw m (now (r .entry)) .outcome) ⌝ }
+{
+    let mut c = [0u64; record::FLOATS];
+    particles::copy(r, &mut c);
+    outcome_number(particles::update_record(m, &mut c))
+}
+
+// The law's own reason; but where the pass refuses by another number, 3 of the new determinant.
+fn reason_with(q: Reason, n: u8) -> Reason
+    ensures { λ x. ⌜ x ≡ reasonWith q n ⌝ }
+{
+    if reason_number(q) == n {
+        q
+    } else {
+        Reason::Refused(answers::NO_NUMBER, NEW_DETERMINANT)
     }
 }
 
@@ -54,16 +80,10 @@ fn finite_reason(m: Model, r: &[u64]) -> Reason
     requires { ⌜ (length (now r) ≡ floats) × (recordFinite (now r) ≡ true) ⌝ }
     ensures { λ x. ⌜ x ≡ recordReason m (now (r .entry)) ⌝ }
 {
-    let s = record::read_state(r);
-    let f = s.f;
-    let u = record::read_u(r);
-    let vt = record::read_vt(r);
-    if r[record::DETERMINANT] == record::determinant_with(f) {
-        if measured(model::update_tested(m, u, vt, s)) {
-            model::reason_of(m, u, vt, s)
-        } else {
-            Reason::Refused(answers::NO_NUMBER, NEW_DETERMINANT)
-        }
+    if record::determinant_right(r) {
+        let s = record::read_state(r);
+        let q = model::reason_of(m, record::read_u(r), record::read_vt(r), s);
+        reason_with(q, record_number(m, r))
     } else {
         Reason::Refused(answers::WRONG_DETERMINANT, STORED_DETERMINANT)
     }

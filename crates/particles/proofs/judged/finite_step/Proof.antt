@@ -2,20 +2,22 @@
 use mathlib.Core.Path.{_∙_}
 use borrow.Author.Needs.{needs}
 use Rattle.particles.specs.Plain.{recordLaw}
-use Rattle.particles.specs.Judged.{judgedAt}
 use Rattle.particles.proofs.judged.finite_step.Statement.{statement}
 use Rattle.particles.proofs.judged.finite_step.Tie as tie
 
+mark-requires : tie.Need-mark-requires
+mark-requires c κs = (c .before .before .before .before .before .before .before .before .pre .0, c .before .before .before .updated .ensures .1)
+
 returns : tie.Need-returns
-unfolding recordLaw judgedAt
+unfolding recordLaw
 returns c =
     let k = c .before .before .mark .ensures in
     let v = c .before .before .before .before .verdict .ensures in
-    let u = c .before .before .before .before .before .updated .ensures in
-    let p = c .before .before .before .before .before .before .before .float .ensures in
+    let u = c .before .before .before .before .before .before .updated .ensures .0 in
+    let p = c .before .before .before .before .before .before .before .before .float .ensures in
     (k .0 ∙ simp (v, u, p), (k .1 .0 ∙ simp (v, u, p), k .1 .1 ∙ simp (v, u, p)))
 
 pub finite-step-spec : {M : Type 1} → statement M
 finite-step-spec =
     tie.close
-    (tie.spec (λ c κs. search needs) (λ c κs. search needs) (λ c κs. search needs) (λ c κs. search needs) (λ c. search needs) returns)
+    (tie.spec (λ c κs. search needs) (λ c κs. search needs) (λ c κs. search needs) mark-requires (λ c. search needs) returns)

@@ -1,9 +1,10 @@
 -- `particles::law::updated` meets its contract: 11 before the law, and then its determinant.
-use mathlib.Core.Path.{sym, _∙_}
+use mathlib.Core.Path.{sym, ap, _∙_}
 use borrow.Author.Needs.{needs}
 use borrow.Author.Tests.{eq-eqb, ne-eqb}
 use Rattle.record.specs.Layout.{determinantAt, determinantRight}
 use Rattle.record.proofs.Parts.{record-inputs}
+use Rattle.particles.specs.declared.law.Left.{Left}
 use Rattle.particles.specs.Plain.{updatedAt}
 use Rattle.particles.proofs.NotFinite.{law-right, law-wrong}
 use Rattle.particles.proofs.law.updated.Statement.{statement}
@@ -23,22 +24,29 @@ returns c =
     let st = c .before .before .before .before .before .before .before .before .read-state .ensures in
     let d = c .before .before .before .before .before .determinant-with .ensures .0 in
     let t = simp (d, st) at (c .before .before .before .before .if1 .taken) in
-    c .measured .ensures m r (s .pre .0) (s .pre .1)
-    ∙ (simp (c .before .update-tested .ensures, c .before .before .read-vt .ensures, c .before .before .before .read-u .ensures, st))
-    ∙ sym (law-right m r (s .pre .1) (eq-eqb _ _ t))
+    let e = c .measured .ensures in (
+      e .0 m r (s .pre .0) (s .pre .1)
+          ∙ (simp (c .before .update-tested .ensures, c .before .before .read-vt .ensures, c .before .before .before .read-u .ensures, st))
+          ∙ sym (law-right m r (s .pre .1) (eq-eqb _ _ t)),
+      e .1 r (s .pre .0),
+    )
 
 returns-2 : tie.Need-returns-2
 unfolding determinantRight determinantAt
 returns-2 c =
-    let s = c .before .before .before .before .before .before .before in
+    let s = c .before .before .before .before .before .before .before .before in
     let m = s .args .m in
     let r = s .args .r .now in
-    let st = c .before .before .before .before .before .read-state .ensures in
-    let d = c .before .before .determinant-with .ensures .0 in
-    let t = simp (d, st) at (c .before .if1 .left) in
-    c .wrong .ensures ∙ (simp st) ∙ sym (law-wrong m r (s .pre .1) (ne-eqb _ _ t))
+    let st = c .before .before .before .before .before .before .read-state .ensures in
+    let d = c .before .before .before .determinant-with .ensures .0 in
+    let t = simp (d, st) at (c .before .before .if1 .left) in
+    let u = c .unstored .ensures in
+    let n = c .before .wrong .ensures in (
+      ap (λ (x : Left). x .updated) u ∙ n ∙ (simp st) ∙ sym (law-wrong m r (s .pre .1) (ne-eqb _ _ t)),
+      rw (u, n) tt,
+    )
 
 pub updated-spec : {M : Type 1} → statement M
 updated-spec =
     tie.close
-    (tie.spec (λ c κs. search needs) (λ c. search needs) (λ c κs. search needs) (λ c κs. search needs) (λ c κs. search needs) update-tested-requires (λ c κs. search needs) (λ c κs. search needs) returns returns-2)
+    (tie.spec (λ c κs. search needs) (λ c. search needs) (λ c κs. search needs) (λ c κs. search needs) (λ c κs. search needs) update-tested-requires (λ c κs. search needs) (λ c κs. search needs) (λ c κs. search needs) returns returns-2)

@@ -8,7 +8,7 @@ returns : tie.Need-returns
 returns c =
     let s = c .before .before .step .ensures in
     let e = eq-eqb _ _ (c .before .before .before .before .if1 .taken) in
-    (simp (s .0, e), simp (s .1, e))
+    (simp (s .0, e), simp (s .1 .1, e))
 
 returns-2 : tie.Need-returns-2
 returns-2 c =

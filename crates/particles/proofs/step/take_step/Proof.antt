@@ -1,18 +1,15 @@
 -- `particles::step::take_step` meets its contract: by the step.
-use Rattle.particles.specs.Plain.{recordLaw}
-use Rattle.particles.specs.Factored.{factorLaw, factoredLaw}
-use Rattle.particles.proofs.FactoredLaws.{factor-unjudged, factored-unjudged}
 use borrow.Author.Needs.{needs}
+use Rattle.model.proofs.KindLaws.{and-true}
+use Rattle.particles.proofs.FactoredLaws.{factor-unjudged}
 use Rattle.particles.proofs.step.take_step.Statement.{statement}
 use Rattle.particles.proofs.step.take_step.Tie as tie
 
 returns : tie.Need-returns
-unfolding recordLaw
 returns c =
-    let u = c .unjudged .ensures in
-    let st = c .before .before .before .step .ensures in
-    let t = c .before .before .before .before .before .before .s .given .1 in
-    (simp (u .0, st .0, t), (simp (u .1, t), simp (st .1, t)))
+    let st = c .before .before .step .ensures in
+    let t = c .before .before .before .before .before .s .given .1 in
+    (simp (st .0, t), (simp (st .1 .0, t), simp (st .1 .1, t)))
 
 returns-2 : tie.Need-returns-2
 returns-2 c =
@@ -22,29 +19,26 @@ returns-2 c =
 
 returns-3 : tie.Need-returns-3
 returns-3 c =
-    let u = c .unjudged2 .ensures in
+    let u = c .unjudged .ensures in
     let st = c .before .before .before .alone .ensures in
     let t = c .before .before .before .before .before .enum-told .given .1 in
     (simp (u .0, st .0, t), (simp (u .1, factor-unjudged, t), simp (st .1, t)))
 
 returns-4 : tie.Need-returns-4
 returns-4 c =
-    let u = c .unjudged3 .ensures in
-    let st = c .before .before .before .plain-first .ensures in
-    let t = c .before .before .before .before .before .before .s3 .given .1 in
-    (simp (u .0, st .0, t), (simp (u .1, factored-unjudged, t), simp (st .1, t)))
+    let st = c .before .before .first .ensures in
+    let t = c .before .before .before .before .before .s3 .given .1 in
+    (simp (st .0, and-true, t), (simp (st .1 .0, and-true, t), simp (st .1 .1, and-true, t)))
 
 returns-5 : tie.Need-returns-5
 returns-5 c =
-    let st = c .before .before .judged-first .ensures in
+    let st = c .before .before .first2 .ensures in
     let t = c .before .before .before .before .before .s4 .given .1 in
     (simp (st .0, t), (simp (st .1 .0, t), simp (st .1 .1, t)))
 
 pub take-step-spec : {M : Type 1} → statement M
 take-step-spec =
     tie.close
-    (tie.spec (λ c. search needs) (λ c κs. search needs) (λ c κs. search needs) (λ c. search needs)
-    (λ c κs. search needs) (λ c. search needs) (λ c κs. search needs) (λ c κs. search needs) (λ c. search needs)
-    (λ c κs. search needs) (λ c κs. search needs) (λ c. search needs) (λ c κs. search needs) (λ c. search needs)
-    returns (λ c. search needs) returns-2 (λ c. search needs) returns-3 (λ c. search needs) returns-4
+    (tie.spec (λ c. search needs) (λ c κs. search needs) (λ c. search needs) (λ c κs. search needs) (λ c. search needs) (λ c κs. search needs) (λ c κs. search needs) (λ c. search needs) (λ c κs. search needs) (λ c. search needs) (λ c κs. search needs)
+    (λ c. search needs) returns (λ c. search needs) returns-2 (λ c. search needs) returns-3 (λ c. search needs) returns-4
     (λ c. search needs) returns-5)
