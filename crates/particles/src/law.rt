@@ -1,5 +1,6 @@
 // The law on a finite record: 11 comes before it, 3 of the new determinant after it.
 use model::Model;
+use model::Ready;
 use plasticity::Outcome;
 use plasticity::State;
 use plasticity::Updated;
@@ -13,6 +14,7 @@ ghost use Rattle.plasticity.specs.State.{refused};
 ghost use Rattle.record.specs.Layout.{floats, recordFinite};
 ghost use Rattle.model.specs.declared.Model.{Model};
 ghost use Rattle.model.specs.Model.{modelFinite};
+ghost use Rattle.model.specs.Ready.{readyOf};
 ghost use Rattle.particles.specs.Plain.{measured, lawAt, Beside};
 
 // What the law leaves: the update, and beside it the determinant of the F that it stores, 0 where it stores none.
@@ -74,16 +76,16 @@ fn wrong(m: Model, s: State) -> Updated
     }
 }
 
-// The law on a finite record, where its determinant is right.
-pub fn updated(m: Model, r: &[u64]) -> Left
-    requires { ⌜ (length (now r) ≡ floats) × (recordFinite (now r) ≡ true) ⌝ }
+// The law on a finite record, where its determinant is right. The model comes with what it is made ready to be.
+pub fn updated(m: Model, q: Ready, r: &[u64]) -> Left
+    requires { ⌜ (length (now r) ≡ floats) × (recordFinite (now r) ≡ true) × (q ≡ readyOf m) ⌝ }
     ensures updated { λ x. ⌜ x .updated ≡ lawAt m (now (r .entry)) ⌝ }
     ensures determinant { λ x. ⌜ Beside (x .updated .outcome) (now (r .entry)) (x .updated .state) (x .determinant) ⌝ }
 {
     let s = record::read_state(r);
     let f = s.f;
     if r[record::DETERMINANT] == record::determinant_with(f) {
-        measured(model::update_tested(m, record::read_u(r), record::read_vt(r), s))
+        measured(model::update_ready(q, record::read_u(r), record::read_vt(r), s))
     } else {
         unstored(wrong(m, s))
     }

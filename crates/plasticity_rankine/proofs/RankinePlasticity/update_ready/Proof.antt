@@ -1,5 +1,4 @@
 -- Inputs and moduli are finite: the steps are left.
-use borrow.Author.Needs.{needs}
 use Rattle.plasticity_rankine.specs.Rankine.{rankineWalk}
 use Rattle.plasticity_rankine.proofs.Laws.{inputs-law}
 use Rattle.plasticity_rankine.proofs.RankinePlasticity.update_ready.Statement.{statement}
