@@ -1,4 +1,4 @@
--- A model made ready is finite, and updates a finite record as the model does. Assumes nothing.
+-- A model made ready is finite, knows whether its parameters were, and updates a finite record as the model does. Assumes nothing.
 use mathlib.Core.Path.{_≡_, refl}
 use mathlib.Core.Bool.{Bool, true, false, _&&_}
 use mathlib.Core.List.{List}
@@ -24,8 +24,8 @@ use Rattle.plasticity_nacc.specs.Nacc as nacc
 use Rattle.plasticity_nacc.proofs.Laws as nacc-laws
 use Rattle.model.specs.declared.Model.{Model}
 use Rattle.model.specs.declared.Model.the-variants.{Snow, Rankine, DruckerPrager, Nacc}
-use Rattle.model.specs.Model.{modelUpdate}
-use Rattle.model.specs.Ready.{readyOf, readyFinite, readyUpdate}
+use Rattle.model.specs.Model.{modelFinite, modelUpdate}
+use Rattle.model.specs.Ready.{readyOf, readyFinite, parametersReady, readyUpdate}
 
 either-way : {A : Type 0} (b : Bool) → (b ≡ true → A) → (b ≡ false → A) → A
 either-way true h i = h refl
@@ -59,6 +59,19 @@ ready-finite (DruckerPrager p) = either-way (drucker-prager-law.parametersFinite
 ready-finite (Nacc a) =
     either-way (nacc-law.argumentsFinite a)
     (λ t. either-way (nacc-law.moduliFinite (nacc-law.lawOf a)) (λ l. simp (t, l, nacc-parameters a t)) (λ l. simp (t, l)))
+    (λ f. simp f)
+
+pub ready-parameters : (m : Model) → parametersReady (readyOf m) ≡ modelFinite m
+unfolding readyOf
+ready-parameters (Snow p) = either-way (snow.parametersFinite p) (λ t. simp t) (λ f. simp f)
+ready-parameters (Rankine a) =
+    either-way (rankine-law.argumentsFinite a)
+    (λ t. either-way (rankine-law.moduliFinite (rankine-law.lawOf a)) (λ l. simp (t, l)) (λ l. simp (t, l)))
+    (λ f. simp f)
+ready-parameters (DruckerPrager p) = either-way (drucker-prager-law.parametersFinite p) (λ t. simp t) (λ f. simp f)
+ready-parameters (Nacc a) =
+    either-way (nacc-law.argumentsFinite a)
+    (λ t. either-way (nacc-law.moduliFinite (nacc-law.lawOf a)) (λ l. simp (t, l)) (λ l. simp (t, l)))
     (λ f. simp f)
 
 module _ (u vt : List (List Float)) (s : State) (h : inputsFinite u vt s ≡ true) where

@@ -1,6 +1,7 @@
 -- A model made ready once for many records: its parameters tested, its moduli worked; and the update by it.
-use mathlib.Core.Bool.{Bool, true, cond, _&&_}
+use mathlib.Core.Bool.{Bool, true, not, cond, _&&_}
 use mathlib.Core.List.{List}
+use lib.Dec.{eqb}
 use lib.Ieee.{Float}
 use Rattle.answers.specs.Refusals.{notFinite, noNumber}
 use Rattle.plasticity.specs.State.{refused}
@@ -45,6 +46,14 @@ readyFinite (Rankine p) = rankine-law.parametersFinite p && rankine-law.moduliFi
 readyFinite (DruckerPrager p) = drucker-prager-law.parametersFinite p
 readyFinite (Nacc p) = nacc-law.parametersFinite p && nacc-law.moduliFinite p
 readyFinite (Refused n) = true
+
+-- whether no parameter refuses: its refusal comes before a modulus's
+abbrev pub parametersReady : Ready → Bool
+parametersReady (Snow p) = true
+parametersReady (Rankine p) = true
+parametersReady (DruckerPrager p) = true
+parametersReady (Nacc p) = true
+parametersReady (Refused n) = not (eqb n notFinite)
 
 abbrev pub readyUpdate : Ready → List (List Float) → List (List Float) → State → Updated
 readyUpdate (Snow p) u vt s = snow.snowUpdate p u vt s

@@ -26,6 +26,7 @@ use plasticity_rankine::RankineArguments;
 use plasticity_rankine::RankinePlasticity;
 use plasticity_snow::SnowPlasticity;
 pub use readied::make_ready;
+pub use readied::parameters_ready;
 pub use readied::update_ready;
 
 // The plastic laws.

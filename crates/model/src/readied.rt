@@ -9,7 +9,7 @@ use plasticity_rankine::RankinePlasticity;
 ghost use mathlib.Core.Path.{_≡_};
 ghost use mathlib.Core.Bool.{true};
 ghost use Rattle.plasticity.specs.State.{inputsFinite};
-ghost use Rattle.model.specs.Ready.{rankineReady, naccReady, lawReady, readyOf, readyFinite, readyUpdate};
+ghost use Rattle.model.specs.Ready.{rankineReady, naccReady, lawReady, readyOf, readyFinite, parametersReady, readyUpdate};
 
 fn ready_rankine(p: RankinePlasticity) -> Ready
     ensures { λ r. ⌜ r ≡ rankineReady p ⌝ }
@@ -43,6 +43,7 @@ fn ready_law(m: Model) -> Ready
     }
 }
 
+// 1 for a parameter, then 3 for a modulus.
 pub fn make_ready(m: Model) -> Ready
     ensures { λ r. ⌜ r ≡ readyOf m ⌝ }
 {
@@ -50,6 +51,19 @@ pub fn make_ready(m: Model) -> Ready
         ready_law(m)
     } else {
         Ready::Refused(answers::NOT_FINITE)
+    }
+}
+
+// Whether the parameters of the model are finite.
+pub fn parameters_ready(q: Ready) -> bool
+    ensures { λ b. ⌜ b ≡ parametersReady q ⌝ }
+{
+    match q {
+        Ready::Snow(_) => true,
+        Ready::Rankine(_) => true,
+        Ready::DruckerPrager(_) => true,
+        Ready::Nacc(_) => true,
+        Ready::Refused(n) => n != answers::NOT_FINITE,
     }
 }
 

@@ -83,7 +83,7 @@ pub fn first(m: Model, q: Ready, j: Judge, r: &mut [u64]) -> Stepped
     ensures failed { λ x. ⌜ x .failed ≡ factoredLaw (modelFinite m && finiteBy j) (lawBy m j) (now (r .entry)) .failed ⌝ }
     ensures record { λ x. ⌜ now (r .exit) ≡ factoredLaw (modelFinite m && finiteBy j) (lawBy m j) (now (r .entry)) .after ⌝ }
 {
-    if !(model::model_finite(m) & judged::judge_finite(j)) {
+    if !(model::parameters_ready(q) & judged::judge_finite(j)) {
         return Stepped {
             outcome: Outcome::Refused(answers::NOT_FINITE),
             failed: false,

@@ -62,10 +62,11 @@ fn measured(d: Updated) -> Left
 }
 
 // 11, but where the parameters are refused by 1.
-fn wrong(m: Model, s: State) -> Updated
+fn wrong(m: Model, q: Ready, s: State) -> Updated
+    requires { ⌜ q ≡ readyOf m ⌝ }
     ensures { λ x. ⌜ x ≡ refused (cond (modelFinite m) wrongDeterminant notFinite) s ⌝ }
 {
-    let n = if model::model_finite(m) {
+    let n = if model::parameters_ready(q) {
         answers::WRONG_DETERMINANT
     } else {
         answers::NOT_FINITE
@@ -87,6 +88,6 @@ pub fn updated(m: Model, q: Ready, r: &[u64]) -> Left
     if r[record::DETERMINANT] == record::determinant_with(f) {
         measured(model::update_ready(q, record::read_u(r), record::read_vt(r), s))
     } else {
-        unstored(wrong(m, s))
+        unstored(wrong(m, q, s))
     }
 }
