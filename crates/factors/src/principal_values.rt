@@ -7,6 +7,7 @@ use crate::sweep;
 ghost use mathlib.Core.Path.{_≡_};
 ghost use mathlib.Core.Bool.{true};
 ghost use Rattle.exact.specs.Units.{mag};
+ghost use Rattle.tensor.specs.Finite.{matFinite};
 ghost use Rattle.factors.specs.Check.{largestIn};
 ghost use Rattle.factors.specs.Sweeps.{sweepBy};
 ghost use Rattle.factors.specs.PrincipalValues.{mirroredOf, levelPairOf, levelledOf, principalOf, mirroredAccepted, principalAccepted};
@@ -79,7 +80,7 @@ pub fn principal_of(f: [[f64; 3]; 3]) -> Principal
 
 // Whether a test in floats shows that they pass the check, g being mirrored and m the largest size in it; and the same without a doubt.
 fn surely(g: [[f64; 3]; 3], x: Principal, m: f64) -> bool
-    ensures { λ r. ⌜ (r ≡ true → mag m ≡ largestIn g → mirroredAccepted g x ≡ true) ⌝ }
+    ensures { λ r. ⌜ (r ≡ true → (matFinite g ≡ true → mag m ≡ largestIn g) → mirroredAccepted g x ≡ true) ⌝ }
 {
     let p = x.axes;
     let s = x.values;
@@ -88,7 +89,7 @@ fn surely(g: [[f64; 3]; 3], x: Principal, m: f64) -> bool
 }
 
 fn exactly(g: [[f64; 3]; 3], x: Principal, m: f64) -> bool
-    ensures { λ r. ⌜ (mag m ≡ largestIn g → r ≡ mirroredAccepted g x) ⌝ }
+    ensures { λ r. ⌜ ((matFinite g ≡ true → mag m ≡ largestIn g) → r ≡ mirroredAccepted g x) ⌝ }
 {
     let p = x.axes;
     let s = x.values;
