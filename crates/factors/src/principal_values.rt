@@ -78,7 +78,7 @@ pub fn principal_of(f: [[f64; 3]; 3]) -> Principal
     Principal { values, axes }
 }
 
-// Whether a test in floats shows that they pass the check, g being mirrored and m the largest size in it; and the same without a doubt.
+// Whether a test in floats shows that they pass the check; g is mirrored, and m the largest size in it.
 fn surely(g: [[f64; 3]; 3], x: Principal, m: f64) -> bool
     ensures { λ r. ⌜ (r ≡ true → (matFinite g ≡ true → mag m ≡ largestIn g) → mirroredAccepted g x ≡ true) ⌝ }
 {
@@ -88,6 +88,7 @@ fn surely(g: [[f64; 3]; 3], x: Principal, m: f64) -> bool
     nearness::surely_near(q, s, q, g, m) & nearness::surely_orthogonal(q)
 }
 
+// The same without a doubt.
 fn exactly(g: [[f64; 3]; 3], x: Principal, m: f64) -> bool
     ensures { λ r. ⌜ ((matFinite g ≡ true → mag m ≡ largestIn g) → r ≡ mirroredAccepted g x) ⌝ }
 {
