@@ -9,6 +9,7 @@ import subprocess
 import sys
 
 BYTES_BEFORE = 131_252
+WAYS = ["Rust's `parallel`", "Python's threads"]
 DOCS = pathlib.Path(__file__).resolve().parent.parent / "docs"
 LAWS = [("snow", "Snow", 1.2), ("rankine", "Rankine", 1.2), ("drucker_prager", "Drucker-Prager", 1.2), ("nacc", "NACC", 1.5)]
 
@@ -33,11 +34,13 @@ LIMITS = """
 
 
 def read(file):
-    rows, grown, night, load = {}, [], None, "unknown"
+    rows, grown, hosts, night, load = {}, [], {}, None, "unknown"
     for line in file.read_text().splitlines():
         words = line.split("\t")
         if words[0] == "load":
             load = words[1]
+        elif words[0] == "hosts":
+            hosts.setdefault((words[2], int(words[3])), {})[words[1]] = float(words[4])
         elif words[0] == "night":
             night = (int(words[1]), float(words[2]), int(words[3]))
         elif words[0] == "grown":
@@ -45,7 +48,7 @@ def read(file):
         else:
             number = [None if w == "-" else float(w) for w in words[2:4]]
             rows.setdefault(words[0], {})[words[1]] = number
-    return rows, grown, night, load
+    return rows, grown, hosts, night, load
 
 
 def over(a, b, places=2):
@@ -81,6 +84,12 @@ def principal(row):
     ours = [None if None in (a, b) else a - b for a, b in zip(row["ours"], row["stress"])]
     rows = {"principal": {"ours": ours, "nalgebra": row["nalgebra"]}}
     return ["stress and verdict less the stress", *beside(rows, "principal", "nalgebra")]
+
+
+def by_hosts(hosts):
+    for (law, count), speeds in hosts.items():
+        cells = [f"{speeds[way] / 1e6:.2f}" if way in speeds else "left out" for way in WAYS]
+        yield [dict((key, title) for key, title, _ in LAWS)[law], f"{count:,}", *cells]
 
 
 def sheets_a_second(night):
@@ -135,7 +144,7 @@ def picture(rows):
 
 def main():
     work = pathlib.Path(sys.argv[1])
-    rows, grown, night, load = read(work / "speed.tsv")
+    rows, grown, hosts, night, load = read(work / "speed.tsv")
     text = HEAD.format(load=load, processor=processor())
     text += "\n## A record of a law's pass, factors given, beside the fair rival\n"
     text += table(["", *heads("fair"), "target", "ns over the untouched Rust's"], laws(rows))
@@ -153,6 +162,8 @@ def main():
     text += table(["", "ns", "instructions"], ([s, figure(rows[s]["ours"][0], 1), figure(rows[s]["ours"][1])] for s in sheets))
     text += "\n## How it grows: by the clock, the best of a few turns\n"
     text += table(["", "records", "threads", "million records a second", "copied, the same", "GB a second", "copied"], growth(grown))
+    text += "\n## The same by the hosts' own ways, over all processors: million records a second\n"
+    text += table(["", "records", *WAYS], by_hosts(hosts)) if hosts else "Left out: neither rayon nor numpy is there.\n"
     text += "\n## A night\n"
     text += sheets_a_second(night)
     text += "\n## The library's code\n"

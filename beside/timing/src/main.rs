@@ -1,7 +1,7 @@
 //! Times of ours beside the Rust, in one run: medians of interleaved rounds, CPU time; and instructions, by callgrind.
 //! timing WORK [--count | --growth]: WORK is the folder with libuntouched.so, and speed.tsv is left there; --count is how the program
-//! runs itself under callgrind; --growth tells besides how a pass grows with its list, and
-//! leaves 100 sheets in WORK/sheets.
+//! runs itself under callgrind; --growth tells besides how a pass grows with its list, and leaves the records in WORK/drawn0 to 3 and
+//! 100 sheets of them in WORK/sheets.
 mod callgrind;
 #[path = "../../calls.rs"]
 #[allow(dead_code)]
@@ -119,14 +119,18 @@ fn spelt(number: usize, records: &[u64]) -> Vec<u8> {
     bytes
 }
 
-/// Full sheets of every law, for a night's run.
-fn write_sheets(folder: &str, count: usize) {
-    std::fs::create_dir_all(folder).unwrap();
+/// Each law's records, for the hosts' own passes, and full sheets of them, for a night's run.
+fn write_drawn(work: &str, sheets: usize) {
     let lists: Vec<Vec<u64>> = (0..LAWS.len()).map(|model| drawn(model, 4096)).collect();
-    for k in 0..count {
+    for (model, list) in lists.iter().enumerate() {
+        let bytes: Vec<u8> = list.iter().flat_map(|x| x.to_le_bytes()).collect();
+        std::fs::write(format!("{work}/drawn{model}"), bytes).unwrap();
+    }
+    std::fs::create_dir_all(format!("{work}/sheets")).unwrap();
+    for k in 0..sheets {
         let from = k * 37 % 3896 * FLOATS;
         let records = &lists[k % LAWS.len()][from..from + 200 * FLOATS];
-        std::fs::write(format!("{folder}/{k:03}.sheet"), spelt(LAWS.len() + k % LAWS.len(), records)).unwrap();
+        std::fs::write(format!("{work}/sheets/{k:03}.sheet"), spelt(LAWS.len() + k % LAWS.len(), records)).unwrap();
     }
 }
 
@@ -340,7 +344,7 @@ fn main() {
     }
     if args.iter().any(|a| a == "--growth") {
         grow(&mut told);
-        write_sheets(&format!("{work}/sheets"), 100);
+        write_drawn(work, 100);
     }
     println!("\nThe machine's load at the end {}", load());
     std::fs::write(format!("{work}/speed.tsv"), told).unwrap();

@@ -1,29 +1,28 @@
--- The sizes of floats, and the larger of two. Assumes nothing.
+-- The sizes of floats, the larger of two, and what holds of three. Assumes nothing.
 use mathlib.Core.Path.{_≡_, refl, sym, ap, ap₂, _∙_, subst}
-use mathlib.Core.Bool.{Bool, true, false, not, cond}
+use mathlib.Core.Bool.{Bool, true, false, not, cond, _&&_}
+use mathlib.Core.List.{List}
 use Prim.Native.Nat as Nat
 use Prim.Native.Nat.{ℕ, suc, _+_, _≤_, _<_}
 use native.Mathlib.Omega.{arith}
 use lib.Dec.{T, ltb, lt→ltb}
 use lib.Arith.{le→nltb}
+use lib.ListN.{length, getD}
 use lib.Ieee.Bits.{is-true, is-false}
 use lib.IntN.{ℤ, pos}
 use lib.Ieee as Ieee
-use lib.Ieee.{Float, nan, inf, fin, binary64, ofBits, neg, fits}
+use lib.Ieee.{Float, binary64, ofBits, neg, fits}
 use Rattle.exact.specs.Units.{L, mag, sgn, Fin64}
 use Rattle.exact.specs.Integers.{p, n, _≤ᶻ_}
 use Rattle.exact.specs.Value.{val, signed}
 use Rattle.exact.specs.Order.{lt-val}
 use Rattle.exact.specs.Positives.{neg-mag, neg-fine, neg-sign}
 use Rattle.numbers.specs.Floats.{finite}
-use Rattle.numbers.proofs.Laws.{finite-is}
+use Rattle.numbers.proofs.Laws.{finite-is, and-both}
 use Rattle.nearness.proofs.Rounded.{naught-fine, naught-val}
+use Rattle.tensor.specs.Axes.{allOf, of-one}
 use Rattle.tensor.specs.Matrix.{zero}
 use Rattle.factors.specs.Check.{Size, larger}
-
-naught-mag : mag zero ≡ 0
-unfolding mag L ofBits
-naught-mag = refl
 
 pub fine : (x : Float) → fits binary64 x ≡ true → finite x ≡ true → Fin64 x
 fine x f h = (subst T (sym (sym (finite-is x) ∙ h)) tt, subst T (sym f) tt)
@@ -49,12 +48,6 @@ size-plus x f h = record { fine = f; units = refl; plus = go (sgn x) (mag x) (rw
     go true Nat.zero l = refl
     go true (suc m) l = absurd (omega arith)
 
-pub size-none : (x : Float) → finite x ≡ false → Size (mag x) zero
-unfolding finite mag
-size-none nan h = record { fine = naught-fine; units = naught-mag; plus = naught-val }
-size-none (inf s) h = record { fine = naught-fine; units = naught-mag; plus = naught-val }
-size-none (fin s m e) h = absurd (subst T h tt)
-
 pub size-own : {k : ℕ} {r : Float} → Size k r → Size (mag r) r
 size-own {k} {r} s = record { fine = s .fine; units = refl; plus = s .plus ∙ ap pos (sym (s .units)) }
 
@@ -77,3 +70,17 @@ module _ (a b : Float) (s : Size (mag a) a) (t : Size (mag b) b) where
 
 pub of-size : {a b c d : ℕ} {x : Float} → a ≡ b → c ≡ d → Size (larger a c) x → Size (larger b d) x
 of-size {a} {b} {c} {d} {x} e f s = subst (λ k. Size k x) (ap₂ larger e f) s
+
+-- all of a list of three hold, so each does
+module _ {A : Type 0} (t : A → Bool) (d : A) (l : List A) (n : length l ≡ 3) (h : allOf t l ≡ true) where
+  parts : (t (getD l 0 d) && t (getD l 1 d) ≡ true) × (t (getD l 2 d) ≡ true)
+  parts = and-both (t (getD l 0 d) && t (getD l 1 d)) (t (getD l 2 d)) (of-one (allOf t) d l n ∙ h)
+
+  pub each0 : t (getD l 0 d) ≡ true
+  each0 = and-both (t (getD l 0 d)) (t (getD l 1 d)) (parts .0) .0
+
+  pub each1 : t (getD l 1 d) ≡ true
+  each1 = and-both (t (getD l 0 d)) (t (getD l 1 d)) (parts .0) .1
+
+  pub each2 : t (getD l 2 d) ≡ true
+  each2 = parts .1

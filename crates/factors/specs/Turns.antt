@@ -13,9 +13,6 @@ sizeOf x = cond (Ieee.lt x zero) (Ieee.neg x) x
 unfoldable pub tinyOf : Float → Float → Bool
 tinyOf x e = Ieee.eq x zero || Ieee.le (sizeOf x) e
 
-unfoldable pub ratioOf : Float → Float → Float
-ratioOf n d = cond (Ieee.eq n zero) zero (div n d)
-
 -- near the tangent of a quarter of the angle with the tangent r
 unfoldable pub quarterOf : Float → Float
 quarterOf r =
@@ -45,8 +42,8 @@ backOf t = record { c = t .c; s = Ieee.neg (t .s) }
 unfoldable pub halfAngleOf : Float → Float → Turn
 halfAngleOf x y =
     cond (Ieee.lt (sizeOf x) (sizeOf y))
-    (steepOf (ratioOf x y) (doubledOf (quarterOf (ratioOf x y))))
-    (backOf (doubledOf (quarterOf (ratioOf y x))))
+    (steepOf (div x y) (doubledOf (quarterOf (div x y))))
+    (backOf (doubledOf (quarterOf (div y x))))
 
 -- by nothing where y is at most e in size
 unfoldable pub halfTurnOf : Float → Float → Float → Turn

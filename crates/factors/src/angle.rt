@@ -1,7 +1,7 @@
 // The turns that bring a matrix nearer to a diagonal. Nothing is proved of how near: the check judges what comes out.
 use crate::Turn;
 ghost use mathlib.Core.Path.{_≡_};
-ghost use Rattle.factors.specs.Turns.{sizeOf, tinyOf, ratioOf, quarterOf, doubledOf, steepOf, backOf, halfTurnOf, afterOf};
+ghost use Rattle.factors.specs.Turns.{sizeOf, tinyOf, quarterOf, doubledOf, steepOf, backOf, halfTurnOf, afterOf};
 
 // The root of 1/2.
 const ROOT: f64 = 0.7071067811865476;
@@ -17,12 +17,6 @@ pub fn tiny(x: f64, e: f64) -> bool
     ensures { λ r. ⌜ r ≡ tinyOf x e ⌝ }
 {
     (x == 0.0) | (size(x) <= e)
-}
-
-fn ratio(n: f64, d: f64) -> f64
-    ensures { λ r. ⌜ r ≡ ratioOf n d ⌝ }
-{
-    if n == 0.0 { 0.0 } else { n / d }
 }
 
 // Near the tangent of a quarter of the angle with the tangent r, r from -1 to 1: nearer the smaller r is.
@@ -78,10 +72,10 @@ pub fn half_turn(x: f64, y: f64, e: f64) -> Turn
         return Turn { c: 1.0, s: -0.0 };
     }
     if size(x) < size(y) {
-        let r = ratio(x, y);
+        let r = x / y;
         steep(r, doubled(quarter(r)))
     } else {
-        back(doubled(quarter(ratio(y, x))))
+        back(doubled(quarter(y / x)))
     }
 }
 

@@ -21,10 +21,10 @@ pub struct Turn {
     pub s: f64,
 }
 
-// F turned towards a diagonal, the rows of U^T and of V^T so far, and the size up to which an entry is left as it is.
+// The rows of U^T so far, F turned towards a diagonal, the rows of V^T, and the size up to which an entry is left as it is.
 pub struct Work {
-    pub m: Rows,
     pub u: Rows,
+    pub m: Rows,
     pub v: Rows,
     pub least: f64,
 }

@@ -7,6 +7,7 @@ use crate::sweep;
 ghost use mathlib.Core.Path.{_≡_};
 ghost use mathlib.Core.Bool.{true};
 ghost use Rattle.exact.specs.Units.{mag};
+ghost use Rattle.tensor.specs.Finite.{matFinite};
 ghost use Rattle.factors.specs.Check.{largestIn};
 ghost use Rattle.factors.specs.Sweeps.{sweepBy};
 ghost use Rattle.factors.specs.PrincipalValues.{mirroredOf, levelPairOf, levelledOf, principalOf, mirroredAccepted, principalAccepted};
@@ -77,9 +78,9 @@ pub fn principal_of(f: [[f64; 3]; 3]) -> Principal
     Principal { values, axes }
 }
 
-// Whether a test in floats shows that they pass the check, g being mirrored and m the largest size in it; and the same without a doubt.
+// Whether a test in floats shows that they pass the check; g is mirrored, and m the largest size in it.
 fn surely(g: [[f64; 3]; 3], x: Principal, m: f64) -> bool
-    ensures { λ r. ⌜ (r ≡ true → mag m ≡ largestIn g → mirroredAccepted g x ≡ true) ⌝ }
+    ensures { λ r. ⌜ (r ≡ true → (matFinite g ≡ true → mag m ≡ largestIn g) → mirroredAccepted g x ≡ true) ⌝ }
 {
     let p = x.axes;
     let s = x.values;
@@ -87,8 +88,9 @@ fn surely(g: [[f64; 3]; 3], x: Principal, m: f64) -> bool
     nearness::surely_near(q, s, q, g, m) & nearness::surely_orthogonal(q)
 }
 
+// The same without a doubt.
 fn exactly(g: [[f64; 3]; 3], x: Principal, m: f64) -> bool
-    ensures { λ r. ⌜ (mag m ≡ largestIn g → r ≡ mirroredAccepted g x) ⌝ }
+    ensures { λ r. ⌜ ((matFinite g ≡ true → mag m ≡ largestIn g) → r ≡ mirroredAccepted g x) ⌝ }
 {
     let p = x.axes;
     let s = x.values;

@@ -1,3 +1,4 @@
 pub mod Ends
 pub mod KindLaws
+pub mod ReadyLaws
 pub mod StoredFinite

@@ -4,8 +4,6 @@ use plasticity::State;
 use plasticity::Updated;
 use reason::Reason;
 ghost use mathlib.Core.Path.{_≡_};
-ghost use mathlib.Core.Bool.{true};
-ghost use Rattle.plasticity.specs.State.{inputsFinite};
 ghost use Rattle.model.specs.Model.{modelFinite, modelUpdate, modelReason};
 
 // Whether every float of the parameters is finite.
@@ -29,19 +27,6 @@ pub fn update(m: Model, u: [[f64; 3]; 3], vt: [[f64; 3]; 3], s: State) -> Update
         Model::Rankine(a) => a.update_particle(u, vt, s),
         Model::DruckerPrager(p) => p.update_particle(u, vt, s),
         Model::Nacc(a) => a.update_particle(u, vt, s),
-    }
-}
-
-// The same of a record that is known to be finite.
-pub fn update_tested(m: Model, u: [[f64; 3]; 3], vt: [[f64; 3]; 3], s: State) -> Updated
-    requires { ⌜ inputsFinite u vt s ≡ true ⌝ }
-    ensures { λ r. ⌜ r ≡ modelUpdate m u vt s ⌝ }
-{
-    match m {
-        Model::Snow(p) => p.update_tested(u, vt, s),
-        Model::Rankine(a) => a.update_tested(u, vt, s),
-        Model::DruckerPrager(p) => p.update_tested(u, vt, s),
-        Model::Nacc(a) => a.update_tested(u, vt, s),
     }
 }
 

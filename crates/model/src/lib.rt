@@ -3,11 +3,11 @@
 mod choice;
 mod fields;
 mod kinds;
+mod readied;
 
 pub use choice::model_finite;
 pub use choice::reason_of;
 pub use choice::update;
-pub use choice::update_tested;
 pub use fields::corotated;
 pub use fields::drucker_prager;
 pub use fields::limits;
@@ -21,8 +21,13 @@ pub use kinds::known;
 pub use kinds::parameters_of;
 use plasticity_drucker_prager::DruckerPragerPlasticity;
 use plasticity_nacc::NaccArguments;
+use plasticity_nacc::NaccPlasticity;
 use plasticity_rankine::RankineArguments;
+use plasticity_rankine::RankinePlasticity;
 use plasticity_snow::SnowPlasticity;
+pub use readied::make_ready;
+pub use readied::parameters_ready;
+pub use readied::update_ready;
 
 // The plastic laws.
 pub enum Law {
@@ -38,6 +43,15 @@ pub enum Model {
     Rankine(RankineArguments),
     DruckerPrager(DruckerPragerPlasticity),
     Nacc(NaccArguments),
+}
+
+// A model made ready for many records: its parameters are tested and its moduli worked; or the number that refuses each record.
+pub enum Ready {
+    Snow(SnowPlasticity),
+    Rankine(RankinePlasticity),
+    DruckerPrager(DruckerPragerPlasticity),
+    Nacc(NaccPlasticity),
+    Refused(u8),
 }
 
 // The last model number, and how many laws there are: 4 to 7 name those of 0 to 3 again, for sheets whose records end with the determinant.

@@ -5,6 +5,7 @@ use crate::saved;
 use crate::step::Stepped;
 use factors::Factors;
 use model::Model;
+use model::Ready;
 use plasticity::Outcome;
 ghost use mathlib.Core.Path.{_≡_};
 ghost use mathlib.Core.Bool.{cond, _&&_};
@@ -12,6 +13,7 @@ ghost use lib.Dec.{eqb};
 ghost use lib.ListN.{length};
 ghost use Rattle.record.specs.Layout.{floats};
 ghost use Rattle.model.specs.Model.{modelFinite};
+ghost use Rattle.model.specs.Ready.{readyOf};
 ghost use Rattle.particles.specs.Judged.{finiteBy, lawBy};
 ghost use Rattle.particles.specs.Factored.{putFactors, withFactors, factorRefusal, factorLaw, heldBy, factoredLaw};
 
@@ -75,13 +77,13 @@ fn hold(o: Outcome, old: &[u64], r: &mut [u64])
 }
 
 // Before the law, and the verdict where there is a judge.
-pub fn first(m: Model, j: Judge, r: &mut [u64]) -> Stepped
-    requires { ⌜ length (now r) ≡ floats ⌝ }
+pub fn first(m: Model, q: Ready, j: Judge, r: &mut [u64]) -> Stepped
+    requires { ⌜ (length (now r) ≡ floats) × (q ≡ readyOf m) ⌝ }
     ensures outcome { λ x. ⌜ x .outcome ≡ factoredLaw (modelFinite m && finiteBy j) (lawBy m j) (now (r .entry)) .outcome ⌝ }
     ensures failed { λ x. ⌜ x .failed ≡ factoredLaw (modelFinite m && finiteBy j) (lawBy m j) (now (r .entry)) .failed ⌝ }
     ensures record { λ x. ⌜ now (r .exit) ≡ factoredLaw (modelFinite m && finiteBy j) (lawBy m j) (now (r .entry)) .after ⌝ }
 {
-    if !(model::model_finite(m) & judged::judge_finite(j)) {
+    if !(model::parameters_ready(q) & judged::judge_finite(j)) {
         return Stepped {
             outcome: Outcome::Refused(answers::NOT_FINITE),
             failed: false,
@@ -96,7 +98,7 @@ pub fn first(m: Model, j: Judge, r: &mut [u64]) -> Stepped
             failed: false,
         };
     }
-    let d = judged::step(m, j, r);
+    let d = judged::step(m, q, j, r);
     let o = d.outcome;
     hold(o, &old, r);
     d

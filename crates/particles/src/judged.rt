@@ -7,6 +7,7 @@ use elasticity_corotated_linear::CorotatedLinearElasticity;
 use failure_maximum_stress::MaximumStressFailure;
 use failure_maximum_stress::Verdict;
 use model::Model;
+use model::Ready;
 use plasticity::Outcome;
 use plasticity::State;
 use plasticity::Updated;
@@ -19,6 +20,7 @@ ghost use Rattle.record.specs.Layout.{floats, stateAt, recordFinite};
 ghost use Rattle.failure_maximum_stress.specs.Failure.{verdictOf};
 ghost use Rattle.failure_maximum_stress.specs.declared.Verdict.{Verdict};
 ghost use Rattle.failure_maximum_stress.specs.declared.Verdict.the-variants as verdict;
+ghost use Rattle.model.specs.Ready.{readyOf};
 ghost use Rattle.particles.specs.Judged.{verdictAfter, unlessRefused, verdictBy, marked, outcomeBy, failedBy, markedBy, finiteBy, lawBy};
 ghost use Rattle.particles.specs.Plain.{keptBy, Beside};
 
@@ -134,13 +136,13 @@ fn mark(m: Model, x: Left, v: Verdict, r: &mut [u64]) -> Stepped
 }
 
 // One finite record, with a finite judge: the law first, then the verdict on what it leaves.
-fn finite_step(m: Model, j: Judge, r: &mut [u64]) -> Stepped
-    requires { ⌜ (length (now r) ≡ floats) × (recordFinite (now r) ≡ true) ⌝ }
+fn finite_step(m: Model, q: Ready, j: Judge, r: &mut [u64]) -> Stepped
+    requires { ⌜ (length (now r) ≡ floats) × (recordFinite (now r) ≡ true) × (q ≡ readyOf m) ⌝ }
     ensures outcome { λ x. ⌜ x .outcome ≡ markedBy m j (now (r .entry)) .outcome ⌝ }
     ensures failed { λ x. ⌜ x .failed ≡ markedBy m j (now (r .entry)) .failed ⌝ }
     ensures record { λ x. ⌜ now (r .exit) ≡ markedBy m j (now (r .entry)) .after ⌝ }
 {
-    let x = law::updated(m, &r[..]);
+    let x = law::updated(m, q, &r[..]);
     let d = x.updated;
     let v = verdict(j, &r[..], d);
     mark(m, x, v, r)
@@ -157,14 +159,14 @@ pub fn judge_finite(j: Judge) -> bool
 }
 
 // One record. A float that isn't finite is the first refusal of every law, so all its patterns are tested at once.
-pub fn step(m: Model, j: Judge, r: &mut [u64]) -> Stepped
-    requires { ⌜ length (now r) ≡ floats ⌝ }
+pub fn step(m: Model, q: Ready, j: Judge, r: &mut [u64]) -> Stepped
+    requires { ⌜ (length (now r) ≡ floats) × (q ≡ readyOf m) ⌝ }
     ensures outcome { λ x. ⌜ x .outcome ≡ lawBy m j (now (r .entry)) .outcome ⌝ }
     ensures failed { λ x. ⌜ x .failed ≡ lawBy m j (now (r .entry)) .failed ⌝ }
     ensures record { λ x. ⌜ now (r .exit) ≡ lawBy m j (now (r .entry)) .after ⌝ }
 {
     if judge_finite(j) & record::all_finite(&r[..]) {
-        return finite_step(m, j, r);
+        return finite_step(m, q, j, r);
     }
     Stepped {
         outcome: Outcome::Refused(answers::NOT_FINITE),

@@ -1,5 +1,6 @@
 // The law on a finite record: 11 comes before it, 3 of the new determinant after it.
 use model::Model;
+use model::Ready;
 use plasticity::Outcome;
 use plasticity::State;
 use plasticity::Updated;
@@ -15,6 +16,7 @@ ghost use Rattle.plasticity.specs.declared.Outcome.the-variants.{Stored};
 ghost use Rattle.record.specs.Layout.{floats, recordFinite};
 ghost use Rattle.model.specs.declared.Model.{Model};
 ghost use Rattle.model.specs.Model.{modelFinite};
+ghost use Rattle.model.specs.Ready.{readyOf};
 ghost use Rattle.particles.specs.Plain.{measured, lawAt, Beside};
 
 // What the law leaves: the update, and beside it the determinant of the F that it stores, 0 where it stores none.
@@ -63,10 +65,11 @@ fn measured(d: Updated) -> Left
 }
 
 // 11, but where the parameters are refused by 1.
-fn wrong(m: Model, s: State) -> Updated
+fn wrong(m: Model, q: Ready, s: State) -> Updated
+    requires { ⌜ q ≡ readyOf m ⌝ }
     ensures { λ x. ⌜ x ≡ refused (cond (modelFinite m) wrongDeterminant notFinite) s ⌝ }
 {
-    let n = if model::model_finite(m) {
+    let n = if model::parameters_ready(q) {
         answers::WRONG_DETERMINANT
     } else {
         answers::NOT_FINITE
@@ -77,17 +80,17 @@ fn wrong(m: Model, s: State) -> Updated
     }
 }
 
-// The law on a finite record, where its determinant is right.
-pub fn updated(m: Model, r: &[u64]) -> Left
-    requires { ⌜ (length (now r) ≡ floats) × (recordFinite (now r) ≡ true) ⌝ }
+// The law on a finite record, where its determinant is right. The model comes with what it is made ready to be.
+pub fn updated(m: Model, q: Ready, r: &[u64]) -> Left
+    requires { ⌜ (length (now r) ≡ floats) × (recordFinite (now r) ≡ true) × (q ≡ readyOf m) ⌝ }
     ensures updated { λ x. ⌜ x .updated ≡ lawAt m (now (r .entry)) ⌝ }
     ensures determinant { λ x. ⌜ Beside (x .updated .outcome) (now (r .entry)) (x .updated .state) (x .determinant) ⌝ }
 {
     let s = record::read_state(r);
     let f = s.f;
     if r[record::DETERMINANT] == record::determinant_with(f) {
-        measured(model::update_tested(m, record::read_u(r), record::read_vt(r), s))
+        measured(model::update_ready(q, record::read_u(r), record::read_vt(r), s))
     } else {
-        unstored(wrong(m, s))
+        unstored(wrong(m, q, s))
     }
 }

@@ -7,13 +7,14 @@ use crate::step;
 use crate::step::Step;
 use crate::step::Stepped;
 use model::Model;
+use model::Ready;
 use plasticity::Outcome;
 ghost use mathlib.Core.Path.{_≡_};
 ghost use Prim.Native.Nat.{_+_, _*_, _^_, _≤_, _<_};
 ghost use lib.ListN.{length};
 ghost use Rattle.record.specs.Layout.{floats};
 ghost use Rattle.particles.specs.Plain.{recordLaw, recordOutcome, recordAfter};
-ghost use Rattle.particles.specs.Step.{stepLaw};
+ghost use Rattle.particles.specs.Step.{stepLaw, readyFor};
 ghost use Rattle.particles.specs.Pass.{codeOf, valueOf, answered, recordAt, replaced, worked, answers, countedIf, counted, counts, sized, withoutVerdicts, passed, passedWithFailure, passRecords, passAnswers};
 
 // How many records were left untouched, stored and refused.
@@ -34,7 +35,7 @@ pub fn update_record(m: Model, r: &mut [u64]) -> Outcome
     ensures { λ x. ⌜ now (r .exit) ≡ recordAfter m (now (r .entry)) ⌝ }
 {
     if r.len() == record::FLOATS {
-        let d = judged::step(m, Judge::Nobody, r);
+        let d = judged::step(m, model::make_ready(m), Judge::Nobody, r);
         return d.outcome;
     }
     Outcome::Refused(answers::LENGTH)
@@ -108,8 +109,8 @@ fn write_answer(out: &mut [u64], i: usize, o: Outcome)
 }
 
 // Record i, and its two answers.
-pub fn one(s: Step, xs: &mut [u64], out: &mut [u64], i: usize) -> Stepped
-    requires { ⌜ (i * floats + floats ≤ length (now xs)) × (i * 2 + 2 ≤ length (now out)) ⌝ }
+fn one_ready(s: Step, q: Ready, xs: &mut [u64], out: &mut [u64], i: usize) -> Stepped
+    requires { ⌜ (i * floats + floats ≤ length (now xs)) × (i * 2 + 2 ≤ length (now out)) × (q ≡ readyFor s) ⌝ }
     ensures outcome { λ d. ⌜ d .outcome ≡ stepLaw s (recordAt (now (xs .entry)) i) .outcome ⌝ }
     ensures failed { λ d. ⌜ d .failed ≡ stepLaw s (recordAt (now (xs .entry)) i) .failed ⌝ }
     ensures record { λ d. ⌜ now (xs .exit) ≡ replaced (now (xs .entry)) i (stepLaw s (recordAt (now (xs .entry)) i) .after) ⌝ }
@@ -117,15 +118,26 @@ pub fn one(s: Step, xs: &mut [u64], out: &mut [u64], i: usize) -> Stepped
 {
     let a = i * record::FLOATS;
     let b = a + record::FLOATS;
-    let d = step::take_step(s, &mut xs[a..b]);
+    let d = step::take_step(s, q, &mut xs[a..b]);
     let o = d.outcome;
     write_answer(out, i, o);
     d
 }
 
+// The same by itself.
+pub fn one(s: Step, xs: &mut [u64], out: &mut [u64], i: usize) -> Stepped
+    requires { ⌜ (i * floats + floats ≤ length (now xs)) × (i * 2 + 2 ≤ length (now out)) ⌝ }
+    ensures outcome { λ d. ⌜ d .outcome ≡ stepLaw s (recordAt (now (xs .entry)) i) .outcome ⌝ }
+    ensures failed { λ d. ⌜ d .failed ≡ stepLaw s (recordAt (now (xs .entry)) i) .failed ⌝ }
+    ensures record { λ d. ⌜ now (xs .exit) ≡ replaced (now (xs .entry)) i (stepLaw s (recordAt (now (xs .entry)) i) .after) ⌝ }
+    ensures answer { λ d. ⌜ now (out .exit) ≡ answered (now (out .entry)) i (d .outcome) ⌝ }
+{
+    one_ready(s, step::ready_for(s), xs, out, i)
+}
+
 // Every record by its index, whatever the ones before it gave.
-fn pass_all(s: Step, xs: &mut [u64], out: &mut [u64], n: usize) -> FailureCounts
-    requires { ⌜ (length (now xs) ≡ n * floats) × (length (now out) ≡ n * 2) ⌝ }
+fn pass_all(s: Step, q: Ready, xs: &mut [u64], out: &mut [u64], n: usize) -> FailureCounts
+    requires { ⌜ (length (now xs) ≡ n * floats) × (length (now out) ≡ n * 2) × (q ≡ readyFor s) ⌝ }
     ensures tallies { λ c. ⌜ c ≡ counts (stepLaw s) (now (xs .entry)) n ⌝ }
     ensures records { λ c. ⌜ now (xs .exit) ≡ worked (stepLaw s) (now (xs .entry)) n ⌝ }
     ensures answers { λ c. ⌜ now (out .exit) ≡ answers (stepLaw s) (now (xs .entry)) n ⌝ }
@@ -138,7 +150,7 @@ fn pass_all(s: Step, xs: &mut [u64], out: &mut [u64], n: usize) -> FailureCounts
     };
     let mut i = 0;
     while i < n {
-        let d = one(s, xs, out, i);
+        let d = one_ready(s, q, xs, out, i);
         let o = d.outcome;
         c = count_one(c, o, d.failed);
         i += 1;
@@ -163,7 +175,7 @@ pub fn pass_by(s: Step, xs: &mut [u64], out: &mut [u64]) -> PassedWithFailure
 {
     if well_sized(xs.len(), out.len()) {
         let n = xs.len() / record::FLOATS;
-        PassedWithFailure::Done(pass_all(s, xs, out, n))
+        PassedWithFailure::Done(pass_all(s, step::ready_for(s), xs, out, n))
     } else {
         PassedWithFailure::Refused(answers::LENGTH)
     }

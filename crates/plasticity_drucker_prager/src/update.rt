@@ -11,11 +11,12 @@ use plasticity::State;
 use plasticity::Updated;
 use reason::Number;
 ghost use mathlib.Core.Path.{_≡_};
-ghost use mathlib.Core.Bool.{true};
+ghost use mathlib.Core.Bool.{true, _&&_};
 ghost use Rattle.plasticity.specs.State.{inputsFinite};
 ghost use Rattle.walk.specs.Expr.{num};
 ghost use Rattle.walk.specs.Walk.{result};
 ghost use Rattle.walk.specs.Update.{updatedOf};
+ghost use Rattle.plasticity_drucker_prager.specs.Law.{parametersFinite};
 ghost use Rattle.plasticity_drucker_prager.specs.DruckerPrager.{untouchedOf, scalarsOf, stateOf, storeWalk, movedWalk, measuredOf, finiteResults, staysOf, runWalk, correctedOf, followedOf, druckerUpdate};
 
 fn untouched(s: State) -> Updated
@@ -198,15 +199,11 @@ impl DruckerPragerPlasticity {
         }
     }
 
-    // The same of a record that is known to be finite: its 36 floats are not tested again.
-    pub fn update_tested(self, u: [[f64; 3]; 3], vt: [[f64; 3]; 3], s: State) -> Updated
-        requires { ⌜ inputsFinite u vt s ≡ true ⌝ }
+    // The same of parameters and a record that are known to be finite: they are not tested again.
+    pub fn update_ready(self, u: [[f64; 3]; 3], vt: [[f64; 3]; 3], s: State) -> Updated
+        requires { ⌜ parametersFinite self && inputsFinite u vt s ≡ true ⌝ }
         ensures { λ r. ⌜ r ≡ druckerUpdate self u vt s ⌝ }
     {
-        if self.parameters_finite() {
-            self.run(u, vt, s)
-        } else {
-            plasticity::refuse(answers::NOT_FINITE, s)
-        }
+        self.run(u, vt, s)
     }
 }

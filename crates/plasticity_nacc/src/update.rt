@@ -11,12 +11,13 @@ use plasticity::State;
 use plasticity::Updated;
 use tensor::Rows;
 ghost use mathlib.Core.Path.{_≡_};
-ghost use mathlib.Core.Bool.{true};
+ghost use mathlib.Core.Bool.{true, _&&_};
 ghost use Rattle.numbers.specs.Floats.{finite};
 ghost use Rattle.plasticity.specs.State.{inputsFinite};
 ghost use Rattle.walk.specs.Walk.{result};
 ghost use Rattle.walk.specs.Update.{updatedOf};
 ghost use Rattle.reason.specs.Traced.{traced};
+ghost use Rattle.plasticity_nacc.specs.Law.{parametersFinite, moduliFinite};
 ghost use Rattle.plasticity_nacc.specs.Nacc.{outcomeOf, resultsOf, besideZeros, refusedProjection, recomposedOf, byBranch, walkedOf, projectedOf, projectInputs, projectCall, scalarsOf, stateOf, storedBy, runWalk, naccUpdate};
 
 // Zeros beside the branch.
@@ -232,19 +233,11 @@ impl NaccPlasticity {
         }
     }
 
-    // The same of a record that is known to be finite: its 36 floats are not tested again.
-    pub fn update_tested(self, u: [[f64; 3]; 3], vt: [[f64; 3]; 3], s: State) -> Updated
-        requires { ⌜ inputsFinite u vt s ≡ true ⌝ }
+    // The same of parameters, moduli and a record that are known to be finite: they are not tested again.
+    pub fn update_ready(self, u: [[f64; 3]; 3], vt: [[f64; 3]; 3], s: State) -> Updated
+        requires { ⌜ (parametersFinite self && inputsFinite u vt s ≡ true) × (moduliFinite self ≡ true) ⌝ }
         ensures { λ r. ⌜ r ≡ naccUpdate self u vt s ⌝ }
     {
-        if self.parameters_finite() {
-            if self.moduli_finite() {
-                self.run(u, vt, s)
-            } else {
-                plasticity::refuse(answers::NO_NUMBER, s)
-            }
-        } else {
-            plasticity::refuse(answers::NOT_FINITE, s)
-        }
+        self.run(u, vt, s)
     }
 }

@@ -6,8 +6,6 @@ use plasticity::State;
 use plasticity::Updated;
 use tensor::VectorAnswer;
 ghost use mathlib.Core.Path.{_≡_};
-ghost use mathlib.Core.Bool.{true};
-ghost use Rattle.plasticity.specs.State.{inputsFinite};
 ghost use Rattle.plasticity_rankine.specs.Law.{argumentsOf, lawOf, elasticFinite, argumentsFinite, madeOf};
 ghost use Rattle.plasticity_rankine.specs.Projection.{argumentsProject};
 ghost use Rattle.plasticity_rankine.specs.Rankine.{argumentsUpdate};
@@ -62,18 +60,6 @@ impl RankineArguments {
     {
         if self.elastic_finite() {
             self.law().update_particle(u, vt, s)
-        } else {
-            plasticity::refuse(answers::NOT_FINITE, s)
-        }
-    }
-
-    // The same of a record that is known to be finite.
-    pub fn update_tested(self, u: [[f64; 3]; 3], vt: [[f64; 3]; 3], s: State) -> Updated
-        requires { ⌜ inputsFinite u vt s ≡ true ⌝ }
-        ensures { λ r. ⌜ r ≡ argumentsUpdate self u vt s ⌝ }
-    {
-        if self.elastic_finite() {
-            self.law().update_tested(u, vt, s)
         } else {
             plasticity::refuse(answers::NOT_FINITE, s)
         }

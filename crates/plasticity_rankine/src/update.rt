@@ -17,7 +17,7 @@ ghost use Rattle.plasticity.specs.State.{inputsFinite};
 ghost use Rattle.walk.specs.Expr.{num, value, nums};
 ghost use Rattle.walk.specs.Walk.{result};
 ghost use Rattle.walk.specs.Update.{updatedOf};
-ghost use Rattle.plasticity_rankine.specs.Law.{parametersFinite};
+ghost use Rattle.plasticity_rankine.specs.Law.{parametersFinite, moduliFinite};
 ghost use Rattle.plasticity_rankine.specs.Rankine.{untouchedOf, stateOf, storeWalk, expsWalk, movedWalk, softStrength, movesOf, followedOf, runWalk, rankineUpdate};
 
 fn moves_of(b: Branch) -> Moves
@@ -199,20 +199,12 @@ impl RankinePlasticity {
         }
     }
 
-    // The same of a record that is known to be finite: its 36 floats are not tested again.
-    pub fn update_tested(self, u: [[f64; 3]; 3], vt: [[f64; 3]; 3], s: State) -> Updated
-        requires { ⌜ inputsFinite u vt s ≡ true ⌝ }
+    // The same of parameters, moduli and a record that are known to be finite: they are not tested again.
+    pub fn update_ready(self, u: [[f64; 3]; 3], vt: [[f64; 3]; 3], s: State) -> Updated
+        requires { ⌜ (parametersFinite self && inputsFinite u vt s ≡ true) × (moduliFinite self ≡ true) ⌝ }
         ensures { λ r. ⌜ r ≡ rankineUpdate self u vt s ⌝ }
     {
-        if self.parameters_finite() {
-            if self.moduli_finite() {
-                let sigma = s.sigma;
-                self.run(sigma, u, vt, s)
-            } else {
-                plasticity::refuse(answers::NO_NUMBER, s)
-            }
-        } else {
-            plasticity::refuse(answers::NOT_FINITE, s)
-        }
+        let sigma = s.sigma;
+        self.run(sigma, u, vt, s)
     }
 }

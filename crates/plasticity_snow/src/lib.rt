@@ -8,9 +8,9 @@ use plasticity::State;
 use plasticity::Updated;
 ghost use mathlib.Core.Path.{_≡_};
 ghost use mathlib.Core.Bool.{true, _&&_};
-ghost use Rattle.numbers.specs.Floats.{finite};
+ghost use Rattle.numbers.specs.Floats.{finite, isNumber, maxOf, minOf};
 ghost use Rattle.tensor.specs.Finite.{rowFinite, matFinite};
-ghost use Rattle.tensor.specs.Matrix.{sub, mul, div, productOf};
+ghost use Rattle.tensor.specs.Matrix.{add, sub, mul, div, productOf};
 ghost use Rattle.plasticity.specs.State.{inputsFinite};
 ghost use Rattle.walk.specs.Expr.{num};
 ghost use Rattle.walk.specs.Walk.{result};
@@ -69,6 +69,26 @@ impl SnowPlasticity {
             & numbers::is_finite(self.hardening_coeff)
     }
 
+    // The clamp between bounds that are numbers.
+    fn clamp_between(self, e: f64) -> f64
+        requires { ⌜ (isNumber (sub one (self .«min_epsilon»)) ≡ true) × (isNumber (add one (self .«max_epsilon»)) ≡ true) ⌝ }
+        ensures { λ r. ⌜ r ≡ clampOf self e ⌝ }
+    {
+        at_most(at_least(e, 1.0 - self.min_epsilon), 1.0 + self.max_epsilon)
+    }
+
+    // Of each singular value.
+    fn clamped(self, sigma: [f64; 3]) -> [f64; 3]
+        requires { ⌜ (isNumber (sub one (self .«min_epsilon»)) ≡ true) × (isNumber (add one (self .«max_epsilon»)) ≡ true) ⌝ }
+        ensures { λ r. ⌜ r ≡ clampedOf self sigma ⌝ }
+    {
+        [
+            self.clamp_between(sigma[0]),
+            self.clamp_between(sigma[1]),
+            self.clamp_between(sigma[2]),
+        ]
+    }
+
     // What the exponential is given.
     fn exponent(self, d: f64) -> f64
         ensures { λ r. ⌜ r ≡ mul (self .«hardening_coeff») (sub one d) ⌝ }
@@ -83,7 +103,7 @@ impl SnowPlasticity {
         ensures { λ r. ⌜ r ≡ updatedOf s (result (runWalk self u vt s)) ⌝ }
     {
         let sigma = s.sigma;
-        let new = self.project_deformation_gradient(sigma);
+        let new = self.clamped(sigma);
         let d = determinant(s.scalars.plastic_determinant, sigma, new);
         match exponential::exp_on_path(self.exponent(d)) {
             Answer::Value(h) => store(u, new, vt, d, h, s),
@@ -103,17 +123,29 @@ impl SnowPlasticity {
         }
     }
 
-    // The same of a record that is known to be finite: its 36 floats are not tested again.
-    pub fn update_tested(self, u: [[f64; 3]; 3], vt: [[f64; 3]; 3], s: State) -> Updated
-        requires { ⌜ inputsFinite u vt s ≡ true ⌝ }
+    // The same of parameters and a record that are known to be finite: they are not tested again.
+    pub fn update_ready(self, u: [[f64; 3]; 3], vt: [[f64; 3]; 3], s: State) -> Updated
+        requires { ⌜ parametersFinite self && inputsFinite u vt s ≡ true ⌝ }
         ensures { λ r. ⌜ r ≡ snowUpdate self u vt s ⌝ }
     {
-        if self.parameters_finite() {
-            self.run(u, vt, s)
-        } else {
-            plasticity::refuse(answers::NOT_FINITE, s)
-        }
+        self.run(u, vt, s)
     }
+}
+
+// The maximum with a bound that is a number, which is not tested again.
+fn at_least(e: f64, low: f64) -> f64
+    requires { ⌜ isNumber low ≡ true ⌝ }
+    ensures { λ r. ⌜ r ≡ maxOf e low ⌝ }
+{
+    if low < e { e } else { low }
+}
+
+// The minimum with such a bound.
+fn at_most(e: f64, high: f64) -> f64
+    requires { ⌜ isNumber high ≡ true ⌝ }
+    ensures { λ r. ⌜ r ≡ minOf e high ⌝ }
+{
+    if e < high { e } else { high }
 }
 
 // The plastic determinant d, multiplied by old product over new product.

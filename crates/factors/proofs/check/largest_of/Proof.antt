@@ -1,28 +1,29 @@
 -- `factors::check::largest_of` meets its contract. Assumes nothing.
-use Rattle.factors.proofs.Sizes.{size-own, of-size}
-use mathlib.Core.Path.{subst, ap₂, _∙_}
+use mathlib.Core.Path.{_≡_, subst, ap₂, _∙_}
 use lib.Ieee.{nan}
+use lib.ListN.{length}
 use Rattle.tensor.specs.Axes.{of-one}
+use Rattle.numbers.specs.Floats.{finite}
 use Rattle.factors.specs.Check.{Size, larger, largestOf}
+use Rattle.factors.proofs.Sizes.{size-own, of-size, each0, each1, each2}
 use borrow.Author.Needs.{needs}
 use Rattle.factors.proofs.check.largest_of.Statement.{statement}
 use Rattle.factors.proofs.check.largest_of.Tie as tie
 
-larger-requires : tie.Need-larger-requires
-larger-requires c κs = (size-own (c .before .magnitude .ensures), size-own (c .magnitude2 .ensures))
-
-larger-requires-2 : tie.Need-larger-requires-2
-larger-requires-2 c κs = (size-own (c .before .larger .ensures), size-own (c .magnitude3 .ensures))
-
 returns : tie.Need-returns
 unfolding largestOf
-returns c =
-    let d = c .before .before in
-    subst (λ k. Size k (c .larger2 .result)) (of-one largestOf nan (d .before .before .before .args .t1) (search needs))
-    (of-size (d .larger .ensures .units ∙ ap₂ larger (d .before .before .magnitude .ensures .units) (d .before .magnitude2 .ensures .units)) (c .before .magnitude3 .ensures .units) (c .larger2 .ensures))
+returns c = λ h.
+    let a = c .before .before .before .before .before .args .t1 in
+    let l : length a ≡ 3 = search needs in
+    let x = c .before .before .before .before .magnitude .ensures (each0 finite nan a l h) in
+    let y = c .before .before .before .magnitude2 .ensures (each1 finite nan a l h) in
+    let z = c .before .magnitude3 .ensures (each2 finite nan a l h) in
+    let w = c .before .before .larger .ensures (size-own x) (size-own y) in
+    subst (λ k. Size k (c .larger2 .result)) (of-one largestOf nan a l)
+    (of-size (w .units ∙ ap₂ larger (x .units) (y .units)) (z .units) (c .larger2 .ensures (size-own w) (size-own z)))
 
 pub largest-of-spec : {M : Type 1} → statement M
 largest-of-spec =
     tie.close
-    (tie.spec (λ c. search needs) (λ c κs. search needs) (λ c. search needs) (λ c κs. search needs) larger-requires
-    (λ c. search needs) (λ c κs. search needs) larger-requires-2 returns)
+    (tie.spec (λ c. search needs) (λ c κs. search needs) (λ c. search needs) (λ c κs. search needs)
+    (λ c κs. search needs) (λ c. search needs) (λ c κs. search needs) (λ c κs. search needs) returns)

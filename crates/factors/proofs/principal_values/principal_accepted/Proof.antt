@@ -9,13 +9,13 @@ returns : tie.Need-returns
 unfolding principalAccepted
 returns c =
     let l = c .before .before in
-    sym (c .before .surely .ensures (c .if1 .taken) (l .largest .ensures .units)) ∙ ap (λ g. mirroredAccepted g (l .before .before .args .x)) (l .before .mirrored .ensures)
+    sym (c .before .surely .ensures (c .if1 .taken) (λ h. l .largest .ensures h .units)) ∙ ap (λ g. mirroredAccepted g (l .before .before .args .x)) (l .before .mirrored .ensures)
 
 returns-2 : tie.Need-returns-2
 unfolding principalAccepted
 returns-2 c =
     let l = c .before .before .before in
-    c .exactly .ensures (l .largest .ensures .units) ∙ ap (λ g. mirroredAccepted g (l .before .before .args .x)) (l .before .mirrored .ensures)
+    c .exactly .ensures (λ h. l .largest .ensures h .units) ∙ ap (λ g. mirroredAccepted g (l .before .before .args .x)) (l .before .mirrored .ensures)
 
 pub principal-accepted-spec : {M : Type 1} → statement M
 principal-accepted-spec =

@@ -6,6 +6,7 @@ use Prim.Native.Nat.{ℕ}
 use borrow.Author.Needs.{needs}
 use borrow.Author.Tests.{not-true, not-false}
 use Rattle.model.specs.Model.{modelFinite}
+use Rattle.model.proofs.ReadyLaws.{ready-parameters}
 use Rattle.particles.specs.Pass.{Worked}
 use Rattle.particles.specs.Judged.{finiteBy, lawBy}
 use Rattle.particles.proofs.FactoredLaws.{inputs-refused, factors-refused, stepped, held-law}
@@ -16,7 +17,7 @@ returns : tie.Need-returns
 returns c =
     let a = c .before .before .before .before .args in
     let b = modelFinite (a .m) && finiteBy (a .j) in
-    let i = not-true b (simp (c .before .judge-finite .ensures, c .before .before .model-finite .ensures) at (c .if1 .taken)) in
+    let i = not-true b (simp (c .before .judge-finite .ensures, c .before .before .parameters-ready .ensures, c .before .before .before .before .pre .1, ready-parameters) at (c .if1 .taken)) in
     let q = sym (inputs-refused (a .r .now) b (lawBy (a .m) (a .j)) i) in
     (ap (λ (w : Worked). w .outcome) q, (ap (λ (w : Worked). w .failed) q, ap (λ (w : Worked). w .after) q))
 
@@ -25,7 +26,7 @@ returns-2 c =
     let a = c .before .before .before .before .before .before .before .before .before .before .before .before .before .args in
     let b = modelFinite (a .m) && finiteBy (a .j) in
     let f = c .before .before .before .factor .ensures in
-    let i = not-false b (simp (c .before .before .before .before .before .before .before .before .before .before .judge-finite .ensures, c .before .before .before .before .before .before .before .before .before .before .before .model-finite .ensures) at (c .before .before .before .before .before .before .before .before .before .if1 .left)) in
+    let i = not-false b (simp (c .before .before .before .before .before .before .before .before .before .before .judge-finite .ensures, c .before .before .before .before .before .before .before .before .before .before .before .parameters-ready .ensures, c .before .before .before .before .before .before .before .before .before .before .before .before .before .pre .1, ready-parameters) at (c .before .before .before .before .before .before .before .before .before .if1 .left)) in
     let q = factors-refused (a .r .now) b (lawBy (a .m) (a .j)) i (f .0, f .1) (c .if2 .taken) in
     let z = sym (q .0) in
     (ap (λ (w : Worked). w .outcome) z, (ap (λ (w : Worked). w .failed) z, q .1 ∙ ap (λ (w : Worked). w .after) z))
@@ -36,7 +37,7 @@ returns-3 c =
     let b = modelFinite (a .m) && finiteBy (a .j) in
     let w = lawBy (a .m) (a .j) in
     let f = c .before .before .before .before .before .before .before .before .before .before .before .before .factor .ensures in
-    let i = not-false b (simp (c .before .before .before .before .before .before .before .before .before .before .before .before .before .before .before .before .before .before .before .judge-finite .ensures, c .before .before .before .before .before .before .before .before .before .before .before .before .before .before .before .before .before .before .before .before .model-finite .ensures) at (c .before .before .before .before .before .before .before .before .before .before .before .before .before .before .before .before .before .before .if1 .left)) in
+    let i = not-false b (simp (c .before .before .before .before .before .before .before .before .before .before .before .before .before .before .before .before .before .before .before .judge-finite .ensures, c .before .before .before .before .before .before .before .before .before .before .before .before .before .before .before .before .before .before .before .before .parameters-ready .ensures, c .before .before .before .before .before .before .before .before .before .before .before .before .before .before .before .before .before .before .before .before .before .before .pre .1, ready-parameters) at (c .before .before .before .before .before .before .before .before .before .before .before .before .before .before .before .before .before .before .if1 .left)) in
     let q = stepped (a .r .now) b w i (f .0, f .1) (c .before .before .before .before .before .before .before .before .before .if2 .left) in
     let s = c .before .before .before .before .before .before .before .step .ensures in
     let z = sym (q .0) in

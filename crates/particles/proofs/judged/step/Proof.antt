@@ -10,7 +10,7 @@ finite-step-requires : tie.Need-finite-step-requires
 finite-step-requires c κs =
     let s = c .before .before .before .before .before .before in
     let t = simp (c .before .before .all-finite .ensures, c .before .before .before .before .judge-finite .ensures) at (c .before .if1 .taken) in
-    (s .pre, finite-first (s .args .m) (s .args .r .now) (s .args .j) t .0)
+    (s .pre .0, finite-first (s .args .m) (s .args .r .now) (s .args .j) t .0, s .pre .1)
 
 returns : tie.Need-returns
 returns c =

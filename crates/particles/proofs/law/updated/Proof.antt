@@ -2,8 +2,11 @@
 use mathlib.Core.Path.{sym, ap, _∙_}
 use borrow.Author.Needs.{needs}
 use borrow.Author.Tests.{eq-eqb, ne-eqb}
-use Rattle.record.specs.Layout.{determinantAt, determinantRight}
+use Rattle.record.specs.Layout.{uAt, vtAt, stateAt, determinantAt, determinantRight}
 use Rattle.record.proofs.Parts.{record-inputs}
+use Rattle.model.specs.declared.Ready.{Ready}
+use Rattle.model.specs.Ready.{readyUpdate}
+use Rattle.model.proofs.ReadyLaws.{ready-finite, ready-update}
 use Rattle.model.proofs.StoredFinite.{stored-finite}
 use Rattle.particles.specs.declared.law.Left.{Left}
 use Rattle.particles.specs.Plain.{updatedAt}
@@ -11,17 +14,23 @@ use Rattle.particles.proofs.NotFinite.{law-right, law-wrong}
 use Rattle.particles.proofs.law.updated.Statement.{statement}
 use Rattle.particles.proofs.law.updated.Tie as tie
 
-update-tested-requires : tie.Need-update-tested-requires
-update-tested-requires c κs =
-    let s = c .before .before .before .before .before .before .before .before in
-    rw (c .before .before .before .before .before .before .read-state .ensures, c .read-vt .ensures, c .before .read-u .ensures) (record-inputs (s .args .r .now) (s .pre .1))
+update-ready-requires : tie.Need-update-ready-requires
+update-ready-requires c κs =
+    let s = c .before .before .before .before .before .before .before .before in (
+      rw (s .pre .2) (ready-finite (s .args .m)),
+      rw (c .before .before .before .before .before .before .read-state .ensures, c .read-vt .ensures, c .before .read-u .ensures) (record-inputs (s .args .r .now) (s .pre .1)),
+    )
 
 measured-requires : tie.Need-measured-requires
 measured-requires c κs a e =
     let b = c .before in
-    let m = b .before .before .before .before .before .before .before .before .args .m in
-    let q = c .update-tested .ensures in
-    rw q (stored-finite m (b .before .read-u .result) (b .read-vt .result) (b .before .before .before .before .before .before .read-state .result) (update-tested-requires b κs) a (rw q at e) .0)
+    let s = b .before .before .before .before .before .before .before .before in
+    let u = b .before .read-u .result in
+    let vt = b .read-vt .result in
+    let st = b .before .before .before .before .before .before .read-state .result in
+    let i = update-ready-requires b κs .1 in
+    let q = c .update-ready .ensures ∙ ap (λ (x : Ready). readyUpdate x u vt st) (s .pre .2) ∙ ready-update u vt st i (s .args .m) in
+    rw q (stored-finite (s .args .m) u vt st i a (rw q at e) .0)
 
 returns : tie.Need-returns
 unfolding updatedAt determinantRight determinantAt
@@ -34,7 +43,7 @@ returns c =
     let t = simp (d, st) at (c .before .before .before .before .if1 .taken) in
     let e = c .measured .ensures in (
       e .0 m r (s .pre .0) (s .pre .1)
-          ∙ (simp (c .before .update-tested .ensures, c .before .before .read-vt .ensures, c .before .before .before .read-u .ensures, st))
+          ∙ (simp (c .before .update-ready .ensures, s .pre .2, c .before .before .read-vt .ensures, c .before .before .before .read-u .ensures, st, ready-update (uAt r) (vtAt r) (stateAt r) (record-inputs r (s .pre .1)) m))
           ∙ sym (law-right m r (s .pre .1) (eq-eqb _ _ t)),
       e .1 r (s .pre .0),
     )
@@ -57,4 +66,4 @@ returns-2 c =
 pub updated-spec : {M : Type 1} → statement M
 updated-spec =
     tie.close
-    (tie.spec (λ c κs. search needs) (λ c. search needs) (λ c κs. search needs) (λ c κs. search needs) (λ c κs. search needs) update-tested-requires measured-requires (λ c κs. search needs) (λ c κs. search needs) returns returns-2)
+    (tie.spec (λ c κs. search needs) (λ c. search needs) (λ c κs. search needs) (λ c κs. search needs) (λ c κs. search needs) update-ready-requires measured-requires (λ c κs. search needs) (λ c κs. search needs) returns returns-2)

@@ -14,25 +14,25 @@ use Rattle.particles.proofs.list.pass_all.Statement.{statement}
 use Rattle.particles.proofs.list.pass_all.Tie as tie
 
 abbrev Inv-loop : tie.InvT-loop
-Inv-loop s xs₀ out₀ n c₀ i₀ xs out c i =
+Inv-loop s q xs₀ out₀ n c₀ i₀ xs out c i =
     (i ≤ n) × (c ≡ counts (stepLaw s) xs₀ i) × (xs ≡ worked (stepLaw s) xs₀ i ++ drop (i * floats) xs₀) × (out ≡ answers (stepLaw s) xs₀ i ++ drop (i * 2) out₀)
 
 abbrev μ-loop : tie.MeasureT-loop
-μ-loop s xs₀ out₀ n c₀ i₀ xs out c i = n - i
+μ-loop s q xs₀ out₀ n c₀ i₀ xs out c i = n - i
 
 loop-holds : tie.Need-loop-holds Inv-loop μ-loop
 unfolding worked answers counts
 loop-holds c = (search needs, refl, refl, refl)
 
-one-requires : tie.Need-one-requires Inv-loop μ-loop
-one-requires c κs =
+one-ready-requires : tie.Need-one-ready-requires Inv-loop μ-loop
+one-ready-requires c κs =
     let l = c .before .before .before .loop in
     let a = c .before .before .before .before .before .before .args in
     let t : l .i < a .n = c .before .before .loop-test .taken in
     let q = c .before .before .before .before .before .before .pre in
     let e = records-length (stepLaw (a .s)) (step-keeps (a .s)) (a .xs .now) (l .i) (l .xs) (l .inv .2) (omega arith) in
     let f = answers-long (stepLaw (a .s)) (a .xs .now) (a .out .now) (l .i) (l .out) (l .inv .3) (omega arith) in
-    (omega arith, omega arith)
+    (omega arith, omega arith, q .2)
 
 count-one-requires : tie.Need-count-one-requires Inv-loop μ-loop
 count-one-requires c κs =
@@ -52,7 +52,7 @@ loop-less c = search needs
 
 loop-again : tie.Need-loop-again Inv-loop μ-loop
 loop-again c =
-    let o = c .before .before .before .before .before .one in
+    let o = c .before .before .before .before .before .one-ready in
     let t = c .before .before .before .before .before .before .before .before .loop-test .taken in
     let l = c .before .before .before .before .before .before .before .before .before .loop in
     let s = c .before .before .before .before .before .before .before .before .before .before .before .before in
@@ -96,5 +96,5 @@ returns c =
 pub pass-all-spec : {M : Type 1} → statement M
 pass-all-spec =
     tie.close
-    (tie.spec Inv-loop μ-loop loop-holds one-requires count-one-requires add-i loop-less loop-again same-length
+    (tie.spec Inv-loop μ-loop loop-holds one-ready-requires count-one-requires add-i loop-less loop-again same-length
     same-length-2 returns)

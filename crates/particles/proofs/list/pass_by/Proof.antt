@@ -12,15 +12,15 @@ use Rattle.particles.proofs.list.pass_by.Tie as tie
 
 pass-all-requires : tie.Need-pass-all-requires
 pass-all-requires c κs =
-    let a = c .before .before .before .before .before .before .args in
-    let w = sym (c .before .before .before .well-sized .ensures) ∙ c .before .before .if1 .taken in
+    let a = c .before .before .before .before .before .before .before .args in
+    let w = sym (c .before .before .before .before .well-sized .ensures) ∙ c .before .before .before .if1 .taken in
     let t = and-both (eqb (length (a .xs .now) / floats * floats) (length (a .xs .now))) (eqb (length (a .xs .now) / floats * 2) (length (a .out .now))) w in
-    (sym (eqb-true _ _ (t .0)), sym (eqb-true _ _ (t .1)))
+    (sym (eqb-true _ _ (t .0)), sym (eqb-true _ _ (t .1)), c .before .before .ready-for .ensures)
 
 returns : tie.Need-returns
 returns c =
     let e = c .before .before .before .before .pass-all .ensures in
-    let b = c .before .before .before .before .before .before .before in
+    let b = c .before .before .before .before .before .before .before .before in
     let t = sym (b .before .well-sized .ensures) ∙ b .if1 .taken in
     (simp (e .0, t), (simp (e .1 .0, t), simp (e .1 .1, t)))
 
@@ -30,4 +30,4 @@ returns-2 c = let t = sym (c .before .well-sized .ensures) ∙ c .if1 .left in (
 pub pass-by-spec : {M : Type 1} → statement M
 pass-by-spec =
     tie.close
-    (tie.spec (λ c κs. search needs) pass-all-requires (λ c. search needs) (λ c. search needs) returns returns-2)
+    (tie.spec (λ c κs. search needs) (λ c κs. search needs) pass-all-requires (λ c. search needs) (λ c. search needs) returns returns-2)

@@ -7,7 +7,7 @@ use Rattle.particles.proofs.list.update_record.Tie as tie
 returns : tie.Need-returns
 returns c =
     let s = c .before .before .step .ensures in
-    let e = eq-eqb _ _ (c .before .before .before .before .if1 .taken) in
+    let e = eq-eqb _ _ (c .before .before .before .before .before .if1 .taken) in
     (simp (s .0, e), simp (s .1 .1, e))
 
 returns-2 : tie.Need-returns-2
@@ -18,4 +18,4 @@ returns-2 c =
 pub update-record-spec : {M : Type 1} → statement M
 update-record-spec =
     tie.close
-    (tie.spec (λ c κs. search needs) (λ c. search needs) returns returns-2)
+    (tie.spec (λ c κs. search needs) (λ c κs. search needs) (λ c. search needs) returns returns-2)

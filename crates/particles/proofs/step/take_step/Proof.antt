@@ -5,6 +5,26 @@ use Rattle.particles.proofs.FactoredLaws.{factor-unjudged}
 use Rattle.particles.proofs.step.take_step.Statement.{statement}
 use Rattle.particles.proofs.step.take_step.Tie as tie
 
+step-requires : tie.Need-step-requires
+step-requires c κs =
+    let p = c .before .before .before .before .before .pre in
+    (p .0, simp (c .before .before .s .given .1) at (p .1))
+
+step-requires-2 : tie.Need-step-requires-2
+step-requires-2 c κs =
+    let p = c .before .before .before .before .before .pre in
+    (p .0, simp (c .before .before .s2 .given .1) at (p .1))
+
+first-requires : tie.Need-first-requires
+first-requires c κs =
+    let p = c .before .before .before .before .before .pre in
+    (p .0, simp (c .before .before .s3 .given .1) at (p .1))
+
+first-requires-2 : tie.Need-first-requires-2
+first-requires-2 c κs =
+    let p = c .before .before .before .before .before .pre in
+    (p .0, simp (c .before .before .s4 .given .1) at (p .1))
+
 returns : tie.Need-returns
 returns c =
     let st = c .before .before .step .ensures in
@@ -39,6 +59,6 @@ returns-5 c =
 pub take-step-spec : {M : Type 1} → statement M
 take-step-spec =
     tie.close
-    (tie.spec (λ c. search needs) (λ c κs. search needs) (λ c. search needs) (λ c κs. search needs) (λ c. search needs) (λ c κs. search needs) (λ c κs. search needs) (λ c. search needs) (λ c κs. search needs) (λ c. search needs) (λ c κs. search needs)
+    (tie.spec (λ c. search needs) step-requires (λ c. search needs) step-requires-2 (λ c. search needs) (λ c κs. search needs) (λ c κs. search needs) (λ c. search needs) first-requires (λ c. search needs) first-requires-2
     (λ c. search needs) returns (λ c. search needs) returns-2 (λ c. search needs) returns-3 (λ c. search needs) returns-4
     (λ c. search needs) returns-5)

@@ -2,9 +2,15 @@
 use borrow.Author.Needs.{needs}
 use Rattle.walk.specs.Matrix.{value-product}
 use Rattle.plasticity_snow.specs.Snow.{hardenWalk}
-use Rattle.plasticity_snow.proofs.Laws.{run-law, store-law}
+use Rattle.plasticity_snow.proofs.Laws.{bounds-numbers, run-law, store-law}
 use Rattle.plasticity_snow.proofs.SnowPlasticity.run.Statement.{statement}
 use Rattle.plasticity_snow.proofs.SnowPlasticity.run.Tie as tie
+
+clamped-requires : tie.Need-clamped-requires
+clamped-requires c κs =
+    let c1 = c .before in
+    let a = c1 .args in
+    bounds-numbers (a .self) (a .u) (a .vt) (a .s) (c1 .pre)
 
 returns : tie.Need-returns
 unfolding hardenWalk
@@ -15,9 +21,9 @@ returns c =
     let c6 = c5 .before in
     let c7 = c6 .before in
     let c9 = c7 .before .before in
-    let t0 = simp (c4 .exp-on-path .ensures, c5 .exponent .ensures, c6 .determinant .ensures, c7 .project-deformation-gradient .ensures) at (c2 .h .given .1) in
+    let t0 = simp (c4 .exp-on-path .ensures, c5 .exponent .ensures, c6 .determinant .ensures, c7 .clamped .ensures) at (c2 .h .given .1) in
     let a = c9 .args in
-    simp (c .store .ensures, c4 .exp-on-path .ensures, c5 .exponent .ensures, c6 .determinant .ensures, c7 .project-deformation-gradient .ensures, t0, run-law (a .self) (a .u) (a .vt) (a .s) (c9 .pre), value-product, store-law)
+    simp (c .store .ensures, c4 .exp-on-path .ensures, c5 .exponent .ensures, c6 .determinant .ensures, c7 .clamped .ensures, t0, run-law (a .self) (a .u) (a .vt) (a .s) (c9 .pre), value-product, store-law)
 
 returns-2 : tie.Need-returns-2
 unfolding hardenWalk
@@ -28,12 +34,12 @@ returns-2 c =
     let c6 = c5 .before in
     let c7 = c6 .before in
     let c9 = c7 .before .before in
-    let t0 = simp (c4 .exp-on-path .ensures, c5 .exponent .ensures, c6 .determinant .ensures, c7 .project-deformation-gradient .ensures) at (c2 .n .given .1) in
+    let t0 = simp (c4 .exp-on-path .ensures, c5 .exponent .ensures, c6 .determinant .ensures, c7 .clamped .ensures) at (c2 .n .given .1) in
     let a = c9 .args in
-    simp (c .refuse .ensures, c4 .exp-on-path .ensures, c5 .exponent .ensures, c6 .determinant .ensures, c7 .project-deformation-gradient .ensures, t0, run-law (a .self) (a .u) (a .vt) (a .s) (c9 .pre), value-product, store-law)
+    simp (c .refuse .ensures, c4 .exp-on-path .ensures, c5 .exponent .ensures, c6 .determinant .ensures, c7 .clamped .ensures, t0, run-law (a .self) (a .u) (a .vt) (a .s) (c9 .pre), value-product, store-law)
 
 pub run-spec : {M : Type 1} → statement M
 run-spec =
     tie.close
-    (tie.spec (λ c κs. search needs) (λ c κs. search needs) (λ c κs. search needs) (λ c κs. search needs)
+    (tie.spec clamped-requires (λ c κs. search needs) (λ c κs. search needs) (λ c κs. search needs)
     (λ c. search needs) (λ c κs. search needs) (λ c. search needs) (λ c κs. search needs) returns returns-2)

@@ -1,0 +1,17 @@
+-- Inputs and moduli are finite: the steps are left.
+use Rattle.plasticity_rankine.specs.Rankine.{rankineWalk}
+use Rattle.plasticity_rankine.proofs.Laws.{inputs-law}
+use Rattle.plasticity_rankine.proofs.RankinePlasticity.update_ready.Statement.{statement}
+use Rattle.plasticity_rankine.proofs.RankinePlasticity.update_ready.Tie as tie
+
+run-requires : tie.Need-run-requires
+run-requires c κs = c .before .pre .0
+
+returns : tie.Need-returns
+unfolding rankineWalk
+returns c =
+    let q = c .before .before .pre in
+    simp (c .run .ensures, inputs-law, q .0, q .1)
+
+pub update-ready-spec : {M : Type 1} → statement M
+update-ready-spec = tie.close (tie.spec run-requires returns)
