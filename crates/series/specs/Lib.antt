@@ -16,3 +16,4 @@ pub mod Logs
 pub mod Ln2
 pub mod ThirdsNear
 pub mod SinhNear
+pub mod LogTail
