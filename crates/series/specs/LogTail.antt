@@ -4,8 +4,9 @@ use mathlib.Core.Path.{_≡_, refl, sym, ap, ap₂, _∙_, subst₂}
 use mathlib.Core.Bool.{Bool, true, false}
 use mathlib.Core.List.{List, [], _∷_}
 use Prim.Native.Nat.{ℕ, zero, suc, _+_, _-_, _*_, _^_, _≤_, _<_}
-use native.Mathlib.Nat.{le-refl, le-trans, mul-pos, zero-lt-suc, mul-le-mul-right, mul-le-mul-left, pow-suc, le-of-mul-le-mul-right, sub-add-cancel}
+use native.Mathlib.Nat.{le-refl, le-trans, mul-pos, mul-one, mul-assoc, zero-lt-suc, mul-le-mul-right, mul-le-mul-left, pow-suc, pow-le-pow-left, one-le-pow, zero-mul, zero-add, mul-zero, add-zero, sub-add-cancel}
 use native.Mathlib.Omega.{arith}
+use lib.Pow.{pow-add}
 use lib.Dec.{T, leb, ltb, leb→le, ltb→lt}
 use Rattle.exact.specs.Both.{both, both-left, both-right}
 use Rattle.series.specs.Exponential.{num, den}
@@ -155,10 +156,9 @@ abbrev lead : Factor → Factor
 lead (d, []) = (d, [])
 lead (d, c ∷ cs) = (d, c ∷ [])
 
-abbrev rises : List Factor → Bool
-rises [] = true
-rises ((d, []) ∷ fs) = false
-rises ((d, c ∷ cs) ∷ fs) = both (ltb 0 c) (rises fs)
+abbrev rises : Factor → Bool
+rises (d, []) = false
+rises (d, c ∷ cs) = ltb 0 c
 
 module _ (q m : ℕ) where
   unfoldable of : Factor → ℕ
@@ -176,15 +176,11 @@ module _ (q m : ℕ) where
   bounded : (fs gs : List Factor) → 240 * m ≤ q → T (less (degree fs) (degree gs) (product fs) (product gs) 0) → all fs ≤ all gs
   bounded fs gs r t = omega (arith, at-product fs, at-product gs, at-less q m (degree fs) (degree gs) (product fs) (product gs) 0 r t .1)
 
-  of-pos : (d c : ℕ) (cs : List ℕ) → 0 < q → 0 < c → 0 < of (d, c ∷ cs)
+  of-pos : (f : Factor) → 0 < q → T (rises f) → 0 < of f
   unfolding of
-  of-pos zero c cs hq h = h
-  of-pos (suc d) c cs hq h = omega (arith, mul-pos h (power-pos q m hq (suc d)))
-
-  all-pos : (fs : List Factor) → 0 < q → T (rises fs) → 0 < all fs
-  all-pos [] hq t = zero-lt-suc 0
-  all-pos ((d, []) ∷ fs) hq t = absurd t
-  all-pos ((d, c ∷ cs) ∷ fs) hq t = mul-pos (of-pos d c cs hq (ltb→lt 0 c (both-left (ltb 0 c) (rises fs) t))) (all-pos fs hq (both-right (ltb 0 c) (rises fs) t))
+  of-pos (d, []) hq t = absurd t
+  of-pos (zero, c ∷ cs) hq t = ltb→lt 0 c t
+  of-pos (suc d, c ∷ cs) hq t = omega (arith, mul-pos (ltb→lt 0 c t) (power-pos q m hq (suc d)))
 
 -- ---- bounds on exp (r^k / k), each the factor over its first coefficient
 abbrev over1 : Factor
@@ -233,8 +229,143 @@ module _ (n p s c P S x y : ℕ) (hP : p * c ≡ P) (hS : s * c ≡ S) where
   from-below : num p s n ≡ x → den s n ≡ y → Under P S x y
   from-below e f = subst₂ (λ (a b : ℕ). Under a b x y) hP hS (under-scale p s c x y (n, rw (e, f) (le-refl (x * y))))
 
-module _ (q m : ℕ) where
-  above1 : 0 < q → m ≤ q → Above (60 * (m * q ^ 4)) (whole q) (of q m over1) (of q m (lead over1))
+whole-pos : (q : ℕ) → 0 < q → 0 < whole q
+whole-pos q h = mul-pos (zero-lt-suc 59) (one-le-pow 5 q h)
+
+module _ (q m : ℕ) (hq : 0 < q) where
+  abbrev AboveBy : Factor → ℕ → Type 0
+  AboveBy f p = Above p (whole q) (of q m f) (of q m (lead f))
+
+  abbrev UnderBy : Factor → ℕ → Type 0
+  UnderBy f p = Under p (whole q) (of q m f) (of q m (lead f))
+
+  above1 : m ≤ q → AboveBy over1 (60 * (m * q ^ 4))
   unfolding num den of
-  above1 hq h = from-above 5 m q (60 * q ^ 4) (60 * (m * q ^ 4)) (whole q) (of q m over1) (of q m (lead over1)) (omega arith) (omega (arith, pow-suc q 4)) hq h
-      (rw (pow1 m, pow2 m, pow3 m, pow4 m, pow5 m, pow6 m) (omega arith)) (omega arith)
+  above1 h = from-above 5 m q (60 * q ^ 4) (60 * (m * q ^ 4)) (whole q) (of q m over1) (of q m (lead over1)) (omega arith) (omega (arith, pow-suc q 4))
+      hq h (rw (pow1 m, pow2 m, pow3 m, pow4 m, pow5 m, pow6 m) (omega arith)) (omega arith)
+
+  above2 : m ≤ q → AboveBy over2 (30 * (m ^ 2 * q ^ 3))
+  unfolding num den of
+  above2 h = from-above 2 (m ^ 2) (2 * q ^ 2) (30 * q ^ 3) (30 * (m ^ 2 * q ^ 3)) (whole q) (of q m over2) (of q m (lead over2)) (omega arith) (omega (arith, pow-add q 2 3))
+      (mul-pos (zero-lt-suc 1) (one-le-pow 2 q hq)) (omega (arith, pow-le-pow-left h 2))
+      (rw (pow1 (m ^ 2), pow2 (m ^ 2), pow3 (m ^ 2), pow2 m, pow2 q) (omega arith)) (rw (pow2 q) (omega arith))
+
+  above3 : m ≤ q → AboveBy over3 (20 * (m ^ 3 * q ^ 2))
+  unfolding num den of
+  above3 h = from-above 1 (m ^ 3) (3 * q ^ 3) (20 * q ^ 2) (20 * (m ^ 3 * q ^ 2)) (whole q) (of q m over3) (of q m (lead over3)) (omega arith) (omega (arith, pow-add q 3 2))
+      (mul-pos (zero-lt-suc 2) (one-le-pow 3 q hq)) (omega (arith, pow-le-pow-left h 3))
+      (rw (pow1 (m ^ 3), pow2 (m ^ 3), pow3 m, pow3 q) (omega arith)) (rw (pow3 q) (omega arith))
+
+  above4 : m ≤ q → AboveBy over4 (15 * (m ^ 4 * q))
+  unfolding num den of
+  above4 h = from-above 1 (m ^ 4) (4 * q ^ 4) (15 * q) (15 * (m ^ 4 * q)) (whole q) (of q m over4) (of q m (lead over4)) (omega arith) (omega (arith, pow-suc q 4))
+      (mul-pos (zero-lt-suc 3) (one-le-pow 4 q hq)) (omega (arith, pow-le-pow-left h 4))
+      (rw (pow1 (m ^ 4), pow2 (m ^ 4), pow4 m, pow4 q) (simp (zero-mul, zero-add) (omega arith))) (rw (pow4 q) (omega arith))
+
+  above5 : m ≤ q → AboveBy over5 (12 * m ^ 5)
+  unfolding num den of
+  above5 h = from-above 1 (m ^ 5) (5 * q ^ 5) 12 (12 * m ^ 5) (whole q) (of q m over5) (of q m (lead over5)) (omega arith) (omega arith)
+      (mul-pos (zero-lt-suc 4) (one-le-pow 5 q hq)) (omega (arith, pow-le-pow-left h 5))
+      (rw (pow1 (m ^ 5), pow2 (m ^ 5), pow5 m, pow5 q) (simp (zero-mul, zero-add) (omega arith))) (rw (pow5 q) (simp (zero-mul, zero-add, mul-zero, add-zero) (omega arith)))
+
+  under1 : UnderBy below1 (60 * (m * q ^ 4))
+  unfolding num den of
+  under1 = from-below 5 m q (60 * q ^ 4) (60 * (m * q ^ 4)) (whole q) (of q m below1) (of q m (lead below1)) (omega arith) (omega (arith, pow-suc q 4))
+      (rw (pow1 m, pow2 m, pow3 m, pow4 m, pow5 m) (omega arith)) (omega arith)
+
+  under2 : UnderBy below2 (30 * (m ^ 2 * q ^ 3))
+  unfolding num den of
+  under2 = from-below 2 (m ^ 2) (2 * q ^ 2) (30 * q ^ 3) (30 * (m ^ 2 * q ^ 3)) (whole q) (of q m below2) (of q m (lead below2)) (omega arith) (omega (arith, pow-add q 2 3))
+      (rw (pow1 (m ^ 2), pow2 (m ^ 2), pow2 m, pow2 q) (omega arith)) (rw (pow2 q) (omega arith))
+
+  under3 : UnderBy below3 (20 * (m ^ 3 * q ^ 2))
+  unfolding num den of
+  under3 = from-below 1 (m ^ 3) (3 * q ^ 3) (20 * q ^ 2) (20 * (m ^ 3 * q ^ 2)) (whole q) (of q m below3) (of q m (lead below3)) (omega arith) (omega (arith, pow-add q 3 2))
+      (rw (pow1 (m ^ 3), pow3 m, pow3 q) (omega arith)) (rw (pow3 q) (omega arith))
+
+  under4 : UnderBy below4 (15 * (m ^ 4 * q))
+  unfolding num den of
+  under4 = from-below 1 (m ^ 4) (4 * q ^ 4) (15 * q) (15 * (m ^ 4 * q)) (whole q) (of q m below4) (of q m (lead below4)) (omega arith) (omega (arith, pow-suc q 4))
+      (rw (pow1 (m ^ 4), pow4 m, pow4 q) (omega arith)) (rw (pow4 q) (omega arith))
+
+  under5 : UnderBy below5 (12 * m ^ 5)
+  unfolding num den of
+  under5 = from-below 1 (m ^ 5) (5 * q ^ 5) 12 (12 * m ^ 5) (whole q) (of q m below5) (of q m (lead below5)) (omega arith) (omega arith)
+      (rw (pow1 (m ^ 5), pow5 m, pow5 q) (omega arith)) (rw (pow5 q) (omega arith))
+
+  above-both : (f g : Factor) (p r : ℕ) → AboveBy f p → AboveBy g r → Above (p + r) (whole q) (of q m f * of q m g) (of q m (lead f) * of q m (lead g))
+  above-both f g p r a b = above-add p r (whole q) (of q m f) (of q m (lead f)) (of q m g) (of q m (lead g)) (whole-pos q hq) a b
+
+  under-both : (f g : Factor) (p r : ℕ) → UnderBy f p → UnderBy g r → Under (p + r) (whole q) (of q m f * of q m g) (of q m (lead f) * of q m (lead g))
+  under-both f g p r a b = under-add p r (whole q) (of q m f) (of q m (lead f)) (of q m g) (of q m (lead g)) (whole-pos q hq) a b
+
+  above-three : (f g k : Factor) (p r t : ℕ) → AboveBy f p → AboveBy g r → AboveBy k t → Above (p + r + t) (whole q) (of q m f * of q m g * of q m k) (of q m (lead f) * of q m (lead g) * of q m (lead k))
+  above-three f g k p r t a b c = above-add (p + r) t (whole q) (of q m f * of q m g) (of q m (lead f) * of q m (lead g)) (of q m k) (of q m (lead k)) (whole-pos q hq) (above-both f g p r a b) c
+
+  under-three : (f g k : Factor) (p r t : ℕ) → UnderBy f p → UnderBy g r → UnderBy k t → Under (p + r + t) (whole q) (of q m f * of q m g * of q m k) (of q m (lead f) * of q m (lead g) * of q m (lead k))
+  under-three f g k p r t a b c = under-add (p + r) t (whole q) (of q m f * of q m g) (of q m (lead f) * of q m (lead g)) (of q m k) (of q m (lead k)) (whole-pos q hq) (under-both f g p r a b) c
+
+-- ---- 1 + r times 2^49 and 2^49 + 1
+abbrev line : ℕ → ℕ → Factor
+line a b = (1, a ∷ b ∷ [])
+
+line-is : (q m a b : ℕ) → of q m (line a b) ≡ a * q + b * m
+unfolding of
+line-is q m a b = omega arith
+
+six : (a b c d e t : ℕ) → a * (b * (c * (d * (e * (t * 1))))) ≡ a * b * c * (d * e) * t
+six a b c d e t = simp (mul-one, mul-assoc)
+
+compared : (q m : ℕ) (a b c d e t a' b' c' d' e' t' : Factor) → 240 * m ≤ q
+    → (let fs : List Factor = a ∷ b ∷ c ∷ d ∷ e ∷ t ∷ [] in let gs : List Factor = a' ∷ b' ∷ c' ∷ d' ∷ e' ∷ t' ∷ [] in T (less (degree fs) (degree gs) (product fs) (product gs) 0))
+    → (let v = of q m in v a * v b * v c * (v d * v e) * v t ≤ v a' * v b' * v c' * (v d' * v e') * v t')
+compared q m a b c d e t a' b' c' d' e' t' r z =
+    let v = of q m in
+    subst₂ (λ (i j : ℕ). i ≤ j) (six (v a) (v b) (v c) (v d) (v e) (v t)) (six (v a') (v b') (v c') (v d') (v e') (v t'))
+    (bounded q m (a ∷ b ∷ c ∷ d ∷ e ∷ t ∷ []) (a' ∷ b' ∷ c' ∷ d' ∷ e' ∷ t' ∷ []) r z)
+
+high-plain : (q m k x w B t s : ℕ) → t ≡ k * q + 0 * m → s ≡ (k + 1) * q + (k + 1) * m → x * w * t ≤ B * s → x * w * q * k ≤ (q + m) * (k + 1) * B
+high-plain q m k x w B t s e f h = omega (arith, rw (e, f) at h)
+
+low-plain : (q m k A u y t s : ℕ) → t ≡ k * q + k * m → s ≡ (k + 1) * q + 0 * m → A * t ≤ u * y * s → (q + m) * k * A ≤ u * y * q * (k + 1)
+low-plain q m k A u y t s e f h = omega (arith, rw (e, f) at h)
+
+pub log-tail : (q m : ℕ) → 0 < q → 240 * m ≤ q → LogTail q m
+log-tail q m hq r =
+    let h : m ≤ q = omega arith in
+    let k = 2 ^ 49 in
+    let v = of q m in
+    let l : Factor → ℕ = λ f. of q m (lead f) in
+    let s : (f : Factor) → T (rises f) → 0 < of q m f = λ f t. of-pos q m f hq t in
+    record {
+      x = v over1 * v over3 * v over5;
+      y = l over1 * l over3 * l over5;
+      u = v below2 * v below4;
+      w = l below2 * l below4;
+      some = (
+        mul-pos (mul-pos (s over1 tt) (s over3 tt)) (s over5 tt),
+        mul-pos (mul-pos (s (lead over1) tt) (s (lead over3) tt)) (s (lead over5) tt),
+        mul-pos (s below2 tt) (s below4 tt),
+        mul-pos (s (lead below2) tt) (s (lead below4) tt),
+      );
+      above = above-three q m hq over1 over3 over5 (60 * (m * q ^ 4)) (20 * (m ^ 3 * q ^ 2)) (12 * m ^ 5) (above1 q m hq h) (above3 q m hq h) (above5 q m hq h);
+      under = under-both q m hq below2 below4 (30 * (m ^ 2 * q ^ 3)) (15 * (m ^ 4 * q)) (under2 q m hq) (under4 q m hq);
+      high = high-plain q m k (v over1 * v over3 * v over5) (l below2 * l below4) (l over1 * l over3 * l over5 * (v below2 * v below4)) (v (line k 0)) (v (line (k + 1) (k + 1)))
+          (line-is q m k 0) (line-is q m (k + 1) (k + 1))
+          (compared q m over1 over3 over5 (lead below2) (lead below4) (line k 0) (lead over1) (lead over3) (lead over5) below2 below4 (line (k + 1) (k + 1)) r tt);
+      x' = v over2 * v over4;
+      y' = l over2 * l over4;
+      u' = v below1 * v below3 * v below5;
+      w' = l below1 * l below3 * l below5;
+      some' = (
+        mul-pos (s over2 tt) (s over4 tt),
+        mul-pos (s (lead over2) tt) (s (lead over4) tt),
+        mul-pos (mul-pos (s below1 tt) (s below3 tt)) (s below5 tt),
+        mul-pos (mul-pos (s (lead below1) tt) (s (lead below3) tt)) (s (lead below5) tt),
+      );
+      above' = above-both q m hq over2 over4 (30 * (m ^ 2 * q ^ 3)) (15 * (m ^ 4 * q)) (above2 q m hq h) (above4 q m hq h);
+      under' = under-three q m hq below1 below3 below5 (60 * (m * q ^ 4)) (20 * (m ^ 3 * q ^ 2)) (12 * m ^ 5) (under1 q m hq) (under3 q m hq) (under5 q m hq);
+      low = low-plain q m k (l below1 * l below3 * l below5 * (v over2 * v over4)) (v below1 * v below3 * v below5) (l over2 * l over4) (v (line k k)) (v (line (k + 1) 0))
+          (line-is q m k k) (line-is q m (k + 1) 0)
+          (compared q m (lead below1) (lead below3) (lead below5) over2 over4 (line k k) below1 below3 below5 (lead over2) (lead over4) (line (k + 1) 0) r tt);
+    }
