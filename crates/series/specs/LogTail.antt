@@ -1,10 +1,10 @@
 -- The logarithm of 1 + r for r up to 1 / 240, by five terms of its series: exp (r + r^3 / 3 + r^5 / 5) over exp (r^2 / 2 + r^4 / 4) is
 -- 1 + r but for 2^-49 of it. Assumes nothing.
-use mathlib.Core.Path.{_≡_, refl, sym, ap, ap₂, _∙_, subst₂}
-use mathlib.Core.Bool.{Bool, true, false}
+use mathlib.Core.Path.{_≡_, refl, ap, _∙_, subst₂}
+use mathlib.Core.Bool.{Bool, false}
 use mathlib.Core.List.{List, [], _∷_}
 use Prim.Native.Nat.{ℕ, zero, suc, _+_, _-_, _*_, _^_, _≤_, _<_}
-use native.Mathlib.Nat.{le-refl, le-trans, mul-pos, mul-one, mul-assoc, zero-lt-suc, mul-le-mul-right, mul-le-mul-left, pow-suc, pow-le-pow-left, one-le-pow, zero-mul, zero-add, mul-zero, add-zero, sub-add-cancel}
+use native.Mathlib.Nat.{le-refl, mul-pos, mul-one, mul-assoc, zero-lt-suc, mul-le-mul-right, mul-le-mul-left, pow-suc, pow-le-pow-left, one-le-pow, zero-mul, zero-add, mul-zero, add-zero, sub-add-cancel}
 use native.Mathlib.Omega.{arith}
 use lib.Pow.{pow-add}
 use lib.Dec.{T, leb, ltb, leb→le, ltb→lt}
@@ -12,7 +12,7 @@ use Rattle.exact.specs.Both.{both, both-left, both-right}
 use Rattle.series.specs.Exponential.{num, den}
 use Rattle.series.specs.Remainder.{Above, Under, above}
 use Rattle.series.specs.Powers.{pow1, pow2, pow3, pow4}
-use Rattle.series.specs.Bounds.{above-add, under-add, one-plus}
+use Rattle.series.specs.Bounds.{above-add, under-add}
 use Rattle.series.specs.Scale.{above-scale, under-scale}
 
 -- r = m / q:  r + r^3 / 3 + r^5 / 5 and r^2 / 2 + r^4 / 4, over 60 q^5
@@ -64,15 +64,17 @@ abbrev scale : (d : ℕ) → ℕ → Form d → Form d
 scale zero k a = k * a
 scale (suc d) k (a, f) = (k * a, scale d k f)
 
--- by q, and by q^a
+-- times q
 abbrev up : (d : ℕ) → Form d → Form (suc d)
 up zero a = (a, 0)
 up (suc d) (a, f) = (a, up d f)
 
+-- b + a, which computes where b is a variable
 abbrev sum : ℕ → ℕ → ℕ
 sum b zero = b
 sum b (suc a) = suc (sum b a)
 
+-- times q^a
 abbrev ups : (b a : ℕ) → Form b → Form (sum b a)
 ups b zero f = f
 ups b (suc a) f = up (sum b a) (ups b a f)
@@ -93,6 +95,7 @@ module _ (q m : ℕ) where
   power zero = 1
   power (suc d) = power d * q
 
+  -- the value of a form
   abbrev at : (d : ℕ) → Form d → ℕ
   at zero c = c
   at (suc d) (c, f) = c * power (suc d) + m * at d f
@@ -219,78 +222,82 @@ pow5 h = pow-suc h 4 ∙ ap (λ x. x * h) (pow4 h)
 pow6 : (h : ℕ) → h ^ 6 ≡ h * h * h * h * h * h
 pow6 h = pow-suc h 5 ∙ ap (λ x. x * h) (pow5 h)
 
--- n terms of the series at p / s, written over s c
-module _ (n p s c P S x y : ℕ) (hP : p * c ≡ P) (hS : s * c ≡ S) where
-  from-above : 0 < s → p ≤ s → num p s n * (suc n * s) + 2 * p ^ suc n ≡ x → den s (suc n) ≡ y → Above P S x y
-  from-above hs h e f =
-      subst₂ (λ (a b : ℕ). Above a b x y) hP hS
-      (above-scale p s c x y (above p s n x y hs (omega (arith, mul-le-mul-right s (le-refl (suc n)))) (rw (e, f) (le-refl (x * y)))))
-
-  from-below : num p s n ≡ x → den s n ≡ y → Under P S x y
-  from-below e f = subst₂ (λ (a b : ℕ). Under a b x y) hP hS (under-scale p s c x y (n, rw (e, f) (le-refl (x * y))))
-
 whole-pos : (q : ℕ) → 0 < q → 0 < whole q
 whole-pos q h = mul-pos (zero-lt-suc 59) (one-le-pow 5 q h)
 
 module _ (q m : ℕ) (hq : 0 < q) where
+  -- exp (p / whole) is at most the factor f over its first coefficient, and at least
   abbrev AboveBy : Factor → ℕ → Type 0
   AboveBy f p = Above p (whole q) (of q m f) (of q m (lead f))
 
   abbrev UnderBy : Factor → ℕ → Type 0
   UnderBy f p = Under p (whole q) (of q m f) (of q m (lead f))
 
+  -- by n terms of the series at p / s, where s c is whole
+  from-above : (f : Factor) (n p s c : ℕ) {P : ℕ} → p * c ≡ P → s * c ≡ whole q → 0 < s → p ≤ s → num p s n * (suc n * s) + 2 * p ^ suc n ≡ of q m f → den s (suc n) ≡ of q m (lead f) → AboveBy f P
+  from-above f n p s c hP hS hs h e g =
+      let x = of q m f in
+      let y = of q m (lead f) in
+      subst₂ (λ (a b : ℕ). Above a b x y) hP hS (above-scale p s c x y (above p s n x y hs (omega arith) (rw (e, g) (le-refl (x * y)))))
+
+  from-below : (f : Factor) (n p s c : ℕ) {P : ℕ} → p * c ≡ P → s * c ≡ whole q → num p s n ≡ of q m f → den s n ≡ of q m (lead f) → UnderBy f P
+  from-below f n p s c hP hS e g =
+      let x = of q m f in
+      let y = of q m (lead f) in
+      subst₂ (λ (a b : ℕ). Under a b x y) hP hS (under-scale p s c x y (n, rw (e, g) (le-refl (x * y))))
+
   above1 : m ≤ q → AboveBy over1 (60 * (m * q ^ 4))
   unfolding num den of
-  above1 h = from-above 5 m q (60 * q ^ 4) (60 * (m * q ^ 4)) (whole q) (of q m over1) (of q m (lead over1)) (omega arith) (omega (arith, pow-suc q 4))
+  above1 h = from-above over1 5 m q (60 * q ^ 4) (omega arith) (omega (arith, pow-suc q 4))
       hq h (rw (pow1 m, pow2 m, pow3 m, pow4 m, pow5 m, pow6 m) (omega arith)) (omega arith)
 
   above2 : m ≤ q → AboveBy over2 (30 * (m ^ 2 * q ^ 3))
   unfolding num den of
-  above2 h = from-above 2 (m ^ 2) (2 * q ^ 2) (30 * q ^ 3) (30 * (m ^ 2 * q ^ 3)) (whole q) (of q m over2) (of q m (lead over2)) (omega arith) (omega (arith, pow-add q 2 3))
+  above2 h = from-above over2 2 (m ^ 2) (2 * q ^ 2) (30 * q ^ 3) (omega arith) (omega (arith, pow-add q 2 3))
       (mul-pos (zero-lt-suc 1) (one-le-pow 2 q hq)) (omega (arith, pow-le-pow-left h 2))
       (rw (pow1 (m ^ 2), pow2 (m ^ 2), pow3 (m ^ 2), pow2 m, pow2 q) (omega arith)) (rw (pow2 q) (omega arith))
 
   above3 : m ≤ q → AboveBy over3 (20 * (m ^ 3 * q ^ 2))
   unfolding num den of
-  above3 h = from-above 1 (m ^ 3) (3 * q ^ 3) (20 * q ^ 2) (20 * (m ^ 3 * q ^ 2)) (whole q) (of q m over3) (of q m (lead over3)) (omega arith) (omega (arith, pow-add q 3 2))
+  above3 h = from-above over3 1 (m ^ 3) (3 * q ^ 3) (20 * q ^ 2) (omega arith) (omega (arith, pow-add q 3 2))
       (mul-pos (zero-lt-suc 2) (one-le-pow 3 q hq)) (omega (arith, pow-le-pow-left h 3))
       (rw (pow1 (m ^ 3), pow2 (m ^ 3), pow3 m, pow3 q) (omega arith)) (rw (pow3 q) (omega arith))
 
   above4 : m ≤ q → AboveBy over4 (15 * (m ^ 4 * q))
   unfolding num den of
-  above4 h = from-above 1 (m ^ 4) (4 * q ^ 4) (15 * q) (15 * (m ^ 4 * q)) (whole q) (of q m over4) (of q m (lead over4)) (omega arith) (omega (arith, pow-suc q 4))
+  above4 h = from-above over4 1 (m ^ 4) (4 * q ^ 4) (15 * q) (omega arith) (omega (arith, pow-suc q 4))
       (mul-pos (zero-lt-suc 3) (one-le-pow 4 q hq)) (omega (arith, pow-le-pow-left h 4))
       (rw (pow1 (m ^ 4), pow2 (m ^ 4), pow4 m, pow4 q) (simp (zero-mul, zero-add) (omega arith))) (rw (pow4 q) (omega arith))
 
   above5 : m ≤ q → AboveBy over5 (12 * m ^ 5)
   unfolding num den of
-  above5 h = from-above 1 (m ^ 5) (5 * q ^ 5) 12 (12 * m ^ 5) (whole q) (of q m over5) (of q m (lead over5)) (omega arith) (omega arith)
+  above5 h = from-above over5 1 (m ^ 5) (5 * q ^ 5) 12 (omega arith) (omega arith)
       (mul-pos (zero-lt-suc 4) (one-le-pow 5 q hq)) (omega (arith, pow-le-pow-left h 5))
       (rw (pow1 (m ^ 5), pow2 (m ^ 5), pow5 m, pow5 q) (simp (zero-mul, zero-add) (omega arith))) (rw (pow5 q) (simp (zero-mul, zero-add, mul-zero, add-zero) (omega arith)))
 
   under1 : UnderBy below1 (60 * (m * q ^ 4))
   unfolding num den of
-  under1 = from-below 5 m q (60 * q ^ 4) (60 * (m * q ^ 4)) (whole q) (of q m below1) (of q m (lead below1)) (omega arith) (omega (arith, pow-suc q 4))
+  under1 = from-below below1 5 m q (60 * q ^ 4) (omega arith) (omega (arith, pow-suc q 4))
       (rw (pow1 m, pow2 m, pow3 m, pow4 m, pow5 m) (omega arith)) (omega arith)
 
   under2 : UnderBy below2 (30 * (m ^ 2 * q ^ 3))
   unfolding num den of
-  under2 = from-below 2 (m ^ 2) (2 * q ^ 2) (30 * q ^ 3) (30 * (m ^ 2 * q ^ 3)) (whole q) (of q m below2) (of q m (lead below2)) (omega arith) (omega (arith, pow-add q 2 3))
+  under2 = from-below below2 2 (m ^ 2) (2 * q ^ 2) (30 * q ^ 3) (omega arith) (omega (arith, pow-add q 2 3))
       (rw (pow1 (m ^ 2), pow2 (m ^ 2), pow2 m, pow2 q) (omega arith)) (rw (pow2 q) (omega arith))
 
   under3 : UnderBy below3 (20 * (m ^ 3 * q ^ 2))
   unfolding num den of
-  under3 = from-below 1 (m ^ 3) (3 * q ^ 3) (20 * q ^ 2) (20 * (m ^ 3 * q ^ 2)) (whole q) (of q m below3) (of q m (lead below3)) (omega arith) (omega (arith, pow-add q 3 2))
+  under3 = from-below below3 1 (m ^ 3) (3 * q ^ 3) (20 * q ^ 2) (omega arith) (omega (arith, pow-add q 3 2))
       (rw (pow1 (m ^ 3), pow3 m, pow3 q) (omega arith)) (rw (pow3 q) (omega arith))
 
   under4 : UnderBy below4 (15 * (m ^ 4 * q))
   unfolding num den of
-  under4 = from-below 1 (m ^ 4) (4 * q ^ 4) (15 * q) (15 * (m ^ 4 * q)) (whole q) (of q m below4) (of q m (lead below4)) (omega arith) (omega (arith, pow-suc q 4))
+  under4 = from-below below4 1 (m ^ 4) (4 * q ^ 4) (15 * q) (omega arith) (omega (arith, pow-suc q 4))
       (rw (pow1 (m ^ 4), pow4 m, pow4 q) (omega arith)) (rw (pow4 q) (omega arith))
 
   under5 : UnderBy below5 (12 * m ^ 5)
   unfolding num den of
-  under5 = from-below 1 (m ^ 5) (5 * q ^ 5) 12 (12 * m ^ 5) (whole q) (of q m below5) (of q m (lead below5)) (omega arith) (omega arith)
+  under5 = from-below below5 1 (m ^ 5) (5 * q ^ 5) 12 (omega arith) (omega arith)
       (rw (pow1 (m ^ 5), pow5 m, pow5 q) (omega arith)) (rw (pow5 q) (omega arith))
 
   above-both : (f g : Factor) (p r : ℕ) → AboveBy f p → AboveBy g r → Above (p + r) (whole q) (of q m f * of q m g) (of q m (lead f) * of q m (lead g))
@@ -305,7 +312,8 @@ module _ (q m : ℕ) (hq : 0 < q) where
   under-three : (f g k : Factor) (p r t : ℕ) → UnderBy f p → UnderBy g r → UnderBy k t → Under (p + r + t) (whole q) (of q m f * of q m g * of q m k) (of q m (lead f) * of q m (lead g) * of q m (lead k))
   under-three f g k p r t a b c = under-add (p + r) t (whole q) (of q m f * of q m g) (of q m (lead f) * of q m (lead g)) (of q m k) (of q m (lead k)) (whole-pos q hq) (under-both f g p r a b) c
 
--- ---- 1 + r times 2^49 and 2^49 + 1
+-- ---- the two sides compared
+-- a q + b m
 abbrev line : ℕ → ℕ → Factor
 line a b = (1, a ∷ b ∷ [])
 
