@@ -3,14 +3,16 @@ use mathlib.Core.Path.{_≡_, refl, sym, ap, ap₂, _∙_, subst, subst₂}
 use mathlib.Core.Bool.{Bool, true, false, cond}
 use mathlib.Core.List.{List, [], _∷_}
 use Prim.Native.Nat.{ℕ, zero, suc, _+_, _-_, _*_, _^_, _≤_, _<_}
-use native.Mathlib.Nat.{le-refl, le-trans, le-of-eq, mul-le-mul, mul-le-mul-right, le-of-mul-le-mul-right, zero-lt-suc}
+use native.Mathlib.Nat.{le-refl, le-trans, mul-le-mul, mul-le-mul-right, le-of-mul-le-mul-right, zero-lt-suc}
 use native.Mathlib.Omega.{arith}
 use native.Mathlib.Bridge.{le-by-compare, IsLe}
 use lib.Dec.{T, leb, leb→le}
-use lib.IntN.{ℤ, pos, negsuc, negℤ, _+ℤ_, _*ℤ_, _-ℤ_}
+use lib.IntN.{ℤ, pos, negsuc, negℤ, _*ℤ_, _-ℤ_}
 use lib.Ieee as Ieee
 use lib.Ieee.{Float, binary64, ofBits, fits, unlike}
-use Rattle.exact.specs.Units.{L, L-pos, mag, sgn, Fin64}
+use lib.Ieee.Scale.{finite}
+use Rattle.exact.specs.Both.{both, both-left, both-right}
+use Rattle.exact.specs.Units.{L, mag, sgn, Fin64}
 use Rattle.exact.specs.Integers.{p, n, abs, _≤ᶻ_, neg-is, 1*, abs-*, abs-pos, +-parts, *-parts, neg-parts}
 use Rattle.exact.specs.Ring.{ring, Ex, var, con, _:+_, _:-_, _:*_}
 use Rattle.exact.specs.Ring as Ring
@@ -39,43 +41,77 @@ unfolding runF shortOf hornerOf
 code-is x = refl
 
 -- ---- what the coefficients stand for
+-- -1 where s is so, else 1
 abbrev unit : Bool → ℤ
 unit s = cond s (negsuc 0) (pos 1)
 
-abbrev part : Bool → ℕ → Q
-part s f = record { num = unit s *ℤ pos L; den = pos f }
+abbrev each : {A B : Type 0} → (A → B) → List A → List B
+each f [] = []
+each f (a ∷ us) = f a ∷ each f us
 
-abbrev parts : List Q
-parts = part true 6 ∷ part false 120 ∷ part true 5040 ∷ part false 362880 ∷ part true 39916800 ∷ part false 6227020800 ∷ part true 1307674368000 ∷ []
+-- the signs, and 3!, 5!, .. 15!
+abbrev terms : List (Bool × ℕ)
+terms = (true, 6) ∷ (false, 120) ∷ (true, 5040) ∷ (false, 362880) ∷ (true, 39916800) ∷ (false, 6227020800) ∷ (true, 1307674368000) ∷ []
 
+abbrev part : Bool × ℕ → Q
+part t = record { num = unit (t .0) *ℤ pos L; den = pos (t .1) }
+
+-- each coefficient is within 2 ^ -56 of its fraction, and x lies from -1 to 1
 abbrev about : Float → S
 about c = record { lo = val c; hi = val c; err = 2 ^ 1018; good = true }
-
-abbrev sizes : List S
-sizes = each about shorts
-  where
-    each : (Float → S) → List Float → List S
-    each f [] = []
-    each f (c ∷ cs) = f c ∷ each f cs
 
 abbrev within : S
 within = record { lo = negℤ (pos (2 ^ 1074)); hi = pos (2 ^ 1074); err = 0; good = true }
 
-test : T (goods code (within ∷ sizes)) × T (leb ((nth zeroB (runB code (within ∷ sizes)) 0) .err) (2 ^ 1024))
+abbrev parts : List Q
+parts = each part terms
+
+abbrev spans : List S
+spans = within ∷ each about shorts
+
+abbrev worked : S
+worked = nth zeroB (runB code spans) 0
+
+-- the code's result is within 2 ^ -50 of what it stands for
+test : T (goods code spans) × T (leb (worked .err) (2 ^ 1024))
 unfolding goods runB L mag val fits ofBits minZ maxZ floor ceil Ieee.neg
 test = (tt, tt)
 
-stands-for : (c : Float) (s : Bool) (f : ℕ) → Fin64 c → T (leb (abs (val c *ℤ pos f -ℤ (part s f) .num)) (2 ^ 1018 * abs (pos f))) → In c (part s f) (about c)
-stands-for c s f g t = record { fine = g; above = le-refl _; below = le-refl _; near = leb→le (abs (val c *ℤ pos f -ℤ (part s f) .num)) (2 ^ 1018 * abs (pos f)) t }
+abbrev near : Float → Bool × ℕ → Bool
+near c t = leb (abs (val c *ℤ pos (t .1) -ℤ (part t) .num)) (2 ^ 1018 * abs (pos (t .1)))
 
-stand : All shorts parts sizes
-unfolding L mag val abs fits ofBits Ieee.neg
-stand = (stands-for _ true 6 (tt, tt) tt, (stands-for _ false 120 (tt, tt) tt, (stands-for _ true 5040 (tt, tt) tt, (stands-for _ false 362880 (tt, tt) tt, (stands-for _ true 39916800 (tt, tt) tt, (stands-for _ false 6227020800 (tt, tt) tt, (stands-for _ true 1307674368000 (tt, tt) tt, tt)))))))
+unfoldable fair : List Float → List (Bool × ℕ) → Bool
+fair [] [] = true
+fair [] (t ∷ ts) = false
+fair (c ∷ cs) [] = false
+fair (c ∷ cs) (t ∷ ts) = both (both (finite c) (fits binary64 c)) (both (near c t) (fair cs ts))
+
+stand : (cs : List Float) (ts : List (Bool × ℕ)) → T (fair cs ts) → All cs (each part ts) (each about cs)
+unfolding fair
+stand [] [] h = tt
+stand [] (t ∷ ts) h = absurd h
+stand (c ∷ cs) [] h = absurd h
+stand (c ∷ cs) (t ∷ ts) h =
+    let f = both-left (both (finite c) (fits binary64 c)) (both (near c t) (fair cs ts)) h in
+    let o = both-right (both (finite c) (fits binary64 c)) (both (near c t) (fair cs ts)) h in (
+      record {
+        fine = (both-left (finite c) (fits binary64 c) f, both-right (finite c) (fits binary64 c) f);
+        above = le-refl _;
+        below = le-refl _;
+        near = leb→le (abs (val c *ℤ pos (t .1) -ℤ (part t) .num)) (2 ^ 1018 * abs (pos (t .1))) (both-left (near c t) (fair cs ts) o);
+      },
+      stand cs ts (both-right (near c t) (fair cs ts) o),
+    )
+
+coefficients : T (fair shorts terms)
+unfolding fair L mag val abs fits ofBits Ieee.neg
+coefficients = tt
 
 -- ---- the same over fractions is the sum of the terms 0 to 7
 abbrev whole : Float → Q
 whole x = record { num = val x; den = pos 1 }
 
+-- a fraction, written out for `ring`
 record F : Type 0 where
   num : Ex
   den : Ex
@@ -94,15 +130,12 @@ abbrev runE : List Op → List F → List F
 runE [] es = es
 runE (o ∷ os) es = runE os (stepE o es ∷ es)
 
-abbrev partE : Bool → ℕ → F
-partE s f = record { num = con (unit s) :* var 1; den = con (pos f) }
+abbrev partE : Bool × ℕ → F
+partE t = record { num = con (unit (t .0)) :* var 1; den = con (pos (t .1)) }
 
-abbrev partsE : List F
-partsE = partE true 6 ∷ partE false 120 ∷ partE true 5040 ∷ partE false 362880 ∷ partE true 39916800 ∷ partE false 6227020800 ∷ partE true 1307674368000 ∷ []
-
--- x is p with the sign s
+-- x is p with the sign s, in units of which l are 1
 abbrev resultE : Bool → F
-resultE s = nth zeroE (runE code (record { num = con (unit s) :* var 0; den = con (pos 1) } ∷ partsE)) 0
+resultE s = nth zeroE (runE code (record { num = con (unit s) :* var 0; den = con (pos 1) } ∷ each partE terms)) 0
 
 abbrev ratioE : ℕ → Ex
 ratioE n = con (pos (2 * n + 2)) :* con (pos (2 * n + 3)) :* (var 1 :* var 1)
@@ -237,14 +270,14 @@ module _ (x : Float) (f : T (fits binary64 x)) (h : inRange (Ieee.neg one) one x
   abbrev r : Float
   r = shortOf x
 
-  result : In r (meant x) (nth zeroB (runB code (within ∷ sizes)) 0)
-  result = subst (λ (z : Float). In z (meant x) (nth zeroB (runB code (within ∷ sizes)) 0)) (code-is x) (nth-stands (runF code (x ∷ shorts)) (runQ code (whole x ∷ parts)) (runB code (within ∷ sizes)) (sound code (x ∷ shorts) (whole x ∷ parts) (within ∷ sizes) (inside, stand) (test .0)) 0)
+  result : In r (meant x) worked
+  result = subst (λ (z : Float). In z (meant x) worked) (code-is x) (nth-stands (runF code (x ∷ shorts)) (runQ code (whole x ∷ parts)) (runB code spans) (sound code (x ∷ shorts) (whole x ∷ parts) spans (inside, stand shorts terms coefficients) (test .0)) 0)
 
   apart : abs (unit (sgn x) *ℤ val r *ℤ pos (den L 7) -ℤ pos L *ℤ (pos (added (mag x) L 7) -ℤ pos (taken (mag x) L 7))) ≤ 2 ^ 1024 * den L 7
   apart =
       cancel g (zero-lt-suc (g - 1)) (sgn x) (val r) (pos L *ℤ (pos (added (mag x) L 7) -ℤ pos (taken (mag x) L 7))) (den L 7) (2 ^ 1024)
       (subst₂ (λ (d m : ℤ). abs (val r *ℤ d -ℤ m) ≤ 2 ^ 1024 * abs d) (meant-den x) (meant-num x)
-      (le-trans (result .near) (mul-le-mul-right (abs ((meant x) .den)) (leb→le ((nth zeroB (runB code (within ∷ sizes)) 0) .err) (2 ^ 1024) (test .1)))))
+      (le-trans (result .near) (mul-le-mul-right (abs ((meant x) .den)) (leb→le (worked .err) (2 ^ 1024) (test .1)))))
 
   decided : Sure (mag x) L (pl (unlike (sgn x) (sgn r)) (mag r)) (mi (unlike (sgn x) (sgn r)) (mag r)) L (2 ^ 45) 7
   unfolding den

@@ -9,12 +9,18 @@ ghost use Rattle.answers.specs.Range.{inRange, bare, onPath};
 ghost use Rattle.series.specs.SinNear.{SinNear};
 ghost use Rattle.sine.specs.Sine.{stepOf, nested, plusses, minuses, eighthOf, plusOf, minusOf, differenceOf, shortOf, low, high, sinOf, sinRanged};
 
-// The series up to x^15 / 15!.
+// The series up to x^15 / 15!, nested by y: (-1)^k / (2k+1)! for k = 7, 6, .. 1.
 fn short(x: f64) -> f64
     ensures { λ r. ⌜ r ≡ shortOf x ⌝ }
 {
     let y = x * x;
-    x + x * y * (-0.16666666666666666 + y * (0.008333333333333333 + y * (-0.0001984126984126984 + y * (2.7557319223985893e-6 + y * (-2.505210838544172e-8 + y * (1.6059043836821613e-10 + y * -7.647163731819816e-13))))))
+    let h6 = 1.6059043836821613e-10 + y * -7.647163731819816e-13;
+    let h5 = -2.505210838544172e-8 + y * h6;
+    let h4 = 2.7557319223985893e-6 + y * h5;
+    let h3 = -0.0001984126984126984 + y * h4;
+    let h2 = 0.008333333333333333 + y * h3;
+    let h1 = -0.16666666666666666 + y * h2;
+    x + x * y * h1
 }
 
 // One step of a nested sum: c + h * z, z in units of 2^-64.
