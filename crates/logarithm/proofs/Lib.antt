@@ -1,1 +1,5 @@
 pub mod Patterns
+pub mod Floats
+pub mod Tables
+pub mod Reduced
+pub mod Terms
