@@ -2,4 +2,5 @@ pub mod Patterns
 pub mod Floats
 pub mod Tables
 pub mod Reduced
+pub mod Tail
 pub mod Terms
