@@ -4,3 +4,4 @@ pub mod Tables
 pub mod Reduced
 pub mod Tail
 pub mod Terms
+pub mod Near
