@@ -116,27 +116,38 @@ within false m = (omega arith, omega arith)
 within true m = (omega arith, omega arith)
 
 
-sum-room : (a b k : ℕ) → a ≤ 42 * 2 ^ 57 * k → b ≤ 2 ^ 57 * k → a + b ≤ 64 * (2 ^ 57 * k)
+sum-room : (a b k : ℕ) → a ≤ 42 * 2 ^ 57 * k → b ≤ 3 * 2 ^ 55 * k → a + b ≤ 64 * (2 ^ 57 * k)
 sum-room a b k h g = omega arith
 
-sum-error : (u m a b k : ℕ) → a ≤ 42 * 2 ^ 57 * k → b ≤ 2 ^ 57 * k → u * 2 ^ 53 ≤ m * 2 ^ 53 + (a + b) → u ≤ m + 688 * k
+sum-error : (u m a b k : ℕ) → a ≤ 42 * 2 ^ 57 * k → b ≤ 3 * 2 ^ 55 * k → u * 2 ^ 53 ≤ m * 2 ^ 53 + (a + b) → u ≤ m + 684 * k
 sum-error u m a b k h g e = omega arith
 
--- z is x + y but for 688 units of 2^-57
+size : (s : Bool) (m a b c d x y e : ℕ) → pl s m + (b + d) ≤ mi s m + (a + c) + e → mi s m + (a + c) ≤ pl s m + (b + d) + e → (a ≤ x) × (b ≤ x) → (c ≤ y) × (d ≤ y) → m ≤ x + y + e
+size false m a b c d x y e h g k l = omega arith
+size true m a b c d x y e h g k l = omega arith
+
+most-43 : (m a b k : ℕ) → a ≤ 42 * 2 ^ 57 * k → b ≤ 3 * 2 ^ 55 * k → m ≤ a + b + 684 * k → m ≤ 43 * (2 ^ 57 * k)
+most-43 m a b k h g e = omega arith
+
+-- z is x + y but for 684 units of 2^-57
 pub record Summed (x y z : Float) : Type 0 where
   pub fine : Fin64 z
-  pub most : plus z + (minus x + minus y) ≤ minus z + (plus x + plus y) + 688 * K
-  pub least : minus z + (plus x + plus y) ≤ plus z + (minus x + minus y) + 688 * K
+  pub size : mag z ≤ 43 * L
+  pub most : plus z + (minus x + minus y) ≤ minus z + (plus x + plus y) + 684 * K
+  pub least : minus z + (plus x + plus y) ≤ plus z + (minus x + minus y) + 684 * K
 
-pub summed : (i : ℕ) (x y : Float) → Times i x → Fin64 y → mag y ≤ 2 ^ 57 * K → Summed x y (Ieee.add binary64 x y)
+pub summed : (i : ℕ) (x y : Float) → Times i x → Fin64 y → mag y ≤ 3 * 2 ^ 55 * K → Summed x y (Ieee.add binary64 x y)
 summed i x y X f h =
     let z = Ieee.add binary64 x y in
     let R = add-near x y (X .fine) f (few (mag x + mag y) (rw L-is (sum-room (mag x) (mag y) K (X .size) h))) in
     let a = within (sgn x) (mag x) in
     let b = within (sgn y) (mag y) in
     let M = R .near (mag x + mag y) (omega arith, omega arith) in
+    let most = sum-error (plus z + (minus x + minus y)) (minus z + (plus x + plus y)) (mag x) (mag y) K (X .size) h (M .0) in
+    let least = sum-error (minus z + (plus x + plus y)) (plus z + (minus x + minus y)) (mag x) (mag y) K (X .size) h (M .1) in
     record {
       fine = R .fine;
-      most = sum-error (plus z + (minus x + minus y)) (minus z + (plus x + plus y)) (mag x) (mag y) K (X .size) h (M .0);
-      least = sum-error (minus z + (plus x + plus y)) (plus z + (minus x + minus y)) (mag x) (mag y) K (X .size) h (M .1);
+      size = rw L-is (most-43 (mag z) (mag x) (mag y) K (X .size) h (size (sgn z) (mag z) (plus x) (minus x) (plus y) (minus y) (mag x) (mag y) (684 * K) most least a b));
+      most = most;
+      least = least;
     }

@@ -2,6 +2,6 @@ pub mod Patterns
 pub mod Floats
 pub mod Tables
 pub mod Reduced
-pub mod Tail
 pub mod Terms
 pub mod Near
+pub mod Laws

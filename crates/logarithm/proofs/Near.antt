@@ -19,7 +19,7 @@ use Rattle.series.specs.Scale.{above-scale, above-unscale, under-scale, under-u
 use Rattle.series.specs.ExpNear.{AtMost, AtLeast, at-most-weak, at-least-weak}
 use Rattle.series.specs.LogNear.{LogNear, low-parts, high-parts}
 use Rattle.series.specs.Logs.{Between, betweenTest, between}
-use Rattle.logarithm.proofs.Tail.{risen, fallen, whole, LogTail}
+use Rattle.series.specs.LogTail.{risen, fallen, whole, LogTail}
 use Rattle.logarithm.proofs.Floats.{K, L-is, ln2Whole, Times, Summed}
 use Rattle.logarithm.proofs.Terms.{Terms}
 
@@ -50,18 +50,18 @@ at-least (negsuc k) a b q s x y u w hq hs h g e =
     subst₂ (λ (v t : ℕ). Above (suc k) q v t) (mul-comm u y) (mul-comm w x)
     (above-unscale (suc k) q s (u * y) (w * x) hs (above-cancel a (suc k * s) (q * s) u w x y (mul-pos hq hs) (above-mono (a + suc k * s) b (q * s) u w (omega arith) g) h))
 
--- ---- r is (i - 60) log 2, b units of 2^-57 and the series of m / L, but for 1412 units
+-- ---- r is (i - 60) log 2, b units of 2^-57 and the series of m / L, but for 1408 units
 pub record Sum (i b m : ℕ) (r : Float) : Type 0 where
   pub fine : Fin64 r
-  pub most : 60 * L ^ 4 * (plus r + 60 * ln2Whole * K) + fallen L m ≤ 60 * L ^ 4 * (minus r + (i * ln2Whole + b + 1412) * K) + risen L m
-  pub least : 60 * L ^ 4 * (minus r + (i * ln2Whole + b) * K) + risen L m ≤ 60 * L ^ 4 * (plus r + (60 * ln2Whole + 1404) * K) + fallen L m
+  pub most : 60 * L ^ 4 * (plus r + 60 * ln2Whole * K) + fallen L m ≤ 60 * L ^ 4 * (minus r + (i * ln2Whole + b + 1408) * K) + risen L m
+  pub least : 60 * L ^ 4 * (minus r + (i * ln2Whole + b) * K) + risen L m ≤ 60 * L ^ 4 * (plus r + (60 * ln2Whole + 1400) * K) + fallen L m
 
-sum-most : (u w pa ma pz mz i N b g k S F R : ℕ) → u + (ma + mz) ≤ w + (pa + pz) + 688 * k → pa + 60 * N * k ≤ ma + (i * N + 700) * k → S * pz + F ≤ S * (mz + g + 15 * k) + R → g ≤ (b + 9) * k
-    → S * (u + 60 * N * k) + F ≤ S * (w + (i * N + b + 1412) * k) + R
+sum-most : (u w pa ma pz mz i N b g k S F R : ℕ) → u + (ma + mz) ≤ w + (pa + pz) + 684 * k → pa + 60 * N * k ≤ ma + (i * N + 700) * k → S * pz + F ≤ S * (mz + g + 15 * k) + R → g ≤ (b + 9) * k
+    → S * (u + 60 * N * k) + F ≤ S * (w + (i * N + b + 1408) * k) + R
 sum-most u w pa ma pz mz i N b g k S F R e a c h = omega (arith, mul-le-mul-left S e, mul-le-mul-left S a, mul-le-mul-left S h)
 
-sum-least : (u w pa ma pz mz i N b g k S F R : ℕ) → w + (pa + pz) ≤ u + (ma + mz) + 688 * k → ma + i * N * k ≤ pa + (60 * N + 700) * k → S * (mz + g) + R ≤ S * (pz + 16 * k) + F → b * k ≤ g
-    → S * (w + (i * N + b) * k) + R ≤ S * (u + (60 * N + 1404) * k) + F
+sum-least : (u w pa ma pz mz i N b g k S F R : ℕ) → w + (pa + pz) ≤ u + (ma + mz) + 684 * k → ma + i * N * k ≤ pa + (60 * N + 700) * k → S * (mz + g) + R ≤ S * (pz + 16 * k) + F → b * k ≤ g
+    → S * (w + (i * N + b) * k) + R ≤ S * (u + (60 * N + 1400) * k) + F
 sum-least u w pa ma pz mz i N b g k S F R e a c h = omega (arith, mul-le-mul-left S e, mul-le-mul-left S a, mul-le-mul-left S h)
 
 pub sum : (i b m g : ℕ) (x z r : Float) → Times i x → Terms m g z → Summed x z r → b * K ≤ g → g ≤ (b + 9) * K → Sum i b m r
@@ -72,11 +72,11 @@ sum i b m g x z r X Z R lo hi = record {
 }
 
 -- ---- z is r 2^45 less or more L, in units of 2^-45 / L
-at-low : (z v u w k l S N i b F R : ℕ) → l ≡ 2 ^ 57 * k → z + (w * 2 ^ 45 + l) ≡ v + u * 2 ^ 45 → S * (u + 60 * N * k) + F ≤ S * (w + (i * N + b + 1412) * k) + R
+at-low : (z v u w k l S N i b F R : ℕ) → l ≡ 2 ^ 57 * k → z + (w * 2 ^ 45 + l) ≡ v + u * 2 ^ 45 → S * (u + 60 * N * k) + F ≤ S * (w + (i * N + b + 1408) * k) + R
     → z * S + ((60 * (N + 1) + 289) * (2 ^ 45 * k * S) + F * 2 ^ 45) ≤ (i * N + b) * (2 ^ 45 * k * S) + R * 2 ^ 45 + v * S
 at-low z v u w k l S N i b F R d e h = omega (arith, ap (λ y. y * S) d, ap (λ y. y * S) e, mul-le-mul-right (2 ^ 45) h)
 
-at-high : (z v u w k l S N i b F R : ℕ) → i ≤ 120 → l ≡ 2 ^ 57 * k → z + w * 2 ^ 45 ≡ v + (u * 2 ^ 45 + l) → S * (w + (i * N + b) * k) + R ≤ S * (u + (60 * N + 1404) * k) + F
+at-high : (z v u w k l S N i b F R : ℕ) → i ≤ 120 → l ≡ 2 ^ 57 * k → z + w * 2 ^ 45 ≡ v + (u * 2 ^ 45 + l) → S * (w + (i * N + b) * k) + R ≤ S * (u + (60 * N + 1400) * k) + F
     → (i * (N + 1) + (b + 17) + 289) * (2 ^ 45 * k * S) + R * 2 ^ 45 + v * S ≤ z * S + (60 * N * (2 ^ 45 * k * S) + F * 2 ^ 45)
 at-high z v u w k l S N i b F R g d e h = omega (arith, ap (λ y. y * S) d, ap (λ y. y * S) e, mul-le-mul-right (2 ^ 45) h, mul-le-mul-right (2 ^ 45 * k * S) g)
 

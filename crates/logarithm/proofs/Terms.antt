@@ -20,7 +20,7 @@ use Rattle.error_bounds.specs.Box.{minZ, maxZ, floor, ceil}
 use Rattle.error_bounds.specs.Span.{S, In}
 use Rattle.error_bounds.specs.Prog.{Op, _⊞_, _⊟_, _⊠_, _⊘_, lit, nth, zeroQ, zeroB, zeroF, runF, runQ, runB, goods, All, sound, self, nth-stands}
 use Rattle.logarithm.specs.Worked.{partOf}
-use Rattle.logarithm.proofs.Tail.{risen, fallen}
+use Rattle.series.specs.LogTail.{risen, fallen}
 use Rattle.logarithm.proofs.Floats.{K, L-is, D, L-of-D, size-of}
 
 -- the float g + partOf r from r and g
@@ -43,7 +43,7 @@ last : S
 unfolding D runB L mag val fits ofBits minZ maxZ floor ceil
 last = nth zeroB (runB code spans) 0
 
-test : T (goods code spans) × T (leb (last .err) (13 * K)) × T (leb (p (last .hi) + n (last .lo)) (2 ^ 57 * K))
+test : T (goods code spans) × T (leb (last .err) (13 * K)) × T (leb (p (last .hi) + n (last .lo)) (3 * 2 ^ 55 * K))
 unfolding last D K goods runB L mag val fits ofBits minZ maxZ floor ceil
 test = (tt, tt, tt)
 
@@ -173,7 +173,7 @@ small-3 m l k h = omega (arith, mul-le-mul-right (l * l * k) (mul-le-mul (mul-le
 -- z is b and m's series, but for 16 units of 2^-57
 pub record Terms (m b : ℕ) (z : Float) : Type 0 where
   pub fine : Fin64 z
-  pub size : mag z ≤ 2 ^ 57 * K
+  pub size : mag z ≤ 3 * 2 ^ 55 * K
   pub most : 60 * L ^ 4 * plus z + fallen L m ≤ 60 * L ^ 4 * (minus z + b + 15 * K) + risen L m
   pub least : 60 * L ^ 4 * (minus z + b) + risen L m ≤ 60 * L ^ 4 * (plus z + 16 * K) + fallen L m
 
@@ -208,10 +208,10 @@ module _ (r g : Float) (fr : Fin64 r) (fg : Fin64 g) (vr : val r ≡ pos (mag r)
       rw (p-val z, n-val z) at
       (parts (val z) (L * L * L * L * L) (up m b A3 A5 L) (down m A2 A4 L) (13 * K) (last .err) (leb→le (last .err) (13 * K) (test .1)) (rw (meant-den r g, meant-num r g m b vr vg) at (within .near)))
 
-  size : mag z ≤ 2 ^ 57 * K
+  size : mag z ≤ 3 * 2 ^ 55 * K
   size =
       le-trans (size-of (sgn z) (mag z) (p (last .hi)) (n (last .lo)) (first (plus z) (minus z) (last .hi) (rw (p-val z, n-val z) at (within .below))) (second (plus z) (minus z) (last .lo) (rw (p-val z, n-val z) at (within .above))))
-      (leb→le (p (last .hi) + n (last .lo)) (2 ^ 57 * K) (test .2))
+      (leb→le (p (last .hi) + n (last .lo)) (3 * 2 ^ 55 * K) (test .2))
     where
       first : (u w : ℕ) (h : ℤ) → u + n h ≤ p h + w → u ≤ w + p h
       first u w h a = omega arith
