@@ -1,8 +1,8 @@
 -- The exponent times log 2 as a float, by a test at each exponent, and a number added to it. Assumes nothing.
-use mathlib.Core.Path.{_≡_, refl, sym, ap₂, subst}
+use mathlib.Core.Path.{_≡_, refl, sym, subst}
 use mathlib.Core.Logic.{_⊎_, inl, inr}
 use mathlib.Core.Bool.{Bool, true, false}
-use Prim.Native.Nat.{ℕ, zero, suc, _+_, _-_, _*_, _^_, _≤_, _<_}
+use Prim.Native.Nat.{ℕ, zero, suc, _+_, _*_, _^_, _≤_, _<_}
 use native.Mathlib.Nat.{not-suc-le-zero, eq-or-lt-of-le, le-trans, mul-le-mul-right}
 use native.Mathlib.Omega.{arith}
 use lib.Pow.{pow-pos}
@@ -14,9 +14,6 @@ use lib.Ieee.Scale.{finite}
 use Rattle.exact.specs.Both.{both, both-left, both-right}
 use Rattle.exact.specs.Units.{L, mag, sgn, Fin64}
 use Rattle.exact.specs.Sums.{pl, mi, plus, minus, add-near}
-use Rattle.exact.specs.Rounding.{Near}
-use Rattle.exact.specs.Fields.{Has}
-use Rattle.exact.specs.Patterns.{units-at}
 use Rattle.logarithm.specs.Worked.{ln2}
 
 -- 2^-57 in units of 2^-1074, shut
@@ -114,7 +111,6 @@ size-of true m a c h k = omega arith
 pub within : (b : Bool) (m : ℕ) → (pl b m ≤ m) × (mi b m ≤ m)
 within false m = (omega arith, omega arith)
 within true m = (omega arith, omega arith)
-
 
 sum-room : (a b k : ℕ) → a ≤ 42 * 2 ^ 57 * k → b ≤ 3 * 2 ^ 55 * k → a + b ≤ 64 * (2 ^ 57 * k)
 sum-room a b k h g = omega arith

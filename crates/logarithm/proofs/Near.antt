@@ -1,14 +1,13 @@
 -- What the logarithm works lies within 2^-45 of the logarithm. Assumes nothing.
 use mathlib.Core.Path.{_≡_, refl, ap, _∙_, subst, subst₂}
-use Prim.Native.Nat.{ℕ, zero, suc, _+_, _-_, _*_, _^_, _≤_, _<_}
+use Prim.Native.Nat.{ℕ, zero, suc, _+_, _*_, _^_, _≤_, _<_}
 use native.Mathlib.Nat.{mul-pos, mul-one, mul-comm, mul-assoc, mul-left-comm, one-mul, mul-le-mul-left, mul-le-mul-right, le-of-mul-le-mul-right, pow-zero, pow-suc, one-le-pow}
 use native.Mathlib.Omega.{arith}
 use native.Mathlib.Bridge.{le-by-compare, IsLe}
 use lib.Dec.{lit<}
 use lib.Pow.{pow-pos, pow-add}
 use lib.IntN.{ℤ, pos, negsuc, _+ℤ_, _*ℤ_, _-ℤ_}
-use lib.Ieee as Ieee
-use lib.Ieee.{Float, binary64}
+use lib.Ieee.{Float}
 use Rattle.exact.specs.Integers.{p, n}
 use Rattle.exact.specs.Units.{L, L-pos, mag, Fin64}
 use Rattle.exact.specs.Sums.{plus, minus}
@@ -184,9 +183,9 @@ module _ (x r : Float) (i f u b m : ℕ) (X : Shape x i f) (some : 1 ≤ u) (B :
       let a = i * ln2Whole + b in
       let e = 60 * (ln2Whole + 1) + 289 in
       let A = above-add (a * c) (risen L m * 2 ^ 45) q (2 ^ i * 4096) (1 * u) (W .x) (W .y) (mul-pos q-pos s-pos)
-          (above-ln2 a (2 ^ i * 4096) (1 * u) (above-add (i * ln2Whole) b (2 ^ 57) (2 ^ i) 1 4096 u (pow-pos 57) (two-above i) (B .above))) (above-whole (risen L m) (W .x) (W .y) (W .above)) in
+      (above-ln2 a (2 ^ i * 4096) (1 * u) (above-add (i * ln2Whole) b (2 ^ 57) (2 ^ i) 1 4096 u (pow-pos 57) (two-above i) (B .above))) (above-whole (risen L m) (W .x) (W .y) (W .above)) in
       let E = under-add (e * c) (fallen L m * 2 ^ 45) q (2 ^ 60 * (2 ^ 57 + 289)) (1 * 2 ^ 57) (W .u) (W .w) (mul-pos q-pos s-pos)
-          (under-ln2 e (2 ^ 60 * (2 ^ 57 + 289)) (1 * 2 ^ 57) (under-add (60 * (ln2Whole + 1)) 289 (2 ^ 57) (2 ^ 60) 1 (2 ^ 57 + 289) (2 ^ 57) (pow-pos 57) (two-under 60) (one-plus 289 (2 ^ 57)))) (under-whole (fallen L m) (W .u) (W .w) (W .under)) in
+      (under-ln2 e (2 ^ 60 * (2 ^ 57 + 289)) (1 * 2 ^ 57) (under-add (60 * (ln2Whole + 1)) 289 (2 ^ 57) (2 ^ 60) 1 (2 ^ 57 + 289) (2 ^ 57) (pow-pos 57) (two-under 60) (one-plus 289 (2 ^ 57)))) (under-whole (fallen L m) (W .u) (W .w) (W .under)) in
       let h = W .some in
       at-most-weak z (L * 2 ^ 45) (2 ^ i * 4096 * W .x * (1 * 2 ^ 57 * W .w)) (1 * u * W .y * (2 ^ 60 * (2 ^ 57 + 289) * W .u)) (mag x) L
       (mul-pos (mul-pos (mul-pos (pow-pos i) (pow-pos 12)) (h .0)) (mul-pos (pow-pos 57) (h .3))) (mul-pos (mul-pos (mul-pos (pow-pos 0) some) (h .1)) (mul-pos (lit< {m = 0} {n = 2 ^ 60 * (2 ^ 57 + 289)} tt) (h .2)))
@@ -203,8 +202,8 @@ module _ (x r : Float) (i f u b m : ℕ) (X : Shape x i f) (some : 1 ≤ u) (B :
       let a = i * (ln2Whole + 1) + (b + 17) in
       let e = 60 * ln2Whole in
       let A = under-add ((a + 289) * c) (risen L m * 2 ^ 45) q (2 ^ i * 4096 * (2 ^ 57 + 289)) (1 * u * 2 ^ 57) (W .u') (W .w') (mul-pos q-pos s-pos)
-          (under-ln2 (a + 289) (2 ^ i * 4096 * (2 ^ 57 + 289)) (1 * u * 2 ^ 57) (under-add a 289 (2 ^ 57) (2 ^ i * 4096) (1 * u) (2 ^ 57 + 289) (2 ^ 57) (pow-pos 57)
-          (under-add (i * (ln2Whole + 1)) (b + 17) (2 ^ 57) (2 ^ i) 1 4096 u (pow-pos 57) (two-under i) (B .under)) (one-plus 289 (2 ^ 57)))) (under-whole (risen L m) (W .u') (W .w') (W .under')) in
+      (under-ln2 (a + 289) (2 ^ i * 4096 * (2 ^ 57 + 289)) (1 * u * 2 ^ 57) (under-add a 289 (2 ^ 57) (2 ^ i * 4096) (1 * u) (2 ^ 57 + 289) (2 ^ 57) (pow-pos 57)
+      (under-add (i * (ln2Whole + 1)) (b + 17) (2 ^ 57) (2 ^ i) 1 4096 u (pow-pos 57) (two-under i) (B .under)) (one-plus 289 (2 ^ 57)))) (under-whole (risen L m) (W .u') (W .w') (W .under')) in
       let E = above-add (e * c) (fallen L m * 2 ^ 45) q (2 ^ 60) 1 (W .x') (W .y') (mul-pos q-pos s-pos) (above-ln2 e (2 ^ 60) 1 (two-above 60)) (above-whole (fallen L m) (W .x') (W .y') (W .above')) in
       let h = W .some' in
       at-least-weak z (L * 2 ^ 45) (2 ^ i * 4096 * (2 ^ 57 + 289) * W .u' * (1 * W .y')) (1 * u * 2 ^ 57 * W .w' * (2 ^ 60 * W .x')) (mag x) L

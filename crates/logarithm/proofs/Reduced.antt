@@ -6,7 +6,7 @@ use native.Mathlib.Nat.{le-trans, mul-pos, mul-le-mul-right, mul-le-mul-left, le
 use native.Mathlib.Omega.{arith}
 use native.Mathlib.Bridge.{le-by-compare, IsLe}
 use lib.Dec.{T}
-use lib.IntN.{ℤ, pos}
+use lib.IntN.{pos}
 use lib.Ieee as Ieee
 use lib.Ieee.{Float, binary64, ofBits, fits, round, unlike}
 use lib.Ieee.Order.{round-mono}
@@ -82,6 +82,7 @@ signless true m W l N h g a = go m (none (W - l) (omega arith)) a
   where
     none : (k : ℕ) → W ≡ l + k → m ≡ 0
     none k e = omega (arith, a .1, ap (λ v. v * N) e, mul-le-mul-left k h, mul-le-mul-left m h)
+
     go : (m : ℕ) → m ≡ 0 → Near ((0 + (0 + l)) * N) ((m + (W + 0)) * N) (W - l) → (signed true m ≡ pos m) × ((l + m) * N + l ≤ W * (N + 1)) × (W * N + l ≤ (l + m) * N + W)
     go zero e a = (refl, omega arith, omega arith)
     go (suc m) e a = absurd (omega arith)

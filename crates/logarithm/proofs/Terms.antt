@@ -1,16 +1,16 @@
 -- Five terms of the series and the table's logarithm as floats, beside the same over fractions. Assumes nothing.
-use mathlib.Core.Path.{_≡_, refl, ap, ap₂, _∙_, subst}
-use mathlib.Core.Bool.{Bool, true, false}
+use mathlib.Core.Path.{_≡_, refl, ap, ap₂, _∙_}
+use mathlib.Core.Bool.{true}
 use mathlib.Core.List.{List, [], _∷_}
-use Prim.Native.Nat.{ℕ, zero, suc, _+_, _-_, _*_, _^_, _≤_, _<_, zero-le}
-use native.Mathlib.Nat.{le-refl, le-trans, mul-pos, mul-le-mul, mul-le-mul-right, mul-le-mul-left, le-of-mul-le-mul-right, pow-suc}
+use Prim.Native.Nat.{ℕ, suc, _+_, _*_, _^_, _≤_, _<_, zero-le}
+use native.Mathlib.Nat.{le-trans, mul-le-mul, mul-le-mul-right, le-of-mul-le-mul-right, pow-suc}
 use native.Mathlib.Omega.{arith}
 use lib.Dec.{T, leb, leb→le}
-use lib.IntN.{ℤ, pos, negℤ, _+ℤ_, _*ℤ_, _-ℤ_}
+use lib.IntN.{ℤ, pos, negℤ, _*ℤ_, _-ℤ_}
 use lib.Ieee as Ieee
 use lib.Ieee.{Float, binary64, ofBits, fits}
 use Rattle.exact.specs.Units.{L, L-pos, mag, sgn, Fin64}
-use Rattle.exact.specs.Integers.{p, n, abs, abs-pos, _≤ᶻ_, +-parts, neg-parts, *-parts}
+use Rattle.exact.specs.Integers.{p, n, abs, abs-pos, +-parts, neg-parts, *-parts}
 use Rattle.exact.specs.Ring.{ring, Ex, var, con, _:+_, _:-_, _:*_, Env, den}
 use Rattle.exact.specs.Value.{val, near-abs, p-val, n-val}
 use Rattle.exact.specs.Sums.{plus, minus}
@@ -18,7 +18,7 @@ use Rattle.series.specs.Powers.{pow2, pow3, pow4}
 use Rattle.error_bounds.specs.Line.{Q}
 use Rattle.error_bounds.specs.Box.{minZ, maxZ, floor, ceil}
 use Rattle.error_bounds.specs.Span.{S, In}
-use Rattle.error_bounds.specs.Prog.{Op, _⊞_, _⊟_, _⊠_, _⊘_, lit, nth, zeroQ, zeroB, zeroF, runF, runQ, runB, goods, All, sound, self, nth-stands}
+use Rattle.error_bounds.specs.Prog.{Op, _⊞_, _⊠_, lit, nth, zeroQ, zeroB, runF, runQ, runB, goods, sound, self, nth-stands}
 use Rattle.logarithm.specs.Worked.{partOf}
 use Rattle.series.specs.LogTail.{risen, fallen}
 use Rattle.logarithm.proofs.Floats.{K, L-is, D, L-of-D, size-of}
@@ -89,9 +89,11 @@ worked a2 a4 =
 abbrev short : Ex × Ex
 short =
     let r = var 0 in
-    let l = var 6 in
-    ((var 1 :+ r) :* (l :* l :* l :* l :* l) :+ r :* r :* r :* var 3 :* (l :* l) :+ r :* r :* r :* r :* r :* var 5
-    :- (r :* r :* var 2 :* (l :* l :* l) :+ r :* r :* r :* r :* var 4 :* l), l :* l :* l :* l :* l)
+    let l = var 6 in (
+      (var 1 :+ r) :* (l :* l :* l :* l :* l) :+ r :* r :* r :* var 3 :* (l :* l) :+ r :* r :* r :* r :* r :* var 5
+          :- (r :* r :* var 2 :* (l :* l :* l) :+ r :* r :* r :* r :* var 4 :* l),
+      l :* l :* l :* l :* l,
+    )
 
 abbrev env : (m b a2 a3 a4 a5 l : ℕ) → Env 7
 env m b a2 a3 a4 a5 l = (pos m, (pos b, (pos a2, (pos a3, (pos a4, (pos a5, (pos l, tt)))))))
@@ -215,6 +217,7 @@ module _ (r g : Float) (fr : Fin64 r) (fg : Fin64 g) (vr : val r ≡ pos (mag r)
     where
       first : (u w : ℕ) (h : ℤ) → u + n h ≤ p h + w → u ≤ w + p h
       first u w h a = omega arith
+
       second : (u w : ℕ) (l : ℤ) → p l + w ≤ u + n l → w ≤ u + n l
       second u w l a = omega arith
 

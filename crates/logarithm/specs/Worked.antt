@@ -1,6 +1,6 @@
 -- What the logarithm works (RULES, section 3): the exponent times log 2, and for the number from 1 to 2 that the exponent leaves a factor
 -- from a table and five terms of the series. How near it is stands in `series`, LogNear; that it is so near, in proofs/Laws.
-use Prim.Native.Nat.{ℕ, _+_, _*_, _/_, _%_, _^_}
+use Prim.Native.Nat.{ℕ, _+_, _/_, _%_, _^_}
 use lib.Ieee as Ieee
 use lib.Ieee.{Float, binary64, ofBits, toBits}
 use Rattle.logarithm.specs.declared.entries.Entry.{Entry}

@@ -1,7 +1,6 @@
 // The table of the logarithm: a match, since an array would be copied at each call, and one match with both numbers, since two on
 // one place are compiled to a jump.
 ghost use mathlib.Core.Path.{_≡_};
-ghost use Prim.Native.Nat.{_<_};
 ghost use Rattle.logarithm.specs.Entries.{factorOf};
 
 // A factor c, and the logarithm of 1 / c.
@@ -12,14 +11,10 @@ pub struct Entry {
 
 // 256 / (256 + j), rounded up to a multiple of 1 / 4096, and its logarithm with the other sign, rounded to the nearest.
 pub fn factor(j: u64) -> Entry
-    requires { ⌜ j < 256 ⌝ }
     ensures { λ r. ⌜ r ≡ factorOf j ⌝ }
 {
     match j {
-        0 => Entry {
-            c: 1.0,
-            log: 0.0,
-        },
+        0 => Entry { c: 1.0, log: 0.0 },
         1 => Entry {
             c: 0.996337890625,
             log: 0.0036688313135380297,

@@ -1,5 +1,5 @@
 -- `logarithm::part` meets its contract. Assumes nothing.
-use mathlib.Core.Path.{_≡_, refl, ap₂}
+use mathlib.Core.Path.{_≡_, refl}
 use lib.Ieee as Ieee
 use lib.Ieee.{binary64, ofBits}
 use Rattle.logarithm.specs.Worked.{partOf}
