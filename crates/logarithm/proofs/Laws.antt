@@ -23,7 +23,7 @@ use Rattle.series.specs.LogTail.{log-tail}
 use Rattle.logarithm.specs.Entries.{scaleOf, logOf, cOf}
 use Rattle.logarithm.specs.Worked.{low, high, exponentOf, restOf, partOf, fractionOf, ln2, lnOf}
 use Rattle.logarithm.proofs.Floats.{K, Times, product, Summed, summed}
-use Rattle.logarithm.proofs.Tables.{Entry, baseOf, entry-at}
+use Rattle.logarithm.proofs.Tables.{Facts, baseOf, entry-at}
 use Rattle.logarithm.proofs.Reduced.{Reduced, reduced}
 use Rattle.logarithm.proofs.Terms.{Terms, terms}
 use Rattle.logarithm.proofs.Near.{Shape, sum, near}
@@ -105,7 +105,7 @@ module _ (x : Float) (f : T (fits binary64 x)) (r : inRange low high x ≡ true)
   g : Float
   g = logOf j
 
-  entry : Entry j u g (baseOf g)
+  entry : Facts j u g (baseOf g)
   unfolding j u g
   entry = entry-at j (omega arith)
 

@@ -45,7 +45,7 @@ has a x t =
 
 -- an entry: a factor of u / 4096, which brings the numbers from 1 + j / 256 to 1 + (j + 1) / 256 to 1 or up to 1 / 242 above it, and the
 -- logarithm g of its reciprocal, which b and 17 units of 2^-57 more enclose
-pub record Entry (j u : ℕ) (g : Float) (b : ℕ) : Type 0 where
+pub record Facts (j u : ℕ) (g : Float) (b : ℕ) : Type 0 where
   pub low : 2 ^ 20 ≤ u * (256 + j)
   pub high : 242 * (u * (257 + j)) ≤ 243 * 2 ^ 20
   pub some : 1 ≤ u
@@ -74,7 +74,7 @@ tests j u g b =
     ∷ betweenTest (2 ^ 57) 17 20 4096 u b
     ∷ []
 
-entry : (j u : ℕ) (g : Float) (b : ℕ) → T (every (tests j u g b)) → Entry j u g b
+entry : (j u : ℕ) (g : Float) (b : ℕ) → T (every (tests j u g b)) → Facts j u g b
 unfolding tests
 entry j u g b t =
     let e = each (tests j u g b) t in
@@ -94,6 +94,6 @@ test : ℕ → ℕ → Bool
 unfolding tests mag K
 test j u = every (tests j u (logOf j) (baseOf (logOf j)))
 
-pub entry-at : (j : ℕ) → j < 256 → Entry j (scaleOf j) (logOf j) (baseOf (logOf j))
+pub entry-at : (j : ℕ) → j < 256 → Facts j (scaleOf j) (logOf j) (baseOf (logOf j))
 unfolding test tests hasTests betweenTest mag K D L fits ofBits
 entry-at j h = entry j (scaleOf j) (logOf j) (baseOf (logOf j)) (at-or-last test scales last-scale tt j h)

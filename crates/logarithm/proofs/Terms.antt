@@ -23,7 +23,7 @@ use Rattle.logarithm.specs.Worked.{partOf}
 use Rattle.series.specs.LogTail.{risen, fallen}
 use Rattle.logarithm.proofs.Floats.{K, L-is, D, L-of-D, size-of}
 
--- the float g + partOf r from r and g
+-- g + partOf r, from the floats r and g
 abbrev code : List Op
 code =
     lit (ofBits binary64 0x3fc9_9999_9999_999a) ∷ (1 ⊠ 0)
@@ -34,19 +34,23 @@ code =
 abbrev inQ : Float → Q
 inQ x = record { num = val x; den = pos 1 }
 
+-- r from 0 to 18 / 4096 and g from 0 to 2880 / 4096
 abbrev spans : List S
 spans =
     record { lo = pos 0; hi = pos (18 * D); err = 0; good = true }
     ∷ record { lo = pos 0; hi = pos (2880 * D); err = 0; good = true } ∷ []
 
+-- what is computed of the result: its span and its error
 last : S
 unfolding D runB L mag val fits ofBits minZ maxZ floor ceil
 last = nth zeroB (runB code spans) 0
 
+-- the error is at most 13 units of 2^-57, the size at most 3 / 4
 test : T (goods code spans) × T (leb (last .err) (13 * K)) × T (leb (p (last .hi) + n (last .lo)) (3 * 2 ^ 55 * K))
 unfolding last D K goods runB L mag val fits ofBits minZ maxZ floor ceil
 test = (tt, tt, tt)
 
+-- the same over fractions
 unfoldable meant : Float → Float → Q
 meant r g = nth zeroQ (runQ code (inQ r ∷ inQ g ∷ [])) 0
 
@@ -86,6 +90,7 @@ worked a2 a4 =
     let d9 = one :* d8 in
     (g :* d9 :+ n9 :* one, one :* d9)
 
+-- the same in powers
 abbrev short : Ex × Ex
 short =
     let r = var 0 in
@@ -105,7 +110,7 @@ sized = worked (con (pos 0) :- var 2) (con (pos 0) :- var 4)
 shorter : (m b a2 a3 a4 a5 l : ℕ) → let ρ = env m b a2 a3 a4 a5 l in (den 7 ρ (sized .0) ≡ pos (up m b a3 a5 l) -ℤ pos (down m a2 a4 l)) × (den 7 ρ (sized .1) ≡ pos (l * l * l * l * l))
 shorter m b a2 a3 a4 a5 l = (ring 7 (env m b a2 a3 a4 a5 l) (sized .0) (short .0) tt, ring 7 (env m b a2 a3 a4 a5 l) (sized .1) (short .1) tt)
 
--- at the floats of `code`
+-- the sizes of the literals of `code`: a half, a third, a fourth and a fifth of 2^57 K, the third and the fifth to the nearest float
 abbrev A2 : ℕ
 A2 = 2 ^ 56 * K
 
