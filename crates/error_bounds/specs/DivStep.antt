@@ -16,14 +16,17 @@ div-step Z X Y n m c d e f K lo R E h k l u v w =
     let A = Z *ℤ Y -ℤ X *ℤ pos L in
     let B = X *ℤ c -ℤ n in
     let C = Y *ℤ d -ℤ m in
-    rw (ring 8 (Z, (X, (Y, (n, (m, (c, (d, (pos L, tt))))))))
-      (var 0 :* (var 5 :* var 4) :- var 3 :* var 6 :* var 7)
-      ((var 0 :* var 2 :- var 1 :* var 7) :* (var 5 :* var 6) :+ (var 1 :* var 5 :- var 3) :* var 6 :* var 7 :- var 0 :* var 5 :* (var 2 :* var 6 :- var 4)) tt, abs-* c m)
+    rw (
+      ring 8 (Z, (X, (Y, (n, (m, (c, (d, (pos L, tt))))))))
+          (var 0 :* (var 5 :* var 4) :- var 3 :* var 6 :* var 7)
+          ((var 0 :* var 2 :- var 1 :* var 7) :* (var 5 :* var 6) :+ (var 1 :* var 5 :- var 3) :* var 6 :* var 7 :- var 0 :* var 5 :* (var 2 :* var 6 :- var 4)) tt,
+      abs-* c m,
+    )
     (go (abs A) (abs B) (abs C) (abs Y) (abs Z) (abs c) (abs d) (abs m) h k l v u
-      (rw (abs-* Y d) at (le-trans (le-of-eq (ap abs (ring 3 (Y, (d, (m, tt))) (var 0 :* var 1) ((var 0 :* var 1 :- var 2) :+ var 2) tt))) (abs-+ C m)))
-      (le-trans (abs-+ (A *ℤ (c *ℤ d) +ℤ B *ℤ d *ℤ pos L) (negℤ (Z *ℤ c *ℤ C)))
-      (le-trans (add-le-add (abs-+ (A *ℤ (c *ℤ d)) (B *ℤ d *ℤ pos L)) (le-of-eq (abs-neg (Z *ℤ c *ℤ C))))
-        (le-of-eq (simp (abs-*, abs-pos))))))
+    (rw (abs-* Y d) at (le-trans (le-of-eq (ap abs (ring 3 (Y, (d, (m, tt))) (var 0 :* var 1) ((var 0 :* var 1 :- var 2) :+ var 2) tt))) (abs-+ C m)))
+    (le-trans (abs-+ (A *ℤ (c *ℤ d) +ℤ B *ℤ d *ℤ pos L) (negℤ (Z *ℤ c *ℤ C)))
+    (le-trans (add-le-add (abs-+ (A *ℤ (c *ℤ d)) (B *ℤ d *ℤ pos L)) (le-of-eq (abs-neg (Z *ℤ c *ℤ C))))
+    (le-of-eq (simp (abs-*, abs-pos))))))
   where
     go : (a b g y z c d m : ℕ) {q : ℕ} → a * 2 ^ 53 ≤ R → b ≤ e * c → g ≤ f * d → lo + f ≤ y → z ≤ K → y * d ≤ g + m → q ≤ a * (c * d) + b * d * L + z * c * g → q ≤ E * (c * m)
     go a b g y z c d m {q} h k l v u s t =

@@ -53,11 +53,14 @@ sum-step Z X Y n m c d e f δ h k l =
     let A = Z -ℤ (X +ℤ Y) in
     let B = X *ℤ c -ℤ n in
     let C = Y *ℤ d -ℤ m in
-    rw (ring 7 (Z, (X, (Y, (n, (m, (c, (d, tt)))))))
-      (var 0 :* (var 5 :* var 6) :- (var 3 :* var 6 :+ var 4 :* var 5))
-      ((var 0 :- (var 1 :+ var 2)) :* (var 5 :* var 6) :+ (var 1 :* var 5 :- var 3) :* var 6 :+ (var 2 :* var 6 :- var 4) :* var 5) tt, abs-* c d)
+    rw (
+      ring 7 (Z, (X, (Y, (n, (m, (c, (d, tt)))))))
+          (var 0 :* (var 5 :* var 6) :- (var 3 :* var 6 :+ var 4 :* var 5))
+          ((var 0 :- (var 1 :+ var 2)) :* (var 5 :* var 6) :+ (var 1 :* var 5 :- var 3) :* var 6 :+ (var 2 :* var 6 :- var 4) :* var 5) tt,
+      abs-* c d,
+    )
     (go (abs A) (abs B) (abs C) (abs c) (abs d) h k l
-      (le-trans (abs-+ (A *ℤ (c *ℤ d) +ℤ B *ℤ d) (C *ℤ c)) (le-trans (add-le-add (abs-+ (A *ℤ (c *ℤ d)) (B *ℤ d)) (le-refl (abs (C *ℤ c)))) (le-of-eq (simp abs-*)))))
+    (le-trans (abs-+ (A *ℤ (c *ℤ d) +ℤ B *ℤ d) (C *ℤ c)) (le-trans (add-le-add (abs-+ (A *ℤ (c *ℤ d)) (B *ℤ d)) (le-refl (abs (C *ℤ c)))) (le-of-eq (simp abs-*)))))
   where
     go : (a b g c d : ℕ) {x : ℕ} → a ≤ δ → b ≤ e * c → g ≤ f * d → x ≤ a * (c * d) + b * d + g * c → x ≤ (e + f + δ) * (c * d)
     go a b g c d h k l q = omega (arith, mul-le-mul-right (c * d) h, mul-le-mul-right d k, mul-le-mul-right c l)
@@ -88,7 +91,7 @@ module _ (x y : Float) (q r : Q) (a b : B) (i : Stands x q a) (j : Stands y r b)
             (rw (ring 2 (val x, (val y, tt)) (var 1 :+ var 0) (var 0 :+ var 1) tt, abs-val x, abs-val y) at (abs-less (val y) (val x)))
             (rw (abs-val z) at (le-trans (abs-back (val z) (val x +ℤ val y)) (add-le-add (le-refl _) u)));
         small = omega (arith, u, abs-shift (val z) (val x +ℤ val y), abs-+ (val x) (val y), abs-val x, abs-val y, abs-val z, i .small, j .small);
-        near = sum-step (val z) (val x) (val y) (q .num) (r .num) (q .den) (r .den) (a .err) (b .err) δ u (i .near) (j .near)
+        near = sum-step (val z) (val x) (val y) (q .num) (r .num) (q .den) (r .den) (a .err) (b .err) δ u (i .near) (j .near);
       }
     where
       low : (X Y Z S δ : ℕ) → a .low ≤ X → X ≤ a .big → b .low ≤ Y → Y ≤ b .big → X ≤ S + Y → Y ≤ S + X → S ≤ Z + δ → (a .low - b .big) + (b .low - a .big) - δ ≤ Z
@@ -108,7 +111,7 @@ prodB x y =
       low = (m * 2 ^ 53 - (m + L * 2 ^ 52)) / U;
       big = (M * 2 ^ 53 + R) / U;
       err = suc (((x .big * y .err + y .big * x .err + x .err * y .err) * 2 ^ 53 + R) / U);
-      good = leb M (2 ^ 1023 * (L * L))
+      good = leb M (2 ^ 1023 * (L * L));
     }
 
 prod-step : (Z X Y n m c d : ℤ) (e f M N R E : ℕ) → abs (Z *ℤ pos L -ℤ X *ℤ Y) * 2 ^ 53 ≤ R → abs (X *ℤ c -ℤ n) ≤ e * abs c → abs (Y *ℤ d -ℤ m) ≤ f * abs d → abs X ≤ M → abs Y ≤ N
@@ -118,14 +121,17 @@ prod-step Z X Y n m c d e f M N R E h k l u v w =
     let A = Z *ℤ pos L -ℤ X *ℤ Y in
     let B = X *ℤ c -ℤ n in
     let C = Y *ℤ d -ℤ m in
-    rw (ring 8 (Z, (X, (Y, (n, (m, (c, (d, (pos L, tt))))))))
-      (var 0 :* (var 5 :* var 6 :* var 7) :- var 3 :* var 4)
-      ((var 0 :* var 7 :- var 1 :* var 2) :* (var 5 :* var 6) :+ var 1 :* var 5 :* (var 2 :* var 6 :- var 4) :+ (var 1 :* var 5 :- var 3) :* (var 2 :* var 6) :- (var 1 :* var 5 :- var 3) :* (var 2 :* var 6 :- var 4)) tt,
-      abs-*pos (c *ℤ d) L, abs-* c d)
+    rw (
+      ring 8 (Z, (X, (Y, (n, (m, (c, (d, (pos L, tt))))))))
+          (var 0 :* (var 5 :* var 6 :* var 7) :- var 3 :* var 4)
+          ((var 0 :* var 7 :- var 1 :* var 2) :* (var 5 :* var 6) :+ var 1 :* var 5 :* (var 2 :* var 6 :- var 4) :+ (var 1 :* var 5 :- var 3) :* (var 2 :* var 6) :- (var 1 :* var 5 :- var 3) :* (var 2 :* var 6 :- var 4)) tt,
+      abs-*pos (c *ℤ d) L,
+      abs-* c d,
+    )
     (go (abs A) (abs B) (abs C) (abs X) (abs Y) (abs c) (abs d) h k l u v
-      (le-trans (abs-+ (A *ℤ (c *ℤ d) +ℤ X *ℤ c *ℤ C +ℤ B *ℤ (Y *ℤ d)) (negℤ (B *ℤ C)))
-      (le-trans (add-le-add (abs-+ (A *ℤ (c *ℤ d) +ℤ X *ℤ c *ℤ C) (B *ℤ (Y *ℤ d))) (le-of-eq (abs-neg (B *ℤ C))))
-      (le-trans (add-le-add (add-le-add (abs-+ (A *ℤ (c *ℤ d)) (X *ℤ c *ℤ C)) (le-refl _)) (le-refl _)) (le-of-eq (simp abs-*))))))
+    (le-trans (abs-+ (A *ℤ (c *ℤ d) +ℤ X *ℤ c *ℤ C +ℤ B *ℤ (Y *ℤ d)) (negℤ (B *ℤ C)))
+    (le-trans (add-le-add (abs-+ (A *ℤ (c *ℤ d) +ℤ X *ℤ c *ℤ C) (B *ℤ (Y *ℤ d))) (le-of-eq (abs-neg (B *ℤ C))))
+    (le-trans (add-le-add (add-le-add (abs-+ (A *ℤ (c *ℤ d)) (X *ℤ c *ℤ C)) (le-refl _)) (le-refl _)) (le-of-eq (simp abs-*))))))
   where
     go : (a b g x y c d : ℕ) {q : ℕ} → a * 2 ^ 53 ≤ R → b ≤ e * c → g ≤ f * d → x ≤ M → y ≤ N → q ≤ a * (c * d) + x * c * g + b * (y * d) + b * g → q ≤ E * (c * d * L)
     go a b g x y c d {q} h k l u v z =
@@ -160,11 +166,12 @@ module _ (x y : Float) (q r : Q) (a b : B) (i : Stands x q a) (j : Stands y r b)
         fine = v .fine;
         least = div-le-of-le-mul (L * 2 ^ 53) (at-least (a .low * b .low) (mag x * mag y) (mag z) D (mul-le-mul (i .least) (j .least)) (v .near) below);
         small = le-div-iff-mul-le U-pos .1 (sized (mag z) (mag x * mag y) M R D s u above);
-        near = prod-step (val z) (val x) (val y) (q .num) (r .num) (q .den) (r .den) (a .err) (b .err) (a .big) (b .big) R _ u (i .near) (j .near) (rw (abs-val x) (i .small)) (rw (abs-val y) (j .small)) (roof _ (L * 2 ^ 53) U-pos)
+        near = prod-step (val z) (val x) (val y) (q .num) (r .num) (q .den) (r .den) (a .err) (b .err) (a .big) (b .big) R _ u (i .near) (j .near) (rw (abs-val x) (i .small)) (rw (abs-val y) (j .small)) (roof _ (L * 2 ^ 53) U-pos);
       }
     where
       sized : (z P M R a : ℕ) → P ≤ M → a * 2 ^ 53 ≤ R → z * L ≤ P + a → z * (L * 2 ^ 53) ≤ M * 2 ^ 53 + R
       sized z P M R a s u v = omega (arith, mul-le-mul-right (2 ^ 53) v)
+
       at-least : (m P z D : ℕ) → m ≤ P → D * 2 ^ 53 ≤ P + L * 2 ^ 52 → P ≤ z * L + D → m * 2 ^ 53 - (m + L * 2 ^ 52) ≤ L * 2 ^ 53 * z
       at-least m P z D h k l = omega (arith, mul-le-mul-right (2 ^ 53) l)
 
@@ -181,7 +188,7 @@ quotB x y =
       low = (x .low * L * 2 ^ 53 - (x .low * L + y .big * 2 ^ 52)) / (y .big * 2 ^ 53);
       big = big;
       err = suc ((R + (big * y .err + x .err * L) * 2 ^ 53) / (lo * 2 ^ 53));
-      good = ltb (y .err) (y .low) && leb (x .big) (2 ^ 1023 * y .low)
+      good = ltb (y .err) (y .low) && leb (x .big) (2 ^ 1023 * y .low);
     }
 
 module _ (x y : Float) (q r : Q) (a b : B) (i : Stands x q a) (j : Stands y r b) where
@@ -200,12 +207,13 @@ module _ (x y : Float) (q r : Q) (a b : B) (i : Stands x q a) (j : Stands y r b)
         fine = v .fine;
         least = div-le-of-le-mul (b .big * 2 ^ 53) (at-least (mag z) (mag x) (mag y) D (i .least) (j .small) (v .near) below);
         small = sm;
-        near = div-step (val z) (val x) (val y) (q .num) (r .num) (q .den) (r .den) (a .err) (b .err) K (b .low - b .err) (a .big * L + b .big * 2 ^ 52) _ (le-trans (v .near) (add-le-add (mul-le-mul-right L (i .small)) (mul-le-mul-right (2 ^ 52) (j .small)))) (i .near) (j .near) (rw (abs-val z) sm) (rw (abs-val y) (omega (arith, l, j .least))) (le-trans (roof _ ((b .low - b .err) * 2 ^ 53) (mul-pos {m = b .low - b .err} (omega (arith, l)) (omega arith))) (le-of-eq (sym (mul-assoc _ (b .low - b .err) (2 ^ 53)))))
+        near = div-step (val z) (val x) (val y) (q .num) (r .num) (q .den) (r .den) (a .err) (b .err) K (b .low - b .err) (a .big * L + b .big * 2 ^ 52) _ (le-trans (v .near) (add-le-add (mul-le-mul-right L (i .small)) (mul-le-mul-right (2 ^ 52) (j .small)))) (i .near) (j .near) (rw (abs-val z) sm) (rw (abs-val y) (omega (arith, l, j .least))) (le-trans (roof _ ((b .low - b .err) * 2 ^ 53) (mul-pos {m = b .low - b .err} (omega (arith, l)) (omega arith))) (le-of-eq (sym (mul-assoc _ (b .low - b .err) (2 ^ 53)))));
       }
     where
       bounded : (z X Y D : ℕ) → X ≤ a .big → b .low ≤ Y → 0 < b .low * 2 ^ 53 → D * 2 ^ 53 ≤ X * L + Y * 2 ^ 52 → z * Y ≤ X * L + D → z ≤ (a .big * L * 2 ^ 53 + a .big * L) / (b .low * 2 ^ 53) + 1
       bounded zero X Y D h k o l u = zero-le
       bounded (suc z) X Y D h k o l u =
           le-trans (suc-le-suc (le-div-iff-mul-le {x = z} {y = a .big * L * 2 ^ 53 + a .big * L} o .1 (omega (arith, mul-le-mul-left z k, mul-le-mul-right L h)))) (le-of-eq (sym (add-one _)))
+
       at-least : (z X Y D : ℕ) → a .low ≤ X → Y ≤ b .big → D * 2 ^ 53 ≤ X * L + Y * 2 ^ 52 → X * L ≤ z * Y + D → a .low * L * 2 ^ 53 - (a .low * L + b .big * 2 ^ 52) ≤ b .big * 2 ^ 53 * z
       at-least z X Y D h k l u = omega (arith, mul-le-mul-right L h, mul-le-mul-left z k)

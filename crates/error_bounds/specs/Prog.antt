@@ -20,11 +20,11 @@ use Rattle.error_bounds.specs.Span.{S, In, sumS, prodS, quotS, add-in, m
 pub data Op : Type 0 where
   _⊞_ _⊟_ _⊠_ _⊘_ : ℕ → ℕ → Op
   lit : Float → Op
+
 infix 6 _⊞_
 infix 6 _⊟_
 infix 6 _⊠_
 infix 6 _⊘_
-
 abbrev pub nth : {A : Type 0} → A → List A → ℕ → A
 nth z [] i = z
 nth z (a ∷ us) zero = a
@@ -118,10 +118,11 @@ neg-fine (fin s m e) f = (tt, neg-fits binary64 (fin s m e) (f .1))
 
 neg-stands : (y : Float) (q : Q) (b : S) → In y q b → In (neg y) (negQ q) (negS b)
 neg-stands y q b j = record {
-    fine = neg-fine y (j .fine);
-    above = rw (neg-val y (j .fine)) (omega (arith, neg-parts (val y), neg-parts (b .hi), j .below));
-    below = rw (neg-val y (j .fine)) (omega (arith, neg-parts (val y), neg-parts (b .lo), j .above));
-    near = rw (neg-val y (j .fine), turn (val y) (q .den) (q .num)) (j .near) }
+  fine = neg-fine y (j .fine);
+  above = rw (neg-val y (j .fine)) (omega (arith, neg-parts (val y), neg-parts (b .hi), j .below));
+  below = rw (neg-val y (j .fine)) (omega (arith, neg-parts (val y), neg-parts (b .lo), j .above));
+  near = rw (neg-val y (j .fine), turn (val y) (q .den) (q .num)) (j .near);
+}
   where
     turn : (v d n : ℤ) → abs (negℤ v *ℤ d -ℤ negℤ n) ≡ abs (v *ℤ d -ℤ n)
     turn v d n = ap abs (ap (λ u. u -ℤ negℤ n) (neg-* v d) ∙ sym (negℤ-+ℤ (v *ℤ d) (negℤ n))) ∙ abs-neg (v *ℤ d -ℤ n)

@@ -41,8 +41,13 @@ digits (fin s zero e) f = record { q = 0; j = 0; few = omega arith; is = go (mag
 digits (fin s (suc m) (pos k)) f = record { q = suc m; j = k + 1074; few = parts s m (pos k) (f .1) .0; is = sym (mul-one _) ∙ mag-exact s (suc m) (pos k) (f .1) ∙ mul-assoc (suc m) (2 ^ k) L ∙ ap (λ u. suc m * u) (sym (pow-add 2 k 1074)) }
 digits (fin s (suc m) (negsuc k)) f =
     let d = 2 ^ suc k in
-    record { q = suc m; j = 1074 - suc k; few = parts s m (negsuc k) (f .1) .0; is = eq-of-mul-eq-mul-right d (pow-pos (suc k)) (mag (fin s (suc m) (negsuc k))) (suc m * 2 ^ (1074 - suc k))
-      (mag-exact s (suc m) (negsuc k) (f .1) ∙ ap (λ u. u * L) (mul-one (suc m)) ∙ ap (λ u. suc m * u) (pow-split (suc k) 1074 (parts s m (negsuc k) (f .1) .1)) ∙ sym (mul-assoc (suc m) (2 ^ (1074 - suc k)) d)) }
+    record {
+      q = suc m;
+      j = 1074 - suc k;
+      few = parts s m (negsuc k) (f .1) .0;
+      is = eq-of-mul-eq-mul-right d (pow-pos (suc k)) (mag (fin s (suc m) (negsuc k))) (suc m * 2 ^ (1074 - suc k))
+          (mag-exact s (suc m) (negsuc k) (f .1) ∙ ap (λ u. u * L) (mul-one (suc m)) ∙ ap (λ u. suc m * u) (pow-split (suc k) 1074 (parts s m (negsuc k) (f .1) .1)) ∙ sym (mul-assoc (suc m) (2 ^ (1074 - suc k)) d));
+    }
 
 -- ---- a whole number of units with few digits is rounded to itself
 pub exact-round : (s : Bool) (A : ℕ) → A < 2 ^ 2098 → Digits A → (mag (round binary64 s A L) ≡ A) × (sgn (round binary64 s A L) ≡ s)
@@ -64,11 +69,12 @@ shift m q i j h e = e ∙ ap (λ x. q * x) (ap (λ x. 2 ^ x) (sym (sub-add-cance
 pub sterbenz : (X Y : ℕ) → Digits X → Digits Y → Y ≤ X → X ≤ 2 * Y → Digits (X - Y)
 sterbenz X Y d e h k = sub-cases (d .j) (e .j) (Digits (X - Y))
     (λ l u. let Q = d .q * 2 ^ (d .j - e .j) in let X' = shift X (d .q) (d .j) (e .j) l (d .is) in
-      record { q = Q - e .q; j = e .j; few = small Q (e .q) (2 ^ e .j) (pow-pos (e .j)) X' (e .is) (e .few); is = minus-is Q (e .q) (2 ^ e .j) X Y X' (e .is) })
+    record { q = Q - e .q; j = e .j; few = small Q (e .q) (2 ^ e .j) (pow-pos (e .j)) X' (e .is) (e .few); is = minus-is Q (e .q) (2 ^ e .j) X Y X' (e .is) })
     (λ l u. let R = e .q * 2 ^ (e .j - d .j) in let Y' = shift Y (e .q) (e .j) (d .j) l (e .is) in
-      record { q = d .q - R; j = d .j; few = less (d .q) R (d .few); is = minus-is (d .q) R (2 ^ d .j) X Y (d .is) Y' })
+    record { q = d .q - R; j = d .j; few = less (d .q) R (d .few); is = minus-is (d .q) R (2 ^ d .j) X Y (d .is) Y' })
   where
     small : (Q r P : ℕ) → 0 < P → X ≡ Q * P → Y ≡ r * P → r < 2 ^ 53 → Q - r < 2 ^ 53
     small Q r P o a b f = let g : Q ≤ 2 * r = le-of-mul-le-mul-right {k = P} (omega arith) o in omega arith
+
     less : (q r : ℕ) → q < 2 ^ 53 → q - r < 2 ^ 53
     less q r h = omega arith

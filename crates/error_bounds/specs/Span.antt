@@ -68,13 +68,15 @@ add-in x y q r a b i j t =
       fine = v .fine;
       above = lower (val x) (val y) (val z) (a .lo) (b .lo) (M / 2 ^ 53) u (i .above) (j .above);
       below = upper (val x) (val y) (val z) (a .hi) (b .hi) (M / 2 ^ 53) u (i .below) (j .below);
-      near = add-stands x y q r (size a) (size b) s s' t .near
+      near = add-stands x y q r (size a) (size b) s s' t .near;
     }
   where
     go : (d s M : ℕ) → d * 2 ^ 53 ≤ s → s ≤ M → d ≤ M / 2 ^ 53
     go d s M h k = omega arith
+
     lower : (x y z c d : ℤ) (δ : ℕ) → abs (z -ℤ (x +ℤ y)) ≤ δ → c ≤ᶻ x → d ≤ᶻ y → c +ℤ d -ℤ pos δ ≤ᶻ z
     lower x y z c d δ u h k = omega (arith, near-abs z (x +ℤ y), +-parts x y, +-parts (c +ℤ d) (negℤ (pos δ)), +-parts c d, neg-parts (pos δ))
+
     upper : (x y z c d : ℤ) (δ : ℕ) → abs (z -ℤ (x +ℤ y)) ≤ δ → x ≤ᶻ c → y ≤ᶻ d → z ≤ᶻ c +ℤ d +ℤ pos δ
     upper x y z c d δ u h k = omega (arith, near-abs z (x +ℤ y), +-parts x y, +-parts (c +ℤ d) (pos δ), +-parts c d)
 
@@ -101,11 +103,12 @@ mul-in x y q r a b i j t =
       fine = v .fine;
       above = floor-le _ (val z) (L * 2 ^ 53) (mul-pos L-pos (omega arith)) (lower (val z) (val x *ℤ val y) (least4 (a .lo) (a .hi) (b .lo) (b .hi)) R u (e .0));
       below = le-ceil _ (val z) (L * 2 ^ 53) (mul-pos L-pos (omega arith)) (upper (val z) (val x *ℤ val y) (most4 (a .lo) (a .hi) (b .lo) (b .hi)) R u (e .1));
-      near = mul-stands x y q r (size a) (size b) s s' t .near
+      near = mul-stands x y q r (size a) (size b) s s' t .near;
     }
   where
     lower : (z w c : ℤ) (R : ℕ) → abs (z *ℤ pos L -ℤ w) * 2 ^ 53 ≤ R → c ≤ᶻ w → c *ℤ pos (2 ^ 53) -ℤ pos R ≤ᶻ z *ℤ pos (L * 2 ^ 53)
     lower z w c R u h = omega (arith, near-abs (z *ℤ pos L) w, *-parts z (pos L), *-parts z (pos (L * 2 ^ 53)), *-parts c (pos (2 ^ 53)), +-parts (c *ℤ pos (2 ^ 53)) (negℤ (pos R)), neg-parts (pos R))
+
     upper : (z w c : ℤ) (R : ℕ) → abs (z *ℤ pos L -ℤ w) * 2 ^ 53 ≤ R → w ≤ᶻ c → z *ℤ pos (L * 2 ^ 53) ≤ᶻ c *ℤ pos (2 ^ 53) +ℤ pos R
     upper z w c R u h = omega (arith, near-abs (z *ℤ pos L) w, *-parts z (pos L), *-parts z (pos (L * 2 ^ 53)), *-parts c (pos (2 ^ 53)), +-parts (c *ℤ pos (2 ^ 53)) (pos R))
 
@@ -142,13 +145,14 @@ div-in x y q r a b i j t =
     record {
       fine = w .fine;
       above = go (leb (n (a .lo) + n (b .lo)) 0) (leb→le (n (a .lo) + n (b .lo)) 0) (val z) ((quotB A B) .low) ((quotB A B) .big) (rw (abs-val z) (w .least)) (rw (abs-val z) (w .small))
-        (λ h. not-neg (val x) (val y) (val z) (omega (arith, h, i .above)) (omega (arith, h, j .above)) (rw (abs-val y) Y) (rw (abs-val x, abs-val y) (v .near)));
+          (λ h. not-neg (val x) (val y) (val z) (omega (arith, h, i .above)) (omega (arith, h, j .above)) (rw (abs-val y) Y) (rw (abs-val x, abs-val y) (v .near)));
       below = top (val z) ((quotB A B) .big) (rw (abs-val z) (w .small));
-      near = w .near
+      near = w .near;
     }
   where
     top : (z : ℤ) (K : ℕ) → abs z ≤ K → z ≤ᶻ pos K
     top z K h = omega (arith, abs-is z)
+
     go : (t : Bool) → (T t → n (a .lo) + n (b .lo) ≤ 0) → (z : ℤ) (m K : ℕ) → m ≤ abs z → abs z ≤ K → (n (a .lo) + n (b .lo) ≤ 0 → pos 0 ≤ᶻ z) → cond t (pos m) (negℤ (pos K)) ≤ᶻ z
     go true f z m K h k g = omega (arith, abs-is z, no-n z (g (f tt)))
     go false f z m K h k g = omega (arith, abs-is z, neg-parts (pos K))
