@@ -1,5 +1,2 @@
-pub mod Steps
+pub mod Close
 pub mod Powers
-pub mod Cubes
-pub mod Rooted
-pub mod Near
