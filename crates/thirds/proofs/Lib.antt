@@ -1,2 +1,5 @@
 pub mod Close
 pub mod Powers
+pub mod Products
+pub mod Near
+pub mod Answers

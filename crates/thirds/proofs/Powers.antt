@@ -32,51 +32,52 @@ same l = omega arith
 finer-pos : 0 < L * 2 ^ 45 * 2 ^ 9
 finer-pos = mul-pos (mul-pos L-pos (lit< {m = 0} {n = 2 ^ 45} tt)) (lit< {m = 0} {n = 2 ^ 9} tt)
 
+-- w / L less or more e * 2^-54, in units of 1 / Q
+abbrev down : ℤ → ℕ → ℤ
+down w e = w *ℤ pos (2 ^ 54) -ℤ pos (e * L)
+
+abbrev up : ℤ → ℕ → ℤ
+up w e = w *ℤ pos (2 ^ 54) +ℤ pos (e * L)
+
 -- w / L is log (P / R), but for 2 * 2^-45
 pub record Held (w : ℤ) (P R : ℕ) : Type 0 where
-  pub most : AtMost (w *ℤ pos (2 ^ 54) -ℤ pos (1024 * L)) Q P R
-  pub least : AtLeast (w *ℤ pos (2 ^ 54) +ℤ pos (1024 * L)) Q P R
+  pub most : AtMost (down w 1024) Q P R
+  pub least : AtLeast (up w 1024) Q P R
 
 module _ (x l : Float) (N : LogNear x l) where
-  abbrev down : ℤ
-  down = val l *ℤ pos (2 ^ 54) -ℤ pos (512 * L)
-
-  abbrev up : ℤ
-  up = val l *ℤ pos (2 ^ 54) +ℤ pos (512 * L)
-
-  most : AtMost down Q (mag x) L
+  most : AtMost (down (val l) 512) Q (mag x) L
   most =
-      subst (λ (q : ℕ). AtMost down q (mag x) L) (same L)
-      (at-most-over down (val l *ℤ pos (2 ^ 45) -ℤ pos L) (L * 2 ^ 45) (2 ^ 9) (mag x) L finer-pos
+      subst (λ (q : ℕ). AtMost (down (val l) 512) q (mag x) L) (same L)
+      (at-most-over (down (val l) 512) (val l *ℤ pos (2 ^ 45) -ℤ pos L) (L * 2 ^ 45) (2 ^ 9) (mag x) L finer-pos
       (omega (arith, low-parts (val l) (2 ^ 45) L, low-parts (val l) (2 ^ 54) (512 * L))) (N .low))
 
-  least : AtLeast up Q (mag x) L
+  least : AtLeast (up (val l) 512) Q (mag x) L
   least =
-      subst (λ (q : ℕ). AtLeast up q (mag x) L) (same L)
-      (at-least-over up (val l *ℤ pos (2 ^ 45) +ℤ pos L) (L * 2 ^ 45) (2 ^ 9) (mag x) L finer-pos
+      subst (λ (q : ℕ). AtLeast (up (val l) 512) q (mag x) L) (same L)
+      (at-least-over (up (val l) 512) (val l *ℤ pos (2 ^ 45) +ℤ pos L) (L * 2 ^ 45) (2 ^ 9) (mag x) L finer-pos
       (omega (arith, high-parts (val l) (2 ^ 45) L, high-parts (val l) (2 ^ 54) (512 * L))) (N .high))
 
   pub once : Held (val l) (mag x) L
   once = record {
-    most = at-most-mono (val l *ℤ pos (2 ^ 54) -ℤ pos (1024 * L)) down Q (mag x) L Q-pos (omega (arith, low-parts (val l) (2 ^ 54) (1024 * L), low-parts (val l) (2 ^ 54) (512 * L))) most;
-    least = at-least-mono (val l *ℤ pos (2 ^ 54) +ℤ pos (1024 * L)) up Q (mag x) L Q-pos (omega (arith, high-parts (val l) (2 ^ 54) (1024 * L), high-parts (val l) (2 ^ 54) (512 * L))) least;
+    most = at-most-mono (down (val l) 1024) (down (val l) 512) Q (mag x) L Q-pos (omega (arith, low-parts (val l) (2 ^ 54) (1024 * L), low-parts (val l) (2 ^ 54) (512 * L))) most;
+    least = at-least-mono (up (val l) 1024) (up (val l) 512) Q (mag x) L Q-pos (omega (arith, high-parts (val l) (2 ^ 54) (1024 * L), high-parts (val l) (2 ^ 54) (512 * L))) least;
   }
 
   pub twice : Held (val l +ℤ val l) (mag x * mag x) (L * L)
   twice =
       let w = val l +ℤ val l in
       record {
-        most = at-most-mono (w *ℤ pos (2 ^ 54) -ℤ pos (1024 * L)) (down +ℤ down) Q (mag x * mag x) (L * L) Q-pos
-            (omega (arith, low-parts w (2 ^ 54) (1024 * L), low-parts (val l) (2 ^ 54) (512 * L), +-parts (val l) (val l), +-parts down down)) (at-most-add down down Q (mag x) L (mag x) L Q-pos most most);
-        least = at-least-mono (w *ℤ pos (2 ^ 54) +ℤ pos (1024 * L)) (up +ℤ up) Q (mag x * mag x) (L * L) Q-pos
-            (omega (arith, high-parts w (2 ^ 54) (1024 * L), high-parts (val l) (2 ^ 54) (512 * L), +-parts (val l) (val l), +-parts up up)) (at-least-add up up Q (mag x) L (mag x) L Q-pos least least);
+        most = at-most-mono (down w 1024) (down (val l) 512 +ℤ down (val l) 512) Q (mag x * mag x) (L * L) Q-pos
+            (omega (arith, low-parts w (2 ^ 54) (1024 * L), low-parts (val l) (2 ^ 54) (512 * L), +-parts (val l) (val l), +-parts (down (val l) 512) (down (val l) 512))) (at-most-add (down (val l) 512) (down (val l) 512) Q (mag x) L (mag x) L Q-pos most most);
+        least = at-least-mono (up w 1024) (up (val l) 512 +ℤ up (val l) 512) Q (mag x * mag x) (L * L) Q-pos
+            (omega (arith, high-parts w (2 ^ 54) (1024 * L), high-parts (val l) (2 ^ 54) (512 * L), +-parts (val l) (val l), +-parts (up (val l) 512) (up (val l) 512))) (at-least-add (up (val l) 512) (up (val l) 512) Q (mag x) L (mag x) L Q-pos least least);
       }
 
 pub turned : (w : ℤ) (P R : ℕ) → Held w P R → Held (negℤ w) R P
 turned w P R H = record {
-  most = at-most-turned (negℤ w *ℤ pos (2 ^ 54) -ℤ pos (1024 * L)) (w *ℤ pos (2 ^ 54) +ℤ pos (1024 * L)) Q P R Q-pos
+  most = at-most-turned (down (negℤ w) 1024) (up w 1024) Q P R Q-pos
       (omega (arith, low-parts (negℤ w) (2 ^ 54) (1024 * L), high-parts w (2 ^ 54) (1024 * L), neg-parts w)) (H .least);
-  least = at-least-turned (negℤ w *ℤ pos (2 ^ 54) +ℤ pos (1024 * L)) (w *ℤ pos (2 ^ 54) -ℤ pos (1024 * L)) Q P R Q-pos
+  least = at-least-turned (up (negℤ w) 1024) (down w 1024) Q P R Q-pos
       (omega (arith, high-parts (negℤ w) (2 ^ 54) (1024 * L), low-parts w (2 ^ 54) (1024 * L), neg-parts w)) (H .most);
 }
 
@@ -125,22 +126,16 @@ module _ (v r : Float) (w : ℤ) (P R : ℕ) (K : Close v r) (H : Held w P R) (N
       let h = at-least-over one (val v) L (2 ^ 54) a b Q-pos (omega (arith, one-parts)) (K .below) in
       at-least-add (one +ℤ one) one Q (a * a) (b * b) a b Q-pos (at-least-add one one Q a b a b Q-pos h h) h
 
-  abbrev down : ℤ
-  down = w *ℤ pos (2 ^ 54) -ℤ pos (1024 * L)
-
-  abbrev up : ℤ
-  up = w *ℤ pos (2 ^ 54) +ℤ pos (1024 * L)
-
   over : AtMost three Q (P * (2 ^ 54 + 1284)) (R * 2 ^ 54)
   over =
-      at-most-mono three (down +ℤ pos (1283 * L)) Q (P * (2 ^ 54 + 1284)) (R * 2 ^ 54) Q-pos
-      (omega (arith, N, three-parts, low-parts w (2 ^ 54) (1024 * L), +-parts down (pos (1283 * L)))) (at-most-add down (pos (1283 * L)) Q P R (2 ^ 54 + 1284) (2 ^ 54) Q-pos (H .most) small)
+      at-most-mono three (down w 1024 +ℤ pos (1283 * L)) Q (P * (2 ^ 54 + 1284)) (R * 2 ^ 54) Q-pos
+      (omega (arith, N, three-parts, low-parts w (2 ^ 54) (1024 * L), +-parts (down w 1024) (pos (1283 * L)))) (at-most-add (down w 1024) (pos (1283 * L)) Q P R (2 ^ 54 + 1284) (2 ^ 54) Q-pos (H .most) small)
 
-  above-all : AtMost up Q (cube (mag r * (2 ^ 48 + 1)) * (2 ^ 54 + 1284)) (cube (L * 2 ^ 48) * 2 ^ 54)
+  above-all : AtMost (up w 1024) Q (cube (mag r * (2 ^ 48 + 1)) * (2 ^ 54 + 1284)) (cube (L * 2 ^ 48) * 2 ^ 54)
   above-all =
       let a = cube (mag r * (2 ^ 48 + 1)) in
       let b = cube (L * 2 ^ 48) in
-      at-most-mono up (three +ℤ pos (1283 * L)) Q (a * (2 ^ 54 + 1284)) (b * 2 ^ 54) Q-pos
+      at-most-mono (up w 1024) (three +ℤ pos (1283 * L)) Q (a * (2 ^ 54 + 1284)) (b * 2 ^ 54) Q-pos
       (omega (arith, N, three-parts, high-parts w (2 ^ 54) (1024 * L), +-parts three (pos (1283 * L)))) (at-most-add three (pos (1283 * L)) Q a b (2 ^ 54 + 1284) (2 ^ 54) Q-pos cubed-above small)
 
   pub root-near : CubeRootNear (2 ^ 45) P R r
@@ -150,7 +145,7 @@ module _ (v r : Float) (w : ℤ) (P R : ℕ) (K : Close v r) (H : Held w P R) (N
     sign = K .sign;
     low = rw (cube-mul L (2 ^ 45 - 1), cube-mul (mag r) (2 ^ 45))
         (plain-low P R (cube L) (cube (mag r)) (cube (2 ^ 48)) (cube (2 ^ 48 + 1)) (2 ^ 54) (2 ^ 54 + 1284) (cube (2 ^ 45)) (cube (2 ^ 45 - 1)) (lit< tt) (lit≤ tt)
-        (rw (cube-mul (mag r) (2 ^ 48 + 1), cube-mul L (2 ^ 48)) at (ordered up Q P R (cube (mag r * (2 ^ 48 + 1)) * (2 ^ 54 + 1284)) (cube (L * 2 ^ 48) * 2 ^ 54) Q-pos (H .least) above-all)));
+        (rw (cube-mul (mag r) (2 ^ 48 + 1), cube-mul L (2 ^ 48)) at (ordered (up w 1024) Q P R (cube (mag r * (2 ^ 48 + 1)) * (2 ^ 54 + 1284)) (cube (L * 2 ^ 48) * 2 ^ 54) Q-pos (H .least) above-all)));
     high = rw (cube-mul L (2 ^ 45 + 1), cube-mul (mag r) (2 ^ 45))
         (plain-high P R (cube L) (cube (mag r)) (cube (2 ^ 48)) (cube (2 ^ 48 + 1)) (2 ^ 54) (2 ^ 54 + 1284) (cube (2 ^ 45)) (cube (2 ^ 45 + 1)) (lit< tt) (lit≤ tt)
         (rw (cube-mul (mag r) (2 ^ 48), cube-mul L (2 ^ 48 + 1)) at (ordered three Q (cube (mag r * 2 ^ 48)) (cube (L * (2 ^ 48 + 1))) (P * (2 ^ 54 + 1284)) (R * 2 ^ 54) Q-pos cubed-below over)));
