@@ -23,7 +23,7 @@ use Rattle.thirds.proofs.Powers.{once, twice, turned}
 use Rattle.thirds.proofs.Products.{Thirds, power-near}
 
 -- ---- the four fractions
-fractions : Thirds false 1 third × Thirds false 2 twoThirds × Thirds true 1 (Ieee.neg third) × Thirds true 2 (Ieee.neg twoThirds)
+pub fractions : Thirds false 1 third × Thirds false 2 twoThirds × Thirds true 1 (Ieee.neg third) × Thirds true 2 (Ieee.neg twoThirds)
 unfolding ofBits fits mag L Ieee.neg
 fractions = (
   record { fine = (tt, tt); sign = refl; few = lit≤ tt; most = lit≤ tt; thirds = refl },

@@ -80,6 +80,9 @@ pub record Thirds (s : Bool) (k : ℕ) (c : Float) : Type 0 where
   pub most : 3 * mag c ≤ k * L
   pub thirds : 3 * mag c * 2 ^ 54 + k * L ≡ k * L * 2 ^ 54
 
+pub small : {s : Bool} {k : ℕ} {c : Float} → Thirds s k c → Fin64 c × (mag c ≤ L)
+small {k = k} D = (D .fine, omega (arith, D .most, mul-le-mul-right L (D .few)))
+
 by-sign : (s : Bool) (X Y C K E : ℕ) (pz nz : ℕ) → Near (pz * K + (X * mi s C + Y * pl s C) * 2 ^ 53) (nz * K + (X * pl s C + Y * mi s C) * 2 ^ 53) E
     → Near (pz * K + cond s X Y * C * 2 ^ 53) (nz * K + cond s Y X * C * 2 ^ 53) E
 by-sign false X Y C K E pz nz h = omega arith
@@ -102,7 +105,7 @@ far = lit≤ tt
 
 module _ (s : Bool) (k : ℕ) (l c : Float) (f : Fin64 l) (size : mag l ≤ 43 * L) (D : Thirds s k c) where
   part : mag c ≤ L
-  part = omega (arith, D .most, mul-le-mul-right L (D .few))
+  part = small D .1
 
   error : k * mag l * 3 + 6 * 2 ^ 52 ≤ 259 * L
   error = omega (arith, far, mul-le-mul (D .few) size)
