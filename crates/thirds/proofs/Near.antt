@@ -23,14 +23,21 @@ use Rattle.thirds.proofs.Powers.{once, twice, turned}
 use Rattle.thirds.proofs.Products.{Thirds, power-near}
 
 -- ---- the four fractions
-pub fractions : Thirds false 1 third × Thirds false 2 twoThirds × Thirds true 1 (Ieee.neg third) × Thirds true 2 (Ieee.neg twoThirds)
+pub plus-one : Thirds false 1 third
+unfolding ofBits fits mag L
+plus-one = record { fine = (tt, tt); sign = refl; few = lit≤ tt; most = lit≤ tt; thirds = refl }
+
+pub plus-two : Thirds false 2 twoThirds
+unfolding ofBits fits mag L
+plus-two = record { fine = (tt, tt); sign = refl; few = lit≤ tt; most = lit≤ tt; thirds = refl }
+
+pub minus-one : Thirds true 1 (Ieee.neg third)
 unfolding ofBits fits mag L Ieee.neg
-fractions = (
-  record { fine = (tt, tt); sign = refl; few = lit≤ tt; most = lit≤ tt; thirds = refl },
-  record { fine = (tt, tt); sign = refl; few = lit≤ tt; most = lit≤ tt; thirds = refl },
-  record { fine = (tt, tt); sign = refl; few = lit≤ tt; most = lit≤ tt; thirds = refl },
-  record { fine = (tt, tt); sign = refl; few = lit≤ tt; most = lit≤ tt; thirds = refl },
-)
+minus-one = record { fine = (tt, tt); sign = refl; few = lit≤ tt; most = lit≤ tt; thirds = refl }
+
+pub minus-two : Thirds true 2 (Ieee.neg twoThirds)
+unfolding ofBits fits mag L Ieee.neg
+minus-two = record { fine = (tt, tt); sign = refl; few = lit≤ tt; most = lit≤ tt; thirds = refl }
 
 -- ---- as RULES asks
 module _ (x : Float) (f : T (fits binary64 x)) (r : inRange low high x ≡ true) where
@@ -47,20 +54,20 @@ module _ (x : Float) (f : T (fits binary64 x)) (r : inRange low high x ≡ true)
 
   pub cbrt-near : CbrtNear x (cbrtOf x)
   unfolding cbrtOf l
-  cbrt-near = power-near false 1 l third (log .fine) size (fractions .0) (val l) (mag x) L (once x l log) (omega (arith, p-val l, n-val l))
+  cbrt-near = power-near false 1 l third (log .fine) size plus-one (val l) (mag x) L (once x l log) (omega (arith, p-val l, n-val l))
 
   pub cbrt-squared-near : CbrtSquaredNear x (cbrtSquaredOf x)
   unfolding cbrtSquaredOf l
-  cbrt-squared-near = power-near false 2 l twoThirds (log .fine) size (fractions .1) (val l +ℤ val l) (mag x * mag x) (L * L) (twice x l log) (omega (arith, p-val l, n-val l, +-parts (val l) (val l)))
+  cbrt-squared-near = power-near false 2 l twoThirds (log .fine) size plus-two (val l +ℤ val l) (mag x * mag x) (L * L) (twice x l log) (omega (arith, p-val l, n-val l, +-parts (val l) (val l)))
 
   pub inv-cbrt-near : InvCbrtNear x (invCbrtOf x)
   unfolding invCbrtOf l
-  inv-cbrt-near = power-near true 1 l (Ieee.neg third) (log .fine) size (fractions .2) (negℤ (val l)) L (mag x) (turned (val l) (mag x) L (once x l log)) (omega (arith, p-val l, n-val l, neg-parts (val l)))
+  inv-cbrt-near = power-near true 1 l (Ieee.neg third) (log .fine) size minus-one (negℤ (val l)) L (mag x) (turned (val l) (mag x) L (once x l log)) (omega (arith, p-val l, n-val l, neg-parts (val l)))
 
   pub inv-cbrt-squared-near : InvCbrtSquaredNear x (invCbrtSquaredOf x)
   unfolding invCbrtSquaredOf l
   inv-cbrt-squared-near =
-      power-near true 2 l (Ieee.neg twoThirds) (log .fine) size (fractions .3) (negℤ (val l +ℤ val l)) (L * L) (mag x * mag x) (turned (val l +ℤ val l) (mag x * mag x) (L * L) (twice x l log))
+      power-near true 2 l (Ieee.neg twoThirds) (log .fine) size minus-two (negℤ (val l +ℤ val l)) (L * L) (mag x * mag x) (turned (val l +ℤ val l) (mag x * mag x) (L * L) (twice x l log))
       (omega (arith, p-val l, n-val l, +-parts (val l) (val l), neg-parts (val l +ℤ val l)))
 
 -- ---- exactly 1 at 1: the logarithm is 0, and so is the product, or -0

@@ -16,7 +16,7 @@ use Rattle.series.specs.Scale.{above-scale}
 use Rattle.series.specs.ExpNear.{AtMost, AtLeast, ordered}
 use Rattle.series.specs.LogNear.{LogNear, low-parts, high-parts}
 use Rattle.series.specs.SignedPowers.{at-most-over, at-least-over, at-most-mono, at-least-mono, at-most-turned, at-least-turned, at-most-add, at-least-add}
-use Rattle.series.specs.ThirdsNear.{cube, cube-mul, cube-pos, CubeRootNear}
+use Rattle.series.specs.ThirdsNear.{cube, cube-mul, CubeRootNear}
 use Rattle.thirds.proofs.Close.{Close}
 
 -- the common denominator

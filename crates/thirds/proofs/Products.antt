@@ -124,8 +124,7 @@ module _ (s : Bool) (k : ℕ) (l c : Float) (f : Fin64 l) (size : mag l ≤ 43 *
       let a = cond s (minus l) (plus l) in
       let b = cond s (plus l) (minus l) in
       let ab : a + b ≡ mag l = both s (plus l) (minus l) .1 ∙ sym (mag-parts l) in
-      let ba : b + a ≡ mag l = both s (plus l) (minus l) .0 ∙ sym (mag-parts l) in
-      (
+      let ba : b + a ≡ mag l = both s (plus l) (minus l) .0 ∙ sym (mag-parts l) in (
         le-trans (scaled k (mag c) L (2 ^ 52) (plus v) (minus v) a b L-pos (D .most) (D .thirds) (rw ab (near .0))) (rw ab (within _ error)),
         le-trans (scaled k (mag c) L (2 ^ 52) (minus v) (plus v) b a L-pos (D .most) (D .thirds) (rw ba (near .1))) (rw ba (within _ error)),
       )

@@ -1,14 +1,13 @@
 // The powers 1/3, 2/3, -1/3 and -2/3 of a number from 2^-60 to 2^60 (RULES, section 3).
 use answers::Answer;
 ghost use mathlib.Core.Path.{_≡_};
-ghost use mathlib.Core.Bool.{true};
 ghost use Prim.Native.Nat.{_≤_};
 ghost use lib.Ieee.{Float};
 ghost use Rattle.exact.specs.Units.{L, mag, Fin64};
 ghost use Rattle.answers.specs.declared.Answer.the-variants.{Value};
-ghost use Rattle.answers.specs.Range.{inRange, ranged, bare, onPath};
+ghost use Rattle.answers.specs.Range.{ranged, bare, onPath};
 ghost use Rattle.series.specs.ThirdsNear.{CbrtNear, CbrtSquaredNear, InvCbrtNear, InvCbrtSquaredNear};
-ghost use Rattle.thirds.specs.Thirds.{powerOf, cbrtRanged, cbrtSquaredRanged, invCbrtRanged, invCbrtSquaredRanged, low, high, cbrtOf, cbrtSquaredOf, invCbrtOf, invCbrtSquaredOf};
+ghost use Rattle.thirds.specs.Thirds.{low, high, powerOf, cbrtRanged, cbrtSquaredRanged, invCbrtRanged, invCbrtSquaredRanged};
 
 // x^c, by the logarithm and the exponential: the logarithm's range is the powers'.
 fn power_on_path(x: f64, c: f64) -> Answer

@@ -7,7 +7,7 @@ use Rattle.answers.proofs.Values.{bare-near}
 use Rattle.series.specs.ThirdsNear.{CbrtNear}
 use Rattle.thirds.specs.Thirds.{cbrtOf, cbrtRanged, low, high}
 use Rattle.thirds.proofs.Products.{small}
-use Rattle.thirds.proofs.Near.{fractions, cbrt-near}
+use Rattle.thirds.proofs.Near.{plus-one, cbrt-near}
 use Rattle.thirds.proofs.Answers.{bare-path}
 use Rattle.thirds.proofs.cbrt.Statement.{statement}
 use Rattle.thirds.proofs.cbrt.Tie as tie
@@ -23,4 +23,4 @@ returns c =
 pub cbrt-spec : {M : Type 1} → statement M
 cbrt-spec =
     tie.close
-    (tie.spec (λ c κs. small (fractions .0)) (λ c κs. search needs) returns)
+    (tie.spec (λ c κs. small plus-one) (λ c κs. search needs) returns)

@@ -2,7 +2,7 @@
 use borrow.Author.Needs.{needs}
 use Rattle.thirds.specs.Thirds.{cbrtOf}
 use Rattle.thirds.proofs.Products.{small}
-use Rattle.thirds.proofs.Near.{fractions}
+use Rattle.thirds.proofs.Near.{plus-one}
 use Rattle.thirds.proofs.cbrt_on_path.Statement.{statement}
 use Rattle.thirds.proofs.cbrt_on_path.Tie as tie
 
@@ -13,4 +13,4 @@ returns c = c .power-on-path .ensures
 pub cbrt-on-path-spec : {M : Type 1} → statement M
 cbrt-on-path-spec =
     tie.close
-    (tie.spec (λ c κs. small (fractions .0)) returns)
+    (tie.spec (λ c κs. small plus-one) returns)

@@ -7,7 +7,7 @@ use Rattle.answers.proofs.Values.{bare-near}
 use Rattle.series.specs.ThirdsNear.{CbrtSquaredNear}
 use Rattle.thirds.specs.Thirds.{cbrtSquaredOf, cbrtSquaredRanged, low, high}
 use Rattle.thirds.proofs.Products.{small}
-use Rattle.thirds.proofs.Near.{fractions, cbrt-squared-near}
+use Rattle.thirds.proofs.Near.{plus-two, cbrt-squared-near}
 use Rattle.thirds.proofs.Answers.{bare-path}
 use Rattle.thirds.proofs.cbrt_squared.Statement.{statement}
 use Rattle.thirds.proofs.cbrt_squared.Tie as tie
@@ -23,4 +23,4 @@ returns c =
 pub cbrt-squared-spec : {M : Type 1} → statement M
 cbrt-squared-spec =
     tie.close
-    (tie.spec (λ c κs. small (fractions .1)) (λ c κs. search needs) returns)
+    (tie.spec (λ c κs. small plus-two) (λ c κs. search needs) returns)

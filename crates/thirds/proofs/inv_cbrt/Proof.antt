@@ -7,7 +7,7 @@ use Rattle.answers.proofs.Values.{bare-near}
 use Rattle.series.specs.ThirdsNear.{InvCbrtNear}
 use Rattle.thirds.specs.Thirds.{invCbrtOf, invCbrtRanged, low, high}
 use Rattle.thirds.proofs.Products.{small}
-use Rattle.thirds.proofs.Near.{fractions, inv-cbrt-near}
+use Rattle.thirds.proofs.Near.{minus-one, inv-cbrt-near}
 use Rattle.thirds.proofs.Answers.{bare-path}
 use Rattle.thirds.proofs.inv_cbrt.Statement.{statement}
 use Rattle.thirds.proofs.inv_cbrt.Tie as tie
@@ -23,4 +23,4 @@ returns c =
 pub inv-cbrt-spec : {M : Type 1} → statement M
 inv-cbrt-spec =
     tie.close
-    (tie.spec (λ c κs. small (fractions .2)) (λ c κs. search needs) returns)
+    (tie.spec (λ c κs. small minus-one) (λ c κs. search needs) returns)

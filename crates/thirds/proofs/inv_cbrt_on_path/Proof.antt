@@ -2,7 +2,7 @@
 use borrow.Author.Needs.{needs}
 use Rattle.thirds.specs.Thirds.{invCbrtOf}
 use Rattle.thirds.proofs.Products.{small}
-use Rattle.thirds.proofs.Near.{fractions}
+use Rattle.thirds.proofs.Near.{minus-one}
 use Rattle.thirds.proofs.inv_cbrt_on_path.Statement.{statement}
 use Rattle.thirds.proofs.inv_cbrt_on_path.Tie as tie
 
@@ -13,4 +13,4 @@ returns c = c .power-on-path .ensures
 pub inv-cbrt-on-path-spec : {M : Type 1} → statement M
 inv-cbrt-on-path-spec =
     tie.close
-    (tie.spec (λ c κs. small (fractions .2)) returns)
+    (tie.spec (λ c κs. small minus-one) returns)

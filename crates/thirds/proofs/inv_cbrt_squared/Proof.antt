@@ -7,7 +7,7 @@ use Rattle.answers.proofs.Values.{bare-near}
 use Rattle.series.specs.ThirdsNear.{InvCbrtSquaredNear}
 use Rattle.thirds.specs.Thirds.{invCbrtSquaredOf, invCbrtSquaredRanged, low, high}
 use Rattle.thirds.proofs.Products.{small}
-use Rattle.thirds.proofs.Near.{fractions, inv-cbrt-squared-near}
+use Rattle.thirds.proofs.Near.{minus-two, inv-cbrt-squared-near}
 use Rattle.thirds.proofs.Answers.{bare-path}
 use Rattle.thirds.proofs.inv_cbrt_squared.Statement.{statement}
 use Rattle.thirds.proofs.inv_cbrt_squared.Tie as tie
@@ -23,4 +23,4 @@ returns c =
 pub inv-cbrt-squared-spec : {M : Type 1} → statement M
 inv-cbrt-squared-spec =
     tie.close
-    (tie.spec (λ c κs. small (fractions .3)) (λ c κs. search needs) returns)
+    (tie.spec (λ c κs. small minus-two) (λ c κs. search needs) returns)
