@@ -1,4 +1,4 @@
--- From a logarithm of P / R and an exponential of about a third of it to a cube root of P / R. Assumes nothing.
+-- The exponential of about a third of log (P / R) is near the cube root of P / R. Assumes nothing.
 use mathlib.Core.Path.{_≡_, subst}
 use Prim.Native.Nat.{ℕ, _+_, _-_, _*_, _^_, _≤_, _<_}
 use native.Mathlib.Nat.{mul-pos, mul-comm, mul-le-mul-left, mul-le-mul-right, le-of-mul-le-mul-right}
@@ -89,7 +89,7 @@ small-closed = above 1283 (2 ^ 54) 1 (2 ^ 54 + 1284) (2 ^ 54) (lit< tt) (lit≤ 
 small : Above (1283 * L) Q (2 ^ 54 + 1284) (2 ^ 54)
 small = subst (λ (q : ℕ). Above (1283 * L) q (2 ^ 54 + 1284) (2 ^ 54)) (mul-comm (2 ^ 54) L) (above-scale 1283 (2 ^ 54) L (2 ^ 54 + 1284) (2 ^ 54) small-closed)
 
--- l and c are the cubes of L and of the number; a, b and k those of parts; g, h bound exp (1283 / 2^54)
+-- l and c are the cubes of L and of the root, a, b, k and m those of numbers of parts; h / g is at least exp (1283 / 2^54)
 plain-high : (P R l c a b g h k m : ℕ) → 0 < a * g → h * b * k ≤ m * (a * g) → c * a * (R * g) ≤ P * h * (l * b) → R * (c * k) ≤ P * (l * m)
 plain-high P R l c a b g h k m o e i = le-of-mul-le-mul-right {k = a * g} (omega (arith, mul-le-mul-right k i, mul-le-mul-left (P * l) e)) o
 

@@ -1,4 +1,4 @@
--- c times a logarithm, where c is a third or two: the exponential takes it, and of it is a power of the number. Assumes nothing.
+-- A logarithm times a third or two: the exponential takes it, and answers near a power of the number. Assumes nothing.
 use mathlib.Core.Path.{_≡_, refl, sym, ap, _∙_}
 use mathlib.Core.Bool.{Bool, true, false, not, cond}
 use Prim.Native.Nat.{ℕ, _+_, _*_, _^_, _≤_, _<_}
