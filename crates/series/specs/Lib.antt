@@ -12,6 +12,7 @@ pub mod SineNest
 pub mod ExpNear
 pub mod Scale
 pub mod LogNear
+pub mod SignedPowers
 pub mod Logs
 pub mod Ln2
 pub mod ThirdsNear

@@ -1,5 +1,5 @@
-pub mod Steps
+pub mod Close
 pub mod Powers
-pub mod Cubes
-pub mod Rooted
+pub mod Products
 pub mod Near
+pub mod Answers
