@@ -2,9 +2,11 @@
 // terms of the series give.
 mod entries;
 mod part;
+mod three;
 
 use answers::Answer;
 use part::log_part;
+pub use three::logs_on_path;
 ghost use mathlib.Core.Path.{_≡_};
 ghost use mathlib.Core.Bool.{true};
 ghost use lib.Ieee.{Float};
