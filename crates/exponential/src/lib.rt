@@ -3,12 +3,14 @@
 mod entries;
 mod hyperbolic;
 mod part;
+mod three;
 
 use answers::Answer;
 use fixed_point::fixed;
 pub use hyperbolic::sinh;
 pub use hyperbolic::sinh_on_path;
 use part::exp_part;
+pub use three::exps_on_path;
 ghost use mathlib.Core.Path.{_≡_};
 ghost use mathlib.Core.Bool.{true};
 ghost use lib.Ieee.{Float};

@@ -1,8 +1,10 @@
 // The logarithm (RULES, section 3): the exponent times log 2, and what a factor from a table and five terms of the series give.
 mod entries;
+mod three;
 
 use answers::Answer;
 use entries::factor;
+pub use three::logs_on_path;
 ghost use mathlib.Core.Path.{_≡_};
 ghost use mathlib.Core.Bool.{true};
 ghost use lib.Ieee.{Float};
