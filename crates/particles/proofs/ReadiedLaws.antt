@@ -5,10 +5,15 @@ use mathlib.Core.List.{List}
 use mathlib.Core.Logic.{_⊎_, inl, inr}
 use Prim.Native.Nat.{ℕ}
 use lib.Ieee as Ieee
-use lib.Ieee.{binary64}
+use lib.Dec.{eqb}
+use lib.Ieee.{Float, binary64}
 use lib.ListN.{length, length-set}
 use Rattle.numbers.specs.Floats.{finite}
+use Rattle.numbers.proofs.Laws.{and-both}
 use Rattle.answers.specs.Refusals.{notFinite, noNumber, wrongDeterminant}
+use Rattle.tensor.specs.Matrix.{zero}
+use Rattle.failure_maximum_stress.specs.declared.Verdict.{Verdict}
+use Rattle.failure_maximum_stress.specs.declared.Verdict.the-variants as verdicts
 use Rattle.plasticity.specs.State.{refused}
 use Rattle.plasticity.specs.declared.Outcome.{Outcome}
 use Rattle.plasticity.specs.declared.Outcome.the-variants.{Untouched, Stored, Refused}
@@ -22,21 +27,22 @@ use Rattle.model.specs.declared.Model.{Model}
 use Rattle.model.specs.declared.Model.the-variants.{Snow, Rankine, DruckerPrager, Nacc}
 use Rattle.model.specs.declared.Ready.{Ready}
 use Rattle.model.specs.declared.Ready.the-variants as ready
-use Rattle.model.specs.Model.{modelFinite, modelUpdate}
-use Rattle.model.specs.Ready.{readyOf, readyFinite, rankineReady, naccReady, parametersReady, readyUpdate}
+use Rattle.model.specs.Model.{modelFinite}
+use Rattle.model.specs.Ready.{readyOf, parametersReady, readyUpdate}
 use Rattle.model.proofs.KindLaws.{and-true}
 use Rattle.model.proofs.ReadyLaws.{ready-finite, ready-parameters, ready-update}
+use Rattle.model.proofs.StoredFinite.{stored-finite}
 use Rattle.particles.specs.declared.judged.Judge.{Judge}
 use Rattle.particles.specs.declared.judged.Judge.the-variants.{Nobody, By}
 use Rattle.particles.specs.declared.step.Step.{Step}
 use Rattle.particles.specs.declared.step.Step.the-variants as steps
 use Rattle.particles.specs.declared.step.Taken.{Taken}
 use Rattle.particles.specs.declared.step.Taken.the-variants as taken
-use Rattle.particles.specs.Pass.{Worked}
-use Rattle.particles.specs.Plain.{putScalars, kept, keptBy, updatedAt, measured, lawAt, recordLaw}
-use Rattle.particles.specs.Judged.{verdictBy, refusedRecord, marked, markedBy, finiteBy, lawBy}
-use Rattle.particles.specs.Factored.{factorLaw, factoredLaw}
-use Rattle.particles.specs.Readied.{readyScalars, shaped, readyKept, readyKeptBy, measuredAt, readyAt, readyMarked, readyLaw, readyFirst}
+use Rattle.particles.specs.Pass.{Worked, AmountFinite}
+use Rattle.particles.specs.Plain.{putScalars, kept, keptBy, updatedAt, lawAt, recordLaw}
+use Rattle.particles.specs.Judged.{verdictBy, refusedRecord, marked, finiteBy, lawBy}
+use Rattle.particles.specs.Factored.{withFactors, factorRefusal, factorLaw, orAsItCame, factoredLaw}
+use Rattle.particles.specs.Readied.{readyScalars, shaped, readyKept, readyKeptBy, readyAt, readyMarked, readyLaw, readyFirst}
 use Rattle.particles.specs.Step.{stepLaw, takenOf, takenFinite, takenLaw}
 use Rattle.particles.proofs.Written.{scalars-last}
 use Rattle.particles.proofs.NotFinite.{law-right, law-wrong, refused-first, finite-first}
@@ -101,7 +107,7 @@ module _ (m : Model) (r : List ℕ) where
       go true d =
           let u = ready-update (uAt r) (vtAt r) (stateAt r) (record-inputs r f) m in
           let x = updatedAt m r in
-          (rw (d, u) refl) ∙ ap (λ (y : Ieee.Float). cond (finite y) x (refused noNumber (x .state))) (sym (last-same (x .outcome) (x .state))) ∙ sym (law-right m r f d)
+          (rw (d, u) refl) ∙ ap (λ (y : Float). cond (finite y) x (refused noNumber (x .state))) (sym (last-same (x .outcome) (x .state))) ∙ sym (law-right m r f d)
       go false d = (rw (d, ready-parameters m) refl) ∙ sym (law-wrong m r f d)
 
   pub ready-law : (j : Judge) → readyLaw (readyOf m) j r ≡ lawBy m j r
@@ -161,3 +167,58 @@ taken-keeps (taken.Judged q l e) = ready-keeps q (By l e)
 taken-keeps taken.Factors = factor-keeps
 taken-keeps (taken.FactoredPlain q) = factored-keeps _ (readyLaw q Nobody) (ready-keeps q Nobody)
 taken-keeps (taken.FactoredJudged q l e) = factored-keeps _ (readyLaw q (By l e)) (ready-keeps q (By l e))
+
+-- ---- an amount that is stored is finite
+amount : (o : Outcome) → ((a : Float) → o ≡ Stored a → finite a ≡ true) → AmountFinite o
+amount Untouched h = tt
+amount (Stored a) h = h a refl
+amount (Refused n) h = tt
+
+marked-amount : (v : Verdict) (r : List ℕ) (w : Worked) → AmountFinite (w .outcome) → AmountFinite (marked v r w .outcome)
+marked-amount verdicts.No r w h = h
+marked-amount verdicts.Yes r w h = h
+marked-amount (verdicts.Refused n) r w h = tt
+
+at-amount : (q : Ready) (r : List ℕ) → recordFinite r ≡ true → AmountFinite (readyAt q r .outcome)
+unfolding readyAt
+at-amount q r f = go (determinantRight r) _ (finite (floatAt (shaped (d .outcome) r (d .state)) placeDeterminant))
+  where
+    d : Updated
+    d = readyUpdate q (uAt r) (vtAt r) (stateAt r)
+
+    go : (b : Bool) (n : ℕ) (c : Bool) → AmountFinite (cond b (cond c d (refused noNumber (d .state))) (refused n (stateAt r)) .outcome)
+    go true n true = amount (d .outcome) (λ a e. stored-finite (uAt r) (vtAt r) (stateAt r) (record-inputs r f) a q e .1)
+    go true n false = tt
+    go false n c = tt
+
+ready-amount : (q : Ready) (j : Judge) (r : List ℕ) → AmountFinite (readyLaw q j r .outcome)
+unfolding readyLaw
+ready-amount q j r = go (finiteBy j && recordFinite r) refl
+  where
+    go : (b : Bool) → finiteBy j && recordFinite r ≡ b → AmountFinite (cond b (readyMarked q j r) (refusedRecord notFinite r) .outcome)
+    go true t = marked-amount (verdictBy j (stateAt r .scalars .phase) (readyAt q r)) r (readyKeptBy q (readyAt q r) r) (at-amount q r (and-both (finiteBy j) (recordFinite r) t .1))
+    go false t = tt
+
+factor-amount : (r : List ℕ) → AmountFinite (factorLaw r .outcome)
+unfolding factorLaw finite Ieee.ofBits
+factor-amount r = go (eqb (factorRefusal r) 0)
+  where
+    go : (b : Bool) → AmountFinite (cond b (record { outcome = Stored zero; failed = false; after = withFactors r }) (refusedRecord (factorRefusal r) r) .outcome)
+    go true = refl
+    go false = tt
+
+first-amount : (q : Ready) (j : Judge) (r : List ℕ) → AmountFinite (readyFirst q j r .outcome)
+unfolding factoredLaw
+first-amount q j r = go (parametersReady q && finiteBy j) (eqb (factorRefusal r) 0)
+  where
+    go : (a b : Bool) → AmountFinite (cond a (cond b (orAsItCame r (readyLaw q j (withFactors r))) (refusedRecord (factorRefusal r) r)) (refusedRecord notFinite r) .outcome)
+    go true true = ready-amount q j (withFactors r)
+    go true false = tt
+    go false b = tt
+
+pub taken-amount : (t : Taken) (r : List ℕ) → AmountFinite (takenLaw t r .outcome)
+taken-amount (taken.Plain q) = ready-amount q Nobody
+taken-amount (taken.Judged q l e) = ready-amount q (By l e)
+taken-amount taken.Factors = factor-amount
+taken-amount (taken.FactoredPlain q) = first-amount q Nobody
+taken-amount (taken.FactoredJudged q l e) = first-amount q (By l e)

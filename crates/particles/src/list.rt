@@ -16,7 +16,7 @@ ghost use lib.ListN.{length};
 ghost use Rattle.record.specs.Layout.{floats};
 ghost use Rattle.particles.specs.Plain.{recordLaw, recordOutcome, recordAfter};
 ghost use Rattle.particles.specs.Step.{stepLaw, takenFinite, takenLaw};
-ghost use Rattle.particles.specs.Pass.{codeOf, valueOf, answered, recordAt, replaced, worked, answers, countedIf, counted, counts, sized, withoutVerdicts, passed, passedWithFailure, passRecords, passAnswers};
+ghost use Rattle.particles.specs.Pass.{codeOf, valueOf, AmountFinite, answered, recordAt, replaced, worked, answers, countedIf, counted, counts, sized, withoutVerdicts, passed, passedWithFailure, passRecords, passAnswers};
 
 // How many records were left untouched, stored and refused.
 pub struct Counts {
@@ -53,13 +53,14 @@ fn code(o: Outcome) -> u64
     }
 }
 
-// And its second: 0, the amount's bits, or the refusal's number.
+// And its second: 0, the amount's bits, or the refusal's number. An amount that is stored is finite, and so it isn't tested for a NaN.
 fn value(o: Outcome) -> u64
+    requires { ⌜ AmountFinite o ⌝ }
     ensures { λ r. ⌜ r ≡ valueOf o ⌝ }
 {
     match o {
         Outcome::Untouched => 0,
-        Outcome::Stored(a) => numbers::bits_of(a),
+        Outcome::Stored(a) => record::finite_bits(a),
         Outcome::Refused(n) => n as u64,
     }
 }
@@ -101,7 +102,7 @@ fn count_one(c: FailureCounts, o: Outcome, failed: bool) -> FailureCounts
 
 // The two answers of record i.
 fn write_answer(out: &mut [u64], i: usize, o: Outcome)
-    requires { ⌜ i * 2 + 2 ≤ length (now out) ⌝ }
+    requires { ⌜ (i * 2 + 2 ≤ length (now out)) × AmountFinite o ⌝ }
     ensures { λ _. ⌜ now (out .exit) ≡ answered (now (out .entry)) i o ⌝ }
 {
     let k = i * 2;

@@ -6,12 +6,15 @@ use native.Mathlib.Nat.{add-sub-cancel-left}
 use Rattle.record.specs.Layout.{floats}
 use borrow.Author.Needs.{needs}
 use Rattle.particles.specs.Pass.{Worked, recordAt, replaced}
-use Rattle.particles.proofs.ReadiedLaws.{taken-finite, taken-law}
+use Rattle.particles.proofs.ReadiedLaws.{taken-finite, taken-law, taken-amount}
 use Rattle.particles.proofs.list.one.Statement.{statement}
 use Rattle.particles.proofs.list.one.Tie as tie
 
 take-step-requires : tie.Need-take-step-requires
 take-step-requires c κs = (search needs, rw (c .before .ready-for .ensures) (taken-finite (c .before .before .before .before .args .s)))
+
+write-answer-requires : tie.Need-write-answer-requires
+write-answer-requires c κs = (search needs, rw (c .before .before .before .take-step .ensures .0) (taken-amount (c .before .before .before .before .before .ready-for .result) _))
 
 returns : tie.Need-returns
 returns c =
@@ -32,5 +35,5 @@ pub one-spec : {M : Type 1} → statement M
 one-spec =
     tie.close
     (tie.spec (λ c. search needs) (λ c. search needs) (λ c κs. search needs) (λ c. search needs) (λ c. search needs) (λ c. search needs)
-    (λ c. search needs) take-step-requires (λ c κs. search needs) (λ c. search needs) (λ c. search needs)
+    (λ c. search needs) take-step-requires write-answer-requires (λ c. search needs) (λ c. search needs)
     returns)
