@@ -1,11 +1,12 @@
--- A model made ready makes of a record what the model makes of it, and a step what the step makes. Assumes nothing.
+-- A model made ready makes of a record what the model makes of it, and so does a step; it keeps the record's length, and an amount that it
+-- stores is finite. Assumes nothing.
 use mathlib.Core.Path.{_≡_, refl, sym, ap, _∙_}
 use mathlib.Core.Bool.{Bool, true, false, cond, _&&_}
 use mathlib.Core.List.{List}
 use mathlib.Core.Logic.{_⊎_, inl, inr}
 use Prim.Native.Nat.{ℕ}
-use lib.Ieee as Ieee
 use lib.Dec.{eqb}
+use lib.Ieee as Ieee
 use lib.Ieee.{Float, binary64}
 use lib.ListN.{length, length-set}
 use Rattle.numbers.specs.Floats.{finite}
