@@ -1,9 +1,5 @@
-pub mod Tail
-pub mod Parts
-pub mod Reduced
-pub mod Packed
-pub mod Quotients
-pub mod Near
-pub mod Unpacking
-pub mod HalfDifference
-pub mod SinhClose
+pub mod Rounded
+pub mod Nearest
+pub mod Rest
+pub mod Series
+pub mod Scale

@@ -14,7 +14,7 @@ fn growth(x: f64) -> f64
     requires { ⌜ inRange low high x ≡ true ⌝ }
     ensures { λ r. ⌜ r ≡ growthOf x ⌝ }
 {
-    f64::from_bits(super::exp_bits(false, super::cut(x)))
+    super::exp_value(if super::negative(x) { -x } else { x })
 }
 
 // sinh x, for an x within the range: within 2^-45 times (1 + the size of the exact value).

@@ -16,3 +16,5 @@ pub mod Logs
 pub mod Ln2
 pub mod ThirdsNear
 pub mod SinhNear
+pub mod ExpSigned
+pub mod ExpSmall
