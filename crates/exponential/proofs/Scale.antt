@@ -64,3 +64,103 @@ power-of j t h =
 pub power-entry : (j : ℕ) → j < 128 → Power j (powerOf j)
 unfolding powerTest over below num den
 power-entry j h = power-of j (powerOf j) (at-or-last powerTest power-entries 4454955558597105 tt j h)
+
+-- ---- the bits
+pub bits-are : (b N : ℕ) → b ≡ 1075 * 2 ^ 52 + (2 ^ 51 + N) → N ≤ 260211 → scaleBits b ≡ N / 128 * 2 ^ 52 + powerOf (N % 128)
+unfolding scaleBits
+bits-are b N e h = ap₂ (λ u v. u * 2 ^ 52 + powerOf v) (fields b N e h .0) (fields b N e h .1)
+  where
+    fields : (b N : ℕ) → b ≡ 1075 * 2 ^ 52 + (2 ^ 51 + N) → N ≤ 260211 → (b / 128 % 2048 ≡ N / 128) × (b % 128 ≡ N % 128)
+    fields b N e h = (omega arith, omega arith)
+
+pub scale-has : (e t : ℕ) → 0 < e → e ≤ 2033 → t < 2 ^ 52 → Has false ((2 ^ 52 + t) * 2 ^ (e - 1)) (ofBits binary64 (e * 2 ^ 52 + t))
+scale-has zero t h k l = absurd (omega arith)
+scale-has (suc f) t h k l = subst (λ v. Has false ((2 ^ 52 + t) * 2 ^ v) (ofBits binary64 (suc f * 2 ^ 52 + t))) (omega arith) (units-at f t (omega arith) l)
+
+-- ---- the value
+dens : (2 ^ 85 * 2 ^ 989 ≡ L) × (2 ^ 92 * 2 ^ 982 ≡ L) × (ln2 * 2 ^ 989 ≡ 128 * step) × (ln2 * 2 ^ 982 ≡ step)
+unfolding L step
+dens = (refl, refl, refl, refl)
+
+digits-sum : (N e j c : ℕ) → N ≡ e * 128 + j → e * (128 * c) + j * c ≡ N * c
+digits-sum N e j c h = omega (arith, ap (λ v. v * c) h)
+
+digits-of : (N : ℕ) → N ≡ N / 128 * 128 + N % 128
+digits-of N = omega arith
+
+assoc₁ : (e c w : ℕ) {s : ℕ} → c * w ≡ s → e * c * w ≡ e * s
+assoc₁ e c w h = mul-assoc e c w ∙ ap (λ v. e * v) h
+
+suc-times : (e c w s : ℕ) → c * w ≡ s → e * suc c * w ≡ e * s + e * w
+suc-times e c w s h = omega (arith, ap (λ v. e * v) h)
+
+slack : (1023 * 2 ^ 989 ≤ 2 ^ 1000) × (2033 * 2 ^ 989 ≤ 2 ^ 1000)
+unfolding IsLe
+slack = (le-by-compare (1023 * 2 ^ 989) (2 ^ 1000) tt, le-by-compare (2033 * 2 ^ 989) (2 ^ 1000) tt)
+
+-- k is N less 130944, and s times it
+k-times : (N s : ℕ) → let k = pos N -ℤ pos 130944 in p (k *ℤ pos s) + 130944 * s ≡ n (k *ℤ pos s) + N * s
+k-times N s =
+    let k = pos N -ℤ pos 130944 in
+    go (p k) (n k) (p (k *ℤ pos s)) (n (k *ℤ pos s)) (omega (arith, +-parts (pos N) (negℤ (pos 130944)), neg-parts (pos 130944))) (omega (arith, *-parts k (pos s)))
+  where
+    go : (c d P M : ℕ) → N + d ≡ 130944 + c → P + d * s ≡ M + c * s → P + 130944 * s ≡ M + N * s
+    go c d P M h k = omega (arith, ap (λ v. v * s) h)
+
+pub less-parts : (z : ℤ) (w : ℕ) → p (z -ℤ pos w) + (n z + w) ≡ n (z -ℤ pos w) + p z
+less-parts z w = omega (arith, +-parts z (negℤ (pos w)), neg-parts (pos w))
+
+pub more-parts : (z : ℤ) (w : ℕ) → p (z +ℤ pos w) + n z ≡ n (z +ℤ pos w) + (p z + w)
+more-parts z w = omega (arith, +-parts z (pos w))
+
+module _ (N m : ℕ) (P : Power (N % 128) m) where
+  abbrev e : ℕ
+  e = N / 128
+
+  abbrev j : ℕ
+  j = N % 128
+
+  power-above : Above (N * step) L (2 ^ e * (2 * (2 ^ 52 + m) + 1)) (1 * 2 ^ 53)
+  power-above =
+      subst (λ (a : ℕ). Above a L (2 ^ e * (2 * (2 ^ 52 + m) + 1)) (1 * 2 ^ 53)) (digits-sum N e j step (digits-of N))
+      (above-add (e * (128 * step)) (j * step) L (2 ^ e) 1 (2 * (2 ^ 52 + m) + 1) (2 ^ 53) L-pos
+      (subst₂ (λ a q. Above a q (2 ^ e) 1) (assoc₁ e ln2 (2 ^ 989) (dens .2)) (dens .0) (above-scale (e * ln2) (2 ^ 85) (2 ^ 989) (2 ^ e) 1 (two-above e)))
+      (subst₂ (λ a q. Above a q (2 * (2 ^ 52 + m) + 1) (2 ^ 53)) (assoc₁ j ln2 (2 ^ 982) (dens .3)) (dens .1) (above-scale (j * ln2) (2 ^ 92) (2 ^ 982) (2 * (2 ^ 52 + m) + 1) (2 ^ 53) (P .above))))
+
+  power-under : Under (N * step + e * 2 ^ 989) L (2 ^ e * (2 * (2 ^ 52 + m) - 1)) (1 * 2 ^ 53)
+  power-under =
+      subst (λ (a : ℕ). Under a L (2 ^ e * (2 * (2 ^ 52 + m) - 1)) (1 * 2 ^ 53)) (swap (e * (128 * step)) (e * 2 ^ 989) (j * step) (N * step) (digits-sum N e j step (digits-of N)))
+      (under-add (e * (128 * step) + e * 2 ^ 989) (j * step) L (2 ^ e) 1 (2 * (2 ^ 52 + m) - 1) (2 ^ 53) L-pos
+      (subst₂ (λ a q. Under a q (2 ^ e) 1) (suc-times e ln2 (2 ^ 989) (128 * step) (dens .2)) (dens .0) (under-scale (e * suc ln2) (2 ^ 85) (2 ^ 989) (2 ^ e) 1 (two-under e)))
+      (subst₂ (λ a q. Under a q (2 * (2 ^ 52 + m) - 1) (2 ^ 53)) (assoc₁ j ln2 (2 ^ 982) (dens .3)) (dens .1) (under-scale (j * ln2) (2 ^ 92) (2 ^ 982) (2 * (2 ^ 52 + m) - 1) (2 ^ 53) (P .under))))
+    where
+      swap : (a b c d : ℕ) → a + c ≡ d → a + b + c ≡ d + b
+      swap a b c d h = omega arith
+
+  top-above : Above (130944 * step) L (2 ^ 1023) 1
+  top-above = subst₂ (λ a q. Above a q (2 ^ 1023) 1) (assoc₁ 1023 ln2 (2 ^ 989) (dens .2) ∙ sym (mul-assoc 1023 128 step)) (dens .0) (above-scale (1023 * ln2) (2 ^ 85) (2 ^ 989) (2 ^ 1023) 1 (two-above 1023))
+
+  top-under : Under (130944 * step + 1023 * 2 ^ 989) L (2 ^ 1023) 1
+  top-under = subst₂ (λ a q. Under a q (2 ^ 1023) 1) (suc-times 1023 ln2 (2 ^ 989) (128 * step) (dens .2) ∙ ap (λ v. v + 1023 * 2 ^ 989) (sym (mul-assoc 1023 128 step))) (dens .0) (under-scale (1023 * suc ln2) (2 ^ 85) (2 ^ 989) (2 ^ 1023) 1 (two-under 1023))
+
+  abbrev k : ℤ
+  k = pos N -ℤ pos 130944
+
+  -- 2^(k / 128) is at least exp of k ln 2 / 128, less 2^-74, and at most exp of that and 2^-74
+  pub scale-most : AtMost (k *ℤ pos step -ℤ pos (2 ^ 1000)) L (2 ^ e * (2 * (2 ^ 52 + m) + 1) * 1) (1 * 2 ^ 53 * 2 ^ 1023)
+  scale-most =
+      let z = k *ℤ pos step in
+      at-most (z -ℤ pos (2 ^ 1000)) (N * step) (130944 * step + 1023 * 2 ^ 989) L (2 ^ e * (2 * (2 ^ 52 + m) + 1)) (1 * 2 ^ 53) (2 ^ 1023) 1 L-pos power-above top-under
+      (go (p (z -ℤ pos (2 ^ 1000))) (n (z -ℤ pos (2 ^ 1000))) (p z) (n z) (N * step) (130944 * step) (2 ^ 1000) (1023 * 2 ^ 989) (less-parts z (2 ^ 1000)) (k-times N step) (slack .0))
+    where
+      go : (p' n' pz nz A B w v : ℕ) → p' + (nz + w) ≡ n' + pz → pz + B ≡ nz + A → v ≤ w → p' + (B + v) ≤ A + n'
+      go p' n' pz nz A B w v h k l = omega arith
+
+  pub scale-least : e ≤ 2033 → AtLeast (k *ℤ pos step +ℤ pos (2 ^ 1000)) L (2 ^ e * (2 * (2 ^ 52 + m) - 1) * 1) (1 * 2 ^ 53 * 2 ^ 1023)
+  scale-least few =
+      let z = k *ℤ pos step in
+      at-least (z +ℤ pos (2 ^ 1000)) (N * step + e * 2 ^ 989) (130944 * step) L (2 ^ e * (2 * (2 ^ 52 + m) - 1)) (1 * 2 ^ 53) (2 ^ 1023) 1 L-pos power-under top-above
+      (go (p (z +ℤ pos (2 ^ 1000))) (n (z +ℤ pos (2 ^ 1000))) (p z) (n z) (N * step) (130944 * step) (2 ^ 1000) (e * 2 ^ 989) (more-parts z (2 ^ 1000)) (k-times N step) (le-trans (mul-le-mul-right (2 ^ 989) few) (slack .1)))
+    where
+      go : (p' n' pz nz A B w v : ℕ) → p' + nz ≡ n' + (pz + w) → pz + B ≡ nz + A → v ≤ w → A + v + n' ≤ p' + B
+      go p' n' pz nz A B w v h k l = omega arith

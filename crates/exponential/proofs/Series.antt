@@ -7,7 +7,7 @@ use native.Mathlib.Nat.{le-trans, mul-le-mul-right, le-of-mul-le-mul-right, mul-
 use native.Mathlib.Omega.{arith}
 use native.Mathlib.Bridge.{le-by-compare, IsLe}
 use lib.Dec.{T, leb, leb→le}
-use lib.IntN.{ℤ, pos, negℤ, _+ℤ_, _-ℤ_, _*ℤ_}
+use lib.IntN.{ℤ, pos, negsuc, negℤ, _+ℤ_, _-ℤ_, _*ℤ_}
 use lib.Ieee as Ieee
 use lib.Ieee.{Float, binary64, ofBits, fits}
 use Rattle.exact.specs.Units.{L, L-pos, mag, sgn, Fin64}
@@ -74,6 +74,14 @@ error-le : T (leb error (2 ^ 1013))
 unfolding runB code bounds L mag val fits ofBits floor ceil minZ maxZ
 error-le = tt
 
+size-le : T (leb (p (nth zeroB (runB code bounds) 0 .hi)) (2 ^ 1066)) × T (leb (n (nth zeroB (runB code bounds) 0 .lo)) (2 ^ 1066))
+unfolding runB code bounds L mag val fits ofBits floor ceil minZ maxZ
+size-le = (tt, tt)
+
+between : (lo z hi : ℤ) (K : ℕ) → lo ≤ᶻ z → z ≤ᶻ hi → p hi ≤ K → n lo ≤ K → (p z ≤ K) × (n z ≤ K)
+between lo (pos a) hi K h k u v = (omega arith, omega arith)
+between lo (negsuc a) hi K h k u v = (omega arith, omega arith)
+
 within : (z : ℤ) (K : ℕ) → abs z ≤ K → (negℤ (pos K) ≤ᶻ z) × (z ≤ᶻ pos K)
 within z K h = (omega (arith, abs-is z, neg-parts (pos K)), omega (arith, abs-is z))
 
@@ -83,6 +91,10 @@ unit = refl
 
 smaller : (m K q l : ℕ) → 0 < q → K * q ≡ l → m * q ≤ 2840 * l → m ≤ 2840 * K
 smaller m K q l o e h = le-of-mul-le-mul-right {k = q} (omega arith) o
+
+-- 24 l^4 times the series at r / l, less 1
+abbrev pub polyAt : ℤ → ℤ → ℤ
+polyAt r l = pos 24 *ℤ (r *ℤ l *ℤ l *ℤ l) +ℤ pos 12 *ℤ (r *ℤ r *ℤ l *ℤ l) +ℤ pos 4 *ℤ (r *ℤ r *ℤ r *ℤ l) +ℤ r *ℤ r *ℤ r *ℤ r
 
 module _ (r : Float) (f : Fin64 r) (h : mag r * 2 ^ 20 ≤ 2840 * L) where
   abbrev floats : List Float
@@ -110,9 +122,8 @@ module _ (r : Float) (f : Fin64 r) (h : mag r * 2 ^ 20 ≤ 2840 * L) where
   abbrev l : ℤ
   l = pos L
 
-  -- 24 L^4 times the series less 1
-  abbrev pub poly : ℤ
-  poly = pos 24 *ℤ (R *ℤ l *ℤ l *ℤ l) +ℤ pos 12 *ℤ (R *ℤ R *ℤ l *ℤ l) +ℤ pos 4 *ℤ (R *ℤ R *ℤ R *ℤ l) +ℤ R *ℤ R *ℤ R *ℤ R
+  abbrev poly : ℤ
+  poly = polyAt R l
 
   abbrev whole : ℤ
   whole = pos 24 *ℤ (l *ℤ l *ℤ l)
@@ -157,7 +168,7 @@ module _ (r : Float) (f : Fin64 r) (h : mag r * 2 ^ 20 ≤ 2840 * L) where
   positive : 0 < 12 * L
   positive = mul-pos (omega arith) L-pos
 
-  pub series-near : abs (val (seriesOf r) *ℤ whole -ℤ poly) ≤ 2 ^ 1013 * (24 * (L * L * L))
+  pub series-near : abs (val (seriesOf r) *ℤ (pos 24 *ℤ (pos L *ℤ pos L *ℤ pos L)) -ℤ polyAt (val r) (pos L)) ≤ 2 ^ 1013 * (24 * (L * L * L))
   series-near =
       le-trans
       (le-of-mul-le-mul-right {k = 12 * L}
@@ -167,3 +178,9 @@ module _ (r : Float) (f : Fin64 r) (h : mag r * 2 ^ 20 ≤ 2840 * L) where
 
   pub series-fine : Fin64 (seriesOf r)
   series-fine = raw .0
+
+  pub series-small : (p (val (seriesOf r)) ≤ 2 ^ 1066) × (n (val (seriesOf r)) ≤ 2 ^ 1066)
+  unfolding seriesOf runF runQ code
+  series-small =
+      let b = nth zeroB (runB code bounds) 0 in
+      between (b .lo) (val (seriesOf r)) (b .hi) (2 ^ 1066) (last-in .above) (last-in .below) (leb→le (p (b .hi)) (2 ^ 1066) (size-le .0)) (leb→le (n (b .lo)) (2 ^ 1066) (size-le .1))

@@ -110,7 +110,7 @@ module _ (a q G e f : ℕ) (S : Small a q G e f) where
 abbrev pub Five : (z : ℤ) (q F : ℕ) → Type 0
 Five z q F = F + odds (n z) q ≡ evens (p z + n z) q + odds (p z) q
 
-at-negative : (a q F : ℕ) → F + odds a q ≡ evens (0 + a) q + odds 0 q → F + odds a q ≡ evens a q
+pub at-negative : (a q F : ℕ) → F + odds a q ≡ evens (0 + a) q + odds 0 q → F + odds a q ≡ evens a q
 at-negative a q F h = omega arith
 
 wider-under : (a q F D G e : ℕ) → 0 < D → Under a q F D → Under a q (F * G) (D * (G + e))
