@@ -26,7 +26,7 @@ use Rattle.exponential.proofs.Nearest.{Nearest, nearest}
 use Rattle.exponential.proofs.Rest.{step, Reduced, rest-reduced}
 use Rattle.exponential.proofs.Series.{series-fine, series-small}
 use Rattle.exponential.proofs.Scale.{Power, power-entry, bits-are, scale-has, scale-most, scale-least, less-parts, more-parts}
-use Rattle.exponential.proofs.Terms.{Terms, positive-of, terms}
+use Rattle.exponential.proofs.Terms.{Terms, positive-of, T, F, terms}
 use Rattle.exponential.proofs.Times.{Product, times-near}
 
 -- a float r near exp (z / L), and its size
@@ -49,7 +49,7 @@ entry-below E G m e h = rw e (go (2 * m - 1) (omega arith))
     go : (o : ℕ) → o + 1 ≡ 2 * m → 4 * (m * G) * (2 ^ 53 - 1) ≤ 2 * G * o * 1 * 2 ^ 53
     go o e = omega (arith, mul-le-mul-right G h, ap (λ v. v * G) e)
 
-sum-above : (S t Y l : ℕ) → S * t * 2 ^ 59 ≤ Y * l * 2 ^ 59 + 66 * (S * l) → 255 * l ≤ 256 * t → S * t * (2 ^ 59 - 67) ≤ Y * l * 2 ^ 59
+pub sum-above : (S t Y l : ℕ) → S * t * 2 ^ 59 ≤ Y * l * 2 ^ 59 + 66 * (S * l) → 255 * l ≤ 256 * t → S * t * (2 ^ 59 - 67) ≤ Y * l * 2 ^ 59
 sum-above S t Y l h k = omega (arith, mul-le-mul-right S k)
 
 sum-below : (S t Y l : ℕ) → Y * l * 2 ^ 59 ≤ S * t * 2 ^ 59 + 66 * (S * l) → 255 * l ≤ 256 * t → Y * l * 2 ^ 59 ≤ S * t * (2 ^ 59 + 67)
@@ -95,7 +95,7 @@ unfolding IsLe
 room-below = le-by-compare (2 ^ 53 * 2 ^ 60 * (2 ^ 59 + 67) * ((2 ^ 60 + 2812) * (2 ^ 59 + 1) * 2 ^ 48)) ((2 ^ 53 - 1) * (2 ^ 60 - 1) * 2 ^ 59 * ((2 ^ 48 + 1) * 2 ^ 60 * 2 ^ 59)) tt
 
 -- ---- exp of 2^-60
-units : (2 ^ 60 * 2 ^ 1014 ≡ L) × (2 ^ 1000 * 2 ^ 72 ≤ L) × (1 * 2 ^ 53 * 2 ^ 1023 ≡ 4 * L) × (2 ^ 1066 * 2 ^ 8 ≡ L)
+pub units : (2 ^ 60 * 2 ^ 1014 ≡ L) × (2 ^ 1000 * 2 ^ 72 ≤ L) × (1 * 2 ^ 53 * 2 ^ 1023 ≡ 4 * L) × (2 ^ 1066 * 2 ^ 8 ≡ L)
 unfolding L IsLe
 units = (refl, le-by-compare (2 ^ 1000 * 2 ^ 72) (2 ^ 1074) tt, refl, refl)
 
@@ -110,7 +110,7 @@ little-least : AtLeast (negℤ (pos (2 ^ 1014))) L (2 ^ 59) (2 ^ 59 + 1)
 little-least = little-above
 
 -- ---- the arguments: d is how far the rest r is from x - k ln 2 / 128
-distance : (d w δ l : ℕ) → d * 2 ^ 72 ≤ 4002 * l → w * 2 ^ 72 ≤ l → 2 ^ 60 * δ ≡ l → d + w ≤ δ
+pub distance : (d w δ l : ℕ) → d * 2 ^ 72 ≤ 4002 * l → w * 2 ^ 72 ≤ l → 2 ^ 60 * δ ≡ l → d + w ≤ δ
 distance d w δ l h k e = le-of-mul-le-mul-right {k = 2 ^ 72} (omega arith) (omega arith)
 
 -- a is x, k the multiple, r the rest
@@ -122,7 +122,7 @@ argument-least : (pa na pk nk pr nr pd nd pz nz ps ns d w δ : ℕ) → pd + (na
     → ps + 0 + na ≤ pa + (ns + δ)
 argument-least pa na pk nk pr nr pd nd pz nz ps ns d w δ h k l m e = omega arith
 
-minus-parts : (a b : ℤ) → p (a -ℤ b) + (n a + p b) ≡ n (a -ℤ b) + (p a + n b)
+pub minus-parts : (a b : ℤ) → p (a -ℤ b) + (n a + p b) ≡ n (a -ℤ b) + (p a + n b)
 minus-parts a b = omega (arith, +-parts a (negℤ b), neg-parts b)
 
 equal-most : (a b c d : ℕ) → a + b ≡ c + d → a + b ≤ d + c
@@ -294,13 +294,13 @@ module _ (x : Float) (fx : Fin64 x) (xl : mag x ≤ 700 * L) where
   abbrev pub scale : Float
   scale = ofBits binary64 (scaleBits (toBits binary64 t))
 
-  entry : Power (N % 128) (powerOf (N % 128))
+  pub entry : Power (N % 128) (powerOf (N % 128))
   entry = power-entry (N % 128) (mod-lt N (omega arith))
 
   fields : (13 ≤ N / 128) × (N / 128 ≤ 2033)
   fields = field-few N (whole-near .least) (whole-near .most)
 
-  abbrev f : ℕ
+  abbrev pub f : ℕ
   f = N / 128 - 1
 
   pub units-of : Has false ((2 ^ 52 + powerOf (N % 128)) * 2 ^ f) scale
@@ -311,7 +311,7 @@ module _ (x : Float) (fx : Fin64 x) (xl : mag x ≤ 700 * L) where
   sizes : (2 ^ 64 ≤ (2 ^ 52 + powerOf (N % 128)) * 2 ^ f) × ((2 ^ 52 + powerOf (N % 128)) * 2 ^ f ≤ 2 ^ 1011 * L)
   sizes = scale-size (powerOf (N % 128)) f (omega (arith, fields)) (omega (arith, fields)) (entry .small)
 
-  small-series : mag (seriesOf rest) * 2 ^ 7 ≤ L
+  pub small-series : mag (seriesOf rest) * 2 ^ 7 ≤ L
   small-series =
       let b = series-small rest (rest-near .fine) (rest-near .size) in
       go (mag (seriesOf rest)) (p (val (seriesOf rest))) (n (val (seriesOf rest))) (2 ^ 1066) L (sym (abs-val (seriesOf rest)) ∙ abs-is (val (seriesOf rest))) (b .0) (b .1) (units .3)
@@ -319,9 +319,12 @@ module _ (x : Float) (fx : Fin64 x) (xl : mag x ≤ 700 * L) where
       go : (a u v q l : ℕ) → a ≡ u + v → u ≤ q → v ≤ q → q * 2 ^ 8 ≡ l → a * 2 ^ 7 ≤ l
       go a u v q l e h k w = omega arith
 
-  pub exp-close : Close (val x) (expOf x)
+  pub E : Terms rest (T rest (rest-near .fine) (rest-near .size)) (F rest (rest-near .fine) (rest-near .size))
+  E = terms rest (rest-near .fine) (rest-near .size)
+
+  pub product : Product ((2 ^ 52 + powerOf (N % 128)) * 2 ^ f) (T rest (rest-near .fine) (rest-near .size)) (expOf x)
   unfolding expOf
-  exp-close =
-      let E = terms rest (rest-near .fine) (rest-near .size) in
-      close-of x rest N (powerOf (N % 128)) rest-near entry (fields .1) _ _ E (timesOf scale (seriesOf rest)) f (omega (arith, fields))
-      (times-near scale (seriesOf rest) ((2 ^ 52 + powerOf (N % 128)) * 2 ^ f) _ units-of (series-fine rest (rest-near .fine) (rest-near .size)) (sizes .0) (sizes .1) small-series (E .total) (E .low)) (sizes .1)
+  product = times-near scale (seriesOf rest) ((2 ^ 52 + powerOf (N % 128)) * 2 ^ f) _ units-of (series-fine rest (rest-near .fine) (rest-near .size)) (sizes .0) (sizes .1) small-series (E .total) (E .low)
+
+  pub exp-close : Close (val x) (expOf x)
+  exp-close = close-of x rest N (powerOf (N % 128)) rest-near entry (fields .1) _ _ E (expOf x) f (omega (arith, fields)) product (sizes .1)

@@ -6,3 +6,7 @@ pub mod Scale
 pub mod Terms
 pub mod Times
 pub mod Close
+pub mod Near
+pub mod Growth
+pub mod HalfDifference
+pub mod SinhClose

@@ -155,7 +155,7 @@ balance A B P M u v e f g = omega arith
 turned : (A B P M u v : ℕ) → P + u ≡ M + v → A + u ≡ v + B → A + M ≡ P + B
 turned A B P M u v e f = omega arith
 
-unlike-false : (s t : Bool) → t ≡ false → unlike s t ≡ s
+pub unlike-false : (s t : Bool) → t ≡ false → unlike s t ≡ s
 unlike-false false t e = rw e
 unlike-false true t e = rw e
 

@@ -99,7 +99,7 @@ unfolding IsLe
 slack = (le-by-compare (1023 * 2 ^ 989) (2 ^ 1000) tt, le-by-compare (2033 * 2 ^ 989) (2 ^ 1000) tt)
 
 -- k is N less 130944, and s times it
-k-times : (N s : ℕ) → let k = pos N -ℤ pos 130944 in p (k *ℤ pos s) + 130944 * s ≡ n (k *ℤ pos s) + N * s
+pub k-times : (N s : ℕ) → let k = pos N -ℤ pos 130944 in p (k *ℤ pos s) + 130944 * s ≡ n (k *ℤ pos s) + N * s
 k-times N s =
     let k = pos N -ℤ pos 130944 in
     go (p k) (n k) (p (k *ℤ pos s)) (n (k *ℤ pos s)) (omega (arith, +-parts (pos N) (negℤ (pos 130944)), neg-parts (pos 130944))) (omega (arith, *-parts k (pos s)))

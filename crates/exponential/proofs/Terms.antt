@@ -68,6 +68,7 @@ pub record Terms (r : Float) (T F : ℕ) : Type 0 where
   pub total : T + n (val (seriesOf r)) ≡ L + p (val (seriesOf r))
   pub low : 255 * L ≤ 256 * T
   pub high : 256 * T ≤ 257 * L
+  pub floor : L ≤ T + 2 ^ 1013 + 2 * n (val r)
   pub above : F * 2 ^ 60 ≤ T * (2 ^ 60 + 1) * (24 * (L * L * L))
   pub below : T * (2 ^ 60 - 1) * (24 * (L * L * L)) ≤ F * 2 ^ 60
 
@@ -81,6 +82,15 @@ near-below T F D E l h e k = let w : E * 2 ^ 60 ≤ T = omega arith in omega (ar
 pub positive-of : (A F c : ℕ) → 0 < A → A ≤ F * c → 0 < F
 positive-of A zero c o h = absurd (omega arith)
 positive-of A (suc F) c o h = omega arith
+
+odds-few : (b l : ℕ) → b ≤ l → odds b l ≤ 28 * (b * (l * l * l))
+odds-few b l h = omega (arith, mul-le-mul-right (b * l) (mul-le-mul h h))
+
+at-least-one : (a O l : ℕ) → 24 * (l * l * l * l) ≤ evens a l + O
+at-least-one a O l = omega arith
+
+floor-of : (O W F T E b l : ℕ) → 0 < l → F + O ≡ W → 24 * (l * l * l * l) ≤ W → O ≤ 28 * (b * (l * l * l)) → F ≤ T * (24 * (l * l * l)) + E * (24 * (l * l * l)) → l ≤ T + E + 2 * b
+floor-of O W F T E b l o e v w h = le-of-mul-le-mul-right {k = 24 * (l * l * l)} (omega arith) (mul-pos (omega arith) (mul-pos (mul-pos o o) o))
 
 low-of : (T G H l q : ℕ) → T + H ≡ l + G → H ≤ q → q * 2 ^ 8 ≡ l → 255 * l ≤ 256 * T
 low-of T G H l q e h f = omega arith
@@ -165,6 +175,7 @@ module _ (r : Float) (f : Fin64 r) (h : mag r * 2 ^ 20 ≤ 2840 * L) where
     total = total;
     low = low;
     high = high-of T (p P) (n P) L (2 ^ 1066) total (series-small r f h .0) (scaled-unit .1);
+    floor = floor-of (odds (n z) L) (evens (p z + n z) L + odds (p z) L) F T (2 ^ 1013) (n z) L L-pos five (at-least-one (p z + n z) (odds (p z) L) L) (odds-few (n z) L n-le) (apart .1);
     above = near-above T F (24 * (L * L * L)) (2 ^ 1013) L (apart .1) (scaled-unit .0) low;
     below = near-below T F (24 * (L * L * L)) (2 ^ 1013) L (apart .0) (scaled-unit .0) low;
   }
