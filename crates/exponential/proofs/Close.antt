@@ -22,12 +22,12 @@ use Rattle.series.specs.ExpNear.{AtMost, AtLeast, at-most-weak, at-least-weak}
 use Rattle.series.specs.ExpSigned.{most-add, least-add}
 use Rattle.exponential.specs.Entries.{powerOf}
 use Rattle.exponential.specs.Worked.{shift, nearestOf, restOf, seriesOf, scaleBits, timesOf, expOf}
-use Rattle.exponential.proofs.Nearest.{Nearest, nearest}
-use Rattle.exponential.proofs.Rest.{step, Reduced, rest-reduced}
-use Rattle.exponential.proofs.Series.{series-fine, series-small}
+use Rattle.exponential.proofs.Whole.{Nearest, nearest}
+use Rattle.exponential.proofs.Remaining.{step, Reduced, rest-reduced}
+use Rattle.exponential.proofs.Polynomial.{series-fine, series-small}
 use Rattle.exponential.proofs.Scale.{Power, power-entry, bits-are, scale-has, scale-most, scale-least, less-parts, more-parts}
 use Rattle.exponential.proofs.Terms.{Terms, positive-of, T, F, terms}
-use Rattle.exponential.proofs.Times.{Product, times-near}
+use Rattle.exponential.proofs.Product.{Product, times-near}
 
 -- a float r near exp (z / L), and its size
 pub record Close (z : ℤ) (r : Float) : Type 0 where
@@ -64,10 +64,13 @@ upper A S F t Y l D a a' f f' y y' c c' ha hf hy hc o =
   where
     first : (A F c l a f y : ℕ) → A * F * c * l * (a * f * y) ≡ A * a * (F * f) * (y * c * l)
     first A F c l a f y = omega arith
+
     second : (S t a' f' D y c l : ℕ) → 4 * S * a' * (t * f' * D) * (y * c * l) ≡ S * t * y * (4 * (a' * f' * D * c * l))
     second S t a' f' D y c l = omega arith
+
     third : (Y l D a' f' y' c : ℕ) → Y * l * y' * (4 * (a' * f' * D * c * l)) ≡ a' * f' * y' * c * (4 * (Y * l * l * D))
     third Y l D a' f' y' c = omega arith
+
     fourth : (Y l D a f y c' : ℕ) → a * f * y * c' * (4 * (Y * l * l * D)) ≡ Y * c' * (4 * l * (D * l)) * (a * f * y)
     fourth Y l D a f y c' = omega arith
 
@@ -79,10 +82,13 @@ lower A S F t Y l D a a' f f' y y' c c' ha hf hy hc o =
   where
     first : (Y l D a' f' y' c : ℕ) → Y * c * (4 * l * (D * l)) * (a' * f' * y') ≡ Y * l * y' * (4 * (a' * f' * D * c * l))
     first Y l D a' f' y' c = omega arith
+
     second : (S t a' f' D y c l : ℕ) → S * t * y * (4 * (a' * f' * D * c * l)) ≡ 4 * S * a' * (t * f' * D) * (y * c * l)
     second S t a' f' D y c l = omega arith
+
     third : (A F c l a f y : ℕ) → A * a * (F * f) * (y * c * l) ≡ a * f * y * c * (A * F * l)
     third A F c l a f y = omega arith
+
     fourth : (A F l a' f' y' c' : ℕ) → a' * f' * y' * c' * (A * F * l) ≡ A * F * c' * l * (a' * f' * y')
     fourth A F l a' f' y' c' = omega arith
 

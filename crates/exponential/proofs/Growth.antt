@@ -28,8 +28,8 @@ use Rattle.series.specs.ExpSmall.{evens, odds, Five}
 use Rattle.exponential.specs.Entries.{powerOf}
 use Rattle.exponential.specs.Worked.{seriesOf, timesOf, expOf}
 use Rattle.exponential.proofs.Rounded.{Exact, Few, exact-mul}
-use Rattle.exponential.proofs.Rest.{step, Reduced}
-use Rattle.exponential.proofs.Series.{series-fine}
+use Rattle.exponential.proofs.Remaining.{step, Reduced}
+use Rattle.exponential.proofs.Polynomial.{series-fine}
 use Rattle.exponential.proofs.Scale.{Power, k-times}
 use Rattle.exponential.proofs.Close.{N, whole-near, rest, rest-near, scale, entry, f, units-of, E, product, small-series, sum-above, distance, units, minus-parts}
 
@@ -131,17 +131,18 @@ times-one : (s q : Float) (T' : ℕ) → Has false L s → Fin64 q → mag q * 2
 unfolding timesOf
 times-one s q T' H f small total low yf ys =
     let X = exact-mul s q (H .fine) f (mag q) (ap (λ v. v * mag q) (H .units) ∙ mul-comm L (mag q)) (few-small q f small) (val q)
-        (subst (λ (b : Bool). pl b (mag q) + n (val q) ≡ p (val q) + mi b (mag q)) (sym (unlike-left (sgn s) (sgn q) (H .sign))) (rw (p-val q, n-val q) refl)) in
+    (subst (λ (b : Bool). pl b (mag q) + n (val q) ≡ p (val q) + mi b (mag q)) (sym (unlike-left (sgn s) (sgn q) (H .sign))) (rw (p-val q, n-val q) refl)) in
     let sq = Ieee.mul binary64 s q in
     let m : mag sq ≡ mag q = sym (abs-val sq) ∙ ap abs (X .value) ∙ abs-val q in
     let e = add-units s sq (H .fine) (X .fine) ∙ (λ i. sum binary64 (H .sign i) (H .units i) (sgn sq) (mag sq) L)
-        ∙ sum-less (sgn sq) (mag sq) L T' (subst (λ v. v < L) (sym m) (less (mag q) L L-pos small)) (turned (pl (sgn sq) (mag sq)) (mi (sgn sq) (mag sq)) (p (val q)) (n (val q)) total (sym (p-val sq) ∙ ap p (X .value)) (sym (n-val sq) ∙ ap n (X .value))) in
+    ∙ sum-less (sgn sq) (mag sq) L T' (subst (λ v. v < L) (sym m) (less (mag q) L L-pos small)) (turned (pl (sgn sq) (mag sq)) (mi (sgn sq) (mag sq)) (p (val q)) (n (val q)) total (sym (p-val sq) ∙ ap p (X .value)) (sym (n-val sq) ∙ ap n (X .value))) in
     let y = Ieee.add binary64 s sq in
     let o : T (le one y) = rw (e, ← below-one) (round-mono binary64 (L - 2 ^ 1016) L T' L L-pos L-pos (mul-le-mul-right L low)) in
     subst (λ (v : ℕ). v ≤ mag y) (one-is .0) (le-mag one y one-fine yf (one-is .1) ys o)
   where
     less : (a l : ℕ) → 0 < l → a * 2 ^ 7 ≤ l → a < l
     less a l o h = omega arith
+
     turned : (a b P M : ℕ) → T' + M ≡ L + P → a ≡ P → b ≡ M → L + a ≡ T' + b
     turned a b P M h e g = omega arith
 

@@ -1,12 +1,13 @@
 pub mod Rounded
-pub mod Nearest
-pub mod Rest
-pub mod Series
+pub mod Whole
+pub mod Remaining
+pub mod Polynomial
 pub mod Scale
 pub mod Terms
-pub mod Times
+pub mod Product
 pub mod Close
 pub mod Near
 pub mod Growth
 pub mod HalfDifference
 pub mod SinhClose
+pub mod Unpacking

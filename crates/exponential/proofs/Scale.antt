@@ -24,7 +24,7 @@ use Rattle.series.specs.ExpNear.{AtMost, AtLeast}
 use Rattle.series.specs.LogNear.{at-most, at-least}
 use Rattle.exponential.specs.Entries.{power-entries, powerOf}
 use Rattle.exponential.specs.Worked.{scaleBits}
-use Rattle.exponential.proofs.Rest.{step}
+use Rattle.exponential.proofs.Remaining.{step}
 
 -- ---- the table: exp (j ln 2 / 128) lies within half a unit of 2^-52 of 1 and the entry
 over : (p t : ℕ) → Bool

@@ -18,8 +18,8 @@ use Rattle.series.specs.Remainder.{Above, Under}
 use Rattle.series.specs.ExpNear.{AtMost, AtLeast}
 use Rattle.series.specs.SinhNear.{SinhAtMost, SinhAtLeast, SinhNear}
 use Rattle.answers.specs.Range.{inRange}
-use Rattle.exponential.specs.Worked.{low, high, nearestOf, restOf, seriesOf, scaleBits, timesOf, expOf}
-use Rattle.exponential.specs.Sinh.{growthOf, halfOf, sinhOf}
+use Rattle.exponential.specs.Worked.{low, high, Sized, nearestOf, restOf, seriesOf, scaleBits, timesOf, expOf}
+use Rattle.exponential.specs.Sinh.{sizeOf, growthOf, halfOf, sinhOf}
 use Rattle.exponential.proofs.Close.{Close, exp-close}
 use Rattle.exponential.proofs.Near.{ranged-finite, ranged-mag}
 use Rattle.exponential.proofs.Growth.{at-least-one}
@@ -122,6 +122,9 @@ sized : (x : Float) → Fin64 x → (b : Bool) → sgn x ≡ b → let w = cond 
 sized x f false e = (f, refl, e)
 sized x f true e = (neg-fine x f, neg-mag x, neg-sign x f ∙ ap not e)
 
+pub size-has : (x : Float) → Fin64 x → Fin64 (sizeOf x) × (mag (sizeOf x) ≡ mag x) × (sgn (sizeOf x) ≡ false)
+size-has x f = sized x f (sgn x) refl
+
 val-plus : (w : Float) (a : ℕ) → sgn w ≡ false → mag w ≡ a → val w ≡ pos a
 unfolding val
 val-plus w a s m = rw (s, m)
@@ -140,11 +143,14 @@ pub grown : (x : Float) → T (fits binary64 x) → inRange low high x ≡ true 
 unfolding growthOf
 grown x f r =
     let F = ranged-finite x f r in
-    let w = cond (sgn x) (Ieee.neg x) x in
-    let S = sized x F (sgn x) refl in
+    let w = sizeOf x in
+    let S = size-has x F in
     let l = subst (λ (v : ℕ). v ≤ 700 * L) (sym (S .1)) (ranged-mag x f r) in
     let v : val w ≡ pos (mag x) = val-plus w (mag x) (S .2) (S .1) in
     grown-of (mag x) (val w) (expOf w) v (at-least-one w (S .0) l (ap n v)) (exp-close w (S .0) l)
+
+pub size-sized : (x : Float) → T (fits binary64 x) → inRange low high x ≡ true → Sized (sizeOf x)
+size-sized x f r = let S = size-has x (ranged-finite x f r) in (S .0 .0, subst (λ (v : ℕ). v ≤ 700 * L) (sym (S .1)) (ranged-mag x f r))
 
 -- ---- with the sign
 signed : (x h : Float) (s : Bool) → sgn x ≡ s → Fin64 h → sgn h ≡ false → SinhAtMost (mag x) L (mag h * 2 ^ 45 + L) (L * (2 ^ 45 - 1)) → SinhAtLeast (mag x) L (mag h * 2 ^ 45 - L) (L * (2 ^ 45 + 1))

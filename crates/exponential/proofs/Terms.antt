@@ -15,7 +15,7 @@ use Rattle.exact.specs.Ring.{ring, var, con, _:+_, _:-_, _:*_}
 use Rattle.series.specs.ExpNear.{AtMost, AtLeast}
 use Rattle.series.specs.ExpSmall.{evens, odds, Small, Five, small-most, small-least, at-negative}
 use Rattle.exponential.specs.Worked.{seriesOf}
-use Rattle.exponential.proofs.Series.{polyAt, series-near, series-fine, series-small}
+use Rattle.exponential.proofs.Polynomial.{polyAt, series-near, series-fine, series-small}
 
 -- ---- F as a polynomial
 five-poly : (z : ℤ) (l F : ℕ) → Five z l F → pos F ≡ pos 24 *ℤ (pos l *ℤ pos l *ℤ pos l *ℤ pos l) +ℤ polyAt z (pos l)
@@ -28,8 +28,8 @@ five-poly (pos a) l F h = ap pos (plain F h) ∙ ring 2 (pos a, (pos l, tt))
 five-poly (negsuc k) l F h =
     ring 2 (pos F, (pos (odds (suc k) l), tt)) (var 0) (var 0 :+ var 1 :- var 1) tt ∙ ap (λ z. z -ℤ pos (odds (suc k) l)) (ap pos (at-negative (suc k) l F h))
     ∙ ring 2 (pos (suc k), (pos l, tt))
-      (con (pos 24) :* (var 1 :* var 1 :* var 1 :* var 1) :+ con (pos 12) :* (var 0 :* var 0 :* (var 1 :* var 1)) :+ var 0 :* var 0 :* var 0 :* var 0 :- (con (pos 24) :* (var 0 :* (var 1 :* var 1 :* var 1)) :+ con (pos 4) :* (var 0 :* var 0 :* var 0 :* var 1)))
-      (con (pos 24) :* (var 1 :* var 1 :* var 1 :* var 1) :+ (con (pos 24) :* ((con (negsuc 0) :* var 0) :* var 1 :* var 1 :* var 1) :+ con (pos 12) :* ((con (negsuc 0) :* var 0) :* (con (negsuc 0) :* var 0) :* var 1 :* var 1) :+ con (pos 4) :* ((con (negsuc 0) :* var 0) :* (con (negsuc 0) :* var 0) :* (con (negsuc 0) :* var 0) :* var 1) :+ (con (negsuc 0) :* var 0) :* (con (negsuc 0) :* var 0) :* (con (negsuc 0) :* var 0) :* (con (negsuc 0) :* var 0))) tt
+    (con (pos 24) :* (var 1 :* var 1 :* var 1 :* var 1) :+ con (pos 12) :* (var 0 :* var 0 :* (var 1 :* var 1)) :+ var 0 :* var 0 :* var 0 :* var 0 :- (con (pos 24) :* (var 0 :* (var 1 :* var 1 :* var 1)) :+ con (pos 4) :* (var 0 :* var 0 :* var 0 :* var 1)))
+    (con (pos 24) :* (var 1 :* var 1 :* var 1 :* var 1) :+ (con (pos 24) :* ((con (negsuc 0) :* var 0) :* var 1 :* var 1 :* var 1) :+ con (pos 12) :* ((con (negsuc 0) :* var 0) :* (con (negsuc 0) :* var 0) :* var 1 :* var 1) :+ con (pos 4) :* ((con (negsuc 0) :* var 0) :* (con (negsuc 0) :* var 0) :* (con (negsuc 0) :* var 0) :* var 1) :+ (con (negsuc 0) :* var 0) :* (con (negsuc 0) :* var 0) :* (con (negsuc 0) :* var 0) :* (con (negsuc 0) :* var 0))) tt
     ∙ ap (λ z. pos 24 *ℤ (pos l *ℤ pos l *ℤ pos l *ℤ pos l) +ℤ polyAt z (pos l)) (sym (neg-is (pos (suc k))))
 
 -- ---- the sizes
@@ -150,8 +150,8 @@ module _ (r : Float) (f : Fin64 r) (h : mag r * 2 ^ 20 ≤ 2840 * L) where
   apart =
       let D = pos 24 *ℤ (pos L *ℤ pos L *ℤ pos L) in
       let e : P *ℤ D -ℤ polyAt z (pos L) ≡ pos (T * (24 * (L * L * L))) -ℤ pos F =
-        ring 3 (P, (pos L, (polyAt z (pos L), tt))) (var 0 :* (con (pos 24) :* (var 1 :* var 1 :* var 1)) :- var 2) ((var 1 :+ var 0) :* (con (pos 24) :* (var 1 :* var 1 :* var 1)) :- (con (pos 24) :* (var 1 :* var 1 :* var 1 :* var 1) :+ var 2)) tt
-        ∙ (λ i. sym pos-T i *ℤ D -ℤ sym (five-poly z L F five) i) in
+      ring 3 (P, (pos L, (polyAt z (pos L), tt))) (var 0 :* (con (pos 24) :* (var 1 :* var 1 :* var 1)) :- var 2) ((var 1 :+ var 0) :* (con (pos 24) :* (var 1 :* var 1 :* var 1)) :- (con (pos 24) :* (var 1 :* var 1 :* var 1 :* var 1) :+ var 2)) tt
+      ∙ (λ i. sym pos-T i *ℤ D -ℤ sym (five-poly z L F five) i) in
       let w = near-abs (pos (T * (24 * (L * L * L)))) (pos F) in
       go (T * (24 * (L * L * L))) F (abs (pos (T * (24 * (L * L * L))) -ℤ pos F)) (2 ^ 1013 * (24 * (L * L * L))) w (subst (λ v. abs v ≤ 2 ^ 1013 * (24 * (L * L * L))) e (series-near r f h))
     where

@@ -10,9 +10,13 @@ use Rattle.answers.specs.Range.{ranged}
 use Rattle.answers.specs.declared.Answer.{Answer}
 use Rattle.exponential.specs.Worked.{low, high, expOf}
 
+-- |x|
+abbrev pub sizeOf : Float → Float
+sizeOf x = cond (sgn x) (Ieee.neg x) x
+
 -- exp |x|
 unfoldable pub growthOf : Float → Float
-growthOf x = expOf (cond (sgn x) (Ieee.neg x) x)
+growthOf x = expOf (sizeOf x)
 
 unfoldable pub halfOf : Float → Float
 halfOf e = Ieee.mul binary64 (Ieee.sub binary64 e (Ieee.div binary64 one e)) half

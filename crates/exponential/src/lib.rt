@@ -15,7 +15,7 @@ ghost use Rattle.exact.specs.Units.{sgn};
 ghost use Rattle.series.specs.ExpNear.{ExpNear};
 ghost use Rattle.answers.specs.Range.{inRange, bare, onPath};
 ghost use Rattle.exponential.specs.Exp.{expRanged};
-ghost use Rattle.exponential.specs.Worked.{low, high, nearestOf, restOf, seriesOf, timesOf, expOf};
+ghost use Rattle.exponential.specs.Worked.{low, high, Sized, nearestOf, restOf, seriesOf, timesOf, expOf};
 
 // k + 1.5 * 2^52 + 1023 * 128, for the whole number k nearest to 128 x / ln 2.
 fn nearest(x: f64) -> f64
@@ -53,9 +53,9 @@ fn negative(x: f64) -> bool
     0x8000_0000_0000_0000 <= f64::to_bits(x)
 }
 
-// exp x, for an x within the range: within 2^-45 of the exact value, times that value.
+// exp x, for an x of at most 700 in size: within 2^-48 of the exact value, times that value.
 fn exp_value(x: f64) -> f64
-    requires { ⌜ inRange low high x ≡ true ⌝ }
+    requires { ⌜ Sized x ⌝ }
     ensures { λ r. ⌜ r ≡ expOf x ⌝ }
 {
     let t = nearest(x);

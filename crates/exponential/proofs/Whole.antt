@@ -15,13 +15,10 @@ use Rattle.exact.specs.Value.{val, p-val, n-val}
 use Rattle.exact.specs.Integers.{p, n}
 use Rattle.exact.specs.Products.{mul-mag, mul-near}
 use Rattle.exact.specs.Normal.{Normal, normal}
-use Rattle.exponential.specs.Worked.{shift, nearestOf}
+use Rattle.exponential.specs.Worked.{shift, rate, nearestOf}
 use Rattle.exponential.proofs.Rounded.{Whole, whole-add}
 
 -- ---- the constants: 128 / ln 2 is 6497320848556798 / 2^45
-abbrev rate : Float
-rate = ofBits binary64 0x4067_1547_652b_82fe
-
 rate-is : Fin64 rate × (sgn rate ≡ false) × (mag rate ≡ 6497320848556798 * 2 ^ 1029) × (L ≡ 2 ^ 45 * 2 ^ 1029)
 unfolding ofBits fits mag L
 rate-is = ((tt, tt), refl, refl, refl)
@@ -94,8 +91,7 @@ joined : (N t A a b u v X S l : ℕ) → 2 ^ 100 ≤ l → X ≤ 700 * l → v �
     → Near (N * l * 2 ^ 46 + b * 12994641697113596) (130944 * l * 2 ^ 46 + a * 12994641697113596) (l * 35184372092928)
 joined N t A a b u v X S l big x h e e' k w q =
     let m = shifted N t A u v S l h e e' k w in
-    let E = less-units X (2 ^ 97) l (less-large l big) x in
-    (
+    let E = less-units X (2 ^ 97) l (less-large l big) x in (
       upper (N * l) a b u v l (m .0) (product-units _ _ _ l (2 ^ 53) (pow-pos 53) (q .0) E),
       lower (N * l) a b u v l (m .1) (product-units _ _ _ l (2 ^ 53) (pow-pos 53) (q .1) E),
     )
@@ -105,6 +101,7 @@ few N a b l o ha hb k = (le-of-mul-le-mul-right {k = l} (low (N * l) k) o, le-of
   where
     low : (Z : ℕ) → Near (Z * 2 ^ 46 + b * 12994641697113596) (130944 * l * 2 ^ 46 + a * 12994641697113596) (l * 35184372092928) → 1677 * l ≤ Z
     low Z k = omega (arith, k .1)
+
     high : (Z : ℕ) → Near (Z * 2 ^ 46 + b * 12994641697113596) (130944 * l * 2 ^ 46 + a * 12994641697113596) (l * 35184372092928) → Z ≤ 260211 * l
     high Z k = omega (arith, k .0)
 

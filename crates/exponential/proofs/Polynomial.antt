@@ -14,22 +14,14 @@ use Rattle.exact.specs.Units.{L, L-pos, mag, sgn, Fin64}
 use Rattle.exact.specs.Value.{val, abs-val}
 use Rattle.exact.specs.Integers.{p, n, abs, abs-*pos, abs-pos, abs-is, _≤ᶻ_, neg-parts}
 use Rattle.exact.specs.Ring.{ring, var, con, _:+_, _:-_, _:*_}
+use Rattle.numbers.specs.Constants.{half}
 use Rattle.error_bounds.specs.Line.{Q}
 use Rattle.error_bounds.specs.Box.{floor, ceil, minZ, maxZ}
 use Rattle.error_bounds.specs.Span.{S, In}
 use Rattle.error_bounds.specs.Prog.{Op, _⊞_, _⊠_, lit, runF, runQ, runB, goods, All, nth, zeroF, zeroQ, zeroB, self, nth-stands, sound}
-use Rattle.exponential.specs.Worked.{seriesOf}
+use Rattle.exponential.specs.Worked.{sixth, last, seriesOf}
 
--- the coefficients stand for 1 / 2, 1 / 6 and 1 / 24
-abbrev half : Float
-half = ofBits binary64 0x3fe0_0000_0000_0000
-
-abbrev sixth : Float
-sixth = ofBits binary64 0x3fc5_5555_5555_5555
-
-abbrev last : Float
-last = ofBits binary64 0x3fa5_5555_5555_5555
-
+-- ---- the coefficients stand for 1 / 2, 1 / 6 and 1 / 24
 -- a number that stands for 1 / d
 abbrev over : ℕ → Q
 over d = record { num = pos L; den = pos d }
@@ -155,10 +147,10 @@ module _ (r : Float) (f : Fin64 r) (h : mag r * 2 ^ 20 ≤ 2840 * L) where
   difference =
       ring 3 (val (seriesOf r), (R, (l, tt)))
       (var 0 :* (con (pos 1) :* (con (pos 1) :* con (pos 1) :* var 2 :* (con (pos 2) :* (con (pos 1) :* (con (pos 6) :* (con (pos 1) :* con (pos 24) :* var 2)) :* var 2)) :* var 2))
-        :- (var 1 :* (con (pos 1) :* con (pos 1) :* var 2 :* (con (pos 2) :* (con (pos 1) :* (con (pos 6) :* (con (pos 1) :* con (pos 24) :* var 2)) :* var 2)) :* var 2)
-          :+ var 1 :* var 1 :* (var 2 :* (con (pos 1) :* (con (pos 6) :* (con (pos 1) :* con (pos 24) :* var 2)) :* var 2) :+ var 1 :* (var 2 :* (con (pos 1) :* con (pos 24) :* var 2) :+ var 1 :* var 2 :* con (pos 6)) :* con (pos 2)) :* con (pos 1)))
+      :- (var 1 :* (con (pos 1) :* con (pos 1) :* var 2 :* (con (pos 2) :* (con (pos 1) :* (con (pos 6) :* (con (pos 1) :* con (pos 24) :* var 2)) :* var 2)) :* var 2)
+      :+ var 1 :* var 1 :* (var 2 :* (con (pos 1) :* (con (pos 6) :* (con (pos 1) :* con (pos 24) :* var 2)) :* var 2) :+ var 1 :* (var 2 :* (con (pos 1) :* con (pos 24) :* var 2) :+ var 1 :* var 2 :* con (pos 6)) :* con (pos 2)) :* con (pos 1)))
       ((var 0 :* (con (pos 24) :* (var 2 :* var 2 :* var 2))
-        :- (con (pos 24) :* (var 1 :* var 2 :* var 2 :* var 2) :+ con (pos 12) :* (var 1 :* var 1 :* var 2 :* var 2) :+ con (pos 4) :* (var 1 :* var 1 :* var 1 :* var 2) :+ var 1 :* var 1 :* var 1 :* var 1)) :* (con (pos 12) :* var 2)) tt
+      :- (con (pos 24) :* (var 1 :* var 2 :* var 2 :* var 2) :+ con (pos 12) :* (var 1 :* var 1 :* var 2 :* var 2) :+ con (pos 4) :* (var 1 :* var 1 :* var 1 :* var 2) :+ var 1 :* var 1 :* var 1 :* var 1)) :* (con (pos 12) :* var 2)) tt
 
   denominator : d₇ ≡ whole *ℤ (pos 12 *ℤ l)
   denominator =
@@ -172,8 +164,8 @@ module _ (r : Float) (f : Fin64 r) (h : mag r * 2 ^ 20 ≤ 2840 * L) where
   series-near =
       le-trans
       (le-of-mul-le-mul-right {k = 12 * L}
-        (subst₂ _≤_ (ap abs difference ∙ abs-*pos (val (seriesOf r) *ℤ whole -ℤ poly) (12 * L)) (ap (λ v. error * v) (ap abs denominator ∙ abs-*pos whole (12 * L) ∙ ap (λ v. v * (12 * L)) (abs-pos (24 * (L * L * L)))) ∙ sym (mul-assoc error (24 * (L * L * L)) (12 * L))) (raw .1))
-        positive)
+      (subst₂ _≤_ (ap abs difference ∙ abs-*pos (val (seriesOf r) *ℤ whole -ℤ poly) (12 * L)) (ap (λ v. error * v) (ap abs denominator ∙ abs-*pos whole (12 * L) ∙ ap (λ v. v * (12 * L)) (abs-pos (24 * (L * L * L)))) ∙ sym (mul-assoc error (24 * (L * L * L)) (12 * L))) (raw .1))
+      positive)
       (mul-le-mul-right (24 * (L * L * L)) (leb→le error (2 ^ 1013) error-le))
 
   pub series-fine : Fin64 (seriesOf r)

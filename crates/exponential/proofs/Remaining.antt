@@ -19,17 +19,11 @@ use Rattle.exact.specs.Integers.{p, n, abs, abs-+, abs-*, abs-*pos, abs-pos, ab
 use Rattle.exact.specs.Ring.{ring, var, con, _:+_, _:-_, _:*_}
 use Rattle.error_bounds.specs.Sharp.{Digits}
 use Rattle.series.specs.Ln2.{ln2}
-use Rattle.exponential.specs.Worked.{shift, nearestOf, restOf}
+use Rattle.exponential.specs.Worked.{shift, first, second, nearestOf, restOf}
 use Rattle.exponential.proofs.Rounded.{Exact, Few, exact-sub, exact-mul}
-use Rattle.exponential.proofs.Nearest.{Nearest, shift-is, unit-large}
+use Rattle.exponential.proofs.Whole.{Nearest, shift-is, unit-large}
 
 -- ---- ln 2 / 128 in units of 1 / L: the two parts, and ln 2 / 128 to 92 places
-abbrev first : Float
-first = ofBits binary64 0x3f76_2e42_fef8_0000
-
-abbrev second : Float
-second = ofBits binary64 0x3d41_cf79_abc9_e3b4
-
 unfoldable hi : ℕ
 hi = 23816355774 * 2 ^ 1032
 
@@ -139,6 +133,7 @@ in-size r d e l h k m = rough r d e l h k (coarser e l m)
   where
     coarser : (e l : ℕ) → e * 2 ^ 72 ≤ 2000 * l → e * 2 ^ 42 ≤ l
     coarser e l m = omega arith
+
     rough : (r d e l : ℕ) → r ≤ d + e → d * 2 ^ 42 ≤ 11909000000 * l → e * 2 ^ 42 ≤ l → r * 2 ^ 20 ≤ 2840 * l
     rough r d e l h k m = omega arith
 
@@ -213,6 +208,7 @@ module _ (x t : Float) (N : ℕ) (f : Fin64 x) (xl : mag x ≤ 700 * L) (C : Nea
         where
           minus : (u v w l : ℕ) → u - v ≡ w → u * l - v * l ≡ w * l
           minus u v w l e = rw (sym e) (simp (mul-comm, mul-sub))
+
       eq : (X Y l P M c d : ℕ) → X ≡ (2 ^ 52 + 2 ^ 51 + N) * l → Y ≡ 6755399441186688 * l → N + d ≡ 130944 + c → P + d * l ≡ M + c * l → X + M ≡ Y + P
       eq X Y l P M c d e f g h = omega (arith, ap (λ v. v * l) g)
 
@@ -345,6 +341,7 @@ module _ (x t : Float) (N : ℕ) (f : Fin64 x) (xl : mag x ≤ 700 * L) (C : Nea
     where
       less : (a l : ℕ) → a * 2 ^ 42 ≤ 11908249841 * l → a ≤ 700 * l
       less a l h = omega arith
+
       less' : (a l : ℕ) → a * 2 ^ 42 ≤ 131073 * l → a ≤ 701 * l
       less' a l h = omega arith
 
