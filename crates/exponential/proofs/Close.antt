@@ -1,8 +1,8 @@
 -- The exponential within one part in 2^48: 2^(k / 128) times 1 and the series. Assumes nothing.
 use mathlib.Core.Path.{_≡_, refl, sym, ap, _∙_, subst, subst₂}
-use mathlib.Core.Bool.{Bool, true, false}
-use Prim.Native.Nat.{ℕ, zero, suc, _+_, _-_, _*_, _/_, _%_, _^_, _≤_, _<_}
-use native.Mathlib.Nat.{le-trans, le-of-eq, le-refl, mul-le-mul, mul-le-mul-right, mul-le-mul-left, mul-assoc, le-of-mul-le-mul-right, mul-pos, mod-lt, pow-succ'}
+use mathlib.Core.Bool.{false}
+use Prim.Native.Nat.{ℕ, suc, _+_, _-_, _*_, _/_, _%_, _^_, _≤_, _<_}
+use native.Mathlib.Nat.{le-trans, le-of-eq, mul-le-mul, mul-le-mul-right, mul-le-mul-left, mul-assoc, le-of-mul-le-mul-right, mul-pos, mod-lt, pow-succ'}
 use native.Mathlib.Omega.{arith}
 use native.Mathlib.Bridge.{le-by-compare, IsLe}
 use lib.Dec.{lit<}
@@ -10,18 +10,17 @@ use lib.Pow.{pow-pos, pow-mono}
 use lib.IntN.{ℤ, pos, negℤ, _+ℤ_, _-ℤ_, _*ℤ_}
 use lib.Ieee as Ieee
 use lib.Ieee.{Float, binary64, ofBits, toBits}
-use Rattle.exact.specs.Rounding.{Near}
 use Rattle.exact.specs.Units.{L, L-pos, mag, sgn, Fin64}
 use Rattle.exact.specs.Value.{val, abs-val, near-abs}
 use Rattle.exact.specs.Fields.{Has}
 use Rattle.exact.specs.Integers.{p, n, abs, abs-is, +-parts, neg-parts}
 use Rattle.series.specs.Exponential.{num, den}
-use Rattle.series.specs.Remainder.{Above, Under, above}
+use Rattle.series.specs.Remainder.{Above, above}
 use Rattle.series.specs.Scale.{above-scale}
 use Rattle.series.specs.ExpNear.{AtMost, AtLeast, at-most-weak, at-least-weak}
 use Rattle.series.specs.ExpSigned.{most-add, least-add}
 use Rattle.exponential.specs.Entries.{powerOf}
-use Rattle.exponential.specs.Worked.{shift, nearestOf, restOf, seriesOf, scaleBits, timesOf, expOf}
+use Rattle.exponential.specs.Worked.{shift, nearestOf, restOf, seriesOf, scaleBits, expOf}
 use Rattle.exponential.proofs.Whole.{Nearest, nearest}
 use Rattle.exponential.proofs.Remaining.{step, Reduced, rest-reduced}
 use Rattle.exponential.proofs.Polynomial.{series-fine, series-small}
@@ -136,9 +135,6 @@ equal-most a b c d e = omega arith
 
 equal-least : (a b c d : ℕ) → a + b ≡ c + d → d + c ≤ a + b
 equal-least a b c d e = omega arith
-
-neg-little : (p (negℤ (pos (2 ^ 1014))) ≡ 0) × (n (negℤ (pos (2 ^ 1014))) ≡ 2 ^ 1014)
-neg-little = (refl, refl)
 
 four-units : (l : ℕ) → 24 * (l * l * l * l) ≡ 24 * (l * l * l) * l
 four-units l = omega arith

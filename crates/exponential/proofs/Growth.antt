@@ -1,19 +1,16 @@
 -- The exponential of a number that is not negative is at least 1, in floats too. Assumes nothing.
 use mathlib.Core.Path.{_≡_, refl, sym, ap, _∙_, subst, subst₂}
 use mathlib.Core.Bool.{Bool, true, false, not, cond}
-use Prim.Native.Nat.{ℕ, zero, suc, _+_, _-_, _*_, _/_, _%_, _^_, _≤_, _<_}
-use native.Mathlib.Nat.{le-trans, le-of-eq, le-refl, mul-le-mul, mul-le-mul-right, le-of-mul-le-mul-right, lt-of-le-of-lt, mul-comm}
-use native.Mathlib.Omega.{arith, sub-cases}
+use Prim.Native.Nat.{ℕ, suc, _+_, _-_, _*_, _/_, _%_, _^_, _≤_, _<_}
+use native.Mathlib.Nat.{le-trans, le-of-eq, mul-le-mul, mul-le-mul-right, le-of-mul-le-mul-right, lt-of-le-of-lt, mul-comm}
+use native.Mathlib.Omega.{arith}
 use native.Mathlib.Bridge.{le-by-compare, IsLe}
-use lib.Arith.{le→nltb}
 use lib.Dec.{T, ltb, ltb→lt, nltb→le}
 use lib.Pow.{pow-pos, pow-mono}
 use lib.IntN.{ℤ, pos, _-ℤ_, _*ℤ_}
 use lib.Ieee as Ieee
-use lib.Ieee.{Float, binary64, ofBits, toBits, round, sum, le, unlike}
-use lib.Ieee.Bits.{is-false}
+use lib.Ieee.{Float, binary64, ofBits, round, sum, le, unlike}
 use lib.Ieee.Order.{round-mono}
-use Rattle.exact.specs.Rounding.{Near}
 use Rattle.exact.specs.Units.{L, L-pos, mag, sgn, Fin64}
 use Rattle.exact.specs.Sums.{pl, mi, add-units}
 use Rattle.exact.specs.Value.{val, abs-val, near-abs, p-val, n-val}
@@ -24,11 +21,10 @@ use Rattle.exact.specs.Positives.{one, one-fine, one-is, le-mag}
 use Rattle.series.specs.Exponential.{num, den}
 use Rattle.series.specs.Powers.{pow1}
 use Rattle.series.specs.Ln2.{ln2}
-use Rattle.series.specs.ExpSmall.{evens, odds, Five}
 use Rattle.exponential.specs.Entries.{powerOf}
 use Rattle.exponential.specs.Worked.{seriesOf, timesOf, expOf}
-use Rattle.exponential.proofs.Rounded.{Exact, Few, exact-mul}
-use Rattle.exponential.proofs.Remaining.{step, Reduced}
+use Rattle.exponential.proofs.Rounded.{Few, exact-mul}
+use Rattle.exponential.proofs.Remaining.{step}
 use Rattle.exponential.proofs.Polynomial.{series-fine}
 use Rattle.exponential.proofs.Scale.{Power, k-times}
 use Rattle.exponential.proofs.Close.{N, whole-near, rest, rest-near, scale, entry, f, units-of, E, product, small-series, sum-above, distance, units, minus-parts}

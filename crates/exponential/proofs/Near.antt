@@ -1,5 +1,5 @@
 -- The exponential is as near as RULES, section 3, asks: exp-near. And exactly 1 at 0: exp-zero. Assumes nothing.
-use mathlib.Core.Path.{_≡_, refl, subst}
+use mathlib.Core.Path.{_≡_, refl}
 use mathlib.Core.Bool.{true}
 use Prim.Native.Nat.{ℕ, _+_, _-_, _*_, _^_, _≤_, _<_}
 use native.Mathlib.Nat.{mul-le-mul-right, mul-pos}
@@ -9,7 +9,7 @@ use lib.Pow.{pow-pos}
 use lib.IntN.{pos, negℤ}
 use lib.Ieee as Ieee
 use lib.Ieee.{Float, binary64, ofBits, toBits, fits}
-use Rattle.exact.specs.Units.{L, L-pos, mag, sgn, Fin64}
+use Rattle.exact.specs.Units.{L, L-pos, mag, Fin64}
 use Rattle.exact.specs.Value.{val}
 use Rattle.exact.specs.Symmetric.{symmetric-finite, symmetric-mag}
 use Rattle.series.specs.ExpNear.{ExpNear, at-most-weak, at-least-weak}

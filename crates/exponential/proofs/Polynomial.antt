@@ -1,16 +1,15 @@
 -- The series in floats: how near it comes to r + r^2 / 2 + r^3 / 6 + r^4 / 24, by computation. Assumes nothing.
 use mathlib.Core.Path.{_≡_, refl, sym, ap, _∙_, subst, subst₂}
-use mathlib.Core.Bool.{Bool, true, false}
+use mathlib.Core.Bool.{true}
 use mathlib.Core.List.{List, [], _∷_}
-use Prim.Native.Nat.{ℕ, zero, suc, _+_, _*_, _^_, _≤_, _<_, zero-le}
+use Prim.Native.Nat.{ℕ, _*_, _^_, _≤_, _<_}
 use native.Mathlib.Nat.{le-trans, mul-le-mul-right, le-of-mul-le-mul-right, mul-pos, mul-assoc}
 use native.Mathlib.Omega.{arith}
 use native.Mathlib.Bridge.{le-by-compare, IsLe}
 use lib.Dec.{T, leb, leb→le}
 use lib.IntN.{ℤ, pos, negsuc, negℤ, _+ℤ_, _-ℤ_, _*ℤ_}
-use lib.Ieee as Ieee
-use lib.Ieee.{Float, binary64, ofBits, fits}
-use Rattle.exact.specs.Units.{L, L-pos, mag, sgn, Fin64}
+use lib.Ieee.{Float, ofBits, fits}
+use Rattle.exact.specs.Units.{L, L-pos, mag, Fin64}
 use Rattle.exact.specs.Value.{val, abs-val}
 use Rattle.exact.specs.Integers.{p, n, abs, abs-*pos, abs-pos, abs-is, _≤ᶻ_, neg-parts}
 use Rattle.exact.specs.Ring.{ring, var, con, _:+_, _:-_, _:*_}
@@ -18,7 +17,7 @@ use Rattle.numbers.specs.Constants.{half}
 use Rattle.error_bounds.specs.Line.{Q}
 use Rattle.error_bounds.specs.Box.{floor, ceil, minZ, maxZ}
 use Rattle.error_bounds.specs.Span.{S, In}
-use Rattle.error_bounds.specs.Prog.{Op, _⊞_, _⊠_, lit, runF, runQ, runB, goods, All, nth, zeroF, zeroQ, zeroB, self, nth-stands, sound}
+use Rattle.error_bounds.specs.Prog.{Op, _⊞_, _⊠_, runF, runQ, runB, goods, All, nth, zeroF, zeroQ, zeroB, self, nth-stands, sound}
 use Rattle.exponential.specs.Worked.{sixth, last, seriesOf}
 
 -- ---- the coefficients stand for 1 / 2, 1 / 6 and 1 / 24

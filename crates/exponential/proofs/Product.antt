@@ -1,11 +1,11 @@
 -- s (1 + p) in floats, for a positive normal s and a small p: how near it comes. Assumes nothing.
 use mathlib.Core.Path.{_≡_, refl, sym, ap, _∙_, subst, subst₂}
 use mathlib.Core.Bool.{Bool, true, false}
-use Prim.Native.Nat.{ℕ, zero, suc, _+_, _-_, _*_, _^_, _≤_, _<_}
-use native.Mathlib.Nat.{le-trans, le-of-eq, le-refl, add-le-add, mul-le-mul, mul-le-mul-right, le-of-mul-le-mul-right, mul-pos}
+use Prim.Native.Nat.{ℕ, _+_, _*_, _^_, _≤_, _<_}
+use native.Mathlib.Nat.{le-trans, le-of-eq, add-le-add, mul-le-mul, mul-le-mul-right, le-of-mul-le-mul-right, mul-pos}
 use native.Mathlib.Omega.{arith}
 use native.Mathlib.Bridge.{le-by-compare, IsLe}
-use lib.IntN.{ℤ, pos, negsuc, negℤ, _+ℤ_, _-ℤ_, _*ℤ_}
+use lib.IntN.{ℤ, pos, _+ℤ_, _-ℤ_, _*ℤ_}
 use lib.Ieee as Ieee
 use lib.Ieee.{Float, binary64}
 use Rattle.exact.specs.Rounding.{Near}
@@ -14,8 +14,8 @@ use Rattle.exact.specs.Sums.{pl, mi}
 use Rattle.exact.specs.Value.{val, abs-val, near-abs, p-val, n-val, AddVal, add-val, MulVal, mul-val}
 use Rattle.exact.specs.Distances.{abs-shift}
 use Rattle.exact.specs.Fields.{Has}
-use Rattle.exact.specs.Integers.{p, n, abs, abs-is, abs-+, abs-*, abs-*pos, abs-pos, ext, *-parts, +-parts}
-use Rattle.exact.specs.Ring.{ring, var, con, _:+_, _:-_, _:*_}
+use Rattle.exact.specs.Integers.{p, n, abs, abs-+, abs-*, abs-*pos, abs-pos, ext, *-parts, +-parts}
+use Rattle.exact.specs.Ring.{ring, var, _:+_, _:-_, _:*_}
 use Rattle.exponential.specs.Worked.{timesOf}
 
 -- ---- over whole numbers: S is s, A the size of p, e and d the errors of the product and the sum

@@ -1,8 +1,8 @@
 -- What is left of x less k ln 2 / 128: its size, and how near the float comes. Assumes nothing.
 use mathlib.Core.Path.{_≡_, refl, sym, ap, _∙_, subst, subst₂}
 use mathlib.Core.Bool.{Bool, true, false}
-use Prim.Native.Nat.{ℕ, suc, _+_, _-_, _*_, _/_, _%_, _^_, _≤_, _<_}
-use native.Mathlib.Nat.{le-refl, le-trans, le-of-eq, le-of-lt, add-le-add, mul-le-mul, mul-le-mul-right, le-of-mul-le-mul-right, lt-of-le-of-lt, mul-lt-mul-of-pos-right, mul-one, mul-comm, mul-sub, mul-assoc, eq-of-mul-eq-mul-right}
+use Prim.Native.Nat.{ℕ, suc, _+_, _-_, _*_, _^_, _≤_, _<_}
+use native.Mathlib.Nat.{le-refl, le-trans, le-of-eq, le-of-lt, mul-le-mul, mul-le-mul-right, le-of-mul-le-mul-right, lt-of-le-of-lt, mul-one, mul-comm, mul-sub, mul-assoc, eq-of-mul-eq-mul-right}
 use native.Mathlib.Omega.{arith}
 use native.Mathlib.Bridge.{le-by-compare, IsLe}
 use lib.Pow.{pow-pos}
@@ -12,14 +12,13 @@ use lib.Ieee.{Float, binary64, ofBits, fits, sub, unlike}
 use Rattle.exact.specs.Rounding.{Near}
 use Rattle.exact.specs.Units.{L, L-pos, mag, sgn, Fin64}
 use Rattle.exact.specs.Sums.{pl, mi}
-use Rattle.exact.specs.Value.{val, abs-val, abs-near, near-abs, p-val, n-val, AddVal, add-val, mul-val}
+use Rattle.exact.specs.Value.{val, abs-val, abs-near, p-val, n-val, add-val, mul-val}
 use Rattle.exact.specs.Distances.{neg-val, neg-fine, abs-shift}
 use Rattle.exact.specs.Positives.{neg-mag}
-use Rattle.exact.specs.Integers.{p, n, abs, abs-+, abs-*, abs-*pos, abs-pos, abs-neg, abs-is, +-parts, neg-parts, *-parts}
-use Rattle.exact.specs.Ring.{ring, var, con, _:+_, _:-_, _:*_}
-use Rattle.error_bounds.specs.Sharp.{Digits}
+use Rattle.exact.specs.Integers.{p, n, abs, abs-+, abs-*pos, abs-neg, abs-is, +-parts, neg-parts, *-parts}
+use Rattle.exact.specs.Ring.{ring, var, _:+_, _:-_, _:*_}
 use Rattle.series.specs.Ln2.{ln2}
-use Rattle.exponential.specs.Worked.{shift, first, second, nearestOf, restOf}
+use Rattle.exponential.specs.Worked.{shift, first, second, restOf}
 use Rattle.exponential.proofs.Rounded.{Exact, Few, exact-sub, exact-mul}
 use Rattle.exponential.proofs.Whole.{Nearest, shift-is, unit-large}
 
@@ -41,18 +40,18 @@ second-is : Fin64 second × (sgn second ≡ false) × (mag second ≡ lo) × (va
 unfolding ofBits fits mag L lo val
 second-is = ((tt, tt), refl, refl, refl)
 
-hi-is : (hi ≡ 23816355774 * 2 ^ 1032) × (L ≡ 2 ^ 1032 * 2 ^ 42) × (hi * 2 ^ 42 ≡ 23816355774 * L)
+hi-is : (hi ≡ 23816355774 * 2 ^ 1032) × (hi * 2 ^ 42 ≡ 23816355774 * L)
 unfolding hi L
-hi-is = (refl, refl, refl)
+hi-is = (refl, refl)
 
 -- the two parts are ln 2 / 128 and a little more
 apart : pos hi +ℤ pos lo -ℤ pos step ≡ pos (2 ^ 981)
 unfolding hi lo step
 apart = refl
 
-small-units : (lo * 2 ^ 42 ≤ L) × (129272 * 2 ^ 981 * 2 ^ 72 ≤ L) × (2 ^ 130 ≤ L)
+small-units : (lo * 2 ^ 42 ≤ L) × (129272 * 2 ^ 981 * 2 ^ 72 ≤ L)
 unfolding lo L IsLe
-small-units = (le-by-compare (5013196084208564 * 2 ^ 979 * 2 ^ 42) (2 ^ 1074) tt, le-by-compare (129272 * 2 ^ 981 * 2 ^ 72) (2 ^ 1074) tt, le-by-compare (2 ^ 130) (2 ^ 1074) tt)
+small-units = (le-by-compare (5013196084208564 * 2 ^ 979 * 2 ^ 42) (2 ^ 1074) tt, le-by-compare (129272 * 2 ^ 981 * 2 ^ 72) (2 ^ 1074) tt)
 
 -- ---- a multiple of a power of two with few digits
 few-units : (q : ℕ) → q < 2 ^ 53 → Few (q * L)
@@ -150,7 +149,7 @@ balance A B P M u v e f g = omega arith
 turned : (A B P M u v : ℕ) → P + u ≡ M + v → A + u ≡ v + B → A + M ≡ P + B
 turned A B P M u v e f = omega arith
 
-pub unlike-false : (s t : Bool) → t ≡ false → unlike s t ≡ s
+unlike-false : (s t : Bool) → t ≡ false → unlike s t ≡ s
 unlike-false false t e = rw e
 unlike-false true t e = rw e
 
@@ -253,14 +252,14 @@ module _ (x t : Float) (N : ℕ) (f : Fin64 x) (xl : mag x ≤ 700 * L) (C : Nea
   D-size =
       let b = moved N (p k) (n k) (p (val x)) (n (val x)) L k-parts (C .near) in
       abs-near (val x) (k *ℤ pos hi) (2 ^ 42) (11908249839 * L) (
-        first-rest (p (val x)) (n (val x)) (p k) (n k) (p (k *ℤ pos hi)) (n (k *ℤ pos hi)) L hi (2 ^ 42) (hi-is .2) (times-L k hi)
+        first-rest (p (val x)) (n (val x)) (p k) (n k) (p (k *ℤ pos hi)) (n (k *ℤ pos hi)) L hi (2 ^ 42) (hi-is .1) (times-L k hi)
             (ahead (p (val x)) (n (val x)) (p k * L) (n k * L) 12994641697113596 (2 ^ 42) (2 ^ 46) 23816355774 7232517496277752 (L * 35184372092928) (11908249839 * L) (omega arith) rate-times (inexact (p k * L) L (k-units .0)) (b .1)),
-        first-rest' (p (val x)) (n (val x)) (p k) (n k) (p (k *ℤ pos hi)) (n (k *ℤ pos hi)) L hi (2 ^ 42) (hi-is .2) (times-L k hi)
+        first-rest' (p (val x)) (n (val x)) (p k) (n k) (p (k *ℤ pos hi)) (n (k *ℤ pos hi)) L hi (2 ^ 42) (hi-is .1) (times-L k hi)
             (ahead (n (val x)) (p (val x)) (n k * L) (p k * L) 12994641697113596 (2 ^ 42) (2 ^ 46) 23816355774 7232517496277752 (L * 35184372092928) (11908249839 * L) (omega arith) rate-times (inexact (n k * L) L (k-units .1)) (b .0)),
       )
 
   kh-size : mag kh ≤ 701 * L
-  kh-size = subst (λ v. v ≤ 701 * L) (sym (sym (abs-val kh) ∙ ap abs (kh-exact .value) ∙ abs-*pos k hi)) (hi-times (abs k) hi L (2 ^ 42) k-size (hi-is .2) refl)
+  kh-size = subst (λ v. v ≤ 701 * L) (sym (sym (abs-val kh) ∙ ap abs (kh-exact .value) ∙ abs-*pos k hi)) (hi-times (abs k) hi L (2 ^ 42) k-size (hi-is .1) refl)
 
   r₁ : Float
   unfolding kh

@@ -1,22 +1,22 @@
 -- Sums and products of floats beyond their relative error: a sum rounded to a whole number, a difference and a product that are exact.
 -- Assumes nothing.
-use mathlib.Core.Path.{_≡_, refl, sym, ap, _∙_, subst}
+use mathlib.Core.Path.{_≡_, sym, ap, _∙_, subst}
 use mathlib.Core.Bool.{Bool, true, false, not, cond}
-use Prim.Native.Nat.{ℕ, suc, _+_, _-_, _*_, _/_, _^_, _≤_, _<_}
-use native.Mathlib.Nat.{le-trans, mul-le-mul-left, le-of-mul-le-mul-right, mul-div-cancel, mul-pos, lt-of-le-of-lt}
+use Prim.Native.Nat.{ℕ, _+_, _-_, _*_, _/_, _^_, _≤_, _<_}
+use native.Mathlib.Nat.{le-of-mul-le-mul-right, mul-div-cancel, mul-pos}
 use native.Mathlib.Omega.{arith}
 use lib.Dec.{T, ltb, ltb→lt, lt→ltb, nltb→le}
 use lib.Pow.{pow-pos, pow-mono}
-use lib.IntN.{ℤ, pos, negℤ, _-ℤ_, _*ℤ_}
+use lib.IntN.{ℤ}
 use lib.Ieee.{Float, binary64, round, sum, neg, sub, mul, add, unlike}
 use lib.Ieee.Fits.{round-fits}
 use lib.Ieee.Digits.{size-le}
-use lib.Ieee.Scale.{grid, overflow, round-same, finite}
+use lib.Ieee.Scale.{grid, round-same}
 use Rattle.exact.specs.Rounding.{Near, grid-near, grid-under}
 use Rattle.exact.specs.Units.{L, L-pos, mag, sgn, Fin64, round-mag, mul-units}
 use Rattle.exact.specs.Sums.{pl, mi, add-units}
 use Rattle.exact.specs.Value.{val, p-val, n-val}
-use Rattle.exact.specs.Integers.{p, n, ext, +-parts, neg-parts}
+use Rattle.exact.specs.Integers.{p, n, ext}
 use Rattle.exact.specs.Positives.{neg-mag, neg-fine, neg-sign}
 use Rattle.error_bounds.specs.Sharp.{Digits, exact-round}
 

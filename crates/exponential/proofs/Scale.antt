@@ -1,22 +1,22 @@
 -- 2^(k / 128) from its bits: the table's rule, by one test that antt computes, and the float that is put together. Assumes nothing.
 use mathlib.Core.Path.{_≡_, refl, sym, ap, ap₂, _∙_, subst, subst₂}
-use mathlib.Core.Bool.{Bool, false, not}
+use mathlib.Core.Bool.{Bool, false}
 use Prim.Native.Nat.{ℕ, zero, suc, _+_, _-_, _*_, _/_, _%_, _^_, _≤_, _<_}
-use native.Mathlib.Nat.{le-trans, le-of-eq, mul-le-mul-right, mul-one, one-mul, mul-suc, mul-assoc, mod-lt, lt-of-lt-of-le}
+use native.Mathlib.Nat.{le-trans, mul-le-mul-right, mul-assoc}
 use native.Mathlib.Omega.{arith}
 use native.Mathlib.Bridge.{le-by-compare, IsLe}
 use lib.Dec.{T, leb, ltb, leb→le, ltb→lt}
 use lib.Pow.{pow-pos}
 use lib.IntN.{ℤ, pos, negℤ, _+ℤ_, _-ℤ_, _*ℤ_}
-use lib.Ieee.{Float, binary64, ofBits, toBits}
+use lib.Ieee.{binary64, ofBits}
 use Rattle.exact.specs.Both.{both, both-left, both-right}
 use Rattle.exact.specs.Match.{at-or-last}
-use Rattle.exact.specs.Units.{L, L-pos, mag, sgn, Fin64}
+use Rattle.exact.specs.Units.{L, L-pos}
 use Rattle.exact.specs.Fields.{Has}
 use Rattle.exact.specs.Patterns.{units-at}
 use Rattle.exact.specs.Integers.{p, n, +-parts, neg-parts, *-parts}
 use Rattle.series.specs.Exponential.{num, den}
-use Rattle.series.specs.Remainder.{Above, Under, Within, above}
+use Rattle.series.specs.Remainder.{Above, Under, above}
 use Rattle.series.specs.Bounds.{above-add, under-add}
 use Rattle.series.specs.Scale.{above-scale, under-scale}
 use Rattle.series.specs.Ln2.{ln2, two-above, two-under}
@@ -68,9 +68,9 @@ power-entry j h = power-of j (powerOf j) (at-or-last powerTest power-entries 445
 -- ---- the bits
 pub bits-are : (b N : ℕ) → b ≡ 1075 * 2 ^ 52 + (2 ^ 51 + N) → N ≤ 260211 → scaleBits b ≡ N / 128 * 2 ^ 52 + powerOf (N % 128)
 unfolding scaleBits
-bits-are b N e h = ap₂ (λ u v. u * 2 ^ 52 + powerOf v) (fields b N e h .0) (fields b N e h .1)
+bits-are b N e h = ap₂ (λ u v. u + powerOf v) (fields b N e h .0) (fields b N e h .1)
   where
-    fields : (b N : ℕ) → b ≡ 1075 * 2 ^ 52 + (2 ^ 51 + N) → N ≤ 260211 → (b / 128 % 2048 ≡ N / 128) × (b % 128 ≡ N % 128)
+    fields : (b N : ℕ) → b ≡ 1075 * 2 ^ 52 + (2 ^ 51 + N) → N ≤ 260211 → (b / 128 * 2 ^ 52 % 2 ^ 64 ≡ N / 128 * 2 ^ 52) × (b % 128 ≡ N % 128)
     fields b N e h = (omega arith, omega arith)
 
 pub scale-has : (e t : ℕ) → 0 < e → e ≤ 2033 → t < 2 ^ 52 → Has false ((2 ^ 52 + t) * 2 ^ (e - 1)) (ofBits binary64 (e * 2 ^ 52 + t))

@@ -2,7 +2,7 @@
 use mathlib.Core.Path.{_≡_, refl, sym, ap, _∙_, subst}
 use mathlib.Core.Bool.{Bool, true, false, not, cond}
 use Prim.Native.Nat.{ℕ, _+_, _-_, _*_, _^_, _≤_}
-use native.Mathlib.Nat.{mul-le-mul-right, mul-le-mul, le-of-mul-le-mul-right, mul-pos}
+use native.Mathlib.Nat.{mul-le-mul-right, mul-pos}
 use native.Mathlib.Omega.{arith, sub-cases}
 use lib.Dec.{T}
 use lib.Pow.{pow-pos}
@@ -10,8 +10,8 @@ use lib.IntN.{ℤ, pos}
 use lib.Ieee as Ieee
 use lib.Ieee.{Float, binary64, ofBits, toBits, fits}
 use Rattle.exact.specs.Units.{L, L-pos, mag, sgn, Fin64}
-use Rattle.exact.specs.Value.{val, p-val, n-val}
-use Rattle.exact.specs.Integers.{n, ext}
+use Rattle.exact.specs.Value.{val}
+use Rattle.exact.specs.Integers.{n}
 use Rattle.exact.specs.Positives.{neg-mag, neg-fine, neg-sign}
 use Rattle.series.specs.Exponential.{num, den}
 use Rattle.series.specs.Remainder.{Above, Under}

@@ -1,11 +1,11 @@
 -- The float series and 1, T units, beside 24 L^4 times the exact five terms, F: and the exponential by F. Assumes nothing.
 use mathlib.Core.Path.{_≡_, refl, sym, ap, _∙_, subst, subst₂}
 use Prim.Native.Nat.{ℕ, zero, suc, _+_, _-_, _*_, _^_, _≤_, _<_}
-use native.Mathlib.Nat.{le-trans, le-of-eq, mul-le-mul, mul-le-mul-right, le-of-mul-le-mul-right, mul-pos}
+use native.Mathlib.Nat.{mul-le-mul, mul-le-mul-right, le-of-mul-le-mul-right, mul-pos}
 use native.Mathlib.Omega.{arith}
 use native.Mathlib.Bridge.{le-by-compare, IsLe}
 use lib.Pow.{pow-pos}
-use lib.IntN.{ℤ, pos, negsuc, negℤ, _+ℤ_, _-ℤ_, _*ℤ_}
+use lib.IntN.{ℤ, pos, negsuc, _+ℤ_, _-ℤ_, _*ℤ_}
 use lib.Ieee.{Float}
 use Rattle.exact.specs.Rounding.{Near}
 use Rattle.exact.specs.Units.{L, L-pos, mag, Fin64}
@@ -15,7 +15,7 @@ use Rattle.exact.specs.Ring.{ring, var, con, _:+_, _:-_, _:*_}
 use Rattle.series.specs.ExpNear.{AtMost, AtLeast}
 use Rattle.series.specs.ExpSmall.{evens, odds, Small, Five, small-most, small-least, at-negative}
 use Rattle.exponential.specs.Worked.{seriesOf}
-use Rattle.exponential.proofs.Polynomial.{polyAt, series-near, series-fine, series-small}
+use Rattle.exponential.proofs.Polynomial.{polyAt, series-near, series-small}
 
 -- ---- F as a polynomial
 five-poly : (z : ℤ) (l F : ℕ) → Five z l F → pos F ≡ pos 24 *ℤ (pos l *ℤ pos l *ℤ pos l *ℤ pos l) +ℤ polyAt z (pos l)

@@ -1,10 +1,9 @@
 -- What the patterns say: of an argument within the range, and of what the exponential takes from it. Assumes nothing.
-use mathlib.Core.Path.{_≡_, refl, sym, ap, _∙_, subst}
-use mathlib.Core.Bool.{Bool, true, false, not, cond}
-use Prim.Native.Nat.{ℕ, _+_, _*_, _/_, _%_, _^_, _≤_, _<_}
+use mathlib.Core.Path.{_≡_, sym, ap, _∙_, subst}
+use mathlib.Core.Bool.{true, not}
+use Prim.Native.Nat.{ℕ, _+_, _*_, _/_, _%_, _^_, _<_}
 use native.Mathlib.Omega.{arith}
 use lib.Dec.{T}
-use lib.Ieee as Ieee
 use lib.Ieee.{Float, binary64, ofBits, toBits, fits, isNan, nanBits}
 use lib.Ieee.Scale as Scale
 use Rattle.exact.specs.Units.{sgn}
@@ -43,8 +42,8 @@ pub ranged-sized : (x : Float) → T (fits binary64 x) → inRange low high x �
 ranged-sized x f r = (ranged-finite x f r .0, ranged-mag x f r)
 
 -- the bits fit
-pub bits-fit : (b : ℕ) → b / 128 % 2048 * 2 ^ 52 + powerOf (b % 128) < 2 ^ 64
-bits-fit b = go (b / 128 % 2048) (powerOf (b % 128)) (omega arith) (power-entry (b % 128) (omega arith) .small)
+pub bits-fit : (b : ℕ) → b / 128 * 2 ^ 52 % 2 ^ 64 + powerOf (b % 128) < 2 ^ 64
+bits-fit b = go (b / 128) (powerOf (b % 128)) (power-entry (b % 128) (omega arith) .small)
   where
-    go : (e t : ℕ) → e < 2048 → t < 2 ^ 52 → e * 2 ^ 52 + t < 2 ^ 64
-    go e t h k = omega arith
+    go : (e t : ℕ) → t < 2 ^ 52 → e * 2 ^ 52 % 2 ^ 64 + t < 2 ^ 64
+    go e t h = omega arith

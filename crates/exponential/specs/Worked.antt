@@ -54,9 +54,9 @@ restOf x k = Ieee.sub binary64 (Ieee.sub binary64 x (Ieee.mul binary64 k first))
 unfoldable pub seriesOf : Float → Float
 seriesOf r = Ieee.add binary64 r (Ieee.mul binary64 (Ieee.mul binary64 r r) (Ieee.add binary64 half (Ieee.mul binary64 r (Ieee.add binary64 sixth (Ieee.mul binary64 r last)))))
 
--- the bits of 2^(k / 128), from those of k + shift
+-- the bits of 2^(k / 128), from those of k + shift: a shift by 52 keeps only the exponent's field
 unfoldable pub scaleBits : ℕ → ℕ
-scaleBits n = n / 128 % 2048 * 2 ^ 52 + powerOf (n % 128)
+scaleBits n = n / 128 * 2 ^ 52 % 2 ^ 64 + powerOf (n % 128)
 
 -- s (1 + p)
 unfoldable pub timesOf : Float → Float → Float

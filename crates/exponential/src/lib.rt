@@ -60,7 +60,7 @@ fn exp_value(x: f64) -> f64
 {
     let t = nearest(x);
     let n = f64::to_bits(t);
-    let s = f64::from_bits(n / 128 % 2048 * 0x10_0000_0000_0000 + power(n % 128));
+    let s = f64::from_bits((n / 128 << 52) + power(n % 128));
     times(s, series(rest(x, t - 6755399441186688.0)))
 }
 

@@ -1,5 +1,5 @@
 -- Bounds on the exponential at signed fractions: at a sum, and how the argument may move. Assumes nothing.
-use mathlib.Core.Path.{_≡_, refl, subst₂}
+use mathlib.Core.Path.{subst₂}
 use Prim.Native.Nat.{ℕ, suc, _+_, _*_, _≤_, _<_}
 use native.Mathlib.Nat.{mul-one, one-mul, mul-comm}
 use native.Mathlib.Omega.{arith}

@@ -1,15 +1,15 @@
 -- The exponential of a small signed fraction by five terms: E(a) = 1 + a + a^2 / 2 + a^3 / 6 + a^4 / 24, and E(a) E(- a) = 1 + a^6 / 72 + a^8 / 576.
 -- Assumes nothing.
-use mathlib.Core.Path.{_≡_, refl, sym, ap, _∙_, subst, subst₂}
-use Prim.Native.Nat.{ℕ, suc, _+_, _-_, _*_, _^_, _≤_, _<_}
-use native.Mathlib.Nat.{mul-le-mul, mul-le-mul-right, le-of-mul-le-mul-right, le-trans, mul-pos, zero-add}
+use mathlib.Core.Path.{_≡_, refl, ap, _∙_, subst}
+use Prim.Native.Nat.{ℕ, suc, _+_, _*_, _^_, _≤_, _<_}
+use native.Mathlib.Nat.{mul-le-mul, mul-le-mul-right, le-of-mul-le-mul-right, mul-pos, zero-add}
 use native.Mathlib.Omega.{arith}
 use lib.IntN.{ℤ, pos, negsuc}
 use Rattle.exact.specs.Integers.{p, n, abs}
 use Rattle.series.specs.Exponential.{num, den}
 use Rattle.series.specs.Powers.{pow1, pow2, pow3, pow4}
 use Rattle.series.specs.Remainder.{Above, Under, Cap, above}
-use Rattle.series.specs.Bounds.{above-weak, under-weak}
+use Rattle.series.specs.Bounds.{under-weak}
 use Rattle.series.specs.ExpNear.{AtMost, AtLeast}
 
 -- the even terms and the odd ones, times 24 q^4, for a fraction a / q

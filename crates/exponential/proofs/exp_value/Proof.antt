@@ -1,5 +1,5 @@
 -- `exponential::exp_value` meets its contract. Assumes nothing.
-use mathlib.Core.Path.{_≡_, sym, ap, _∙_, subst}
+use mathlib.Core.Path.{_≡_, sym, subst}
 use mathlib.Core.Bool.{not}
 use Prim.Native.Nat.{ℕ, _+_, _*_, _/_, _%_, _^_, _<_}
 use borrow.Author.Needs.{needs}
@@ -13,7 +13,7 @@ use Rattle.exponential.proofs.exp_value.Statement.{statement}
 use Rattle.exponential.proofs.exp_value.Tie as tie
 
 -- the bits, and what they are put together for
-bits : (x t : Float) (v : ℕ) → t ≡ nearestOf x → v ≡ powerOf (toBits binary64 t % 128) → toBits binary64 t / 128 % 2048 * 2 ^ 52 + v ≡ scaleBits (toBits binary64 (nearestOf x))
+bits : (x t : Float) (v : ℕ) → t ≡ nearestOf x → v ≡ powerOf (toBits binary64 t % 128) → toBits binary64 t / 128 * 2 ^ 52 % 2 ^ 64 + v ≡ scaleBits (toBits binary64 (nearestOf x))
 unfolding scaleBits
 bits x t v e f = rw (f, e)
 
@@ -25,7 +25,7 @@ float-to-bits-n : tie.Need-float-to-bits-n
 float-to-bits-n c = let s = c .before in subst (λ (t : Float). T (not (isNan t))) (sym (c .nearest .ensures)) (nearest-no-nan (s .args .x) (subst T (sym (s .good .0 .1)) tt) (s .pre))
 
 add-s : tie.Need-add-s
-add-s c = let b = toBits binary64 (c .before .nearest .result) in record { fits = subst (λ (v : ℕ). b / 128 % 2048 * 2 ^ 52 + v < 2 ^ 64) (sym (c .power .ensures)) (bits-fit b) }
+add-s c = let b = toBits binary64 (c .before .nearest .result) in record { fits = subst (λ (v : ℕ). b / 128 * 2 ^ 52 % 2 ^ 64 + v < 2 ^ 64) (sym (c .power .ensures)) (bits-fit b) }
 
 float-from-bits-s : tie.Need-float-from-bits-s
 float-from-bits-s c =
@@ -43,5 +43,5 @@ returns c =
 pub exp-value-spec : {M : Type 1} → statement M
 exp-value-spec =
     tie.close
-    (tie.spec (λ c κs. search needs) float-to-bits-n (λ c. search needs) (λ c κs. search needs) add-s float-from-bits-s (λ c κs. search needs) (λ c κs. search needs) (λ c κs. search needs)
+    (tie.spec (λ c κs. search needs) float-to-bits-n (λ c κs. search needs) add-s float-from-bits-s (λ c κs. search needs) (λ c κs. search needs) (λ c κs. search needs)
     returns)

@@ -2,7 +2,6 @@
 use mathlib.Core.Path.{sym, ap, _∙_, subst}
 use borrow.Author.Needs.{needs}
 use lib.Dec.{T}
-use lib.Ieee.{Float}
 use Rattle.exponential.specs.Worked.{Sized, expOf}
 use Rattle.exponential.specs.Sinh.{growthOf}
 use Rattle.exponential.proofs.SinhClose.{size-sized}
