@@ -18,3 +18,5 @@ pub mod Ln2
 pub mod ThirdsNear
 pub mod SinhNear
 pub mod LogTail
+pub mod ExpSigned
+pub mod ExpSmall

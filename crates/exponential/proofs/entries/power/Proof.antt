@@ -1,16 +1,16 @@
--- `exponential::entries::coarse` meets its contract. Assumes nothing.
+-- `exponential::entries::power` meets its contract. Assumes nothing.
 use mathlib.Core.Path.{sym}
 use borrow.Author.Needs.{needs}
 use Rattle.exact.specs.Match.{beyond, past}
-use Rattle.exponential.specs.Entries.{coarse-entries}
-use Rattle.exponential.proofs.entries.coarse.Statement.{statement}
-use Rattle.exponential.proofs.entries.coarse.Tie as tie
+use Rattle.exponential.specs.Entries.{power-entries}
+use Rattle.exponential.proofs.entries.power.Statement.{statement}
+use Rattle.exponential.proofs.entries.power.Tie as tie
 
-returns-90 : tie.Need-returns-90
-returns-90 c = sym (past coarse-entries 9243365221633185236 (c .before .args .j) (beyond (c .before .args .j) 89 (c .match .rest)))
+returns-128 : tie.Need-returns-128
+returns-128 c = sym (past power-entries 4454955558597105 (c .before .args .j) (beyond (c .before .args .j) 127 (c .match .rest)))
 
-pub coarse-spec : {M : Type 1} → statement M
-coarse-spec =
+pub power-spec : {M : Type 1} → statement M
+power-spec =
     tie.close
     (tie.spec (λ c. search needs) (λ c. search needs) (λ c. search needs) (λ c. search needs) (λ c. search needs)
     (λ c. search needs) (λ c. search needs) (λ c. search needs) (λ c. search needs) (λ c. search needs)
@@ -29,4 +29,12 @@ coarse-spec =
     (λ c. search needs) (λ c. search needs) (λ c. search needs) (λ c. search needs) (λ c. search needs)
     (λ c. search needs) (λ c. search needs) (λ c. search needs) (λ c. search needs) (λ c. search needs)
     (λ c. search needs) (λ c. search needs) (λ c. search needs) (λ c. search needs) (λ c. search needs)
-    (λ c. search needs) (λ c. search needs) (λ c. search needs) (λ c. search needs) returns-90)
+    (λ c. search needs) (λ c. search needs) (λ c. search needs) (λ c. search needs) (λ c. search needs)
+    (λ c. search needs) (λ c. search needs) (λ c. search needs) (λ c. search needs) (λ c. search needs)
+    (λ c. search needs) (λ c. search needs) (λ c. search needs) (λ c. search needs) (λ c. search needs)
+    (λ c. search needs) (λ c. search needs) (λ c. search needs) (λ c. search needs) (λ c. search needs)
+    (λ c. search needs) (λ c. search needs) (λ c. search needs) (λ c. search needs) (λ c. search needs)
+    (λ c. search needs) (λ c. search needs) (λ c. search needs) (λ c. search needs) (λ c. search needs)
+    (λ c. search needs) (λ c. search needs) (λ c. search needs) (λ c. search needs) (λ c. search needs)
+    (λ c. search needs) (λ c. search needs) (λ c. search needs) (λ c. search needs) (λ c. search needs)
+    (λ c. search needs) (λ c. search needs) returns-128)
