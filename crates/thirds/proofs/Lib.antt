@@ -1,4 +1,3 @@
-pub mod Close
 pub mod Powers
 pub mod Products
 pub mod Near

@@ -17,7 +17,7 @@ use Rattle.series.specs.ExpNear.{AtMost, AtLeast, ordered}
 use Rattle.series.specs.LogNear.{LogNear, low-parts, high-parts}
 use Rattle.series.specs.SignedPowers.{at-most-over, at-least-over, at-most-mono, at-least-mono, at-most-turned, at-least-turned, at-most-add, at-least-add}
 use Rattle.series.specs.ThirdsNear.{cube, cube-mul, CubeRootNear}
-use Rattle.thirds.proofs.Close.{Close}
+use Rattle.exponential.proofs.Close.{Close}
 
 -- the common denominator
 abbrev Q : ℕ
@@ -97,7 +97,7 @@ plain-low : (P R l c a b g h k m : ℕ) → 0 < a * g → h * b * m ≤ k * (a *
 plain-low P R l c a b g h k m o e i = le-of-mul-le-mul-right {k = a * g} (omega (arith, mul-le-mul-right m i, mul-le-mul-left (R * c) e)) o
 
 -- ---- 3 v is w, but for 259 * 2^-54
-module _ (v r : Float) (w : ℤ) (P R : ℕ) (K : Close v r) (H : Held w P R) (N : Near ((3 * p (val v) + n w) * 2 ^ 54) ((3 * n (val v) + p w) * 2 ^ 54) (259 * L)) where
+module _ (v r : Float) (w : ℤ) (P R : ℕ) (K : Close (val v) r) (H : Held w P R) (N : Near ((3 * p (val v) + n w) * 2 ^ 54) ((3 * n (val v) + p w) * 2 ^ 54) (259 * L)) where
   abbrev one : ℤ
   one = val v *ℤ pos (2 ^ 54)
 

@@ -19,7 +19,8 @@ use Rattle.series.specs.ThirdsNear.{CubeRootNear}
 use Rattle.answers.specs.Range.{inRange}
 use Rattle.exponential.specs.Worked as exponential
 use Rattle.exponential.specs.Worked.{expOf}
-use Rattle.thirds.proofs.Close.{exp-close}
+use Rattle.exponential.proofs.Close.{exp-close}
+use Rattle.exponential.proofs.Near.{ranged-finite, ranged-mag}
 use Rattle.thirds.proofs.Powers.{Held, root-near}
 
 -- ---- the product of a logarithm and a fraction c: no larger than 44, and so the exponential takes it
@@ -137,5 +138,6 @@ module _ (s : Bool) (k : ℕ) (l c : Float) (f : Fin64 l) (size : mag l ≤ 43 *
   unfolding v
   power-near w P R H e =
       let fine = product-fine l c f size (D .fine) part in
-      let K = exp-close v (fine .1) (taken v fine (product-size l c f size (D .fine) part)) in
+      let within = taken v fine (product-size l c f size (D .fine) part) in
+      let K = exp-close v (ranged-finite v (fine .1) within) (ranged-mag v (fine .1) within) in
       root-near v (expOf v) w P R K H (omega (arith, thrice, e, p-val v, n-val v))

@@ -1,27 +1,32 @@
 -- Three values where all lie in the range, else the answers one by one.
-use mathlib.Core.Path.{sym, _∙_}
+use mathlib.Core.Path.{sym, _∙_, subst}
 use borrow.Author.Needs.{needs}
+use lib.Dec.{T}
 use Rattle.answers.proofs.Values.{each-inside, three-inside}
 use Rattle.exponential.specs.Worked.{low, high, expOf}
+use Rattle.exponential.proofs.Unpacking.{ranged-sized}
 use Rattle.exponential.proofs.three.exps_on_path.Statement.{statement}
 use Rattle.exponential.proofs.three.exps_on_path.Tie as tie
 
 exp-value-requires : tie.Need-exp-value-requires
 exp-value-requires c κs =
-    let a = c .before .before .args in
-    each-inside low high (a .a) (a .b) (a .c) (sym (c .before .all-in-range .ensures) ∙ c .if1 .taken) .0
+    let start = c .before .before in
+    let a = start .args in
+    ranged-sized (a .a) (subst T (sym (start .good .0 .1)) tt) (each-inside low high (a .a) (a .b) (a .c) (sym (c .before .all-in-range .ensures) ∙ c .if1 .taken) .0)
 
 exp-value-requires-2 : tie.Need-exp-value-requires-2
 exp-value-requires-2 c κs =
     let s = c .before in
-    let a = s .before .before .args in
-    each-inside low high (a .a) (a .b) (a .c) (sym (s .before .all-in-range .ensures) ∙ s .if1 .taken) .1
+    let start = s .before .before in
+    let a = start .args in
+    ranged-sized (a .b) (subst T (sym (start .good .1 .0 .1)) tt) (each-inside low high (a .a) (a .b) (a .c) (sym (s .before .all-in-range .ensures) ∙ s .if1 .taken) .1)
 
 exp-value-requires-3 : tie.Need-exp-value-requires-3
 exp-value-requires-3 c κs =
     let s = c .before .before in
-    let a = s .before .before .args in
-    each-inside low high (a .a) (a .b) (a .c) (sym (s .before .all-in-range .ensures) ∙ s .if1 .taken) .2
+    let start = s .before .before in
+    let a = start .args in
+    ranged-sized (a .c) (subst T (sym (start .good .1 .1 .0 .1)) tt) (each-inside low high (a .a) (a .b) (a .c) (sym (s .before .all-in-range .ensures) ∙ s .if1 .taken) .2)
 
 returns : tie.Need-returns
 returns c =
