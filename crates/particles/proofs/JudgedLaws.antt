@@ -1,4 +1,4 @@
--- What a verdict leaves of a record; it fails exactly on a yes where nothing is refused. Assumes nothing.
+-- The pass with failure keeps a record's length; a record fails exactly on a yes where nothing is refused. Assumes nothing.
 use mathlib.Core.Path.{_≡_, refl, sym, ap, _∙_}
 use mathlib.Core.Bool.{Bool, true, false, cond, false≢true, true≢false}
 use mathlib.Core.List.{List}
@@ -28,11 +28,24 @@ use Rattle.particles.specs.Pass.{Worked, codeOf}
 use Rattle.particles.specs.Plain.{Beside, lawAt, recordLaw}
 use Rattle.particles.specs.Judged.{verdictOn, judgeFinite, verdictAfter, unlessRefused, judgedAt, refusedRecord, marked, outcomeBy, failedBy, failureLaw}
 use Rattle.particles.specs.Readied.{readyKept, readyKeptBy}
+use Rattle.particles.specs.declared.step.Step.{Step}
+use Rattle.particles.specs.declared.step.Step.the-variants.{Plain, Judged, Factors, FactoredPlain, FactoredJudged}
+use Rattle.particles.specs.Step.{stepLaw}
+use Rattle.particles.proofs.PassLaws.{Keeps, record-keeps}
+use Rattle.particles.proofs.FactoredLaws.{factor-keeps, factored-keeps}
 
 pub marked-length : (v : Verdict) (r : List ℕ) (w : Worked) → length (w .after) ≡ length r → length (marked v r w .after) ≡ length r
 marked-length No r w h = h
 marked-length Yes r w h = length-set (w .after) _ _ ∙ h
 marked-length (Refused n) r w h = refl
+
+pub failure-keeps : (m : Model) (l : MaximumStressFailure) (e : CorotatedLinearElasticity) → Keeps (failureLaw m l e)
+unfolding failureLaw
+failure-keeps m l e r = go (judgeFinite l e)
+  where
+    go : (b : Bool) → length (cond b (marked (judgedAt m l e r) r (recordLaw m r)) (refusedRecord 1 r) .after) ≡ length r
+    go true = marked-length (judgedAt m l e r) r (recordLaw m r) (record-keeps m r)
+    go false = refl
 
 -- what a verdict leaves of an update: its outcome, whether the record failed, and the phase on a yes
 module _ (q : Ready) (r : List ℕ) (d : Updated) where
@@ -58,6 +71,14 @@ pub beside-left : (v : Verdict) (o : Outcome) (r : List ℕ) (s : State) (w : �
 beside-left No o r s w h = h
 beside-left Yes o r s w h = h
 beside-left (Refused n) o r s w h = tt
+
+-- every step of a pass keeps a record's length
+pub step-keeps : (s : Step) → Keeps (stepLaw s)
+step-keeps (Plain m) = record-keeps m
+step-keeps (Judged m l e) = failure-keeps m l e
+step-keeps Factors = factor-keeps
+step-keeps (FactoredPlain m) = factored-keeps _ (recordLaw m) (record-keeps m)
+step-keeps (FactoredJudged m l e) = factored-keeps _ (failureLaw m l e) (failure-keeps m l e)
 
 -- no walk refuses by 0, so that its refusal is handed on
 handed : (l : MaximumStressFailure) (w : Walk (List Float)) (x : Ended (List Float)) → result w ≡ x
