@@ -3,7 +3,6 @@ pub mod Exponential
 pub mod Remainder
 pub mod Powers
 pub mod Bounds
-pub mod Tested
 pub mod Sine
 pub mod SinNear
 pub mod SinSure
