@@ -11,6 +11,7 @@ use Rattle.numbers.proofs.Laws.{and-both}
 use Rattle.answers.specs.Refusals.{notFinite}
 use Rattle.answers.specs.Range.{inRange, allInRange, sideOf, ranged, bare, onPath}
 use Rattle.answers.specs.Answer.{tripleOf}
+use Rattle.answers.specs.declared.Answer.{Answer}
 use Rattle.answers.specs.declared.Answer.the-variants.{Value, Refused}
 use Rattle.answers.specs.declared.Triple.the-variants as triple
 
@@ -33,15 +34,27 @@ bare-near low high x v w Near near e = let a = answered (finite x) (inRange low 
 pub between : (low high x : Float) → inRange low high x ≡ true → T (Ieee.le low x) × T (Ieee.le x high)
 between low high x r = let b = and-both (Ieee.le low x) (Ieee.le x high) r in (subst T (sym (b .0)) tt, subst T (sym (b .1)) tt)
 
--- within the range a law is answered with the value, and of three numbers with all three
+-- and is no NaN
 number-at-most : (x high : Float) → Ieee.le x high ≡ true → isNumber x ≡ true
 unfolding Ieee.le Ieee.lt Ieee.eq isNumber
 number-at-most nan high h = h
 number-at-most (inf s) high h = refl
 number-at-most (fin s m e) high h = refl
 
+pub in-range-number : (low high x : Float) → inRange low high x ≡ true → isNumber x ≡ true
+in-range-number low high x r = number-at-most x high (and-both (Ieee.le low x) (Ieee.le x high) r .1)
+
+-- a call by itself may be worked as one on a path
+pub bare-path : (x : Float) (a : Answer) → bare x (onPath x a) ≡ bare x a
+unfolding finite isNumber
+bare-path nan a = refl
+bare-path (inf s) a = refl
+bare-path (fin s m e) a = refl
+
+-- within the range a law is answered with the value, and of three numbers with all three
+
 pub on-path-inside : (low high x v : Float) → inRange low high x ≡ true → onPath x (ranged low high x v) ≡ Value v
-on-path-inside low high x v r = rw (number-at-most x high (and-both (Ieee.le low x) (Ieee.le x high) r .1), r) refl
+on-path-inside low high x v r = rw (in-range-number low high x r, r) refl
 
 pub each-inside : (low high a b c : Float) → allInRange low high a b c ≡ true → (inRange low high a ≡ true) × (inRange low high b ≡ true) × (inRange low high c ≡ true)
 each-inside low high a b c r =

@@ -6,11 +6,13 @@ use native.Mathlib.Nat.{mul-le-mul-right, mul-pos}
 use native.Mathlib.Omega.{arith}
 use lib.Dec.{T}
 use lib.Pow.{pow-pos}
-use lib.IntN.{pos, negℤ}
+use lib.IntN.{ℤ, pos, negℤ}
 use lib.Ieee as Ieee
 use lib.Ieee.{Float, binary64, ofBits, toBits, fits}
 use Rattle.exact.specs.Units.{L, L-pos, mag, Fin64}
-use Rattle.exact.specs.Value.{val}
+use Rattle.exact.specs.Integers.{p, n, _≤ᶻ_, neg-parts, abs-is}
+use Rattle.exact.specs.Value.{val, abs-val}
+use Rattle.exact.specs.Distances.{le-is}
 use Rattle.exact.specs.Symmetric.{symmetric-finite, symmetric-mag}
 use Rattle.series.specs.ExpNear.{ExpNear, at-most-weak, at-least-weak}
 use Rattle.answers.specs.Range.{inRange}
@@ -29,6 +31,21 @@ ranged-finite x f r = let b = between low high x r in symmetric-finite low high 
 pub ranged-mag : (x : Float) → T (fits binary64 x) → inRange low high x ≡ true → mag x ≤ 700 * L
 unfolding L
 ranged-mag x f r = let b = between low high x r in symmetric-mag low high x (ends .0) (ends .1) f (b .0) (b .1) (700 * 2 ^ 1074 - 1) (ends .2) (ends .3)
+
+sides : (val low ≡ negℤ (pos (700 * L))) × (val high ≡ pos (700 * L))
+unfolding ofBits val mag L Ieee.neg
+sides = (refl, refl)
+
+pub sized-ranged : (x : Float) → Fin64 x → mag x ≤ 44 * L → inRange low high x ≡ true
+sized-ranged x f h =
+    let m : p (val x) + n (val x) ≤ 44 * L = omega (arith, abs-is (val x), abs-val x) in
+    rw (le-is low x (ends .0) f (λ k. under (val x) L L-pos m (rw (sides .0) at k)), le-is x high f (ends .1) (λ k. over (val x) L L-pos m (rw (sides .1) at k))) refl
+  where
+    under : (z : ℤ) (l : ℕ) → 0 < l → p z + n z ≤ 44 * l → z ≤ᶻ negℤ (pos (700 * l)) → ⊥
+    under z l o h k = omega (arith, neg-parts (pos (700 * l)))
+
+    over : (z : ℤ) (l : ℕ) → 0 < l → p z + n z ≤ 44 * l → pos (700 * l) ≤ᶻ z → ⊥
+    over z l o h k = omega arith
 
 -- ---- one part in 2^48 is less than RULES' one in 2^45
 weaker-above : (a l G P : ℕ) → 0 < P → P ≤ G → a * (G + 1) * (l * (P - 1)) ≤ a * P * (l * G)

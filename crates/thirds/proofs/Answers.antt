@@ -4,20 +4,21 @@ use mathlib.Core.Bool.{Bool, true, false, cond}
 use Prim.Native.Nat.{ℕ, _≤_}
 use native.Mathlib.Omega.{arith}
 use lib.Dec.{T}
-use lib.Ieee.{Float, nan, inf, fin, binary64, fits, mul}
-use lib.Ieee.Scale as Scale
+use lib.Ieee.{Float, binary64, fits, mul}
 use Rattle.exact.specs.Units.{L, mag, Fin64}
-use Rattle.numbers.specs.Floats.{finite, isNumber}
+use Rattle.numbers.specs.Floats.{isNumber}
 use Rattle.answers.specs.Refusals.{noNumber}
-use Rattle.answers.specs.Range.{inRange, sideOf, ranged, bare, onPath}
-use Rattle.answers.specs.declared.Answer.{Answer}
+use Rattle.answers.specs.Range.{inRange, sideOf, ranged, onPath}
 use Rattle.answers.specs.declared.Answer.the-variants.{Value, Refused}
+use Rattle.answers.proofs.Values.{in-range-number}
+use Rattle.exponential.specs.Worked as exponential
 use Rattle.exponential.specs.Exp.{expRanged}
+use Rattle.exponential.proofs.Near.{sized-ranged}
 use Rattle.logarithm.specs.Ln.{lnRanged}
 use Rattle.logarithm.specs.Worked.{lnOf}
 use Rattle.logarithm.proofs.Laws.{ln-near, ln-size}
 use Rattle.thirds.specs.Thirds.{low, high, powerOf}
-use Rattle.thirds.proofs.Products.{product-fine, product-size, taken}
+use Rattle.thirds.proofs.Products.{product-fine, product-size}
 
 no-value : (v : Float) (n : ℕ) → Value v ≡ Refused n → ⊥
 no-value v n e = let z : _≡_ {A = ℕ} 0 1 = cc in omega arith
@@ -32,12 +33,6 @@ refusal-of true true m n k v w e = absurd (no-value v k e)
 refusal-of true false m n k v w e = sym e
 refusal-of false b m n k v w e = sym e
 
-number : (v : Float) → T (Scale.finite v) → isNumber v ≡ true
-unfolding isNumber
-number nan f = absurd f
-number (inf s) f = refl
-number (fin s m e) f = refl
-
 module _ (x c : Float) where
   pub refused : (k : ℕ) → onPath x (lnRanged x) ≡ Refused k → Refused k ≡ onPath x (ranged low high x (powerOf x c))
   refused k e = refusal-of (isNumber x) (inRange low high x) (sideOf low high x) noNumber k (lnOf x) (powerOf x c) e
@@ -49,11 +44,5 @@ module _ (x c : Float) where
       let fine = product-fine (lnOf x) c (ln-near x f (h .1) .fine) (ln-size x f (h .1)) g part in
       let size = product-size (lnOf x) c (ln-near x f (h .1) .fine) (ln-size x f (h .1)) g part in
       let v = mul binary64 (lnOf x) c in
-      ap (λ t. onPath (mul binary64 t c) (expRanged (mul binary64 t c))) (sym (h .2)) ∙ rw (h .0, h .1, number v (fine .0), taken v fine size) refl
-
--- a call by itself may be worked as one on a path
-pub bare-path : (x : Float) (a : Answer) → bare x (onPath x a) ≡ bare x a
-unfolding finite isNumber
-bare-path nan a = refl
-bare-path (inf s) a = refl
-bare-path (fin s m e) a = refl
+      let r = sized-ranged v fine size in
+      ap (λ t. onPath (mul binary64 t c) (expRanged (mul binary64 t c))) (sym (h .2)) ∙ rw (h .0, h .1, in-range-number exponential.low exponential.high v r, r) refl

@@ -14,13 +14,12 @@ use Rattle.exact.specs.Units.{L, L-pos, mag, sgn, Fin64}
 use Rattle.exact.specs.Sums.{pl, mi, plus, minus}
 use Rattle.exact.specs.Products.{mul-mag, mul-near}
 use Rattle.exact.specs.Value.{val, p-val, n-val, abs-val}
-use Rattle.exact.specs.Distances.{not-le-val}
 use Rattle.series.specs.ThirdsNear.{CubeRootNear}
 use Rattle.answers.specs.Range.{inRange}
 use Rattle.exponential.specs.Worked as exponential
 use Rattle.exponential.specs.Worked.{expOf}
 use Rattle.exponential.proofs.Close.{exp-close}
-use Rattle.exponential.proofs.Near.{ranged-finite, ranged-mag}
+use Rattle.exponential.proofs.Near.{ranged-finite, ranged-mag, sized-ranged}
 use Rattle.thirds.proofs.Powers.{Held, root-near}
 
 -- ---- the product of a logarithm and a fraction c: no larger than 44, and so the exponential takes it
@@ -42,28 +41,6 @@ module _ (l c : Float) (f : Fin64 l) (size : mag l ≤ 43 * L) (g : Fin64 c) (pa
     where
       go : (a v l : ℕ) → 0 < l → a ≤ 43 * l * l → v * l * 2 ^ 53 ≤ a * 2 ^ 53 + (a + l * 2 ^ 52) → v ≤ 44 * l
       go a v l o h k = le-of-mul-le-mul-right {k = l} (omega (arith, mul-le-mul-right l o)) o
-
-at-most-is : (x y : Float) → Fin64 x → Fin64 y → (val y ≤ᶻ val x → ⊥) → Ieee.le x y ≡ true
-at-most-is x y f g h = go (Ieee.le x y) (not-le-val x y f g)
-  where
-    go : (b : Bool) → (T (not b) → val y ≤ᶻ val x) → b ≡ true
-    go true k = refl
-    go false k = absurd (h (k tt))
-
-exp-ends : (val exponential.low ≡ negℤ (pos (700 * L))) × (val exponential.high ≡ pos (700 * L)) × Fin64 exponential.low × Fin64 exponential.high
-unfolding val mag L ofBits fits Ieee.neg
-exp-ends = (refl, refl, (tt, tt), (tt, tt))
-
-pub taken : (v : Float) → Fin64 v → mag v ≤ 44 * L → inRange exponential.low exponential.high v ≡ true
-taken v f h =
-    let m : p (val v) + n (val v) ≤ 44 * L = omega (arith, abs-is (val v), abs-val v) in
-    rw (at-most-is exponential.low v (exp-ends .2) f (λ k. under (val v) L L-pos m (rw (exp-ends .0) at k)), at-most-is v exponential.high f (exp-ends .3) (λ k. over (val v) L L-pos m (rw (exp-ends .1) at k))) refl
-  where
-    under : (z : ℤ) (l : ℕ) → 0 < l → p z + n z ≤ 44 * l → z ≤ᶻ negℤ (pos (700 * l)) → ⊥
-    under z l o h k = omega (arith, neg-parts (pos (700 * l)))
-
-    over : (z : ℤ) (l : ℕ) → 0 < l → p z + n z ≤ 44 * l → pos (700 * l) ≤ᶻ z → ⊥
-    over z l o h k = omega arith
 
 -- ---- and it is k thirds of the logarithm, where c is k thirds but for one part in 2^54. p1 - n1 is the product and a - b the
 -- logarithm with the sign of c, in units of 1 / l; H is 2^52
@@ -138,6 +115,6 @@ module _ (s : Bool) (k : ℕ) (l c : Float) (f : Fin64 l) (size : mag l ≤ 43 *
   unfolding v
   power-near w P R H e =
       let fine = product-fine l c f size (D .fine) part in
-      let within = taken v fine (product-size l c f size (D .fine) part) in
+      let within = sized-ranged v fine (product-size l c f size (D .fine) part) in
       let K = exp-close v (ranged-finite v (fine .1) within) (ranged-mag v (fine .1) within) in
       root-near v (expOf v) w P R K H (omega (arith, thrice, e, p-val v, n-val v))

@@ -8,7 +8,7 @@ use Rattle.series.specs.ThirdsNear.{CbrtNear}
 use Rattle.thirds.specs.Thirds.{cbrtOf, cbrtRanged, low, high}
 use Rattle.thirds.proofs.Products.{small}
 use Rattle.thirds.proofs.Near.{plus-one, cbrt-near}
-use Rattle.thirds.proofs.Answers.{bare-path}
+use Rattle.answers.proofs.Values.{bare-path}
 use Rattle.thirds.proofs.cbrt.Statement.{statement}
 use Rattle.thirds.proofs.cbrt.Tie as tie
 

@@ -8,7 +8,7 @@ use Rattle.series.specs.ThirdsNear.{CbrtSquaredNear}
 use Rattle.thirds.specs.Thirds.{cbrtSquaredOf, cbrtSquaredRanged, low, high}
 use Rattle.thirds.proofs.Products.{small}
 use Rattle.thirds.proofs.Near.{plus-two, cbrt-squared-near}
-use Rattle.thirds.proofs.Answers.{bare-path}
+use Rattle.answers.proofs.Values.{bare-path}
 use Rattle.thirds.proofs.cbrt_squared.Statement.{statement}
 use Rattle.thirds.proofs.cbrt_squared.Tie as tie
 

@@ -8,7 +8,7 @@ use Rattle.series.specs.ThirdsNear.{InvCbrtNear}
 use Rattle.thirds.specs.Thirds.{invCbrtOf, invCbrtRanged, low, high}
 use Rattle.thirds.proofs.Products.{small}
 use Rattle.thirds.proofs.Near.{minus-one, inv-cbrt-near}
-use Rattle.thirds.proofs.Answers.{bare-path}
+use Rattle.answers.proofs.Values.{bare-path}
 use Rattle.thirds.proofs.inv_cbrt.Statement.{statement}
 use Rattle.thirds.proofs.inv_cbrt.Tie as tie
 

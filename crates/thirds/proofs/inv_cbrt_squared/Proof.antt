@@ -8,7 +8,7 @@ use Rattle.series.specs.ThirdsNear.{InvCbrtSquaredNear}
 use Rattle.thirds.specs.Thirds.{invCbrtSquaredOf, invCbrtSquaredRanged, low, high}
 use Rattle.thirds.proofs.Products.{small}
 use Rattle.thirds.proofs.Near.{minus-two, inv-cbrt-squared-near}
-use Rattle.thirds.proofs.Answers.{bare-path}
+use Rattle.answers.proofs.Values.{bare-path}
 use Rattle.thirds.proofs.inv_cbrt_squared.Statement.{statement}
 use Rattle.thirds.proofs.inv_cbrt_squared.Tie as tie
 
