@@ -1,15 +1,15 @@
 -- Our logarithm of our exponential: the two distances add up, and exp's answers between -40 and 40 lie in ln's range.
 use mathlib.Core.Path.{_≡_, refl, subst}
-use mathlib.Core.Bool.{Bool, true, false, not}
+use mathlib.Core.Bool.{true, false}
 use Prim.Native.Nat.{ℕ, zero, suc, _+_, _-_, _*_, _^_, _≤_, _<_}
 use native.Mathlib.Nat.{mul-pos, zero-lt-suc, one-mul, mul-le-mul-right}
 use native.Mathlib.Omega.{arith, by-contra}
-use lib.Dec.{T, lit<, lit≤}
-use lib.IntN.{ℤ, pos, negsuc, negℤ, _+ℤ_, _*ℤ_, _-ℤ_}
+use lib.Dec.{lit<, lit≤}
+use lib.IntN.{ℤ, pos, negsuc, _+ℤ_, _*ℤ_, _-ℤ_}
 use lib.Ieee as Ieee
 use lib.Ieee.{Float, ofBits, fits}
 use Rattle.exact.specs.Units.{L, L-pos, mag, sgn, Fin64}
-use Rattle.exact.specs.Integers.{p, n, _≤ᶻ_, neg-parts, abs-is}
+use Rattle.exact.specs.Integers.{p, n, _≤ᶻ_, abs-is}
 use Rattle.exact.specs.Value.{val, abs-val, abs-near}
 use Rattle.exact.specs.Distances.{le-is}
 use Rattle.series.specs.Exponential.{num, den, den-pos}

@@ -1,17 +1,14 @@
--- intervals of ℤ
-use mathlib.Core.Path.{_≡_, refl, sym, ap, _∙_}
-use mathlib.Core.List.{List, [], _∷_}
-use Prim.Native.Nat.{ℕ, zero, suc, _+_, _-_, _*_, _/_, _≤_, _<_}
-use native.Mathlib.Nat.{le-trans, le-of-eq, mul-le-mul-right, le-of-mul-le-mul-right, lt-of-mul-lt-mul-right, le-of-suc-le-suc, div-le-of-le-mul, le-div-iff-mul-le}
+-- Intervals of whole numbers: the least and the most of a product, and division rounded down and up. Assumes nothing.
+use mathlib.Core.Path.{ap}
+use mathlib.Core.List.{[], _∷_}
+use Prim.Native.Nat.{ℕ, suc, _+_, _-_, _*_, _/_, _≤_, _<_}
+use native.Mathlib.Nat.{div-le-of-le-mul, le-div-iff-mul-le}
 use native.Mathlib.Omega.{arith, sub-cases}
 use mathlib.Core.Bool.{Bool, true, false, not, cond}
 use lib.Dec.{T, leb, leb→le, nleb→lt}
-use lib.IntN.{ℤ, pos, negsuc, negℤ, _+ℤ_, _*ℤ_, _-ℤ_}
-use Rattle.exact.specs.Integers.{p, n, +-parts, neg-parts, *-parts, abs, _≤ᶻ_, *-comm}
-use Rattle.exact.specs.Ring.{bound, Ex, var, con, _:+_, _:-_, _:*_, Cone, hyp, _⊗_}
-
-pub trans : (a b c : ℤ) → a ≤ᶻ b → b ≤ᶻ c → a ≤ᶻ c
-trans a b c h k = omega arith
+use lib.IntN.{ℤ, pos, negsuc, negℤ, _*ℤ_}
+use Rattle.exact.specs.Integers.{p, n, +-parts, neg-parts, *-parts, _≤ᶻ_, *-comm}
+use Rattle.exact.specs.Ring.{bound, var, con, _:-_, _:*_, hyp, _⊗_}
 
 abbrev leq : ℤ → ℤ → Bool
 leq a b = leb (p a + n b) (p b + n a)

@@ -1,12 +1,12 @@
--- the arithmetic of one division
-use mathlib.Core.Path.{_≡_, refl, sym, ap, _∙_}
-use Prim.Native.Nat.{ℕ, zero, suc, _+_, _-_, _*_, _/_, _^_, _≤_, _<_}
+-- The arithmetic of one division. Assumes nothing.
+use mathlib.Core.Path.{ap}
+use Prim.Native.Nat.{ℕ, _+_, _-_, _*_, _^_, _≤_}
 use native.Mathlib.Nat.{le-trans, le-of-eq, add-le-add, mul-le-mul-right, mul-le-mul-left, mul-le-mul, le-of-mul-le-mul-right}
 use native.Mathlib.Omega.{arith}
 use lib.IntN.{ℤ, pos, negℤ, _+ℤ_, _*ℤ_, _-ℤ_}
 use Rattle.exact.specs.Units.{L}
 use Rattle.exact.specs.Integers.{abs, abs-+, abs-*, abs-pos, abs-neg}
-use Rattle.exact.specs.Ring.{ring, var, con, _:+_, _:-_, _:*_}
+use Rattle.exact.specs.Ring.{ring, var, _:+_, _:-_, _:*_}
 
 -- X / c is near n, Y / d near m (each den a whole number, of either sign), and Y is at least lo + f in size
 pub div-step : (Z X Y n m c d : ℤ) (e f K lo R E : ℕ) → abs (Z *ℤ Y -ℤ X *ℤ pos L) * 2 ^ 53 ≤ R → abs (X *ℤ c -ℤ n) ≤ e * abs c → abs (Y *ℤ d -ℤ m) ≤ f * abs d

@@ -1,19 +1,18 @@
--- straight-line binary64 code: a bound on the error, by computation. An exact value is a fraction num / den of units, den of either sign and not 0.
-use mathlib.Core.Path.{_≡_, refl, sym, ap, ap₂, _∙_}
+-- One operation on floats beside the same on fractions, and a bound on the error. An exact value is a fraction num / den of units, den of
+-- either sign and not 0. Assumes nothing.
+use mathlib.Core.Path.{_≡_, sym, ap, _∙_}
 use Prim.Native.Nat.{ℕ, zero, suc, _+_, _-_, _*_, _/_, _^_, _≤_, _<_, zero-le, suc-le-suc}
-use native.Mathlib.Nat.{le-refl, le-trans, le-of-eq, le-of-lt, lt-of-lt-of-le, add-le-add, mul-le-mul-right, mul-le-mul-left, mul-le-mul, mul-pos, le-div-iff-mul-le, le-of-mul-le-mul-right, lt-div-mul-add, div-mul-le-self, div-le-of-le-mul, mul-assoc}
+use native.Mathlib.Nat.{le-refl, le-trans, le-of-eq, le-of-lt, add-le-add, mul-le-mul-right, mul-le-mul-left, mul-le-mul, mul-pos, le-div-iff-mul-le, le-of-mul-le-mul-right, lt-div-mul-add, div-le-of-le-mul, mul-assoc}
 use native.Mathlib.Omega.{arith}
 use native.Mathlib.Numerals.{add-one}
-use mathlib.Core.Bool.{Bool, true, false, _&&_}
+use mathlib.Core.Bool.{Bool, _&&_}
 use lib.Dec.{T, leb, ltb, leb→le, ltb→lt}
-use lib.IntN.{ℤ, pos, negsuc, negℤ, _+ℤ_, _*ℤ_, _-ℤ_, negℤ-negℤ, negℤ-+ℤ}
-use lib.Ieee.{Float, nan, inf, fin, binary64, neg, add, sub, mul, div, fits, up, down}
-use lib.Ieee.Fits.{neg-fits, and-l, and-r}
-use lib.Ieee.Scale.{finite}
-use Rattle.exact.specs.Units.{L, L-pos, mag, sgn, Fin64}
-use Rattle.exact.specs.Integers.{abs, abs-+, abs-*, abs-*pos, abs-neg, abs-pos, neg-*}
-use Rattle.exact.specs.Ring.{ring, Ex, var, con, _:+_, _:-_, _:*_}
-use Rattle.exact.specs.Value.{val, abs-val, AddVal, add-val, MulVal, mul-val, DivVal, div-val}
+use lib.IntN.{ℤ, pos, negℤ, _+ℤ_, _*ℤ_, _-ℤ_, negℤ-negℤ, negℤ-+ℤ}
+use lib.Ieee.{Float, binary64, add, mul, div}
+use Rattle.exact.specs.Units.{L, L-pos, mag, Fin64}
+use Rattle.exact.specs.Integers.{abs, abs-+, abs-*, abs-*pos, abs-neg}
+use Rattle.exact.specs.Ring.{ring, var, _:+_, _:-_, _:*_}
+use Rattle.exact.specs.Value.{val, abs-val, add-val, mul-val, div-val}
 use Rattle.error_bounds.specs.DivStep.{div-step}
 
 -- ---- an exact value, and what is known of a float that stands for it

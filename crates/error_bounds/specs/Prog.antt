@@ -1,12 +1,13 @@
--- programs: each step takes its operands from the results so far, the last one first
-use mathlib.Core.Path.{_≡_, refl, sym, ap, _∙_, subst}
+-- Straight-line float code: a list of operations, each on results so far, the last one first. It runs over floats, over fractions, and over
+-- intervals with an error; where the third is good it holds of the first two: `sound`. Assumes nothing.
+use mathlib.Core.Path.{_≡_, refl, sym, ap, _∙_}
 use mathlib.Core.List.{List, [], _∷_}
-use Prim.Native.Nat.{ℕ, zero, suc, _+_, _*_, _^_, _/_, _≤_, zero-le}
-use native.Mathlib.Nat.{le-refl, le-of-eq}
+use Prim.Native.Nat.{ℕ, zero, suc, _+_, _*_, _/_, _≤_, zero-le}
+use native.Mathlib.Nat.{le-refl}
 use native.Mathlib.Omega.{arith}
 use mathlib.Core.Bool.{Bool, true, false, _&&_}
-use lib.Dec.{T, leb, ltb}
-use lib.IntN.{ℤ, pos, negsuc, negℤ, _+ℤ_, _*ℤ_, _-ℤ_, negℤ-negℤ, negℤ-+ℤ}
+use lib.Dec.{T}
+use lib.IntN.{ℤ, pos, negℤ, _+ℤ_, _*ℤ_, _-ℤ_, negℤ-negℤ, negℤ-+ℤ}
 use lib.Ieee.{Float, nan, inf, fin, binary64, neg, add, sub, mul, div, fits, up, down}
 use lib.Ieee.Fits.{neg-fits, and-l, and-r}
 use lib.Ieee.Scale.{finite}

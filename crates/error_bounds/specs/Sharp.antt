@@ -1,18 +1,16 @@
--- where a sum is exact
-use mathlib.Core.Path.{_≡_, refl, sym, ap, _∙_, subst}
+-- Where a rounding is exact: of a number of at most 53 binary digits. Assumes nothing.
+use mathlib.Core.Path.{_≡_, sym, ap, _∙_, subst}
 use Prim.Native.Nat.{ℕ, zero, suc, _+_, _-_, _*_, _/_, _%_, _^_, _≤_, _<_}
-use native.Mathlib.Nat.{le-trans, le-of-eq, mul-assoc, mul-one, div-one, zero-mul, mul-pos, mul-div-cancel, eq-of-mul-eq-mul-right, mul-lt-mul-of-pos-right, lt-of-lt-of-le, lt-of-le-of-lt, add-sub-cancel, mul-comm, le-of-mul-le-mul-right, sub-add-cancel, mul-sub}
-use native.Mathlib.Omega.{arith, sub-cases}
-use mathlib.Core.Bool.{Bool, true, false, not, cond, _&&_}
+use native.Mathlib.Nat.{mul-assoc, mul-one, zero-mul, mul-div-cancel, eq-of-mul-eq-mul-right}
+use native.Mathlib.Omega.{arith}
+use mathlib.Core.Bool.{Bool, _&&_}
 use lib.IntN.{ℤ, pos, negsuc}
-use lib.Dec.{T, ltb, leb, eqb, leb→le, ltb→lt, nltb→le}
-use lib.Pow.{pow-add, pow-pos, pow-lt}
-use lib.Ieee.{Float, nan, inf, fin, binary64, up, down, round, sum, add, fits}
+use lib.Dec.{T, ltb, leb, eqb, leb→le, ltb→lt}
+use lib.Pow.{pow-add, pow-pos}
+use lib.Ieee.{Float, nan, inf, fin, binary64, up, down, round, fits}
 use lib.Ieee.Fits.{down-pos, and-l, and-r}
 use lib.Ieee.Exact.{HasValue, round-exact}
-use lib.Ieee.Scale.{finite}
-use Rattle.exact.specs.Units.{L, L-pos, mag, sgn, mag-exact, Fin64, le-of-pow, pow-split}
-use Rattle.exact.specs.Sums.{pl, mi, plus, minus, add-units}
+use Rattle.exact.specs.Units.{L, L-pos, mag, sgn, mag-exact, Fin64, pow-split}
 
 -- ---- a finite value is q * 2 ^ j units, with q of 53 digits
 pub record Digits (m : ℕ) : Type 0 where
@@ -58,23 +56,3 @@ exact-round s A h d = go (round binary64 s A L) (round-exact binary64 s A L (d .
     go nan v = absurd v
     go (inf t) v = absurd v
     go (fin t m e) v = (ap (λ z. z / down e) (v .1) ∙ mul-div-cancel A (down-pos e), v .0)
-
--- ---- Sterbenz: y ≤ x ≤ 2 y, so x - y has few digits
-minus-is : (Q R P X Y : ℕ) → X ≡ Q * P → Y ≡ R * P → X - Y ≡ (Q - R) * P
-minus-is Q R P X Y e f = rw (e, f) (simp (mul-comm, mul-sub))
-
-shift : (m q i j : ℕ) → j ≤ i → m ≡ q * 2 ^ i → m ≡ q * 2 ^ (i - j) * 2 ^ j
-shift m q i j h e = e ∙ ap (λ x. q * x) (ap (λ x. 2 ^ x) (sym (sub-add-cancel h)) ∙ pow-add 2 (i - j) j) ∙ sym (mul-assoc q (2 ^ (i - j)) (2 ^ j))
-
-pub sterbenz : (X Y : ℕ) → Digits X → Digits Y → Y ≤ X → X ≤ 2 * Y → Digits (X - Y)
-sterbenz X Y d e h k = sub-cases (d .j) (e .j) (Digits (X - Y))
-    (λ l u. let Q = d .q * 2 ^ (d .j - e .j) in let X' = shift X (d .q) (d .j) (e .j) l (d .is) in
-    record { q = Q - e .q; j = e .j; few = small Q (e .q) (2 ^ e .j) (pow-pos (e .j)) X' (e .is) (e .few); is = minus-is Q (e .q) (2 ^ e .j) X Y X' (e .is) })
-    (λ l u. let R = e .q * 2 ^ (e .j - d .j) in let Y' = shift Y (e .q) (e .j) (d .j) l (e .is) in
-    record { q = d .q - R; j = d .j; few = less (d .q) R (d .few); is = minus-is (d .q) R (2 ^ d .j) X Y (d .is) Y' })
-  where
-    small : (Q r P : ℕ) → 0 < P → X ≡ Q * P → Y ≡ r * P → r < 2 ^ 53 → Q - r < 2 ^ 53
-    small Q r P o a b f = let g : Q ≤ 2 * r = le-of-mul-le-mul-right {k = P} (omega arith) o in omega arith
-
-    less : (q r : ℕ) → q < 2 ^ 53 → q - r < 2 ^ 53
-    less q r h = omega arith

@@ -1,16 +1,16 @@
--- straight-line binary64 code, with a signed interval for each value
-use mathlib.Core.Path.{_≡_, refl, sym, ap, _∙_, subst}
-use Prim.Native.Nat.{ℕ, zero, suc, _+_, _-_, _*_, _/_, _^_, _≤_, _<_, max, zero-le, suc-le-suc}
-use native.Mathlib.Nat.{le-refl, le-trans, le-of-eq, add-le-add, mul-le-mul-right, mul-le-mul-left, mul-le-mul, mul-pos}
+-- The same with a signed interval for each value. Assumes nothing.
+use mathlib.Core.Path.{_≡_, refl}
+use Prim.Native.Nat.{ℕ, suc, _+_, _-_, _*_, _/_, _^_, _≤_, _<_, max, zero-le, suc-le-suc}
+use native.Mathlib.Nat.{le-refl, le-trans, add-le-add, mul-le-mul-left, mul-le-mul, mul-pos}
 use native.Mathlib.Omega.{arith}
-use mathlib.Core.Bool.{Bool, true, false, _&&_, cond}
+use mathlib.Core.Bool.{Bool, true, false, cond}
 use lib.Dec.{T, leb, ltb, leb→le, ltb→lt}
 use lib.Ieee.Fits.{and-l, and-r}
 use lib.IntN.{ℤ, pos, negsuc, negℤ, _+ℤ_, _*ℤ_, _-ℤ_}
 use lib.Ieee.{Float, binary64, add, mul, div}
 use Rattle.exact.specs.Units.{L, L-pos, mag, Fin64}
-use Rattle.exact.specs.Integers.{p, n, +-parts, neg-parts, *-parts, _≤ᶻ_, abs, abs-+, abs-*, abs-*pos, abs-is}
-use Rattle.exact.specs.Value.{val, abs-val, AddVal, add-val, MulVal, mul-val, DivVal, div-val, near-abs}
+use Rattle.exact.specs.Integers.{p, n, +-parts, neg-parts, *-parts, _≤ᶻ_, abs, abs-+, abs-is}
+use Rattle.exact.specs.Value.{val, abs-val, add-val, mul-val, div-val, near-abs}
 use Rattle.error_bounds.specs.Line.{Q, B, Stands, sumQ, sumB, prodQ, prodB, quotQ, quotB, add-stands, mul-stands, div-stands}
 use Rattle.error_bounds.specs.Box.{least4, most4, prod-in, floor, ceil, floor-le, le-ceil}
 

@@ -1,21 +1,20 @@
 -- A logarithm times a third or two: the exponential takes it, and answers near a power of the number. Assumes nothing.
-use mathlib.Core.Path.{_≡_, refl, sym, ap, _∙_}
-use mathlib.Core.Bool.{Bool, true, false, not, cond}
+use mathlib.Core.Path.{_≡_, sym, ap, _∙_}
+use mathlib.Core.Bool.{Bool, true, false, cond}
 use Prim.Native.Nat.{ℕ, _+_, _*_, _^_, _≤_, _<_}
 use native.Mathlib.Nat.{le-trans, mul-le-mul, mul-le-mul-right, le-of-mul-le-mul-right}
 use native.Mathlib.Omega.{arith}
-use lib.Dec.{T, lit≤}
-use lib.IntN.{ℤ, pos, negℤ}
+use lib.Dec.{lit≤}
+use lib.IntN.{ℤ}
 use lib.Ieee as Ieee
-use lib.Ieee.{Float, binary64, ofBits, fits, mul}
+use lib.Ieee.{Float, binary64, mul}
 use Rattle.exact.specs.Rounding.{Near}
-use Rattle.exact.specs.Integers.{p, n, _≤ᶻ_, neg-parts, abs-is}
+use Rattle.exact.specs.Integers.{p, n}
 use Rattle.exact.specs.Units.{L, L-pos, mag, sgn, Fin64}
 use Rattle.exact.specs.Sums.{pl, mi, plus, minus}
 use Rattle.exact.specs.Products.{mul-mag, mul-near}
-use Rattle.exact.specs.Value.{val, p-val, n-val, abs-val}
+use Rattle.exact.specs.Value.{p-val, n-val}
 use Rattle.series.specs.ThirdsNear.{CubeRootNear}
-use Rattle.answers.specs.Range.{inRange}
 use Rattle.exponential.specs.Worked as exponential
 use Rattle.exponential.specs.Worked.{expOf}
 use Rattle.exponential.proofs.Close.{exp-close}
