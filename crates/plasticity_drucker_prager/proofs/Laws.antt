@@ -6,11 +6,9 @@ use Prim.Native.Nat.{ℕ}
 use lib.ListN.{length, getD}
 use lib.Ieee.{Float, nan, ofBits}
 use Rattle.numbers.specs.Floats.{finite}
-use Rattle.answers.specs.Answer.{tripleOf}
 use Rattle.answers.specs.declared.Answer.{Answer}
 use Rattle.answers.specs.declared.Answer.the-variants as answers
 use Rattle.answers.specs.declared.Triple.{Triple}
-use Rattle.answers.specs.declared.Triple.the-variants as triple
 use Rattle.tensor.specs.Axes.{allOf, of-one}
 use Rattle.tensor.specs.Finite.{rowFinite, matFinite}
 use Rattle.tensor.specs.Matrix.{one, three, productOf, recomposeOf}
@@ -23,6 +21,7 @@ use Rattle.plasticity.specs.declared.State.{State}
 use Rattle.plasticity.specs.declared.Updated.{Updated}
 use Rattle.walk.specs.Expr.{Expr, value}
 use Rattle.walk.specs.Walk.{Function, answerOf, Walk, asks, _then_, Ended, given, refused, result}
+use Rattle.walk.specs.Three.{answersOf, byThree, asks-by}
 use Rattle.walk.specs.Exact.{andThen, result-then}
 use Rattle.reason.specs.declared.Number.{Number}
 use Rattle.reason.specs.declared.Number.the-variants as number
@@ -56,25 +55,9 @@ project-inputs p sigma gain alpha =
     ∙ rw (all-append finite sigma (gain ∷ alpha ∷ [])) (leftwards (parametersFinite p) (rowFinite sigma) (finite gain) (finite alpha))
 
 -- a function of three entries, by their indexes, at once
-abbrev pub answersOf : Function → List Float → Triple
-answersOf f l = tripleOf (answerOf f (getD l 0 nan)) (answerOf f (getD l 1 nan)) (answerOf f (getD l 2 nan))
-
-abbrev pub askedThree : {A : Type 0} → ℕ → Triple → (List Float → Traced A) → Traced A
-askedThree n (triple.Values x y z) k = k (three x y z)
-askedThree n (triple.Refused m) k = stopped m n
-
-in-order : {A : Type 0} (n : ℕ) (a b c : Answer) (k : List Float → Traced A)
-    → askedAt n a (λ x. askedAt n b (λ y. askedAt n c (λ z. k (three x y z)))) ≡ askedThree n (tripleOf a b c) k
-in-order n (answers.Value x) (answers.Value y) (answers.Value z) k = refl
-in-order n (answers.Value x) (answers.Value y) (answers.Refused m) k = refl
-in-order n (answers.Value x) (answers.Refused m) c k = refl
-in-order n (answers.Refused m) b c k = refl
-
 pub asks-law : {A : Type 0} (n : ℕ) (f : Function) (l : List Float) (k : List Float → Walk A) (t : Triple) → length l ≡ 3 → answersOf f l ≡ t
-    → askedThree n t (λ v. traced (k v)) ≡ traced (asks n f l k)
-asks-law n f l k t axes h =
-    sym (in-order n (answerOf f (getD l 0 nan)) (answerOf f (getD l 1 nan)) (answerOf f (getD l 2 nan)) (λ v. traced (k v)) ∙ ap (λ r. askedThree n r (λ v. traced (k v))) h)
-    ∙ of-one (λ v. traced (asks n f v k)) nan l axes
+    → byThree (λ m. stopped m n) t (λ v. traced (k v)) ≡ traced (asks n f l k)
+asks-law n f l k t = asks-by (askedAt n) (λ m. stopped m n) (λ v k. refl) (λ m k. refl) (λ v. traced (asks n f v k)) (λ v. traced (k v)) f l t (λ x y z. refl)
 
 -- the tip, once the norm is known
 tipped : (w : Way) (ones : List Float) (a : Answer) → walkedOf (askedAt 10 a (λ v. reached (record { way = w; sigma = ones; dq = v }))) ≡ tipOf (branchOf w) ones a

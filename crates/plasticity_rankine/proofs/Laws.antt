@@ -6,11 +6,9 @@ use Prim.Native.Nat.{ℕ}
 use lib.ListN.{length, getD}
 use lib.Ieee.{Float, nan, ofBits}
 use Rattle.numbers.specs.Floats.{finite, isNumber, minOf}
-use Rattle.answers.specs.Answer.{tripleOf}
 use Rattle.answers.specs.declared.Answer.{Answer}
 use Rattle.answers.specs.declared.Answer.the-variants as answers
 use Rattle.answers.specs.declared.Triple.{Triple}
-use Rattle.answers.specs.declared.Triple.the-variants as triple
 use Rattle.tensor.specs.Axes.{allOf, pairwise, of-one}
 use Rattle.tensor.specs.Matrix.{add, sub, mul, one, three, dotOf, rowSubOf, recomposeOf}
 use Rattle.tensor.specs.Finite.{rowFinite, matFinite, rowsFinite}
@@ -24,6 +22,7 @@ use Rattle.plasticity.specs.declared.Scalars.{Scalars}
 use Rattle.plasticity.specs.declared.State.{State}
 use Rattle.walk.specs.Expr.{Expr, num, _-_, value, values, nums}
 use Rattle.walk.specs.Walk.{Function, answerOf, Walk, asks, _then_, Ended, given, refused, asked, result}
+use Rattle.walk.specs.Three.{answersOf, byThree, asks-by}
 use Rattle.walk.specs.Number.{finite-number, sub-number, finite-sub}
 use Rattle.walk.specs.Exact.{andThen, result-then}
 use Rattle.walk.specs.Every.{and-left, and-right, all-append}
@@ -197,24 +196,9 @@ module _ (p : RankinePlasticity) (u vt : List (List Float)) (s : State) where
       simp h (ap (updatedOf s) (result-then w (λ q. wayWalk p (q .way) e (q .strains) u vt s)) ∙ follows e (result w))
 
 -- ---- three axes: a function of the three entries, by their indexes, at once
-abbrev pub answersOf : Function → List Float → Triple
-answersOf f l = tripleOf (answerOf f (getD l 0 nan)) (answerOf f (getD l 1 nan)) (answerOf f (getD l 2 nan))
-
-abbrev pub askedThree : {A : Type 0} → Triple → (List Float → Ended A) → Ended A
-askedThree (triple.Values x y z) k = k (three x y z)
-askedThree (triple.Refused n) k = refused n
-
-in-order : {A : Type 0} (a b c : Answer) (k : List Float → Ended A) → asked a (λ x. asked b (λ y. asked c (λ z. k (three x y z)))) ≡ askedThree (tripleOf a b c) k
-in-order (answers.Value x) (answers.Value y) (answers.Value z) k = refl
-in-order (answers.Value x) (answers.Value y) (answers.Refused n) k = refl
-in-order (answers.Value x) (answers.Refused n) c k = refl
-in-order (answers.Refused n) b c k = refl
-
 pub asks-law : {A : Type 0} (n : ℕ) (f : Function) (l : List Float) (k : List Float → Walk A) (t : Triple) → length l ≡ 3 → answersOf f l ≡ t
-    → askedThree t (λ v. result (k v)) ≡ result (asks n f l k)
-asks-law n f l k t axes h =
-    sym (in-order (answerOf f (getD l 0 nan)) (answerOf f (getD l 1 nan)) (answerOf f (getD l 2 nan)) (λ v. result (k v)) ∙ ap (λ r. askedThree r (λ v. result (k v))) h)
-    ∙ of-one (λ v. result (asks n f v k)) nan l axes
+    → byThree refused t (λ v. result (k v)) ≡ result (asks n f l k)
+asks-law n f l k t = asks-by asked refused (λ v k. refl) (λ m k. refl) (λ v. result (asks n f v k)) (λ v. result (k v)) f l t (λ x y z. refl)
 
 -- ---- the results as the code tests them
 stores : (s new : State) (h : Float) (b : Bool) → updatedOf s (cond b (given (stored new h)) (refused 3)) ≡ cond b (record { state = new; outcome = Stored h }) (law.refused 3 s)

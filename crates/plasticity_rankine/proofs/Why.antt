@@ -7,11 +7,9 @@ use lib.ListN.{length, getD}
 use lib.Ieee as Ieee
 use lib.Ieee.{Float, nan}
 use Rattle.numbers.specs.Floats.{finite, isNumber, minOf}
-use Rattle.answers.specs.Answer.{tripleOf}
 use Rattle.answers.specs.declared.Answer.{Answer}
 use Rattle.answers.specs.declared.Answer.the-variants as answers
 use Rattle.answers.specs.declared.Triple.{Triple}
-use Rattle.answers.specs.declared.Triple.the-variants as triple
 use Rattle.tensor.specs.Axes.{allOf, pairwise, of-one}
 use Rattle.tensor.specs.Matrix.{add, mul, three, rowSubOf, recomposeOf}
 use Rattle.tensor.specs.Finite.{rowFinite, matFinite}
@@ -20,6 +18,7 @@ use Rattle.plasticity.specs.State.{inputsFinite}
 use Rattle.plasticity.specs.declared.State.{State}
 use Rattle.walk.specs.Expr.{Expr, num, _-_, value, values, nums}
 use Rattle.walk.specs.Walk.{Function, answerOf, Walk, asks, _then_, Ended, given, refused, result}
+use Rattle.walk.specs.Three.{answersOf, byThree, asks-by}
 use Rattle.walk.specs.Number.{finite-number}
 use Rattle.walk.specs.Matrix.{sum, value-dots, value-entry, values-nums}
 use Rattle.reason.specs.declared.Reason.{Reason}
@@ -34,7 +33,7 @@ use Rattle.plasticity_rankine.specs.Sorting.{orderOf, arrangeOf}
 use Rattle.plasticity_rankine.specs.Projection.{firstSide, secondSide, thirdSide, Way, none-moves, one-moves, two-move, all-move, Moved, thirdWalk, secondWalk, firstWalk, projectWalk, branchOf, movedOf, projectedOf}
 use Rattle.plasticity_rankine.specs.Rankine.{storeWalk, expsWalk, hardenWalk, movedWalk, wayWalk, softStrength, strainedWalk, runWalk, rankineWalk, argumentsWalk}
 use Rattle.plasticity_rankine.specs.Reason.{unmetOf, refusedAt, followedReason}
-use Rattle.plasticity_rankine.proofs.Laws.{inputs-law, change-law, answersOf}
+use Rattle.plasticity_rankine.proofs.Laws.{inputs-law, change-law}
 
 -- ---- the inputs: the arguments' own test, and then the law's
 twice : {B : Type 0} (y n x m i : Bool) (w z : B) → cond ((y && n && x && m) && i) w z ≡ cond (y && n) (cond ((x && m) && i) w z) z
@@ -143,19 +142,6 @@ module _ (p : RankinePlasticity) (u vt : List (List Float)) (s : State) where
       ∙ follows e (result w))
 
 -- ---- three axes: a function of the three entries at once
-abbrev pub askedThreeAt : ℕ → Triple → (List Float → Reason) → Reason
-askedThreeAt n (triple.Values x y z) k = k (three x y z)
-askedThreeAt n (triple.Refused m) k = reason.Refused m n
-
-in-order : (n : ℕ) (a b c : Answer) (k : List Float → Reason)
-    → askedAt n a (λ x. askedAt n b (λ y. askedAt n c (λ z. k (three x y z)))) ≡ askedThreeAt n (tripleOf a b c) k
-in-order n (answers.Value x) (answers.Value y) (answers.Value z) k = refl
-in-order n (answers.Value x) (answers.Value y) (answers.Refused m) k = refl
-in-order n (answers.Value x) (answers.Refused m) c k = refl
-in-order n (answers.Refused m) b c k = refl
-
 pub asks-why : {A : Type 0} (r : Reason) (n : ℕ) (f : Function) (l : List Float) (k : List Float → Walk A) (t : Triple) → length l ≡ 3 → answersOf f l ≡ t
-    → askedThreeAt n t (λ v. why r (k v)) ≡ why r (asks n f l k)
-asks-why r n f l k t axes h =
-    sym (in-order n (answerOf f (getD l 0 nan)) (answerOf f (getD l 1 nan)) (answerOf f (getD l 2 nan)) (λ v. why r (k v)) ∙ ap (λ q. askedThreeAt n q (λ v. why r (k v))) h)
-    ∙ of-one (λ v. why r (asks n f v k)) nan l axes
+    → byThree (λ m. reason.Refused m n) t (λ v. why r (k v)) ≡ why r (asks n f l k)
+asks-why r n f l k t = asks-by (askedAt n) (λ m. reason.Refused m n) (λ v k. refl) (λ m k. refl) (λ v. why r (asks n f v k)) (λ v. why r (k v)) f l t (λ x y z. refl)
