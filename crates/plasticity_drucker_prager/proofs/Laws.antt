@@ -1,17 +1,17 @@
 -- What is handed from one piece of the walk to the next, as the code hands it on.
 use mathlib.Core.Bool.{Bool, true, false, cond, _&&_}
 use mathlib.Core.List.{List, [], _∷_, _++_, map}
-use mathlib.Core.Path.{_≡_, refl, sym, ap, _∙_}
+use mathlib.Core.Path.{_≡_, refl, ap, _∙_}
 use Prim.Native.Nat.{ℕ}
-use lib.ListN.{length, getD}
-use lib.Ieee.{Float, nan, ofBits}
+use lib.ListN.{length}
+use lib.Ieee.{Float, ofBits}
 use Rattle.numbers.specs.Floats.{finite}
 use Rattle.answers.specs.declared.Answer.{Answer}
 use Rattle.answers.specs.declared.Answer.the-variants as answers
 use Rattle.answers.specs.declared.Triple.{Triple}
-use Rattle.tensor.specs.Axes.{allOf, of-one}
+use Rattle.tensor.specs.Axes.{allOf}
 use Rattle.tensor.specs.Finite.{rowFinite, matFinite}
-use Rattle.tensor.specs.Matrix.{one, three, productOf, recomposeOf}
+use Rattle.tensor.specs.Matrix.{one, productOf, recomposeOf}
 use Rattle.physics.specs.Norm.{normOf}
 use Rattle.plasticity.specs.State as law
 use Rattle.plasticity.specs.State.{inputsFinite}
@@ -20,7 +20,7 @@ use Rattle.plasticity.specs.declared.Scalars.{Scalars}
 use Rattle.plasticity.specs.declared.State.{State}
 use Rattle.plasticity.specs.declared.Updated.{Updated}
 use Rattle.walk.specs.Expr.{Expr, value}
-use Rattle.walk.specs.Walk.{Function, answerOf, Walk, asks, _then_, Ended, given, refused, result}
+use Rattle.walk.specs.Walk.{Function, Walk, asks, _then_, Ended, given, refused, result}
 use Rattle.walk.specs.Three.{answersOf, byThree, asks-by}
 use Rattle.walk.specs.Exact.{andThen, result-then}
 use Rattle.reason.specs.declared.Number.{Number}
@@ -34,7 +34,7 @@ use Rattle.plasticity_drucker_prager.specs.declared.DruckerPragerPlastic
 use Rattle.plasticity_drucker_prager.specs.declared.Measured.{Measured}
 use Rattle.plasticity_drucker_prager.specs.declared.Measured.the-variants as measured
 use Rattle.plasticity_drucker_prager.specs.Law.{parametersOf, parametersFinite}
-use Rattle.plasticity_drucker_prager.specs.Projection.{projectFloats, Way, isotropic, expanding, inside, surface, Returned, returnedWalk, tipWalk, branchOf, refusedProjection, walkedOf, projectedOf, tipOf, returnedOf, outcomeOf, resultsOf}
+use Rattle.plasticity_drucker_prager.specs.Projection.{projectFloats, Way, isotropic, expanding, inside, surface, Returned, returnedWalk, tipWalk, branchOf, refusedProjection, walkedOf, projectedOf, tipOf, returnedOf, resultsOf}
 use Rattle.plasticity_drucker_prager.specs.DruckerPrager.{stateOf, storeWalk, Measures, measureWalk, measuredAs, measuredOf, finiteResults, movedWalk, wayWalk, followedOf, floats}
 
 -- the inputs

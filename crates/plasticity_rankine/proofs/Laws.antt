@@ -3,17 +3,15 @@ use mathlib.Core.Bool.{Bool, true, false, cond, _&&_}
 use mathlib.Core.List.{List, [], _∷_, _++_}
 use mathlib.Core.Path.{_≡_, refl, sym, ap, _∙_}
 use Prim.Native.Nat.{ℕ}
-use lib.ListN.{length, getD}
-use lib.Ieee.{Float, nan, ofBits}
+use lib.ListN.{length}
+use lib.Ieee.{Float, ofBits}
 use Rattle.numbers.specs.Floats.{finite, isNumber, minOf}
-use Rattle.answers.specs.declared.Answer.{Answer}
 use Rattle.answers.specs.declared.Answer.the-variants as answers
 use Rattle.answers.specs.declared.Triple.{Triple}
-use Rattle.tensor.specs.Axes.{allOf, pairwise, of-one}
-use Rattle.tensor.specs.Matrix.{add, sub, mul, one, three, dotOf, rowSubOf, recomposeOf}
+use Rattle.tensor.specs.Axes.{allOf, pairwise}
+use Rattle.tensor.specs.Matrix.{add, sub, mul, one, three, rowSubOf, recomposeOf}
 use Rattle.tensor.specs.Finite.{rowFinite, matFinite, rowsFinite}
 use Rattle.tensor.specs.Answer.{answeredVector, refusedVector}
-use Rattle.tensor.specs.declared.VectorAnswer.{VectorAnswer}
 use Rattle.physics.specs.Norm.{normOf}
 use Rattle.plasticity.specs.State as law
 use Rattle.plasticity.specs.State.{inputsFinite, stateFinite, scalarsFinite}
@@ -21,14 +19,14 @@ use Rattle.plasticity.specs.declared.Outcome.the-variants.{Stored}
 use Rattle.plasticity.specs.declared.Scalars.{Scalars}
 use Rattle.plasticity.specs.declared.State.{State}
 use Rattle.walk.specs.Expr.{Expr, num, _-_, value, values, nums}
-use Rattle.walk.specs.Walk.{Function, answerOf, Walk, asks, _then_, Ended, given, refused, asked, result}
+use Rattle.walk.specs.Walk.{Function, Walk, asks, _then_, Ended, given, refused, asked, result}
 use Rattle.walk.specs.Three.{answersOf, byThree, asks-by}
 use Rattle.walk.specs.Number.{finite-number, sub-number, finite-sub}
 use Rattle.walk.specs.Exact.{andThen, result-then}
 use Rattle.walk.specs.Every.{and-left, and-right, all-append}
 use Rattle.walk.specs.Steps.{least-answers}
-use Rattle.walk.specs.Matrix.{dots, value-dots, value-entry, values-nums}
-use Rattle.walk.specs.Update.{Change, stored, updatedOf, inputs-finite}
+use Rattle.walk.specs.Matrix.{value-dots, value-entry, values-nums}
+use Rattle.walk.specs.Update.{stored, updatedOf, inputs-finite}
 use Rattle.plasticity_rankine.specs.declared.Rank.{Rank}
 use Rattle.plasticity_rankine.specs.declared.Rank.the-variants.{R012, R021, R102, R120, R201, R210}
 use Rattle.plasticity_rankine.specs.declared.RankineArguments.{RankineArguments}

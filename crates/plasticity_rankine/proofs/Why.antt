@@ -1,23 +1,22 @@
 -- The reason (ticket 8) as the pieces of the walk tell it and as the code hands it on.
 use mathlib.Core.Bool.{Bool, true, false, cond, _&&_}
-use mathlib.Core.List.{List, [], _∷_}
+use mathlib.Core.List.{List}
 use mathlib.Core.Path.{_≡_, refl, sym, ap, _∙_}
 use Prim.Native.Nat.{ℕ}
-use lib.ListN.{length, getD}
+use lib.ListN.{length}
 use lib.Ieee as Ieee
-use lib.Ieee.{Float, nan}
+use lib.Ieee.{Float}
 use Rattle.numbers.specs.Floats.{finite, isNumber, minOf}
-use Rattle.answers.specs.declared.Answer.{Answer}
 use Rattle.answers.specs.declared.Answer.the-variants as answers
 use Rattle.answers.specs.declared.Triple.{Triple}
-use Rattle.tensor.specs.Axes.{allOf, pairwise, of-one}
-use Rattle.tensor.specs.Matrix.{add, mul, three, rowSubOf, recomposeOf}
+use Rattle.tensor.specs.Axes.{pairwise}
+use Rattle.tensor.specs.Matrix.{add, mul, rowSubOf, recomposeOf}
 use Rattle.tensor.specs.Finite.{rowFinite, matFinite}
 use Rattle.physics.specs.Norm.{normOf}
 use Rattle.plasticity.specs.State.{inputsFinite}
 use Rattle.plasticity.specs.declared.State.{State}
 use Rattle.walk.specs.Expr.{Expr, num, _-_, value, values, nums}
-use Rattle.walk.specs.Walk.{Function, answerOf, Walk, asks, _then_, Ended, given, refused, result}
+use Rattle.walk.specs.Walk.{Function, Walk, asks, _then_, Ended, given, refused, result}
 use Rattle.walk.specs.Three.{answersOf, byThree, asks-by}
 use Rattle.walk.specs.Number.{finite-number}
 use Rattle.walk.specs.Matrix.{sum, value-dots, value-entry, values-nums}
