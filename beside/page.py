@@ -26,8 +26,8 @@ isn't finite, the determinant of the new F stored, answers and counts written (`
 
 LIMITS = """
 ## What limits the rest
-- **The root by digits.** Two digits of base 2^26, a guess of each made exact by whole numbers, and no division; NACC takes three roots a record on average here, Drucker-Prager and Rankine up to one.
-- **The elementary functions** are worked in whole numbers with a proved distance; the table above has each beside std's, which promises none.
+- **The root by digits.** Two digits of base 2^26, a guess of each made exact by whole numbers, and no division; NACC takes two to three roots a record on average here, Drucker-Prager and Rankine up to one. What the processor's own root would save is in [LANDINGS.md](LANDINGS.md).
+- **Time beyond instructions.** A record's logarithms, return, exponentials, F and determinant wait for each other, and a processor sees half a record ahead. std's logarithm and exponential multiply and add in one instruction where the processor has it; ours are for plain x86-64.
 - **What the rival leaves out**: the ranges and NaNs inside an update, whether a record is untouched, the new sigma.
 - **Factors**: the check is exact over whole numbers, nalgebra's SVD is not checked.
 """

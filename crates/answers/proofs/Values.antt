@@ -1,16 +1,19 @@
 -- An elementary function that answers with a value was asked within its range, and the value is its own.
 use mathlib.Core.Path.{_≡_, refl, sym, subst}
-use mathlib.Core.Bool.{Bool, true, false, cond}
+use mathlib.Core.Bool.{Bool, true, false, cond, _&&_}
 use Prim.Native.Nat.{ℕ}
 use native.Mathlib.Omega.{arith}
 use lib.Dec.{T}
 use lib.Ieee as Ieee
-use lib.Ieee.{Float}
-use Rattle.numbers.specs.Floats.{finite}
+use lib.Ieee.{Float, nan, inf, fin}
+use Rattle.numbers.specs.Floats.{finite, isNumber}
 use Rattle.numbers.proofs.Laws.{and-both}
 use Rattle.answers.specs.Refusals.{notFinite}
-use Rattle.answers.specs.Range.{inRange, sideOf, ranged, bare}
+use Rattle.answers.specs.Range.{inRange, allInRange, sideOf, ranged, bare, onPath}
+use Rattle.answers.specs.Answer.{tripleOf}
+use Rattle.answers.specs.declared.Answer.{Answer}
 use Rattle.answers.specs.declared.Answer.the-variants.{Value, Refused}
+use Rattle.answers.specs.declared.Triple.the-variants as triple
 
 never : (n : ℕ) (r : Float) → Refused n ≡ Value r → ⊥
 never n r e = let z : _≡_ {A = ℕ} 0 1 = cc in omega arith
@@ -30,3 +33,37 @@ bare-near low high x v w Near near e = let a = answered (finite x) (inRange low 
 -- a number in the range lies between its ends
 pub between : (low high x : Float) → inRange low high x ≡ true → T (Ieee.le low x) × T (Ieee.le x high)
 between low high x r = let b = and-both (Ieee.le low x) (Ieee.le x high) r in (subst T (sym (b .0)) tt, subst T (sym (b .1)) tt)
+
+-- and is no NaN
+number-at-most : (x high : Float) → Ieee.le x high ≡ true → isNumber x ≡ true
+unfolding Ieee.le Ieee.lt Ieee.eq isNumber
+number-at-most nan high h = h
+number-at-most (inf s) high h = refl
+number-at-most (fin s m e) high h = refl
+
+pub in-range-number : (low high x : Float) → inRange low high x ≡ true → isNumber x ≡ true
+in-range-number low high x r = number-at-most x high (and-both (Ieee.le low x) (Ieee.le x high) r .1)
+
+-- a call by itself may be worked as one on a path
+pub bare-path : (x : Float) (a : Answer) → bare x (onPath x a) ≡ bare x a
+unfolding finite isNumber
+bare-path nan a = refl
+bare-path (inf s) a = refl
+bare-path (fin s m e) a = refl
+
+-- within the range a law is answered with the value, and of three numbers with all three
+
+pub on-path-inside : (low high x v : Float) → inRange low high x ≡ true → onPath x (ranged low high x v) ≡ Value v
+on-path-inside low high x v r = rw (in-range-number low high x r, r) refl
+
+pub each-inside : (low high a b c : Float) → allInRange low high a b c ≡ true → (inRange low high a ≡ true) × (inRange low high b ≡ true) × (inRange low high c ≡ true)
+each-inside low high a b c r =
+    let p = and-both (inRange low high a && inRange low high b) (inRange low high c) r in
+    let q = and-both (inRange low high a) (inRange low high b) (p .0) in
+    (q .0, q .1, p .1)
+
+pub three-inside : (low high a b c u v w : Float) → allInRange low high a b c ≡ true
+    → tripleOf (onPath a (ranged low high a u)) (onPath b (ranged low high b v)) (onPath c (ranged low high c w)) ≡ triple.Values u v w
+three-inside low high a b c u v w r =
+    let i = each-inside low high a b c r in
+    rw (on-path-inside low high a u (i .0), on-path-inside low high b v (i .1), on-path-inside low high c w (i .2)) refl

@@ -12,6 +12,9 @@ use Rattle.answers.specs.declared.Answer.the-variants.{Value, Refused}
 abbrev pub inRange : Float → Float → Float → Bool
 inRange low high x = Ieee.le low x && Ieee.le x high
 
+abbrev pub allInRange : Float → Float → Float → Float → Float → Bool
+allInRange low high a b c = inRange low high a && inRange low high b && inRange low high c
+
 -- on which side of its range an argument lies that isn't in it: an infinity on its own (a NaN is refused before this is asked)
 unfoldable pub sideOf : Float → Float → Float → ℕ
 sideOf low high x = cond (Ieee.lt x low) belowRange aboveRange

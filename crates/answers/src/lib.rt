@@ -1,8 +1,8 @@
-// What a call answers: a number, two numbers, or the refusal's number (RULES, section 6); and what a call asked by itself and one
+// What a call answers: a number, two or three, or the refusal's number (RULES, section 6); and what a call asked by itself and one
 // asked inside a law make of the same answer.
 ghost use mathlib.Core.Path.{_≡_};
-ghost use Rattle.answers.specs.Answer.{answeredOf, finiteAnswerOf, pairOf};
-ghost use Rattle.answers.specs.Range.{inRange, outsideOf, bare, onPath};
+ghost use Rattle.answers.specs.Answer.{answeredOf, finiteAnswerOf, pairOf, tripleOf};
+ghost use Rattle.answers.specs.Range.{inRange, allInRange, outsideOf, bare, onPath};
 
 // The refusals by name (section 6, then the tickets in order).
 pub const NOT_FINITE: u8 = 1;
@@ -49,6 +49,12 @@ pub enum Pair {
     Refused(u8),
 }
 
+// Three numbers, or the refusal's number.
+pub enum Triple {
+    Values(f64, f64, f64),
+    Refused(u8),
+}
+
 // A number to be returned: 3 where it isn't finite.
 pub fn answered(x: f64) -> Answer
     ensures { λ r. ⌜ r ≡ answeredOf x ⌝ }
@@ -81,11 +87,34 @@ pub fn answered_pair(x: f64, y: f64) -> Pair
     }
 }
 
+// Three answers, or the first refusal in their order.
+pub fn all_three(a: Answer, b: Answer, c: Answer) -> Triple
+    ensures { λ r. ⌜ r ≡ tripleOf a b c ⌝ }
+{
+    match a {
+        Answer::Value(x) => match b {
+            Answer::Value(y) => match c {
+                Answer::Value(z) => Triple::Values(x, y, z),
+                Answer::Refused(n) => Triple::Refused(n),
+            },
+            Answer::Refused(n) => Triple::Refused(n),
+        },
+        Answer::Refused(n) => Triple::Refused(n),
+    }
+}
+
 // Whether x lies in an elementary function's range, ends included.
 pub fn in_range(low: f64, high: f64, x: f64) -> bool
     ensures { λ r. ⌜ r ≡ inRange low high x ⌝ }
 {
     (low <= x) & (x <= high)
+}
+
+// Whether three numbers do: one Bool, for one branch.
+pub fn all_in_range(low: f64, high: f64, a: f64, b: f64, c: f64) -> bool
+    ensures { λ r. ⌜ r ≡ allInRange low high a b c ⌝ }
+{
+    in_range(low, high, a) & in_range(low, high, b) & in_range(low, high, c)
 }
 
 // The refusal of an argument outside the range from low to high, by its side: an infinity lies on its own.

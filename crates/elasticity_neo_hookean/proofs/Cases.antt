@@ -8,8 +8,8 @@ use Rattle.numbers.specs.Floats.{finite, isNumber}
 use Rattle.answers.specs.declared.Answer.{Answer}
 use Rattle.answers.specs.declared.Answer.the-variants.{Value}
 use Rattle.tensor.specs.Matrix.{zero, one}
-use Rattle.thirds.specs.Root.{cubeOf, digitsFrom, rootBits}
-use Rattle.thirds.specs.Thirds.{cbrtOf, invCbrtOf}
+use Rattle.thirds.specs.Thirds.{invCbrtOf}
+use Rattle.exponential.specs.Worked.{expOf, nearestOf, restOf, seriesOf, scaleBits, timesOf}
 use Rattle.logarithm.specs.Worked.{partOf, exponentOf, fractionOf, lnOf}
 use Rattle.walk.specs.Matrix.{total}
 use Rattle.walk.specs.Tensor.{rows, turned, times, scaled, determinant, trace}
@@ -29,11 +29,11 @@ halfwayIn one-split =
     ((ofBits binary64 0x3fe0_0000_0000_0000 ∷ zero ∷ zero ∷ []) ∷ (zero ∷ one ∷ zero ∷ []) ∷ (zero ∷ zero ∷ one ∷ []) ∷ [])
 
 -- as the Rust: 0.286 and a little
-pub halfway-default : halfwayIn false ≡ Value (ofBits binary64 0x3fd2_4f51_e8db_aee8)
-unfolding energyWalkIn energySteps partsWalk partsFrom floats rows turned times scaled determinant total trace halved power finite isNumber invCbrtOf cbrtOf rootBits digitsFrom cubeOf lnOf exponentOf fractionOf partOf Ieee.le Ieee.lt Ieee.add Ieee.sub Ieee.mul Ieee.div ofBits toBits
+pub halfway-default : halfwayIn false ≡ Value (ofBits binary64 0x3fd2_4f51_e8db_ae80)
+unfolding energyWalkIn energySteps partsWalk partsFrom floats rows turned times scaled determinant total trace halved power finite isNumber invCbrtOf expOf nearestOf restOf seriesOf scaleBits timesOf lnOf exponentOf fractionOf partOf Ieee.le Ieee.lt Ieee.add Ieee.sub Ieee.mul Ieee.div Ieee.neg ofBits toBits
 halfway-default = refl
 
 -- with one split: 0.265 and a little
 pub halfway-one-split : halfwayIn true ≡ Value (ofBits binary64 0x3fd0_fc73_d5d2_c55c)
-unfolding energyWalkIn energySteps partsWalk partsFrom floats rows turned times scaled determinant total trace halved power finite isNumber invCbrtOf cbrtOf rootBits digitsFrom cubeOf lnOf exponentOf fractionOf partOf Ieee.le Ieee.lt Ieee.add Ieee.sub Ieee.mul Ieee.div ofBits toBits
+unfolding energyWalkIn energySteps partsWalk partsFrom floats rows turned times scaled determinant total trace halved power finite isNumber invCbrtOf expOf nearestOf restOf seriesOf scaleBits timesOf lnOf exponentOf fractionOf partOf Ieee.le Ieee.lt Ieee.add Ieee.sub Ieee.mul Ieee.div Ieee.neg ofBits toBits
 halfway-one-split = refl

@@ -1,17 +1,17 @@
 -- Our logarithm of our exponential: the two distances add up, and exp's answers between -40 and 40 lie in ln's range.
 use mathlib.Core.Path.{_≡_, refl, subst}
-use mathlib.Core.Bool.{Bool, true, false, not}
+use mathlib.Core.Bool.{true, false}
 use Prim.Native.Nat.{ℕ, zero, suc, _+_, _-_, _*_, _^_, _≤_, _<_}
 use native.Mathlib.Nat.{mul-pos, zero-lt-suc, one-mul, mul-le-mul-right}
 use native.Mathlib.Omega.{arith, by-contra}
-use lib.Dec.{T, lit<, lit≤}
-use lib.IntN.{ℤ, pos, negsuc, negℤ, _+ℤ_, _*ℤ_, _-ℤ_}
+use lib.Dec.{lit<, lit≤}
+use lib.IntN.{ℤ, pos, negsuc, _+ℤ_, _*ℤ_, _-ℤ_}
 use lib.Ieee as Ieee
 use lib.Ieee.{Float, ofBits, fits}
 use Rattle.exact.specs.Units.{L, L-pos, mag, sgn, Fin64}
-use Rattle.exact.specs.Integers.{p, n, _≤ᶻ_, neg-parts, abs-is}
+use Rattle.exact.specs.Integers.{p, n, _≤ᶻ_, abs-is}
 use Rattle.exact.specs.Value.{val, abs-val, abs-near}
-use Rattle.exact.specs.Distances.{not-le-val}
+use Rattle.exact.specs.Distances.{le-is}
 use Rattle.series.specs.Exponential.{num, den, den-pos}
 use Rattle.series.specs.Remainder.{Above, Under, above}
 use Rattle.series.specs.Bounds.{above-mono, above-weak, above-pow, under-add, under-mono, one-plus}
@@ -22,7 +22,7 @@ use Rattle.series.specs.LogNear as log
 use Rattle.series.specs.LogNear.{LogNear, at-most, at-least, low-parts, high-parts}
 use Rattle.answers.specs.Range.{inRange}
 use Rattle.exponential.specs.Worked as exponential
-use Rattle.exponential.proofs.Near.{exp-near}
+use Rattle.exponential.proofs.Near.{exp-near, sized-ranged}
 use Rattle.logarithm.specs.Worked as logarithm
 use Rattle.logarithm.proofs.Laws.{ln-near}
 use Rattle.elementary.specs.RoundTrip.{Back, ReturnsOurs, Taken, RoundTrip}
@@ -133,35 +133,15 @@ small e r h E =
     )
 
 -- ---- a number between the ends of a range is in it
-at-most-is : (x y : Float) → Fin64 x → Fin64 y → (val y ≤ᶻ val x → ⊥) → Ieee.le x y ≡ true
-at-most-is x y f g h = go (Ieee.le x y) (not-le-val x y f g)
-  where
-    go : (b : Bool) → (T (not b) → val y ≤ᶻ val x) → b ≡ true
-    go true k = refl
-    go false k = absurd (h (k tt))
-
 between : (low high x : Float) → Fin64 low → Fin64 high → Fin64 x → (val x ≤ᶻ val low → ⊥) → (val high ≤ᶻ val x → ⊥) → inRange low high x ≡ true
-between low high x f g i h k = rw (at-most-is low x f i h, at-most-is x high i g k) refl
-
-exp-ends : (val exponential.low ≡ negℤ (pos (700 * L))) × (val exponential.high ≡ pos (700 * L)) × Fin64 exponential.low × Fin64 exponential.high
-unfolding val mag L ofBits fits Ieee.neg
-exp-ends = (refl, refl, (tt, tt), (tt, tt))
+between low high x f g i h k = rw (le-is low x f i h, le-is x high i g k) refl
 
 ln-ends : (val logarithm.low ≡ pos (mag logarithm.low)) × (2 ^ 60 * mag logarithm.low ≡ L) × (val logarithm.high ≡ pos (2 ^ 60 * L)) × Fin64 logarithm.low × Fin64 logarithm.high
 unfolding val mag L ofBits fits
 ln-ends = (refl, refl, refl, (tt, tt), (tt, tt))
 
 by-exp : (e : Float) → Fin64 e → mag e ≤ 40 * L → inRange exponential.low exponential.high e ≡ true
-by-exp e f h =
-    between exponential.low exponential.high e (exp-ends .2) (exp-ends .3) f
-    (λ k. under (val e) L L-pos (omega (arith, abs-is (val e), abs-val e)) (rw (exp-ends .0) at k))
-    (λ k. over (val e) L L-pos (omega (arith, abs-is (val e), abs-val e)) (rw (exp-ends .1) at k))
-  where
-    under : (z : ℤ) (l : ℕ) → 0 < l → p z + n z ≤ 40 * l → z ≤ᶻ negℤ (pos (700 * l)) → ⊥
-    under z l o h k = omega (arith, neg-parts (pos (700 * l)))
-
-    over : (z : ℤ) (l : ℕ) → 0 < l → p z + n z ≤ 40 * l → pos (700 * l) ≤ᶻ z → ⊥
-    over z l o h k = omega arith
+by-exp e f h = sized-ranged e f (omega arith)
 
 plain : (x : Float) → sgn x ≡ false → val x ≡ pos (mag x)
 unfolding val

@@ -34,6 +34,13 @@ not-le-val x y f g t = lt-val x y f g .1 (go (lt x y) (eq x y) t)
     go true b t = t
     go false b t = tt
 
+pub le-is : (x y : Float) → Fin64 x → Fin64 y → (val y ≤ᶻ val x → ⊥) → le x y ≡ true
+le-is x y f g h = go (le x y) (not-le-val x y f g)
+  where
+    go : (b : Bool) → (T (not b) → val y ≤ᶻ val x) → b ≡ true
+    go true k = refl
+    go false k = absurd (h (k tt))
+
 pub abs-shift : (a b : ℤ) → abs a ≤ abs b + abs (a -ℤ b)
 abs-shift a b =
     le-trans (le-of-eq (ap abs (ring 2 (a, (b, tt)) (var 0) (var 1 :+ (var 0 :- var 1)) tt))) (abs-+ b (a -ℤ b))

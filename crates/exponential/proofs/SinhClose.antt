@@ -1,25 +1,28 @@
 -- The hyperbolic sine is as near as RULES, section 3, asks: sinh-near. And exactly 0 at 0: sinh-zero. Assumes nothing.
-use mathlib.Core.Path.{_≡_, refl, sym, ap, _∙_}
+use mathlib.Core.Path.{_≡_, refl, sym, ap, _∙_, subst}
 use mathlib.Core.Bool.{Bool, true, false, not, cond}
 use Prim.Native.Nat.{ℕ, _+_, _-_, _*_, _^_, _≤_}
-use native.Mathlib.Nat.{mul-le-mul-right, mul-le-mul, le-of-mul-le-mul-right, mul-pos, le-trans}
+use native.Mathlib.Nat.{mul-le-mul-right, mul-pos}
 use native.Mathlib.Omega.{arith, sub-cases}
 use lib.Dec.{T}
-use lib.Pow.{pow-pos, pow-mono}
-use lib.IntN.{pos}
+use lib.Pow.{pow-pos}
+use lib.IntN.{ℤ, pos}
 use lib.Ieee as Ieee
-use lib.Ieee.{Float, binary64, ofBits, fits}
+use lib.Ieee.{Float, binary64, ofBits, toBits, fits}
 use Rattle.exact.specs.Units.{L, L-pos, mag, sgn, Fin64}
+use Rattle.exact.specs.Value.{val}
+use Rattle.exact.specs.Integers.{n}
 use Rattle.exact.specs.Positives.{neg-mag, neg-fine, neg-sign}
 use Rattle.series.specs.Exponential.{num, den}
 use Rattle.series.specs.Remainder.{Above, Under}
+use Rattle.series.specs.ExpNear.{AtMost, AtLeast}
 use Rattle.series.specs.SinhNear.{SinhAtMost, SinhAtLeast, SinhNear}
 use Rattle.answers.specs.Range.{inRange}
-use Rattle.exponential.specs.Worked.{low, high, belowOf, tailOf, partOf, packOf, expBits, cutOf}
-use Rattle.exponential.specs.Sinh.{growthOf, halfOf, sinhOf}
-use Rattle.exponential.proofs.Packed.{Packed}
-use Rattle.exponential.proofs.Quotients.{below-facts}
-use Rattle.exponential.proofs.Near.{ranged-mag, cut-le, near-plus, field-plus}
+use Rattle.exponential.specs.Worked.{low, high, Sized, nearestOf, restOf, seriesOf, scaleBits, timesOf, expOf}
+use Rattle.exponential.specs.Sinh.{sizeOf, growthOf, halfOf, sinhOf}
+use Rattle.exponential.proofs.Close.{Close, exp-close}
+use Rattle.exponential.proofs.Near.{ranged-finite, ranged-mag}
+use Rattle.exponential.proofs.Growth.{at-least-one}
 use Rattle.exponential.proofs.HalfDifference.{Joint, squares, half-near}
 
 -- ---- over whole numbers: M is the growth, H the half difference, t is M^2 - l^2; G is 2^48 and K is G + 1, P is 2^45
@@ -107,17 +110,6 @@ module _ (a : ℕ) (g h : Float) (lo : L ≤ mag g) (A : Above a L (mag g * (2 ^
       })
 
 -- ---- the growth
-from-least : (e m : ℕ) → 1023 ≤ e → 2 ^ 52 * 2 ^ e ≤ m * 2 → L ≤ m
-unfolding L
-from-least e m h k = le-of-mul-le-mul-right {k = 2} (le-trans (mul-le-mul {n₁ = 2 ^ 52} {m₁ = 2 ^ 1023} {n₂ = 2 ^ 52} {m₂ = 2 ^ e} (omega arith) (pow-mono {i = 1023} {j = e} h)) k) (omega arith)
-
-from-most : (e m : ℕ) → e ≤ 2033 → m * 2 ≤ 2 ^ 54 * 2 ^ e → m ≤ 2 ^ 1012 * L
-unfolding L
-from-most e m h k = le-of-mul-le-mul-right {k = 2} (le-trans k (mul-le-mul {n₁ = 2 ^ 54} {m₁ = 2 ^ e} {n₂ = 2 ^ 54} {m₂ = 2 ^ 2033} (omega arith) (pow-mono {i = e} {j = 2033} h))) (omega arith)
-
-at-1023 : (k : ℕ) → 1023 ≤ 1023 + k
-at-1023 k = omega arith
-
 pub record Grown (a : ℕ) (g : Float) : Type 0 where
   pub fine : Fin64 g
   pub sign : sgn g ≡ false
@@ -126,21 +118,39 @@ pub record Grown (a : ℕ) (g : Float) : Type 0 where
   pub least : L ≤ mag g
   pub most : mag g ≤ 2 ^ 1012 * L
 
-grown-of : (a k : ℕ) (g : Float) → k ≤ 1010 → Packed (pos a) (1023 + k) g → Grown a g
-grown-of a k g few K = record {
+sized : (x : Float) → Fin64 x → (b : Bool) → sgn x ≡ b → let w = cond b (Ieee.neg x) x in Fin64 w × (mag w ≡ mag x) × (sgn w ≡ false)
+sized x f false e = (f, refl, e)
+sized x f true e = (neg-fine x f, neg-mag x, neg-sign x f ∙ ap not e)
+
+pub size-has : (x : Float) → Fin64 x → Fin64 (sizeOf x) × (mag (sizeOf x) ≡ mag x) × (sgn (sizeOf x) ≡ false)
+size-has x f = sized x f (sgn x) refl
+
+val-plus : (w : Float) (a : ℕ) → sgn w ≡ false → mag w ≡ a → val w ≡ pos a
+unfolding val
+val-plus w a s m = rw (s, m)
+
+grown-of : (a : ℕ) (z : ℤ) (g : Float) → z ≡ pos a → L ≤ mag g → Close z g → Grown a g
+grown-of a z g e l K = record {
   fine = K .fine;
   sign = K .sign;
-  above = K .above;
-  below = K .below;
-  least = from-least (1023 + k) (mag g) (at-1023 k) (K .least);
-  most = from-most (1023 + k) (mag g) (field-plus k few .1) (K .most);
+  above = subst (λ (v : ℤ). AtMost v L (mag g * (2 ^ 48 + 1)) (L * 2 ^ 48)) e (K .above);
+  below = subst (λ (v : ℤ). AtLeast v L (mag g * 2 ^ 48) (L * (2 ^ 48 + 1))) e (K .below);
+  least = l;
+  most = K .most;
 }
 
 pub grown : (x : Float) → T (fits binary64 x) → inRange low high x ≡ true → Grown (mag x) (growthOf x)
 unfolding growthOf
 grown x f r =
-    let c = cut-le (mag x) (ranged-mag x f r) in
-    grown-of (mag x) (belowOf (cutOf x)) (ofBits binary64 (expBits false (cutOf x))) (below-facts (cutOf x) c .few) (near-plus (mag x) c)
+    let F = ranged-finite x f r in
+    let w = sizeOf x in
+    let S = size-has x F in
+    let l = subst (λ (v : ℕ). v ≤ 700 * L) (sym (S .1)) (ranged-mag x f r) in
+    let v : val w ≡ pos (mag x) = val-plus w (mag x) (S .2) (S .1) in
+    grown-of (mag x) (val w) (expOf w) v (at-least-one w (S .0) l (ap n v)) (exp-close w (S .0) l)
+
+pub size-sized : (x : Float) → T (fits binary64 x) → inRange low high x ≡ true → Sized (sizeOf x)
+size-sized x f r = let S = size-has x (ranged-finite x f r) in (S .0 .0, subst (λ (v : ℕ). v ≤ 700 * L) (sym (S .1)) (ranged-mag x f r))
 
 -- ---- with the sign
 signed : (x h : Float) (s : Bool) → sgn x ≡ s → Fin64 h → sgn h ≡ false → SinhAtMost (mag x) L (mag h * 2 ^ 45 + L) (L * (2 ^ 45 - 1)) → SinhAtLeast (mag x) L (mag h * 2 ^ 45 - L) (L * (2 ^ 45 + 1))
@@ -162,5 +172,5 @@ sinh-near x f r =
     signed x (halfOf g) (sgn x) refl (H .fine) (H .sign) (at-most (mag x) g (halfOf g) (G .least) (G .above) (G .below) (H .joint)) (at-least (mag x) g (halfOf g) (G .least) (G .above) (G .below) (H .joint))
 
 pub sinh-zero : (sinhOf (ofBits binary64 0) ≡ ofBits binary64 0) × (sinhOf (ofBits binary64 0x8000_0000_0000_0000) ≡ ofBits binary64 0x8000_0000_0000_0000)
-unfolding sinhOf halfOf growthOf expBits packOf partOf tailOf mag L ofBits Ieee.mul Ieee.sub Ieee.div Ieee.neg
+unfolding sinhOf halfOf growthOf expOf nearestOf restOf seriesOf scaleBits timesOf ofBits toBits Ieee.add Ieee.mul Ieee.sub Ieee.div Ieee.neg
 sinh-zero = (refl, refl)

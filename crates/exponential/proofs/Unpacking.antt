@@ -1,55 +1,49 @@
--- What the pattern of an argument within the range says of it. Assumes nothing.
-use mathlib.Core.Path.{_≡_, refl, sym, ap, _∙_, subst}
-use mathlib.Core.Bool.{Bool, true, not}
-use Prim.Native.Nat.{ℕ, suc, _+_, _*_, _/_, _^_, _≤_, _<_}
-use native.Mathlib.Nat.{lt-irrefl, lt-of-le-of-lt, le-trans}
-use native.Mathlib.Omega.{arith, by-contra}
-use native.Mathlib.Bridge.{le-by-compare, IsLe}
+-- What the patterns say: of an argument within the range, and of what the exponential takes from it. Assumes nothing.
+use mathlib.Core.Path.{_≡_, sym, ap, _∙_, subst}
+use mathlib.Core.Bool.{true, not}
+use Prim.Native.Nat.{ℕ, _+_, _*_, _/_, _%_, _^_, _<_}
+use native.Mathlib.Omega.{arith}
 use lib.Dec.{T}
 use lib.Ieee.{Float, binary64, ofBits, toBits, fits, isNan, nanBits}
 use lib.Ieee.Scale as Scale
-use Rattle.exact.specs.Units.{mag, sgn}
-use Rattle.exact.specs.Fields.{signAt, exponentAt, digitsAt, of-own}
+use Rattle.exact.specs.Units.{sgn}
+use Rattle.exact.specs.Fields.{signAt, of-own}
 use Rattle.exact.specs.Patterns.{finite-not-nan, not-nan-bits, exponent-lt}
 use Rattle.exact.specs.Cut.{Unpacked, unpacked}
 use Rattle.answers.specs.Range.{inRange}
-use Rattle.exponential.specs.Worked.{low, high, expBits, cutOf, expOf}
-use Rattle.exponential.proofs.Near.{ranged-finite, ranged-mag, cut-le, exp-near}
-
-too-large : (a : ℕ) → 2 ^ 1084 ≤ a → a ≤ 700 * 2 ^ 1074 → ⊥
-unfolding IsLe
-too-large a h k = lt-irrefl (2 ^ 1084) (lt-of-le-of-lt (le-trans h k) (le-by-compare (suc (700 * 2 ^ 1074)) (2 ^ 1084) tt))
+use Rattle.exponential.specs.Entries.{powerOf}
+use Rattle.exponential.specs.Worked.{low, high, Sized, nearestOf, scaleBits}
+use Rattle.exponential.proofs.Scale.{power-entry}
+use Rattle.exponential.proofs.Near.{ranged-finite, ranged-mag}
+use Rattle.exponential.proofs.Close.{whole-near, units-of}
 
 module _ (x : Float) (f : T (fits binary64 x)) (r : inRange low high x ≡ true) where
-  abbrev n : ℕ
-  n = toBits binary64 x
-
-  own : ofBits binary64 n ≡ x
+  own : ofBits binary64 (toBits binary64 x) ≡ x
   own = of-own x f
 
-  all : Unpacked n
-  all = unpacked n (exponent-lt n (subst (λ (y : Float). T (Scale.finite y)) (sym own) (ranged-finite x f r .0)))
+  all : Unpacked (toBits binary64 x)
+  all = unpacked (toBits binary64 x) (exponent-lt (toBits binary64 x) (subst (λ (y : Float). T (Scale.finite y)) (sym own) (ranged-finite x f r .0)))
 
   pub no-nan : T (not (isNan x))
   no-nan = finite-not-nan x (ranged-finite x f r .0)
 
-  pub exponent-small : exponentAt n < 1033
-  exponent-small =
-      by-contra (suc (exponentAt n)) 1033
-      (λ g. too-large (mag x) (subst (λ (y : Float). 2 ^ 1084 ≤ mag y) own (all .large (omega arith))) (ranged-mag x f r))
-
-  pub cut-is : (2 ^ 52 + digitsAt n) * 2 ^ exponentAt n / 2 ^ 1022 ≡ cutOf x
-  cut-is = all .cut ∙ ap (λ y. mag y / 2 ^ 1021) own
-
-  pub sign-is : signAt n ≡ sgn x
+  pub sign-is : signAt (toBits binary64 x) ≡ sgn x
   sign-is = sym (all .sign) ∙ ap sgn own
 
-  pub cut-small : cutOf x ≤ 700 * 2 ^ 53
-  cut-small = cut-le (mag x) (ranged-mag x f r)
+module _ (x : Float) (f : T (fits binary64 x)) (r : Sized x) where
+  -- k + shift
+  pub nearest-no-nan : T (not (isNan (nearestOf x)))
+  nearest-no-nan = finite-not-nan (nearestOf x) (whole-near x (r .0, f) (r .1) .fine .0)
 
-  pub exp-is : ofBits binary64 (expBits (sgn x) (cutOf x)) ≡ expOf x
-  unfolding expOf
-  exp-is = refl
+  pub scale-no-nan : T (not (nanBits binary64 (scaleBits (toBits binary64 (nearestOf x)))))
+  scale-no-nan = not-nan-bits (scaleBits (toBits binary64 (nearestOf x))) (units-of x (r .0, f) (r .1) .fine .0)
 
-  pub exp-no-nan : T (not (nanBits binary64 (expBits (sgn x) (cutOf x))))
-  exp-no-nan = not-nan-bits (expBits (sgn x) (cutOf x)) (subst (λ (y : Float). T (Scale.finite y)) (sym exp-is) (exp-near x f r .fine .0))
+pub ranged-sized : (x : Float) → T (fits binary64 x) → inRange low high x ≡ true → Sized x
+ranged-sized x f r = (ranged-finite x f r .0, ranged-mag x f r)
+
+-- the bits fit
+pub bits-fit : (b : ℕ) → b / 128 * 2 ^ 52 % 2 ^ 64 + powerOf (b % 128) < 2 ^ 64
+bits-fit b = go (b / 128) (powerOf (b % 128)) (power-entry (b % 128) (omega arith) .small)
+  where
+    go : (e t : ℕ) → t < 2 ^ 52 → e * 2 ^ 52 % 2 ^ 64 + t < 2 ^ 64
+    go e t h = omega arith

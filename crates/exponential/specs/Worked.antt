@@ -1,13 +1,13 @@
--- What the exponential works (RULES, section 3): in whole numbers, an argument in units of 2^-53 and a value in units of 2^-61,
--- 2^-62 or 2^-63. How near it is stands in `series`, ExpNear; that it is so near, in proofs/Near.
-use mathlib.Core.Bool.{Bool, true, false, cond}
-use Prim.Native.Nat.{ℕ, _+_, _-_, _*_, _/_, _%_, _^_}
-use lib.Dec.{ltb}
+-- What the exponential works (RULES, section 3): x is k ln 2 / 128 and a rest r, and exp x is 2^(k / 128) from a table, times the series
+-- at r. How near it is stands in `series`, ExpNear; that it is so near, in proofs/Near.
+use Prim.Native.Nat.{ℕ, _+_, _*_, _/_, _%_, _^_, _≤_}
+use lib.Dec.{T}
 use lib.Ieee as Ieee
-use lib.Ieee.{Float, binary64, ofBits}
-use Rattle.exact.specs.Units.{mag, sgn}
-use Rattle.exponential.specs.declared.Quotient.{Quotient}
-use Rattle.exponential.specs.Entries.{coarseOf, fineOf}
+use lib.Ieee.{Float, binary64, ofBits, toBits}
+use lib.Ieee.Scale as Scale
+use Rattle.exact.specs.Units.{L, mag}
+use Rattle.numbers.specs.Constants.{half}
+use Rattle.exponential.specs.Entries.{powerOf}
 
 -- the range from -700 to 700
 abbrev pub low : Float
@@ -16,46 +16,51 @@ low = Ieee.neg (ofBits binary64 0x4085_e000_0000_0000)
 abbrev pub high : Float
 high = ofBits binary64 0x4085_e000_0000_0000
 
--- 2^63 (1 + h + h^2 / 2 + h^3 / 6), for an h below 2^39 units, which is 2^-14
-unfoldable pub tailOf : ℕ → ℕ
-tailOf h =
-    let g = h / 128 in
-    2 ^ 63 + h * 1024 + g * g / 2 ^ 30 + g * g / 2 ^ 32 * g / 6 / 2 ^ 43
+-- a finite number of at most that size
+abbrev pub Sized : Float → Type 0
+Sized x = T (Scale.finite x) × (mag x ≤ 700 * L)
 
--- 2^61 exp r, for an r below 90 * 2^46 units, which is 90 / 128, by the two tables: the digits of r pick an entry of each
-unfoldable pub partOf : ℕ → ℕ
-partOf r = coarseOf (r / 2 ^ 46) * fineOf (r / 2 ^ 39 % 128) / 2 ^ 64 * 2 * tailOf (r % 2 ^ 39) / 2 ^ 64
+-- 1.5 * 2^52 + 1023 * 128: a sum near it is rounded to a whole number, which its last bits hold
+abbrev pub shift : Float
+shift = ofBits binary64 0x4338_0000_0001_ff80
 
--- k ln 2: ln 2 is 6243314768165359 + 897137782 / 2^32 units
-abbrev pub timesOf : ℕ → ℕ
-timesOf k = k * 6243314768165359 + k * 897137782 / 2 ^ 32
+-- 128 / ln 2
+abbrev pub rate : Float
+rate = ofBits binary64 0x4067_1547_652b_82fe
 
--- the most times ln 2 that stay within u, or one less, and the fewest that reach u, or one more: 2^30 / ln 2 is 1549082004 and a part
-abbrev pub belowOf : ℕ → ℕ
-belowOf u = u / 2 ^ 33 * 1549082004 / 2 ^ 50
+-- ln 2 / 128 in two parts: the first has 35 bits, so that a whole number below 2^17 times it is exact
+abbrev pub first : Float
+first = ofBits binary64 0x3f76_2e42_fef8_0000
 
-abbrev pub aboveOf : ℕ → ℕ
-aboveOf u = ((u + 0x1_ffff_ffff) / 2 ^ 33 * 1549082005 + 0x3_ffff_ffff_ffff) / 2 ^ 50
+abbrev pub second : Float
+second = ofBits binary64 0x3d41_cf79_abc9_e3b4
 
--- the bits of b 2^-61 2^(e - 1023); a b below 2^61, which stands for 1, is raised to it
-abbrev pub raisedOf : ℕ → ℕ
-raisedOf b = cond (ltb b (2 ^ 61)) (2 ^ 61) b
+-- 1 / 6 and 1 / 24
+abbrev pub sixth : Float
+sixth = ofBits binary64 0x3fc5_5555_5555_5555
 
-unfoldable pub packOf : ℕ → ℕ → ℕ
-packOf e b = cond (ltb (raisedOf b) (2 ^ 62)) ((e - 1) * 2 ^ 52 + raisedOf b / 512) (e * 2 ^ 52 + raisedOf b / 1024)
+abbrev pub last : Float
+last = ofBits binary64 0x3fa5_5555_5555_5555
 
--- the exponent's field and the rest r: u = k ln 2 + r, and where the sign is set u + r = k ln 2
-abbrev pub quotientOf : Bool → ℕ → Quotient
-quotientOf false u = record { field = 1023 + belowOf u; rest = u - timesOf (belowOf u) }
-quotientOf true u = record { field = 1023 - aboveOf u; rest = timesOf (aboveOf u) - u }
+-- k + shift, for the whole number k nearest to 128 x / ln 2
+unfoldable pub nearestOf : Float → Float
+nearestOf x = Ieee.add binary64 (Ieee.mul binary64 x rate) shift
 
--- the bits of exp u, and of exp (- u): 2^k exp r, and exp r / 2^k
-unfoldable pub expBits : Bool → ℕ → ℕ
-expBits negative u = let q = quotientOf negative u in packOf (q .field) (partOf (q .rest))
+-- x less k ln 2 / 128
+unfoldable pub restOf : Float → Float → Float
+restOf x k = Ieee.sub binary64 (Ieee.sub binary64 x (Ieee.mul binary64 k first)) (Ieee.mul binary64 k second)
 
--- x in units of 2^-53, rounded to 0
-abbrev pub cutOf : Float → ℕ
-cutOf x = mag x / 2 ^ 1021
+-- r + r^2 / 2 + r^3 / 6 + r^4 / 24
+unfoldable pub seriesOf : Float → Float
+seriesOf r = Ieee.add binary64 r (Ieee.mul binary64 (Ieee.mul binary64 r r) (Ieee.add binary64 half (Ieee.mul binary64 r (Ieee.add binary64 sixth (Ieee.mul binary64 r last)))))
+
+-- the bits of 2^(k / 128), from those of k + shift: a shift by 52 keeps only the exponent's field
+unfoldable pub scaleBits : ℕ → ℕ
+scaleBits n = n / 128 * 2 ^ 52 % 2 ^ 64 + powerOf (n % 128)
+
+-- s (1 + p)
+unfoldable pub timesOf : Float → Float → Float
+timesOf s p = Ieee.add binary64 s (Ieee.mul binary64 s p)
 
 unfoldable pub expOf : Float → Float
-expOf x = ofBits binary64 (expBits (sgn x) (cutOf x))
+expOf x = let t = nearestOf x in timesOf (ofBits binary64 (scaleBits (toBits binary64 t))) (seriesOf (restOf x (Ieee.sub binary64 t shift)))

@@ -7,14 +7,22 @@ ghost use Rattle.answers.specs.declared.Answer.the-variants.{Value};
 ghost use Rattle.series.specs.SinhNear.{SinhNear};
 ghost use Rattle.answers.specs.Range.{inRange, bare, onPath};
 ghost use Rattle.exponential.specs.Worked.{low, high};
-ghost use Rattle.exponential.specs.Sinh.{growthOf, sinhOf, sinhRanged};
+ghost use Rattle.exponential.specs.Sinh.{sizeOf, growthOf, sinhOf, sinhRanged};
+
+// |x|.
+fn size(x: f64) -> f64
+    requires { ⌜ inRange low high x ≡ true ⌝ }
+    ensures { λ r. ⌜ r ≡ sizeOf x ⌝ }
+{
+    if super::negative(x) { -x } else { x }
+}
 
 // exp |x|.
 fn growth(x: f64) -> f64
     requires { ⌜ inRange low high x ≡ true ⌝ }
     ensures { λ r. ⌜ r ≡ growthOf x ⌝ }
 {
-    f64::from_bits(super::exp_bits(false, super::cut(x)))
+    super::exp_value(size(x))
 }
 
 // sinh x, for an x within the range: within 2^-45 times (1 + the size of the exact value).

@@ -1,103 +1,50 @@
-// The exponential and the hyperbolic sine (RULES, section 3). The exponential is worked in fixed point: 2^k times a part from two
-// tables and four terms of the series.
+// The exponential and the hyperbolic sine (RULES, section 3). x is k ln 2 / 128 and a rest: the exponential is 2^(k / 128) from a table,
+// times four terms of the series.
 mod entries;
 mod hyperbolic;
-mod part;
+mod three;
 
 use answers::Answer;
-use fixed_point::fixed;
+use entries::power;
 pub use hyperbolic::sinh;
 pub use hyperbolic::sinh_on_path;
-use part::exp_part;
+pub use three::exps_on_path;
 ghost use mathlib.Core.Path.{_≡_};
 ghost use mathlib.Core.Bool.{true};
 ghost use lib.Ieee.{Float};
 ghost use Rattle.answers.specs.declared.Answer.the-variants.{Value};
-ghost use Prim.Native.Nat.{_+_, _*_, _^_, _≤_, _<_};
 ghost use Rattle.exact.specs.Units.{sgn};
 ghost use Rattle.series.specs.ExpNear.{ExpNear};
 ghost use Rattle.answers.specs.Range.{inRange, bare, onPath};
 ghost use Rattle.exponential.specs.Exp.{expRanged};
-ghost use Rattle.exponential.specs.Worked.{low, high, timesOf, raisedOf, packOf, quotientOf, expBits, cutOf, expOf};
+ghost use Rattle.exponential.specs.Worked.{low, high, Sized, nearestOf, restOf, seriesOf, timesOf, expOf};
 
-// k ln 2, in units of 2^-53.
-fn times(k: u64) -> u64
-    requires { ⌜ k ≤ 1010 ⌝ }
-    ensures { λ r. ⌜ r ≡ timesOf k ⌝ }
+// k + 1.5 * 2^52 + 1023 * 128, for the whole number k nearest to 128 x / ln 2.
+fn nearest(x: f64) -> f64
+    ensures { λ t. ⌜ t ≡ nearestOf x ⌝ }
 {
-    k * 6243314768165359 + k * 897137782 / 0x1_0000_0000
+    x * 184.6649652337873 + 6755399441186688.0
 }
 
-// b, or 2^61 where it falls short of that.
-fn raised(b: u64) -> u64
-    ensures { λ c. ⌜ c ≡ raisedOf b ⌝ }
+// x less k ln 2 / 128. k times the first part is exact.
+fn rest(x: f64, k: f64) -> f64
+    ensures { λ r. ⌜ r ≡ restOf x k ⌝ }
 {
-    if b < 0x2000_0000_0000_0000 {
-        0x2000_0000_0000_0000
-    } else {
-        b
-    }
+    x - k * 0.005415212347998022 - k * 1.2655086083325438e-13
 }
 
-// The bits of b 2^-61 2^(e - 1023).
-fn pack(e: u64, b: u64) -> u64
-    requires { ⌜ (0 < e) × (e ≤ 2033) × (b < 2 ^ 63) ⌝ }
-    ensures { λ n. ⌜ n ≡ packOf e b ⌝ }
+// exp r - 1, for a small r, by four terms.
+fn series(r: f64) -> f64
+    ensures { λ p. ⌜ p ≡ seriesOf r ⌝ }
 {
-    let c = raised(b);
-    if c < 0x4000_0000_0000_0000 {
-        (e - 1) * 0x10_0000_0000_0000 + c / 512
-    } else {
-        e * 0x10_0000_0000_0000 + c / 1024
-    }
+    r + r * r * (0.5 + r * (0.16666666666666666 + r * 0.041666666666666664))
 }
 
-// The exponent's field, and the rest in units of 2^-53.
-struct Quotient {
-    field: u64,
-    rest: u64,
-}
-
-// u, or - u, as a multiple of ln 2 and a rest that is not negative.
-fn divided(negative: bool, u: u64) -> Quotient
-    requires { ⌜ u ≤ 700 * 2 ^ 53 ⌝ }
-    ensures { λ q. ⌜ q ≡ quotientOf negative u ⌝ }
+// s (1 + p).
+fn times(s: f64, p: f64) -> f64
+    ensures { λ y. ⌜ y ≡ timesOf s p ⌝ }
 {
-    if negative {
-        let k = ((u + 0x1_ffff_ffff) / 0x2_0000_0000 * 1549082005 + 0x3_ffff_ffff_ffff)
-            / 0x4_0000_0000_0000;
-        Quotient {
-            field: 1023 - k,
-            rest: times(k) - u,
-        }
-    } else {
-        let k = u / 0x2_0000_0000 * 1549082004 / 0x4_0000_0000_0000;
-        Quotient {
-            field: 1023 + k,
-            rest: u - times(k),
-        }
-    }
-}
-
-// The bits of exp (u / 2^53), or of exp (- u / 2^53).
-fn exp_bits(negative: bool, u: u64) -> u64
-    requires { ⌜ u ≤ 700 * 2 ^ 53 ⌝ }
-    ensures { λ n. ⌜ n ≡ expBits negative u ⌝ }
-{
-    let q = divided(negative, u);
-    pack(q.field, exp_part(q.rest))
-}
-
-// The size of x in units of 2^-53, rounded down.
-fn cut(x: f64) -> u64
-    requires { ⌜ inRange low high x ≡ true ⌝ }
-    ensures { λ u. ⌜ u ≡ cutOf x ⌝ }
-{
-    let n = f64::to_bits(x);
-    fixed(
-        n % 0x8000_0000_0000_0000 / 0x10_0000_0000_0000,
-        0x10_0000_0000_0000 + n % 0x10_0000_0000_0000,
-    )
+    s + s * p
 }
 
 // Whether x has the sign.
@@ -108,12 +55,15 @@ fn negative(x: f64) -> bool
     0x8000_0000_0000_0000 <= f64::to_bits(x)
 }
 
-// exp x, for an x within the range: within 2^-45 of the exact value, times that value.
+// exp x, for an x of at most 700 in size: within 2^-48 of the exact value, times that value.
 fn exp_value(x: f64) -> f64
-    requires { ⌜ inRange low high x ≡ true ⌝ }
+    requires { ⌜ Sized x ⌝ }
     ensures { λ r. ⌜ r ≡ expOf x ⌝ }
 {
-    f64::from_bits(exp_bits(negative(x), cut(x)))
+    let t = nearest(x);
+    let n = f64::to_bits(t);
+    let s = f64::from_bits((n / 128 << 52) + power(n % 128));
+    times(s, series(rest(x, t - 6755399441186688.0)))
 }
 
 // exp x within the range; outside it the refusal of its side.

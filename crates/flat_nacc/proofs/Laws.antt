@@ -5,7 +5,9 @@ use mathlib.Core.Path.{_≡_, refl, sym, ap, _∙_}
 use Prim.Native.Nat.{ℕ}
 use native.Mathlib.Omega.{arith}
 use lib.Ieee as Ieee
-use lib.Ieee.{Float}
+use lib.Ieee.{Float, binary64, ofBits, round, size}
+use Rattle.exact.specs.Units.{mag, L}
+use Rattle.exact.specs.RootOf.{sqrtOf, floorRoot, rootIn}
 use Rattle.answers.specs.Range.{ranged, onPath, inRange, sideOf}
 use Rattle.answers.specs.Refusals.{noNumber}
 use Rattle.answers.specs.declared.Answer.{Answer}
@@ -17,7 +19,7 @@ use Rattle.tensor.specs.Matrix.{zero}
 use Rattle.tensor.specs.Finite.{rowFinite, matFinite}
 use Rattle.plasticity.specs.State.{scalarsFinite}
 use Rattle.walk.specs.Expr.{num, value}
-use Rattle.walk.specs.Walk.{Walk, third, two-thirds, minus-two-thirds, at, answerOf, _then_, Ended, given, refused, result}
+use Rattle.walk.specs.Walk.{Walk, root, third, two-thirds, minus-two-thirds, at, answerOf, _then_, Ended, given, refused, result}
 use Rattle.walk.specs.Exact.{andThen, result-then}
 use Rattle.walk.specs.Every.{and-right}
 use Rattle.reason.specs.declared.Number.{Number}
@@ -29,7 +31,7 @@ use Rattle.plasticity_nacc.specs.declared.NaccPlasticity.{NaccPlasticity}
 use Rattle.plasticity_nacc.specs.Law.{argumentsFloats, argumentsFinite}
 use Rattle.plasticity_nacc.specs.declared.Trial.{Trial}
 use Rattle.plasticity_nacc.specs.Axes.{two-axes}
-use Rattle.plasticity_nacc.specs.Formulas.{low}
+use Rattle.plasticity_nacc.specs.Formulas.{low, half}
 use Rattle.plasticity_nacc.specs.Nacc.{Way, upper, lower, inside, surface, Shape, Landed, tipWalk, ends, pressWalk, stepsWalk, scalarsOf}
 use Rattle.plasticity_nacc.proofs.Laws as nacc
 use Rattle.flat.specs.State.{inputsFinite, stateFinite, rowsFinite, keptOf}
@@ -155,3 +157,8 @@ module _ (u vt : List (List Float)) (s : State) where
   run-law p =
       let w = stepsWalk two-axes p (s .sigma) (s .scalars .alpha) in
       ap (updatedOf s) (result-then w (λ q. wayWalk (q .way) (q .shape) u vt s)) ∙ follows (result w)
+
+-- the root of (6 - 2) / 2, which the hardening step takes
+pub half-root : answers.Value (ofBits binary64 0x3ff6_a09e_667f_3bcd) ≡ answerOf root (value (half (num (ofBits binary64 0x4000_0000_0000_0000))))
+unfolding sqrtOf floorRoot rootIn mag L isNumber ofBits round size Ieee.sub Ieee.div Ieee.le Ieee.lt Ieee.eq
+half-root = refl

@@ -11,11 +11,14 @@ ghost use mathlib.Core.Bool.{true};
 ghost use Rattle.numbers.specs.Floats.{isNumber};
 ghost use Rattle.tensor.specs.Axes.{allOf};
 ghost use Rattle.walk.specs.Expr.{num, values};
-ghost use Rattle.walk.specs.Walk.{works, result};
+ghost use Rattle.walk.specs.Walk.{works, result, root, answerOf};
 ghost use Rattle.plasticity_nacc.specs.Axes.{two-axes};
 ghost use Rattle.plasticity_nacc.specs.Formulas.{spread};
 ghost use Rattle.plasticity_nacc.specs.Nacc.{tipWalk, rootsWalk, landWalk, surfaceWalk, settled};
 ghost use Rattle.flat_nacc.specs.Nacc.{refusedStep, shapedOf};
+
+// The root of (6 - 2) / 2.
+const HALF_ROOT: f64 = 1.4142135623730951;
 
 pub fn refused_step(n: u8) -> Stepped
     ensures { λ r. ⌜ r ≡ refusedStep n ⌝ }
@@ -95,7 +98,8 @@ fn landed(t: Trial, s: [f64; 2], k: f64, norm: f64, alpha: f64) -> Stepped
 }
 
 // Onto the surface, once the new alpha is known.
-fn land(p: NaccPlasticity, t: Trial, s: [f64; 2], alpha: f64) -> Stepped
+fn land(p: NaccPlasticity, t: Trial, s: [f64; 2], norm: Answer, alpha: f64) -> Stepped
+    requires { ⌜ norm ≡ answerOf root (t .squares) ⌝ }
     ensures { λ r. ⌜ r ≡ shapedOf (result (landWalk two-axes p t s alpha)) ⌝ }
 {
     match square_root::sqrt_on_path(-p.y1(t) / p.y0(2.0)) {
@@ -103,8 +107,8 @@ fn land(p: NaccPlasticity, t: Trial, s: [f64; 2], alpha: f64) -> Stepped
             Answer::Value(_) => {
                 let k = p.scale(r, t.j);
                 if numbers::is_number(k) {
-                    match square_root::sqrt_on_path(t.squares) {
-                        Answer::Value(norm) => landed(t, s, k, norm, alpha),
+                    match norm {
+                        Answer::Value(n) => landed(t, s, k, n, alpha),
                         Answer::Refused(n) => refused_step(n),
                     }
                 } else {
@@ -122,8 +126,9 @@ pub fn surface(p: NaccPlasticity, t: Trial, s: [f64; 2], alpha: f64) -> Stepped
     requires { ⌜ settled p t ≡ true ⌝ }
     ensures { λ r. ⌜ r ≡ shapedOf (result (surfaceWalk two-axes p t s alpha)) ⌝ }
 {
-    match p.hardened(2.0, t, alpha) {
-        Number::Value(a) => land(p, t, s, a),
+    let norm = square_root::sqrt_on_path(t.squares);
+    match p.hardened(2.0, HALF_ROOT, norm, t, alpha) {
+        Number::Value(a) => land(p, t, s, norm, a),
         Number::Refused(n, _) => refused_step(n),
     }
 }

@@ -1,11 +1,11 @@
--- The logarithm's two summands as floats: the exponent times log 2, by a test at each exponent, and the logarithm of what is left, by the
--- error of one difference. Assumes nothing.
-use mathlib.Core.Path.{_≡_, refl, sym, ap₂, subst}
+-- The exponent times log 2 as a float, by a test at each exponent, and a number added to it. Assumes nothing.
+use mathlib.Core.Path.{_≡_, refl, sym, subst}
 use mathlib.Core.Logic.{_⊎_, inl, inr}
 use mathlib.Core.Bool.{Bool, true, false}
-use Prim.Native.Nat.{ℕ, zero, suc, _+_, _-_, _*_, _^_, _≤_, _<_}
+use Prim.Native.Nat.{ℕ, zero, suc, _+_, _*_, _^_, _≤_, _<_}
 use native.Mathlib.Nat.{not-suc-le-zero, eq-or-lt-of-le, le-trans, mul-le-mul-right}
 use native.Mathlib.Omega.{arith}
+use lib.Pow.{pow-pos}
 use native.Mathlib.Bridge.{le-by-compare, IsLe}
 use lib.Dec.{T, leb, leb→le}
 use lib.Ieee as Ieee
@@ -14,9 +14,6 @@ use lib.Ieee.Scale.{finite}
 use Rattle.exact.specs.Both.{both, both-left, both-right}
 use Rattle.exact.specs.Units.{L, mag, sgn, Fin64}
 use Rattle.exact.specs.Sums.{pl, mi, plus, minus, add-near}
-use Rattle.exact.specs.Rounding.{Near}
-use Rattle.exact.specs.Fields.{Has}
-use Rattle.exact.specs.Patterns.{units-at}
 use Rattle.logarithm.specs.Worked.{ln2}
 
 -- 2^-57 in units of 2^-1074, shut
@@ -26,6 +23,26 @@ K = 2 ^ 1017
 pub L-is : L ≡ 2 ^ 57 * K
 unfolding L K
 L-is = refl
+
+pub K-pos : 0 < K
+unfolding K
+K-pos = pow-pos 1017
+
+-- 2^-12 alike
+unfoldable pub D : ℕ
+D = 2 ^ 1062
+
+pub D-pos : 0 < D
+unfolding D
+D-pos = pow-pos 1062
+
+pub L-of-D : L ≡ 2 ^ 12 * D
+unfolding L D
+L-of-D = refl
+
+pub square : L * L ≡ 32 * 2 ^ 64 * (K * D)
+unfolding L K D
+square = refl
 
 -- 2^57 log 2, rounded down
 abbrev pub ln2Whole : ℕ
@@ -83,98 +100,50 @@ pub product : (i : ℕ) → i < 121 → Times i (productAt i)
 unfolding timesTest upTo mag K L fits Ieee.mul Ieee.sub ofBits
 product i h = times i (productAt i) (at-each (λ k. timesTest k (productAt k)) 121 tt i h)
 
--- what a float with the sign + or - has
-pub plus-of : (s : Bool) (a : ℕ) (x : Float) → Has s a x → (plus x ≡ pl s a) × (minus x ≡ mi s a)
-plus-of s a x h = (ap₂ pl (h .sign) (h .units), ap₂ mi (h .sign) (h .units))
-
-few : (a : ℕ) → a ≤ 64 * L → a ≤ 2 ^ 1023 * L
+pub few : (a : ℕ) → a ≤ 64 * L → a ≤ 2 ^ 1023 * L
 unfolding IsLe
 few a h = le-trans h (mul-le-mul-right L (le-by-compare 64 (2 ^ 1023) tt))
 
--- z is 32 s units of 2^-57, but for 16
-pub record Left (s : ℕ) (z : Float) : Type 0 where
-  pub fine : Fin64 z
-  pub most : plus z ≤ minus z + (32 * s + 16) * K
-  pub least : minus z + 32 * s * K ≤ plus z + 16 * K
-
-one : Float
-one = ofBits binary64 0x3ff0_0000_0000_0000
-
-minus-one : Has true (2 ^ 57 * K) (Ieee.neg one)
-unfolding one mag K L fits Ieee.neg ofBits
-minus-one = record { fine = (tt, tt); sign = refl; units = refl }
-
-wide : 2 ^ 1022 ≡ 32 * K
-unfolding K
-wide = refl
-
-left-most : (s k u m : ℕ) → s < 2 ^ 52 → (u + (0 + 2 ^ 57 * k)) * 2 ^ 53 ≤ (m + ((2 ^ 52 + s) * (32 * k) + 0)) * 2 ^ 53 + s * (32 * k) → u ≤ m + (32 * s + 16) * k
-left-most s k u m h a = let b : s * k ≤ 2 ^ 52 * k = mul-le-mul-right k (omega arith) in omega arith
-
-left-least : (s k u m : ℕ) → s < 2 ^ 52 → (m + ((2 ^ 52 + s) * (32 * k) + 0)) * 2 ^ 53 ≤ (u + (0 + 2 ^ 57 * k)) * 2 ^ 53 + s * (32 * k) → m + 32 * s * k ≤ u + 16 * k
-left-least s k u m h a = let b : s * k ≤ 2 ^ 52 * k = mul-le-mul-right k (omega arith) in omega arith
-
-left-room : (s k : ℕ) → s < 2 ^ 52 → (2 ^ 52 + s) * (32 * k) + 2 ^ 57 * k ≤ 64 * (2 ^ 57 * k)
-left-room s k h = let b : s * k ≤ 2 ^ 52 * k = mul-le-mul-right k (omega arith) in omega arith
-
-left-near : (s k : ℕ) → Near ((2 ^ 52 + s) * (32 * k) + 0) (0 + 2 ^ 57 * k) (s * (32 * k))
-left-near s k = (omega arith, omega arith)
-
-left-of : (s : ℕ) (x : Float) → s < 2 ^ 52 → Has false ((2 ^ 52 + s) * (32 * K)) x → Left s (Ieee.add binary64 x (Ieee.neg one))
-left-of s x h X =
-    let y = Ieee.neg one in
-    let z = Ieee.add binary64 x y in
-    let R = add-near x y (X .fine) (minus-one .fine) (few (mag x + mag y) (rw (X .units, minus-one .units, L-is) (left-room s K h))) in
-    let px = plus-of false ((2 ^ 52 + s) * (32 * K)) x X in
-    let py = plus-of true (2 ^ 57 * K) y minus-one in
-    let N = rw (px .0, px .1, py .0, py .1) at (R .near (s * (32 * K))) in
-    let M = N (left-near s K) in
-    record { fine = R .fine; most = left-most s K (plus z) (minus z) h (M .0); least = left-least s K (plus z) (minus z) h (M .1) }
-
-pub left : (s : ℕ) → s < 2 ^ 52 → Left s (Ieee.sub binary64 (ofBits binary64 (0x3ff0_0000_0000_0000 + s)) (ofBits binary64 0x3ff0_0000_0000_0000))
-unfolding one Ieee.sub
-left s h = left-of s (ofBits binary64 (0x3ff0_0000_0000_0000 + s)) h (subst (λ (w : ℕ). Has false ((2 ^ 52 + s) * w) (ofBits binary64 (0x3ff0_0000_0000_0000 + s))) wide (units-at 1022 s (omega arith) h))
-
--- ---- the sum of the two, of which l / 32 is s
-pub record Sum (i l : ℕ) (r : Float) : Type 0 where
-  pub fine : Fin64 r
-  pub most : plus r + 60 * ln2Whole * K ≤ minus r + (i * ln2Whole + l + 1405) * K
-  pub least : minus r + (i * ln2Whole + l) * K ≤ plus r + (60 * ln2Whole + 1436) * K
-
-size-of : (b : Bool) (m a c : ℕ) → pl b m ≤ mi b m + a → mi b m ≤ pl b m + c → m ≤ a + c
+pub size-of : (b : Bool) (m a c : ℕ) → pl b m ≤ mi b m + a → mi b m ≤ pl b m + c → m ≤ a + c
 size-of false m a c h k = omega arith
 size-of true m a c h k = omega arith
 
-within : (b : Bool) (m : ℕ) → (pl b m ≤ m) × (mi b m ≤ m)
+pub within : (b : Bool) (m : ℕ) → (pl b m ≤ m) × (mi b m ≤ m)
 within false m = (omega arith, omega arith)
 within true m = (omega arith, omega arith)
 
-left-size : (s k m : ℕ) → s < 2 ^ 52 → m ≤ (32 * s + 16) * k + 16 * k → m ≤ (2 ^ 57 + 32) * k
-left-size s k m h a = let b : s * k ≤ 2 ^ 52 * k = mul-le-mul-right k (omega arith) in omega arith
-
-sum-room : (a b k : ℕ) → a ≤ 42 * 2 ^ 57 * k → b ≤ (2 ^ 57 + 32) * k → a + b ≤ 64 * (2 ^ 57 * k)
+sum-room : (a b k : ℕ) → a ≤ 42 * 2 ^ 57 * k → b ≤ 3 * 2 ^ 55 * k → a + b ≤ 64 * (2 ^ 57 * k)
 sum-room a b k h g = omega arith
 
--- e is the size of both
-sum-error : (u m pa ma pb mb a b k : ℕ) → a ≤ 42 * 2 ^ 57 * k → b ≤ (2 ^ 57 + 32) * k → (u + (ma + mb)) * 2 ^ 53 ≤ (m + (pa + pb)) * 2 ^ 53 + (a + b) → u + (ma + mb) ≤ m + (pa + pb) + 689 * k
-sum-error u m pa ma pb mb a b k h g e = omega arith
+sum-error : (u m a b k : ℕ) → a ≤ 42 * 2 ^ 57 * k → b ≤ 3 * 2 ^ 55 * k → u * 2 ^ 53 ≤ m * 2 ^ 53 + (a + b) → u ≤ m + 684 * k
+sum-error u m a b k h g e = omega arith
 
-sum-most : (u m pa ma pb mb i l s k n : ℕ) → u + (ma + mb) ≤ m + (pa + pb) + 689 * k → pa + 60 * n * k ≤ ma + (i * n + 700) * k → pb ≤ mb + (32 * s + 16) * k → 32 * s ≤ l → u + 60 * n * k ≤ m + (i * n + l + 1405) * k
-sum-most u m pa ma pb mb i l s k n e a b h = let c : 32 * s * k ≤ l * k = mul-le-mul-right k h in omega arith
+size : (s : Bool) (m a b c d x y e : ℕ) → pl s m + (b + d) ≤ mi s m + (a + c) + e → mi s m + (a + c) ≤ pl s m + (b + d) + e → (a ≤ x) × (b ≤ x) → (c ≤ y) × (d ≤ y) → m ≤ x + y + e
+size false m a b c d x y e h g k l = omega arith
+size true m a b c d x y e h g k l = omega arith
 
-sum-least : (u m pa ma pb mb i l s k n : ℕ) → m + (pa + pb) ≤ u + (ma + mb) + 689 * k → ma + i * n * k ≤ pa + (60 * n + 700) * k → mb + 32 * s * k ≤ pb + 16 * k → l ≤ 32 * s + 31 → m + (i * n + l) * k ≤ u + (60 * n + 1436) * k
-sum-least u m pa ma pb mb i l s k n e a b h = let c : l * k ≤ (32 * s + 31) * k = mul-le-mul-right k h in omega arith
+most-43 : (m a b k : ℕ) → a ≤ 42 * 2 ^ 57 * k → b ≤ 3 * 2 ^ 55 * k → m ≤ a + b + 684 * k → m ≤ 43 * (2 ^ 57 * k)
+most-43 m a b k h g e = omega arith
 
-pub sum : (i l s : ℕ) (x z : Float) → s < 2 ^ 52 → 32 * s ≤ l → l ≤ 32 * s + 31 → Times i x → Left s z → Sum i l (Ieee.add binary64 x z)
-sum i l s x z hs lo hi X Z =
-    let r = Ieee.add binary64 x z in
-    let g : mag z ≤ (2 ^ 57 + 32) * K = left-size s K (mag z) hs (size-of (sgn z) (mag z) ((32 * s + 16) * K) (16 * K) (Z .most) (omega (arith, Z .least))) in
-    let R = add-near x z (X .fine) (Z .fine) (few (mag x + mag z) (rw L-is (sum-room (mag x) (mag z) K (X .size) g))) in
+-- z is x + y but for 684 units of 2^-57
+pub record Summed (x y z : Float) : Type 0 where
+  pub fine : Fin64 z
+  pub size : mag z ≤ 43 * L
+  pub most : plus z + (minus x + minus y) ≤ minus z + (plus x + plus y) + 684 * K
+  pub least : minus z + (plus x + plus y) ≤ plus z + (minus x + minus y) + 684 * K
+
+pub summed : (i : ℕ) (x y : Float) → Times i x → Fin64 y → mag y ≤ 3 * 2 ^ 55 * K → Summed x y (Ieee.add binary64 x y)
+summed i x y X f h =
+    let z = Ieee.add binary64 x y in
+    let R = add-near x y (X .fine) f (few (mag x + mag y) (rw L-is (sum-room (mag x) (mag y) K (X .size) h))) in
     let a = within (sgn x) (mag x) in
-    let b = within (sgn z) (mag z) in
-    let M = R .near (mag x + mag z) (omega arith, omega arith) in
+    let b = within (sgn y) (mag y) in
+    let M = R .near (mag x + mag y) (omega arith, omega arith) in
+    let most = sum-error (plus z + (minus x + minus y)) (minus z + (plus x + plus y)) (mag x) (mag y) K (X .size) h (M .0) in
+    let least = sum-error (minus z + (plus x + plus y)) (plus z + (minus x + minus y)) (mag x) (mag y) K (X .size) h (M .1) in
     record {
       fine = R .fine;
-      most = sum-most (plus r) (minus r) (plus x) (minus x) (plus z) (minus z) i l s K ln2Whole (sum-error (plus r) (minus r) (plus x) (minus x) (plus z) (minus z) (mag x) (mag z) K (X .size) g (M .0)) (X .most) (Z .most) lo;
-      least = sum-least (plus r) (minus r) (plus x) (minus x) (plus z) (minus z) i l s K ln2Whole (sum-error (minus r) (plus r) (minus x) (plus x) (minus z) (plus z) (mag x) (mag z) K (X .size) g (M .1)) (X .least) (Z .least) hi;
+      size = rw L-is (most-43 (mag z) (mag x) (mag y) K (X .size) h (size (sgn z) (mag z) (plus x) (minus x) (plus y) (minus y) (mag x) (mag y) (684 * K) most least a b));
+      most = most;
+      least = least;
     }

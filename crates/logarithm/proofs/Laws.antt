@@ -1,8 +1,8 @@
 -- The logarithm's laws: its distance and its size within the range, and 0 at 1. Assumes nothing.
-use mathlib.Core.Path.{_≡_, refl, sym, ap, _∙_, subst}
+use mathlib.Core.Path.{_≡_, refl, sym, ap, _∙_, subst, subst₂}
 use mathlib.Core.Bool.{Bool, true, false, not}
 use Prim.Native.Nat.{ℕ, _+_, _-_, _*_, _/_, _%_, _^_, _≤_, _<_}
-use native.Mathlib.Nat.{mul-le-mul-right}
+use native.Mathlib.Nat.{add-comm, mul-le-mul-right}
 use native.Mathlib.Omega.{arith}
 use lib.Dec.{T}
 use lib.Pow.{pow-pos}
@@ -10,19 +10,23 @@ use lib.IntN.{pos}
 use lib.Ieee as Ieee
 use lib.Ieee.{Float, binary64, ofBits, toBits, fits, isNan}
 use lib.Ieee.Scale as Scale
-use Rattle.exact.specs.Units.{L, mag, sgn, Fin64}
+use Rattle.exact.specs.Units.{L, L-pos, mag, sgn, Fin64}
 use Rattle.exact.specs.Sums.{pl, mi}
-use Rattle.exact.specs.Value.{val, p-val, n-val}
+use Rattle.exact.specs.Value.{val, signed, p-val, n-val}
 use Rattle.exact.specs.OrderLe.{le-val, between-finite}
-use Rattle.exact.specs.Fields.{exponentAt, of-own}
-use Rattle.exact.specs.Patterns.{finite-not-nan, exponent-lt}
+use Rattle.exact.specs.Fields.{Has, exponentAt, of-own}
+use Rattle.exact.specs.Patterns.{finite-not-nan, exponent-lt, units-at}
 use Rattle.answers.specs.Range.{inRange}
 use Rattle.answers.proofs.Values.{between}
 use Rattle.series.specs.LogNear.{LogNear}
-use Rattle.logarithm.specs.Worked.{low, high, exponentOf, fractionOf, lnOf, ln2, partOf}
-use Rattle.logarithm.proofs.Parts.{part-near}
-use Rattle.logarithm.proofs.Floats.{K, L-is, ln2Whole, Times, product, left, Sum, sum}
-use Rattle.logarithm.proofs.Near.{Shape, near}
+use Rattle.series.specs.LogTail.{log-tail}
+use Rattle.logarithm.specs.Entries.{scaleOf, logOf, cOf}
+use Rattle.logarithm.specs.Worked.{low, high, exponentOf, restOf, partOf, fractionOf, ln2, lnOf}
+use Rattle.logarithm.proofs.Floats.{K, Times, product, Summed, summed}
+use Rattle.logarithm.proofs.Tables.{Facts, baseOf, entry-at}
+use Rattle.logarithm.proofs.Reduced.{Reduced, reduced}
+use Rattle.logarithm.proofs.Terms.{Terms, terms}
+use Rattle.logarithm.proofs.Near.{Shape, sum, near}
 use Rattle.logarithm.proofs.Patterns.{Pattern, pattern}
 
 -- the range's ends
@@ -34,9 +38,20 @@ positive : (s : Bool) (m a b : ℕ) → 0 < a → a + mi s m ≤ pl s m + 0 → 
 positive false m a b h k l = (refl, omega arith, omega arith)
 positive true m a b h k l = absurd (omega arith)
 
-size : (b : Bool) (m k i l : ℕ) → i ≤ 120 → l ≤ 2 ^ 57 → pl b m + 60 * ln2Whole * k ≤ mi b m + (i * ln2Whole + l + 1405) * k → mi b m + (i * ln2Whole + l) * k ≤ pl b m + (60 * ln2Whole + 1436) * k → m ≤ 43 * (2 ^ 57 * k)
-size false m k i l h g a c = let d : i * k ≤ 120 * k = mul-le-mul-right k h in let e : l * k ≤ 2 ^ 57 * k = mul-le-mul-right k g in omega arith
-size true m k i l h g a c = omega arith
+-- the digits f of a number whose top eight after the first are j
+digits-low : (f j u : ℕ) → 2 ^ 44 * (256 + j) ≤ f → 2 ^ 20 ≤ u * (256 + j) → 2 ^ 64 ≤ f * u
+digits-low f j u h g = omega (arith, mul-le-mul-right u h)
+
+digits-high : (f j u : ℕ) → f ≤ 2 ^ 44 * (257 + j) → 242 * (u * (257 + j)) ≤ 243 * 2 ^ 20 → 242 * (f * u) ≤ 243 * 2 ^ 64
+digits-high f j u h g = omega (arith, mul-le-mul-right u h)
+
+wide : 2 ^ 1022 ≡ 32 * K
+unfolding K
+wide = refl
+
+unsigned : (g : Float) → sgn g ≡ false → val g ≡ pos (mag g)
+unfolding val
+unsigned g e = ap (λ (s : Bool). signed s (mag g)) e
 
 module _ (x : Float) (f : T (fits binary64 x)) (r : inRange low high x ≡ true) where
   abbrev m : ℕ
@@ -81,26 +96,54 @@ module _ (x : Float) (f : T (fits binary64 x)) (r : inRange low high x ≡ true)
   unfolding t
   t-lt = omega arith
 
-  summed : Sum i (partOf t) (lnOf x)
-  unfolding lnOf exponentOf fractionOf t
-  summed =
-      let l = partOf t in
-      let N = part-near t t-lt .small in
-      let s : l / 32 < 2 ^ 52 = omega arith in
+  j : ℕ
+  j = m / 2 ^ 44 % 256
+
+  u : ℕ
+  u = scaleOf j
+
+  g : Float
+  g = logOf j
+
+  entry : Facts j u g (baseOf g)
+  unfolding j u g
+  entry = entry-at j (omega arith)
+
+  place : (2 ^ 44 * (256 + j) ≤ t + 2 ^ 52) × (t + 2 ^ 52 ≤ 2 ^ 44 * (257 + j))
+  unfolding j t
+  place = (omega arith, omega arith)
+
+  v : Float
+  v = restOf m (cOf u)
+
+  has : Has false ((t + 2 ^ 52) * (32 * K)) (ofBits binary64 (0x3ff0_0000_0000_0000 + t))
+  has = subst₂ (λ (a b : ℕ). Has false (a * b) (ofBits binary64 (0x3ff0_0000_0000_0000 + t))) (add-comm (2 ^ 52) t) wide (units-at 1022 t (omega arith) t-lt)
+
+  rest : Reduced ((t + 2 ^ 52) * u) v
+  unfolding v t
+  rest = reduced (t + 2 ^ 52) u _ (cOf u) has (entry .factor) (digits-low (t + 2 ^ 52) j u (place .0) (entry .low)) (digits-high (t + 2 ^ 52) j u (place .1) (entry .high))
+
+  left : Terms (mag v) (mag g) (Ieee.add binary64 g (partOf v))
+  left = terms v g (rest .fine) (entry .log .fine) (rest .value) (unsigned g (entry .log .sign)) (rest .small) (entry .small)
+
+  times : Times i (Ieee.mul binary64 (exponentOf m) ln2)
+  unfolding exponentOf
+  times =
       let c = at .most in
-      sum i l (l / 32) _ _ s (omega arith) (omega arith)
-      (subst (λ (e : ℕ). Times i (Ieee.mul binary64 (Ieee.sub binary64 (ofBits binary64 (0x4330_0000_0000_0000 + e)) (ofBits binary64 0x4330_0000_0000_03ff)) ln2)) exponent (product i (omega (arith, exponent))))
-      (left (l / 32) s)
+      subst (λ (e : ℕ). Times i (Ieee.mul binary64 (Ieee.sub binary64 (ofBits binary64 (0x4330_0000_0000_0000 + e)) (ofBits binary64 0x4330_0000_0000_03ff)) ln2)) exponent (product i (omega (arith, exponent)))
+
+  both : Summed (Ieee.mul binary64 (exponentOf m) ln2) (Ieee.add binary64 g (partOf v)) (lnOf x)
+  unfolding lnOf fractionOf v u g j
+  both = summed i _ _ times (left .fine) (left .size)
 
   pub ln-near : LogNear x (lnOf x)
-  ln-near = near x (lnOf x) i (t + 2 ^ 52) (partOf t) shape (part-near t t-lt .log) summed
+  ln-near =
+      near x (lnOf x) i (t + 2 ^ 52) u (baseOf g) (mag v) shape (entry .some) (entry .between) (rest .high) (rest .low) (log-tail L (mag v) L-pos (rest .small))
+      (sum i (baseOf g) (mag v) (mag g) _ _ (lnOf x) times left both (entry .least) (entry .most))
 
   -- its size is at most 43
   pub ln-size : mag (lnOf x) ≤ 43 * L
-  ln-size =
-      let r = lnOf x in
-      let N = part-near t t-lt .small in
-      rw L-is (size (sgn r) (mag r) K i (partOf t) (shape .few) (omega arith) (summed .most) (summed .least))
+  ln-size = both .size
 
 pub ln-one : lnOf (ofBits binary64 0x3ff0_0000_0000_0000) ≡ ofBits binary64 0
 unfolding lnOf exponentOf fractionOf partOf ofBits toBits Ieee.add Ieee.sub Ieee.mul

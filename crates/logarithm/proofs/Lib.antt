@@ -1,7 +1,7 @@
-pub mod Steps
-pub mod Tables
-pub mod Parts
-pub mod Floats
-pub mod Near
 pub mod Patterns
+pub mod Floats
+pub mod Tables
+pub mod Reduced
+pub mod Terms
+pub mod Near
 pub mod Laws

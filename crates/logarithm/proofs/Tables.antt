@@ -1,75 +1,99 @@
--- The tables' rules, each by one test that antt computes. Assumes nothing.
-use mathlib.Core.Bool.{Bool}
-use Prim.Native.Nat.{ℕ, _+_, _-_, _*_, _/_, _%_, _^_, _≤_, _<_}
-use lib.Dec.{T, leb, leb→le}
+-- The table's rules, by one test that antt computes. Assumes nothing.
+use mathlib.Core.Path.{_≡_, refl}
+use mathlib.Core.Bool.{Bool, true, false, not}
+use mathlib.Core.List.{List, [], _∷_}
+use Prim.Native.Nat.{ℕ, _+_, _-_, _*_, _/_, _^_, _≤_, _<_}
+use lib.Dec.{T, leb, leb→le, eqb, eqb→eq}
 use lib.Pow.{pow-pos}
+use lib.Ieee.{Float, binary64, ofBits, fits}
+use lib.Ieee.Scale.{finite}
 use Rattle.exact.specs.Both.{both, both-left, both-right}
 use Rattle.exact.specs.Match.{at-or-last}
+use Rattle.exact.specs.Units.{L, mag, sgn}
+use Rattle.exact.specs.Fields.{Has}
 use Rattle.series.specs.Logs.{Between, betweenTest, between}
-use Rattle.logarithm.specs.Entries.{coarse-entries, coarse-last, coarseOf, middle-entries, middle-last, middleOf, fine-entries, fine-last, fineOf}
+use Rattle.logarithm.specs.Entries.{scales, last-scale, scaleOf, logOf, cOf}
+use Rattle.logarithm.proofs.Floats.{K, D}
 
--- an entry l of a table whose place j stands for the factor d / m, and a bound on it
-pub record Entry (w m d top l : ℕ) : Type 0 where
-  pub small : l ≤ top
-  pub log : Between (2 ^ 57) w l m d
+-- every test of a list passes
+abbrev every : List Bool → Bool
+every [] = true
+every (b ∷ bs) = both b (every bs)
 
-entryTest : (w n m d top l : ℕ) → Bool
-entryTest w n m d top l = both (leb l top) (betweenTest (2 ^ 57) w n m d l)
+abbrev Each : List Bool → Type 0
+Each [] = Unit {0}
+Each (b ∷ bs) = T b × Each bs
 
-entry : (w n m d top l : ℕ) → T (entryTest w n m d top l) → Entry w m d top l
-unfolding entryTest
-entry w n m d top l t =
-    let a = leb l top in
-    let b = betweenTest (2 ^ 57) w n m d l in
-    record { small = leb→le l top (both-left a b t); log = between (2 ^ 57) w n m d l (pow-pos 57) (both-right a b t) }
+each : (bs : List Bool) → T (every bs) → Each bs
+each [] t = tt
+each (b ∷ bs) t = (both-left b (every bs) t, each bs (both-right b (every bs) t))
 
-middleTest : ℕ → ℕ → Bool
-unfolding entryTest betweenTest
-middleTest j l = entryTest 1 10 (2 ^ 11) (2 ^ 11 - j) (2 ^ 51) l
+-- x is a units, with the sign +
+hasTests : ℕ → Float → List Bool
+unfolding mag
+hasTests a x = finite x ∷ fits binary64 x ∷ not (sgn x) ∷ eqb (mag x) a ∷ []
 
-pub middle-entry : (j : ℕ) → j < 32 → Entry 1 (2 ^ 11) (2 ^ 11 - j) (2 ^ 51) (middleOf j)
-unfolding middleTest entryTest betweenTest
-middle-entry j h = entry 1 10 (2 ^ 11) (2 ^ 11 - j) (2 ^ 51) (middleOf j) (at-or-last middleTest middle-entries middle-last tt j h)
+plain : (b : Bool) → T (not b) → b ≡ false
+plain false t = refl
+plain true t = absurd t
 
-fineTest : ℕ → ℕ → Bool
-unfolding entryTest betweenTest
-fineTest j l = entryTest 1 8 (2 ^ 16) (2 ^ 16 - j) (2 ^ 47) l
+has : (a : ℕ) (x : Float) → T (every (hasTests a x)) → Has false a x
+unfolding hasTests
+has a x t =
+    let e = each (finite x ∷ fits binary64 x ∷ not (sgn x) ∷ eqb (mag x) a ∷ []) t in
+    record { fine = (e .0, e .1 .0); sign = plain (sgn x) (e .1 .1 .0); units = eqb→eq (mag x) a (e .1 .1 .1 .0) }
 
-pub fine-entry : (j : ℕ) → j < 48 → Entry 1 (2 ^ 16) (2 ^ 16 - j) (2 ^ 47) (fineOf j)
-unfolding fineTest entryTest betweenTest
-fine-entry j h = entry 1 8 (2 ^ 16) (2 ^ 16 - j) (2 ^ 47) (fineOf j) (at-or-last fineTest fine-entries fine-last tt j h)
+-- an entry: a factor of u / 4096, which brings the numbers from 1 + j / 256 to 1 + (j + 1) / 256 to 1 or up to 1 / 242 above it, and the
+-- logarithm g of its reciprocal, which b and 17 units of 2^-57 more enclose
+pub record Facts (j u : ℕ) (g : Float) (b : ℕ) : Type 0 where
+  pub low : 2 ^ 20 ≤ u * (256 + j)
+  pub high : 242 * (u * (257 + j)) ≤ 243 * 2 ^ 20
+  pub some : 1 ≤ u
+  pub factor : Has false (u * D) (cOf u)
+  pub log : Has false (mag g) g
+  pub small : mag g ≤ 2880 * D
+  pub least : b * K ≤ mag g
+  pub most : mag g ≤ (b + 9) * K
+  pub between : Between (2 ^ 57) 17 b 4096 u
 
--- an entry e of the coarse table: the reciprocal c, and the logarithm
-pub record Coarse (j e : ℕ) : Type 0 where
-  pub low : 2 ^ 17 ≤ (2 ^ 11 - e % 2 ^ 10) * (64 + j)
-  pub high : (2 ^ 11 - e % 2 ^ 10) * (65 + j) ≤ 133122
-  pub least : 1033 ≤ 2 ^ 11 - e % 2 ^ 10
-  pub rest : Entry 8 (2 ^ 11) (2 ^ 11 - e % 2 ^ 10) (11 * 2 ^ 53) (e / 2 ^ 10 * 8)
+-- eight units of 2^-57 below g
+abbrev pub baseOf : Float → ℕ
+baseOf g = mag g / K - 8
 
-coarseTest : ℕ → ℕ → Bool
-unfolding entryTest betweenTest
-coarseTest j e =
-    let c = 2 ^ 11 - e % 2 ^ 10 in
-    both (leb (2 ^ 17) (c * (64 + j))) (both (leb (c * (65 + j)) 133122) (both (leb 1033 c) (entryTest 8 20 (2 ^ 11) c (11 * 2 ^ 53) (e / 2 ^ 10 * 8))))
+tests : (j u : ℕ) (g : Float) (b : ℕ) → List Bool
+unfolding hasTests betweenTest mag K D
+tests j u g b =
+    leb (2 ^ 20) (u * (256 + j))
+    ∷ leb (242 * (u * (257 + j))) (243 * 2 ^ 20)
+    ∷ leb 1 u
+    ∷ every (hasTests (u * D) (cOf u))
+    ∷ every (hasTests (mag g) g)
+    ∷ leb (mag g) (2880 * D)
+    ∷ leb (b * K) (mag g)
+    ∷ leb (mag g) ((b + 9) * K)
+    ∷ betweenTest (2 ^ 57) 17 20 4096 u b
+    ∷ []
 
-coarse : (j e : ℕ) → T (coarseTest j e) → Coarse j e
-unfolding coarseTest entryTest
-coarse j e t =
-    let c = 2 ^ 11 - e % 2 ^ 10 in
-    let l = e / 2 ^ 10 * 8 in
-    let a = leb (2 ^ 17) (c * (64 + j)) in
-    let b = leb (c * (65 + j)) 133122 in
-    let d = leb 1033 c in
-    let r = entryTest 8 20 (2 ^ 11) c (11 * 2 ^ 53) l in
-    let u = both-right a (both b (both d r)) t in
-    let v = both-right b (both d r) u in
+entry : (j u : ℕ) (g : Float) (b : ℕ) → T (every (tests j u g b)) → Facts j u g b
+unfolding tests
+entry j u g b t =
+    let e = each (tests j u g b) t in
     record {
-      low = leb→le (2 ^ 17) (c * (64 + j)) (both-left a (both b (both d r)) t);
-      high = leb→le (c * (65 + j)) 133122 (both-left b (both d r) u);
-      least = leb→le 1033 c (both-left d r v);
-      rest = entry 8 20 (2 ^ 11) c (11 * 2 ^ 53) l (both-right d r v);
+      low = leb→le (2 ^ 20) (u * (256 + j)) (e .0);
+      high = leb→le (242 * (u * (257 + j))) (243 * 2 ^ 20) (e .1 .0);
+      some = leb→le 1 u (e .1 .1 .0);
+      factor = has (u * D) (cOf u) (e .1 .1 .1 .0);
+      log = has (mag g) g (e .1 .1 .1 .1 .0);
+      small = leb→le (mag g) (2880 * D) (e .1 .1 .1 .1 .1 .0);
+      least = leb→le (b * K) (mag g) (e .1 .1 .1 .1 .1 .1 .0);
+      most = leb→le (mag g) ((b + 9) * K) (e .1 .1 .1 .1 .1 .1 .1 .0);
+      between = between (2 ^ 57) 17 20 4096 u b (pow-pos 57) (e .1 .1 .1 .1 .1 .1 .1 .1 .0);
     }
 
-pub coarse-entry : (j : ℕ) → j < 64 → Coarse j (coarseOf j)
-unfolding coarseTest entryTest betweenTest
-coarse-entry j h = coarse j (coarseOf j) (at-or-last coarseTest coarse-entries coarse-last tt j h)
+test : ℕ → ℕ → Bool
+unfolding tests mag K
+test j u = every (tests j u (logOf j) (baseOf (logOf j)))
+
+pub entry-at : (j : ℕ) → j < 256 → Facts j (scaleOf j) (logOf j) (baseOf (logOf j))
+unfolding test tests hasTests betweenTest mag K D L fits ofBits
+entry-at j h = entry j (scaleOf j) (logOf j) (baseOf (logOf j)) (at-or-last test scales last-scale tt j h)

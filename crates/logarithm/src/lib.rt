@@ -1,10 +1,10 @@
-// The logarithm (RULES, section 3): the exponent times log 2, and in fixed point what three factors from tables and two
-// terms of the series give.
+// The logarithm (RULES, section 3): the exponent times log 2, and what a factor from a table and five terms of the series give.
 mod entries;
-mod part;
+mod three;
 
 use answers::Answer;
-use part::log_part;
+use entries::factor;
+pub use three::logs_on_path;
 ghost use mathlib.Core.Path.{_≡_};
 ghost use mathlib.Core.Bool.{true};
 ghost use lib.Ieee.{Float};
@@ -12,7 +12,7 @@ ghost use Rattle.answers.specs.declared.Answer.the-variants.{Value};
 ghost use Rattle.answers.specs.Range.{inRange, bare, onPath};
 ghost use Rattle.logarithm.specs.Ln.{lnRanged};
 ghost use Rattle.series.specs.LogNear.{LogNear};
-ghost use Rattle.logarithm.specs.Worked.{low, high, exponentOf, fractionOf, lnOf};
+ghost use Rattle.logarithm.specs.Worked.{low, high, exponentOf, restOf, partOf, fractionOf, lnOf};
 
 // The exponent of a positive number with the bits n. The last digits of 2^52 + e are those of e: no cast, and no branch on the
 // sign, which near 1 no processor foresees.
@@ -22,11 +22,26 @@ fn exponent(n: u64) -> f64
     f64::from_bits(0x4330_0000_0000_0000 + n / 0x10_0000_0000_0000) - 4503599627371519.0
 }
 
-// The logarithm of what the exponent leaves of that number, a number from 1 to 2.
+// The number from 1 to 2 that the exponent leaves, times a factor, less 1.
+fn rest(n: u64, c: f64) -> f64
+    ensures { λ r. ⌜ r ≡ restOf n c ⌝ }
+{
+    f64::from_bits(0x3ff0_0000_0000_0000 + n % 0x10_0000_0000_0000) * c - 1.0
+}
+
+// log (1 + r), for an r from 0 to 1 / 240.
+fn part(r: f64) -> f64
+    ensures { λ l. ⌜ l ≡ partOf r ⌝ }
+{
+    r + r * r * (-0.5 + r * (0.3333333333333333 + r * (-0.25 + r * 0.2)))
+}
+
+// The logarithm of what the exponent leaves of that number.
 fn fraction(n: u64) -> f64
     ensures { λ r. ⌜ r ≡ fractionOf n ⌝ }
 {
-    f64::from_bits(0x3ff0_0000_0000_0000 + log_part(n % 0x10_0000_0000_0000) / 32) - 1.0
+    let f = factor(n / 0x1000_0000_0000 % 256);
+    f.log + part(rest(n, f.c))
 }
 
 // ln x, for an x within the range.

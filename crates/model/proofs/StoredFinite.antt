@@ -23,22 +23,19 @@ use Rattle.walk.specs.Walk.{Walk, exp, ln, end, _then_, Ended, given, refused, 
 use Rattle.walk.specs.Update.{Change, untouched, stored, updatedOf, recomposed}
 use Rattle.plasticity_snow.specs.declared.SnowPlasticity.{SnowPlasticity}
 use Rattle.plasticity_snow.specs.Snow as snow
-use Rattle.plasticity_rankine.specs.declared.RankineArguments.{RankineArguments}
 use Rattle.plasticity_rankine.specs.declared.RankinePlasticity.{RankinePlasticity}
-use Rattle.plasticity_rankine.specs.Law as rankine-law
 use Rattle.plasticity_rankine.specs.Projection as rankine-projection
 use Rattle.plasticity_rankine.specs.Rankine as rankine
 use Rattle.plasticity_drucker_prager.specs.declared.DruckerPragerPlasticity.{DruckerPragerPlasticity}
 use Rattle.plasticity_drucker_prager.specs.Alpha.{dim, alphaWalk}
 use Rattle.plasticity_drucker_prager.specs.Projection as drucker-projection
 use Rattle.plasticity_drucker_prager.specs.DruckerPrager as drucker-prager
-use Rattle.plasticity_nacc.specs.declared.NaccArguments.{NaccArguments}
-use Rattle.plasticity_nacc.specs.Law as nacc-law
+use Rattle.plasticity_nacc.specs.declared.NaccPlasticity.{NaccPlasticity}
 use Rattle.plasticity_nacc.specs.Axes.{three-axes}
 use Rattle.plasticity_nacc.specs.Nacc as nacc
-use Rattle.model.specs.declared.Model.{Model}
-use Rattle.model.specs.declared.Model.the-variants as models
-use Rattle.model.specs.Model.{modelUpdate, modelWalk}
+use Rattle.model.specs.declared.Ready.{Ready}
+use Rattle.model.specs.declared.Ready.the-variants.{Snow, Rankine, DruckerPrager, Nacc, Refused}
+use Rattle.model.specs.Ready.{readyUpdate}
 use Rattle.model.proofs.Ends.{Ends, Given, ends-given, ends-asks, ends-then, ends-after}
 
 -- a new state is finite, and so is the amount
@@ -153,9 +150,9 @@ module _ (u vt : List (List Float)) (s : State) (q : stateFinite s ≡ true) whe
       λ l. ends-after Finite (λ m. rankine.wayWalk p (m .way) e (m .strains) u vt s) (λ m. rankine-way p (m .way) e (m .strains))
       (rankine-projection.projectWalk p e (num (getD l 0 (value (rankine.softStrength p (s .scalars .«plastic_hardening»))))))
 
-  rankine-ends : (a : RankineArguments) → Ends Finite (rankine.argumentsWalk a u vt s)
-  unfolding rankine.argumentsWalk rankine.runWalk
-  rankine-ends a = λ t. let p = rankine-law.lawOf a in ends-asks Finite 2 ln (s .sigma) (λ e. rankine.strainedWalk p e u vt s) (λ e. rankine-strained p e)
+  rankine-ends : (p : RankinePlasticity) → Ends Finite (rankine.rankineWalk p u vt s)
+  unfolding rankine.rankineWalk rankine.runWalk
+  rankine-ends p = λ t. ends-asks Finite 2 ln (s .sigma) (λ e. rankine.strainedWalk p e u vt s) (λ e. rankine-strained p e)
 
   -- ---- Drucker-Prager: the amount is a term of the hardening
   drucker-store : (sigma : List Float) (d h gain : Expr) (x dq : Float) → h ≡ num x + num dq → Ends Finite (drucker-prager.storeWalk u sigma vt d h gain dq s)
@@ -227,27 +224,13 @@ module _ (u vt : List (List Float)) (s : State) (q : stateFinite s ≡ true) whe
   nacc-way (nacc.inside y z) x f = tt
   nacc-way (nacc.surface y z) x f = nacc-recomposed (nacc.surface y z) x
 
-  nacc-ends : (a : NaccArguments) → Ends Finite (nacc.argumentsWalk a u vt s)
-  unfolding nacc.argumentsWalk nacc.runWalk nacc.projectWalk
-  nacc-ends a =
-      λ t. let p = nacc-law.lawOf a in
-      ends-then Kept Finite (λ r. end (nacc.changeOf (r .way) (r .f) (r .shape) s)) (λ r h. h)
+  nacc-ends : (p : NaccPlasticity) → Ends Finite (nacc.naccWalk p u vt s)
+  unfolding nacc.naccWalk nacc.runWalk nacc.projectWalk
+  nacc-ends p =
+      λ t. ends-then Kept Finite (λ r. end (nacc.changeOf (r .way) (r .f) (r .shape) s)) (λ r h. h)
       (nacc.projectWalk p (s .f) u (s .sigma) vt (s .scalars .alpha))
       (ends-after Kept (λ x. nacc.wayWalk (x .way) (x .shape) (s .f) u vt) (λ x. nacc-way (x .way) (x .shape) (s .f))
       (nacc.stepsWalk three-axes p (s .sigma) (s .scalars .alpha)))
-
-  -- ---- the model's law
-  model-ends : (m : Model) → Ends Finite (modelWalk m u vt s)
-  model-ends (models.Snow p) = snow-ends p
-  model-ends (models.Rankine a) = rankine-ends a
-  model-ends (models.DruckerPrager p) = drucker-ends p
-  model-ends (models.Nacc a) = nacc-ends a
-
-model-walked : (m : Model) (u vt : List (List Float)) (s : State) → modelUpdate m u vt s ≡ updatedOf s (result (modelWalk m u vt s))
-model-walked (models.Snow p) u vt s = refl
-model-walked (models.Rankine a) u vt s = refl
-model-walked (models.DruckerPrager p) u vt s = refl
-model-walked (models.Nacc a) u vt s = refl
 
 given-finite : (s : State) (x : Ended Change) → Given Finite x → (a : Float) → updatedOf s x .outcome ≡ Stored a
     → (stateFinite (updatedOf s x .state) ≡ true) × (finite a ≡ true)
@@ -256,10 +239,17 @@ given-finite s (given (stored new b)) h a e = let same : b ≡ a = cc in (h .0, 
 given-finite s (refused n) h a e = let z : _≡_ {A = ℕ} 0 1 = cc in absurd (omega arith)
 
 -- what an update of a finite record stores is finite, and so is the amount
-pub stored-finite : (m : Model) (u vt : List (List Float)) (s : State) → inputsFinite u vt s ≡ true → (a : Float) → modelUpdate m u vt s .outcome ≡ Stored a
-    → (stateFinite (modelUpdate m u vt s .state) ≡ true) × (finite a ≡ true)
-stored-finite m u vt s q =
-    let w = modelWalk m u vt s in
-    let state = and-both (matFinite u && matFinite vt) (stateFinite s) q .1 in
-    subst (λ x. (a : Float) → x .outcome ≡ Stored a → (stateFinite (x .state) ≡ true) × (finite a ≡ true)) (sym (model-walked m u vt s))
-    (given-finite s (result w) (ends-given Finite w (model-ends u vt s state m)))
+module _ (u vt : List (List Float)) (s : State) (q : inputsFinite u vt s ≡ true) (a : Float) where
+  state : stateFinite s ≡ true
+  state = and-both (matFinite u && matFinite vt) (stateFinite s) q .1
+
+  walked : (w : Walk Change) → Ends Finite w → updatedOf s (result w) .outcome ≡ Stored a
+      → (stateFinite (updatedOf s (result w) .state) ≡ true) × (finite a ≡ true)
+  walked w h = given-finite s (result w) (ends-given Finite w h) a
+
+  pub stored-finite : (m : Ready) → readyUpdate m u vt s .outcome ≡ Stored a → (stateFinite (readyUpdate m u vt s .state) ≡ true) × (finite a ≡ true)
+  stored-finite (Snow p) e = walked (snow.snowWalk p u vt s) (snow-ends u vt s state p) e
+  stored-finite (Rankine p) e = walked (rankine.rankineWalk p u vt s) (rankine-ends u vt s state p) e
+  stored-finite (DruckerPrager p) e = walked (drucker-prager.druckerWalk p u vt s) (drucker-ends u vt s state p) e
+  stored-finite (Nacc p) e = walked (nacc.naccWalk p u vt s) (nacc-ends u vt s state p) e
+  stored-finite (Refused n) e = given-finite s (refused n) tt a e

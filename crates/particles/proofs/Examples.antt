@@ -10,7 +10,7 @@ use Rattle.exact.specs.Value.{val}
 use Rattle.exact.specs.RootOf.{sqrtOf, floorRoot, rootIn}
 use Rattle.numbers.specs.Floats.{finite, isNumber}
 use Rattle.answers.specs.Range.{sideOf}
-use Rattle.exponential.specs.Worked.{expOf, expBits, packOf, partOf, tailOf}
+use Rattle.exponential.specs.Worked.{expOf, nearestOf, restOf, seriesOf, scaleBits, timesOf}
 use Rattle.logarithm.specs.Worked as ln
 use Rattle.physics.specs.Physics.{lambdaOf, shearModulusOf}
 use Rattle.tensor.specs.Matrix.{one, sumOf, dotOf, scaledRowOf}
@@ -75,23 +75,23 @@ came l e r = verdictAfter l e (stateAt r .scalars .phase) (stateAt r)
 
 -- soft snow: over the limit as it came, and merely about to yield
 soft-snow : (came limits law stretched ≡ Yes) × (failureLaw (Snow defaults) limits law stretched .failed ≡ false)
-unfolding failureLaw judgedAt verdictAfter updatedAt lawAt recordLaw determinantRight determinantAt toBits snowWalk floats floatsOf runWalk hardenWalk storeWalk principalWalk overLimit verdictOf total product entry sumOf dotOf scaledRowOf expOf expBits packOf partOf tailOf mag L finite isNumber ofBits Ieee.add Ieee.sub Ieee.mul Ieee.div Ieee.neg Ieee.le Ieee.lt Ieee.eq
+unfolding failureLaw judgedAt verdictAfter updatedAt lawAt recordLaw determinantRight determinantAt toBits snowWalk floats floatsOf runWalk hardenWalk storeWalk principalWalk overLimit verdictOf total product entry sumOf dotOf scaledRowOf expOf nearestOf restOf seriesOf scaleBits timesOf mag L finite isNumber ofBits Ieee.add Ieee.sub Ieee.mul Ieee.div Ieee.neg Ieee.le Ieee.lt Ieee.eq
 soft-snow = (refl, refl)
 
 -- so a Rankine record: mu and lambda are 4, strength and rate 1
 weak-rankine : let m = Rankine (argumentsOf (f64 0x4024_0000_0000_0000) (f64 0x3fd0_0000_0000_0000) one one) in
     (came limits law stretched ≡ Yes) × (failureLaw m limits law stretched .failed ≡ false)
-unfolding failureLaw judgedAt verdictAfter updatedAt lawAt recordLaw determinantRight determinantAt toBits rankine.argumentsWalk rankine.floats floatsOf rankine.runWalk rankine.strainedWalk firstWalk secondWalk thirdWalk rankine.wayWalk rankine.movedWalk rankine.hardenWalk rankine.expsWalk rankine.storeWalk principalWalk overLimit verdictOf total sum product entry orderOf lambdaOf shearModulusOf ln.lnOf ln.exponentOf ln.fractionOf ln.partOf expOf expBits packOf partOf tailOf sqrtOf floorRoot rootIn mag val L fits finite isNumber ofBits round size Ieee.add Ieee.sub Ieee.mul Ieee.div Ieee.neg Ieee.le Ieee.lt Ieee.eq sumOf dotOf scaledRowOf
+unfolding failureLaw judgedAt verdictAfter updatedAt lawAt recordLaw determinantRight determinantAt toBits rankine.argumentsWalk rankine.floats floatsOf rankine.runWalk rankine.strainedWalk firstWalk secondWalk thirdWalk rankine.wayWalk rankine.movedWalk rankine.hardenWalk rankine.expsWalk rankine.storeWalk principalWalk overLimit verdictOf total sum product entry orderOf lambdaOf shearModulusOf ln.lnOf ln.exponentOf ln.fractionOf ln.partOf expOf nearestOf restOf seriesOf scaleBits timesOf sqrtOf floorRoot rootIn mag val L fits finite isNumber ofBits round size Ieee.add Ieee.sub Ieee.mul Ieee.div Ieee.neg Ieee.le Ieee.lt Ieee.eq sumOf dotOf scaledRowOf
 weak-rankine = (refl, refl)
 
 -- the other way round, with limits 100 and 1: the law hardens it from 1 to 218
 hardened-snow : let l = limitsAt 0x4059_0000_0000_0000 unit in (came l law crushed ≡ No) × (failureLaw (Snow defaults) l law crushed .failed ≡ true)
-unfolding failureLaw judgedAt verdictAfter updatedAt lawAt recordLaw determinantRight determinantAt toBits snowWalk floats floatsOf runWalk hardenWalk storeWalk principalWalk overLimit verdictOf total product entry sumOf dotOf scaledRowOf expOf expBits packOf partOf tailOf mag L finite isNumber ofBits Ieee.add Ieee.sub Ieee.mul Ieee.div Ieee.neg Ieee.le Ieee.lt Ieee.eq
+unfolding failureLaw judgedAt verdictAfter updatedAt lawAt recordLaw determinantRight determinantAt toBits snowWalk floats floatsOf runWalk hardenWalk storeWalk principalWalk overLimit verdictOf total product entry sumOf dotOf scaledRowOf expOf nearestOf restOf seriesOf scaleBits timesOf mag L finite isNumber ofBits Ieee.add Ieee.sub Ieee.mul Ieee.div Ieee.neg Ieee.le Ieee.lt Ieee.eq
 hardened-snow = (refl, refl)
 
 -- with mu 1e307 that hardening's stress is refused: the record is as it came
 stress-refused : failureLaw (Snow defaults) limits (elasticAt 0 0x7fac_7b1f_3cac_7433) crushed ≡ refusedRecord 3 crushed
-unfolding failureLaw judgedAt verdictAfter updatedAt lawAt recordLaw determinantRight determinantAt toBits snowWalk floats floatsOf runWalk hardenWalk storeWalk principalWalk overLimit verdictOf total product entry sumOf dotOf scaledRowOf expOf expBits packOf partOf tailOf mag L finite isNumber ofBits Ieee.add Ieee.sub Ieee.mul Ieee.div Ieee.neg Ieee.le Ieee.lt Ieee.eq
+unfolding failureLaw judgedAt verdictAfter updatedAt lawAt recordLaw determinantRight determinantAt toBits snowWalk floats floatsOf runWalk hardenWalk storeWalk principalWalk overLimit verdictOf total product entry sumOf dotOf scaledRowOf expOf nearestOf restOf seriesOf scaleBits timesOf mag L finite isNumber ofBits Ieee.add Ieee.sub Ieee.mul Ieee.div Ieee.neg Ieee.le Ieee.lt Ieee.eq
 stress-refused = refl
 
 -- Snow's exponential is asked above its range: 10, and no verdict on the record, which limit -1 would have failed
@@ -139,5 +139,5 @@ abbrev torn : List ℕ
 torn = rows (large ∷ 0 ∷ 0 ∷ 0 ∷ large ∷ 0 ∷ 0 ∷ 0 ∷ large ∷ unit ∷ unit ∷ unit ∷ rows (unit ∷ unit ∷ unit ∷ unit ∷ 0 ∷ 0 ∷ unit ∷ []))
 
 no-determinant : recordLaw (Snow defaults) torn ≡ refusedRecord 3 torn
-unfolding recordLaw lawAt updatedAt determinantRight determinantAt snowWalk floats floatsOf runWalk hardenWalk storeWalk total product entry sumOf dotOf scaledRowOf expOf expBits packOf partOf tailOf mag L finite isNumber ofBits toBits Ieee.add Ieee.sub Ieee.mul Ieee.div Ieee.neg Ieee.le Ieee.lt Ieee.eq
+unfolding recordLaw lawAt updatedAt determinantRight determinantAt snowWalk floats floatsOf runWalk hardenWalk storeWalk total product entry sumOf dotOf scaledRowOf expOf nearestOf restOf seriesOf scaleBits timesOf mag L finite isNumber ofBits toBits Ieee.add Ieee.sub Ieee.mul Ieee.div Ieee.neg Ieee.le Ieee.lt Ieee.eq
 no-determinant = refl

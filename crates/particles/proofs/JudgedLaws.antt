@@ -23,16 +23,18 @@ use Rattle.failure_maximum_stress.specs.declared.Verdict.{Verdict}
 use Rattle.failure_maximum_stress.specs.declared.Verdict.the-variants.{No, Yes, Refused}
 use Rattle.elasticity_corotated_linear.specs.declared.CorotatedLinearElasticity.{CorotatedLinearElasticity}
 use Rattle.model.specs.declared.Model.{Model}
+use Rattle.model.specs.declared.Ready.{Ready}
 use Rattle.particles.specs.Pass.{Worked, codeOf}
-use Rattle.particles.specs.Plain.{kept, Beside, lawAt, keptBy, recordLaw}
+use Rattle.particles.specs.Plain.{Beside, lawAt, recordLaw}
 use Rattle.particles.specs.Judged.{verdictOn, judgeFinite, verdictAfter, unlessRefused, judgedAt, refusedRecord, marked, outcomeBy, failedBy, failureLaw}
+use Rattle.particles.specs.Readied.{readyKept, readyKeptBy}
 use Rattle.particles.specs.declared.step.Step.{Step}
 use Rattle.particles.specs.declared.step.Step.the-variants.{Plain, Judged, Factors, FactoredPlain, FactoredJudged}
 use Rattle.particles.specs.Step.{stepLaw}
 use Rattle.particles.proofs.PassLaws.{Keeps, record-keeps}
 use Rattle.particles.proofs.FactoredLaws.{factor-keeps, factored-keeps}
 
-marked-length : (v : Verdict) (r : List ℕ) (w : Worked) → length (w .after) ≡ length r → length (marked v r w .after) ≡ length r
+pub marked-length : (v : Verdict) (r : List ℕ) (w : Worked) → length (w .after) ≡ length r → length (marked v r w .after) ≡ length r
 marked-length No r w h = h
 marked-length Yes r w h = length-set (w .after) _ _ ∙ h
 marked-length (Refused n) r w h = refl
@@ -46,20 +48,20 @@ failure-keeps m l e r = go (judgeFinite l e)
     go false = refl
 
 -- what a verdict leaves of an update: its outcome, whether the record failed, and the phase on a yes
-module _ (m : Model) (r : List ℕ) (d : Updated) where
+module _ (q : Ready) (r : List ℕ) (d : Updated) where
   abbrev Leaves : Verdict → Outcome → Bool → List ℕ → Type 0
-  Leaves v o f after = let w = marked v r (keptBy m d r) in (o ≡ w .outcome) × (f ≡ w .failed) × (after ≡ w .after)
+  Leaves v o f after = let w = marked v r (readyKeptBy q d r) in (o ≡ w .outcome) × (f ≡ w .failed) × (after ≡ w .after)
 
-  module _ {o : Outcome} {q : List ℕ} where
-    written : {p : Outcome} → o ≡ p → q ≡ kept m o r (d .state) → q ≡ kept m p r (d .state)
-    written a b = b ∙ ap (λ (x : Outcome). kept m x r (d .state)) a
+  module _ {o : Outcome} {l : List ℕ} where
+    written : {p : Outcome} → o ≡ p → l ≡ readyKept q o r (d .state) → l ≡ readyKept q p r (d .state)
+    written a b = b ∙ ap (λ (x : Outcome). readyKept q x r (d .state)) a
 
-    pub marked-yes : (v : Verdict) → o ≡ outcomeBy v (d .outcome) → q ≡ kept m o r (d .state) → failedBy v ≡ true → Leaves v o true (putPhase q zero)
+    pub marked-yes : (v : Verdict) → o ≡ outcomeBy v (d .outcome) → l ≡ readyKept q o r (d .state) → failedBy v ≡ true → Leaves v o true (putPhase l zero)
     marked-yes No a b f = absurd (false≢true f)
     marked-yes Yes a b f = (a, refl, ap (λ (x : List ℕ). putPhase x zero) (written a b))
     marked-yes (Refused n) a b f = absurd (false≢true f)
 
-    pub marked-no : (v : Verdict) → o ≡ outcomeBy v (d .outcome) → q ≡ kept m o r (d .state) → failedBy v ≡ false → Leaves v o false q
+    pub marked-no : (v : Verdict) → o ≡ outcomeBy v (d .outcome) → l ≡ readyKept q o r (d .state) → failedBy v ≡ false → Leaves v o false l
     marked-no No a b f = (a, refl, written a b)
     marked-no Yes a b f = absurd (true≢false f)
     marked-no (Refused n) a b f = (a, refl, written a b)

@@ -18,7 +18,7 @@ use Rattle.record.specs.Layout.{floats, bare, placeF, placeSigma, placePlasticD
 use Rattle.record.proofs.Places.{determinant-row, filled-right, right-other, take-set, take-row}
 use Rattle.model.specs.declared.Model.{Model}
 use Rattle.model.specs.declared.Model.the-variants.{Snow, Rankine, DruckerPrager, Nacc}
-use Rattle.particles.specs.Plain.{putScalars, putState, kept}
+use Rattle.particles.specs.Plain.{putScalars, kept}
 use Rattle.particles.specs.Bare.{bareKept}
 
 -- the determinant of the F that is written
@@ -32,7 +32,7 @@ shape-length r s v = simp length-set
 apart : (r : List ℕ) (i v : ℕ) → i < placeDeterminant → getD (set r i v) placeDeterminant 0 ≡ getD r placeDeterminant 0
 apart r i v h = getD-set-other r i placeDeterminant v 0 (λ e. omega arith)
 
-scalars-last : (m : Model) (r : List ℕ) (s : State) → getD (putScalars m r s) placeDeterminant 0 ≡ getD r placeDeterminant 0
+pub scalars-last : (m : Model) (r : List ℕ) (s : State) → getD (putScalars m r s) placeDeterminant 0 ≡ getD r placeDeterminant 0
 scalars-last (Snow p) r s =
     let q = putPlasticDeterminant r (s .scalars .«plastic_determinant») in
     apart q placeElasticHardening _ (omega arith) ∙ apart r placePlasticDeterminant _ (omega arith)
@@ -43,9 +43,8 @@ scalars-last (DruckerPrager p) r s =
     apart t placeLogGain _ (omega arith) ∙ apart q placePlasticHardening _ (omega arith) ∙ apart r placePlasticDeterminant _ (omega arith)
 scalars-last (Nacc a) r s = apart r placeAlpha _ (omega arith)
 
-pub stored-last : (m : Model) (r : List ℕ) (s : State) → length r ≡ floats → getD (putState m r s) placeDeterminant 0 ≡ determinantAt (putRows r placeF (s .f))
-stored-last m r s k =
-    scalars-last m (putShape r s) s ∙ getD-set-same (putBare r s) placeDeterminant (determinantAt (putBare r s)) 0 (simp length-set (omega arith)) ∙ bare-determinant r s
+pub shape-last : (r : List ℕ) (s : State) → length r ≡ floats → getD (putShape r s) placeDeterminant 0 ≡ determinantAt (putRows r placeF (s .f))
+shape-last r s k = getD-set-same (putBare r s) placeDeterminant (determinantAt (putBare r s)) 0 (simp length-set (omega arith)) ∙ bare-determinant r s
 
 -- ---- the determinant stays right under the scalars
 scalars-right : (m : Model) (r : List ℕ) (s : State) → determinantRight (putScalars m r s) ≡ determinantRight r

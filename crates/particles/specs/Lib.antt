@@ -4,4 +4,5 @@ pub mod Fill
 pub mod Judged
 pub mod Pass
 pub mod Plain
+pub mod Readied
 pub mod Step

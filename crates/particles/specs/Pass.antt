@@ -1,11 +1,13 @@
 -- The pass over a list of records by any step (RULES, sections 6 and 7).
-use mathlib.Core.Bool.{Bool, cond, _&&_}
+use mathlib.Core.Path.{_≡_}
+use mathlib.Core.Bool.{Bool, true, cond, _&&_}
 use mathlib.Core.List.{List, [], _∷_, _++_}
 use Prim.Native.Nat.{ℕ, zero, suc, _+_, _*_, _/_}
 use lib.Dec.{eqb}
 use lib.ListN.{length, set, take, drop}
 use lib.Ieee as Ieee
 use lib.Ieee.{binary64}
+use Rattle.numbers.specs.Floats.{finite}
 use Rattle.answers.specs.Refusals.{wrongLength}
 use Rattle.plasticity.specs.declared.Outcome.{Outcome}
 use Rattle.plasticity.specs.declared.Outcome.the-variants.{Untouched, Stored, Refused}
@@ -33,6 +35,12 @@ abbrev pub valueOf : Outcome → ℕ
 valueOf Untouched = 0
 valueOf (Stored a) = Ieee.toBits binary64 a
 valueOf (Refused n) = n
+
+-- the amount, where there is one, is finite
+abbrev pub AmountFinite : Outcome → Type 0
+AmountFinite Untouched = Unit {0}
+AmountFinite (Stored a) = finite a ≡ true
+AmountFinite (Refused n) = Unit {0}
 
 -- the two answers of record i are written
 abbrev pub answered : List ℕ → ℕ → Outcome → List ℕ

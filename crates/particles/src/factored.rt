@@ -4,18 +4,16 @@ use crate::judged::Judge;
 use crate::saved;
 use crate::step::Stepped;
 use factors::Factors;
-use model::Model;
 use model::Ready;
 use plasticity::Outcome;
 ghost use mathlib.Core.Path.{_≡_};
-ghost use mathlib.Core.Bool.{cond, _&&_};
+ghost use mathlib.Core.Bool.{true, cond};
 ghost use lib.Dec.{eqb};
 ghost use lib.ListN.{length};
 ghost use Rattle.record.specs.Layout.{floats};
-ghost use Rattle.model.specs.Model.{modelFinite};
-ghost use Rattle.model.specs.Ready.{readyOf};
-ghost use Rattle.particles.specs.Judged.{finiteBy, lawBy};
-ghost use Rattle.particles.specs.Factored.{putFactors, withFactors, factorRefusal, factorLaw, heldBy, factoredLaw};
+ghost use Rattle.model.specs.Ready.{readyFinite};
+ghost use Rattle.particles.specs.Factored.{putFactors, withFactors, factorRefusal, factorLaw, heldBy};
+ghost use Rattle.particles.specs.Readied.{readyFirst};
 
 fn write_factors(r: &mut [u64], x: Factors)
     requires { ⌜ length (now r) ≡ floats ⌝ }
@@ -77,11 +75,11 @@ fn hold(o: Outcome, old: &[u64], r: &mut [u64])
 }
 
 // Before the law, and the verdict where there is a judge.
-pub fn first(m: Model, q: Ready, j: Judge, r: &mut [u64]) -> Stepped
-    requires { ⌜ (length (now r) ≡ floats) × (q ≡ readyOf m) ⌝ }
-    ensures outcome { λ x. ⌜ x .outcome ≡ factoredLaw (modelFinite m && finiteBy j) (lawBy m j) (now (r .entry)) .outcome ⌝ }
-    ensures failed { λ x. ⌜ x .failed ≡ factoredLaw (modelFinite m && finiteBy j) (lawBy m j) (now (r .entry)) .failed ⌝ }
-    ensures record { λ x. ⌜ now (r .exit) ≡ factoredLaw (modelFinite m && finiteBy j) (lawBy m j) (now (r .entry)) .after ⌝ }
+pub fn first(q: Ready, j: Judge, r: &mut [u64]) -> Stepped
+    requires { ⌜ (length (now r) ≡ floats) × (readyFinite q ≡ true) ⌝ }
+    ensures outcome { λ x. ⌜ x .outcome ≡ readyFirst q j (now (r .entry)) .outcome ⌝ }
+    ensures failed { λ x. ⌜ x .failed ≡ readyFirst q j (now (r .entry)) .failed ⌝ }
+    ensures record { λ x. ⌜ now (r .exit) ≡ readyFirst q j (now (r .entry)) .after ⌝ }
 {
     if !(model::parameters_ready(q) & judged::judge_finite(j)) {
         return Stepped {
@@ -98,7 +96,7 @@ pub fn first(m: Model, q: Ready, j: Judge, r: &mut [u64]) -> Stepped
             failed: false,
         };
     }
-    let d = judged::step(m, q, j, r);
+    let d = judged::step(q, j, r);
     let o = d.outcome;
     hold(o, &old, r);
     d

@@ -6,7 +6,6 @@ use crate::stored;
 use elasticity_corotated_linear::CorotatedLinearElasticity;
 use failure_maximum_stress::MaximumStressFailure;
 use failure_maximum_stress::Verdict;
-use model::Model;
 use model::Ready;
 use plasticity::Outcome;
 use plasticity::State;
@@ -20,9 +19,10 @@ ghost use Rattle.record.specs.Layout.{floats, stateAt, recordFinite};
 ghost use Rattle.failure_maximum_stress.specs.Failure.{verdictOf};
 ghost use Rattle.failure_maximum_stress.specs.declared.Verdict.{Verdict};
 ghost use Rattle.failure_maximum_stress.specs.declared.Verdict.the-variants as verdict;
-ghost use Rattle.model.specs.Ready.{readyOf};
-ghost use Rattle.particles.specs.Judged.{verdictAfter, unlessRefused, verdictBy, marked, outcomeBy, failedBy, markedBy, finiteBy, lawBy};
-ghost use Rattle.particles.specs.Plain.{keptBy, Beside};
+ghost use Rattle.model.specs.Ready.{readyFinite};
+ghost use Rattle.particles.specs.Judged.{verdictAfter, unlessRefused, verdictBy, marked, outcomeBy, failedBy, finiteBy};
+ghost use Rattle.particles.specs.Plain.{Beside};
+ghost use Rattle.particles.specs.Readied.{readyKeptBy, readyMarked, readyLaw};
 
 // Nobody, or these limits on the stress by this law.
 pub enum Judge {
@@ -110,17 +110,17 @@ fn failed_by(v: Verdict) -> bool
 }
 
 // What the law left is written, but where the stress is refused; a yes sets phase 0.0.
-fn mark(m: Model, x: Left, v: Verdict, r: &mut [u64]) -> Stepped
+fn mark(q: Ready, x: Left, v: Verdict, r: &mut [u64]) -> Stepped
     requires { ⌜ (length (now r) ≡ floats) × Beside (x .updated .outcome) (now r) (x .updated .state) (x .determinant) ⌝ }
-    ensures outcome { λ y. ⌜ y .outcome ≡ marked v (now (r .entry)) (keptBy m (x .updated) (now (r .entry))) .outcome ⌝ }
-    ensures failed { λ y. ⌜ y .failed ≡ marked v (now (r .entry)) (keptBy m (x .updated) (now (r .entry))) .failed ⌝ }
-    ensures record { λ y. ⌜ now (r .exit) ≡ marked v (now (r .entry)) (keptBy m (x .updated) (now (r .entry))) .after ⌝ }
+    ensures outcome { λ y. ⌜ y .outcome ≡ marked v (now (r .entry)) (readyKeptBy q (x .updated) (now (r .entry))) .outcome ⌝ }
+    ensures failed { λ y. ⌜ y .failed ≡ marked v (now (r .entry)) (readyKeptBy q (x .updated) (now (r .entry))) .failed ⌝ }
+    ensures record { λ y. ⌜ now (r .exit) ≡ marked v (now (r .entry)) (readyKeptBy q (x .updated) (now (r .entry))) .after ⌝ }
 {
     let d = x.updated;
     let s = d.state;
     let left = d.outcome;
     let o = outcome_by(v, left);
-    stored::keep(m, o, s, x.determinant, r);
+    stored::keep(q, o, s, x.determinant, r);
     if failed_by(v) {
         r[record::PHASE] = numbers::bits_of(0.0);
         Stepped {
@@ -136,16 +136,16 @@ fn mark(m: Model, x: Left, v: Verdict, r: &mut [u64]) -> Stepped
 }
 
 // One finite record, with a finite judge: the law first, then the verdict on what it leaves.
-fn finite_step(m: Model, q: Ready, j: Judge, r: &mut [u64]) -> Stepped
-    requires { ⌜ (length (now r) ≡ floats) × (recordFinite (now r) ≡ true) × (q ≡ readyOf m) ⌝ }
-    ensures outcome { λ x. ⌜ x .outcome ≡ markedBy m j (now (r .entry)) .outcome ⌝ }
-    ensures failed { λ x. ⌜ x .failed ≡ markedBy m j (now (r .entry)) .failed ⌝ }
-    ensures record { λ x. ⌜ now (r .exit) ≡ markedBy m j (now (r .entry)) .after ⌝ }
+fn finite_step(q: Ready, j: Judge, r: &mut [u64]) -> Stepped
+    requires { ⌜ (length (now r) ≡ floats) × (recordFinite (now r) ≡ true) × (readyFinite q ≡ true) ⌝ }
+    ensures outcome { λ x. ⌜ x .outcome ≡ readyMarked q j (now (r .entry)) .outcome ⌝ }
+    ensures failed { λ x. ⌜ x .failed ≡ readyMarked q j (now (r .entry)) .failed ⌝ }
+    ensures record { λ x. ⌜ now (r .exit) ≡ readyMarked q j (now (r .entry)) .after ⌝ }
 {
-    let x = law::updated(m, q, &r[..]);
+    let x = law::updated(q, &r[..]);
     let d = x.updated;
     let v = verdict(j, &r[..], d);
-    mark(m, x, v, r)
+    mark(q, x, v, r)
 }
 
 // Limits and corotated law are inputs of each record.
@@ -159,14 +159,14 @@ pub fn judge_finite(j: Judge) -> bool
 }
 
 // One record. A float that isn't finite is the first refusal of every law, so all its patterns are tested at once.
-pub fn step(m: Model, q: Ready, j: Judge, r: &mut [u64]) -> Stepped
-    requires { ⌜ (length (now r) ≡ floats) × (q ≡ readyOf m) ⌝ }
-    ensures outcome { λ x. ⌜ x .outcome ≡ lawBy m j (now (r .entry)) .outcome ⌝ }
-    ensures failed { λ x. ⌜ x .failed ≡ lawBy m j (now (r .entry)) .failed ⌝ }
-    ensures record { λ x. ⌜ now (r .exit) ≡ lawBy m j (now (r .entry)) .after ⌝ }
+pub fn step(q: Ready, j: Judge, r: &mut [u64]) -> Stepped
+    requires { ⌜ (length (now r) ≡ floats) × (readyFinite q ≡ true) ⌝ }
+    ensures outcome { λ x. ⌜ x .outcome ≡ readyLaw q j (now (r .entry)) .outcome ⌝ }
+    ensures failed { λ x. ⌜ x .failed ≡ readyLaw q j (now (r .entry)) .failed ⌝ }
+    ensures record { λ x. ⌜ now (r .exit) ≡ readyLaw q j (now (r .entry)) .after ⌝ }
 {
     if judge_finite(j) & record::all_finite(&r[..]) {
-        return finite_step(m, q, j, r);
+        return finite_step(q, j, r);
     }
     Stepped {
         outcome: Outcome::Refused(answers::NOT_FINITE),

@@ -1,5 +1,4 @@
 // The law on a finite record: 11 comes before it, 3 of the new determinant after it.
-use model::Model;
 use model::Ready;
 use plasticity::Outcome;
 use plasticity::State;
@@ -14,10 +13,9 @@ ghost use lib.Ieee.{Float};
 ghost use Rattle.plasticity.specs.State.{stateFinite, refused};
 ghost use Rattle.plasticity.specs.declared.Outcome.the-variants.{Stored};
 ghost use Rattle.record.specs.Layout.{floats, recordFinite};
-ghost use Rattle.model.specs.declared.Model.{Model};
-ghost use Rattle.model.specs.Model.{modelFinite};
-ghost use Rattle.model.specs.Ready.{readyOf};
-ghost use Rattle.particles.specs.Plain.{measured, lawAt, Beside};
+ghost use Rattle.model.specs.Ready.{readyFinite, parametersReady};
+ghost use Rattle.particles.specs.Plain.{Beside};
+ghost use Rattle.particles.specs.Readied.{measuredAt, readyAt};
 
 // What the law leaves: the update, and beside it the determinant of the F that it stores, 0 where it stores none.
 pub struct Left {
@@ -38,7 +36,7 @@ fn unstored(d: Updated) -> Left
 // An update that would store a determinant that isn't finite is refused by 3.
 fn measured(d: Updated) -> Left
     requires { ⌜ ((a : Float) → d .outcome ≡ Stored a → stateFinite (d .state) ≡ true) ⌝ }
-    ensures updated { λ x. ⌜ ((m : Model) (r : List ℕ) → length r ≡ floats → recordFinite r ≡ true → x .updated ≡ measured m r d) ⌝ }
+    ensures updated { λ x. ⌜ ((r : List ℕ) → length r ≡ floats → recordFinite r ≡ true → x .updated ≡ measuredAt r d) ⌝ }
     ensures determinant { λ x. ⌜ ((r : List ℕ) → length r ≡ floats → Beside (x .updated .outcome) r (x .updated .state) (x .determinant)) ⌝ }
 {
     let o = d.outcome;
@@ -65,9 +63,8 @@ fn measured(d: Updated) -> Left
 }
 
 // 11, but where the parameters are refused by 1.
-fn wrong(m: Model, q: Ready, s: State) -> Updated
-    requires { ⌜ q ≡ readyOf m ⌝ }
-    ensures { λ x. ⌜ x ≡ refused (cond (modelFinite m) wrongDeterminant notFinite) s ⌝ }
+fn wrong(q: Ready, s: State) -> Updated
+    ensures { λ x. ⌜ x ≡ refused (cond (parametersReady q) wrongDeterminant notFinite) s ⌝ }
 {
     let n = if model::parameters_ready(q) {
         answers::WRONG_DETERMINANT
@@ -80,10 +77,10 @@ fn wrong(m: Model, q: Ready, s: State) -> Updated
     }
 }
 
-// The law on a finite record, where its determinant is right. The model comes with what it is made ready to be.
-pub fn updated(m: Model, q: Ready, r: &[u64]) -> Left
-    requires { ⌜ (length (now r) ≡ floats) × (recordFinite (now r) ≡ true) × (q ≡ readyOf m) ⌝ }
-    ensures updated { λ x. ⌜ x .updated ≡ lawAt m (now (r .entry)) ⌝ }
+// The law on a finite record, where its determinant is right.
+pub fn updated(q: Ready, r: &[u64]) -> Left
+    requires { ⌜ (length (now r) ≡ floats) × (recordFinite (now r) ≡ true) × (readyFinite q ≡ true) ⌝ }
+    ensures updated { λ x. ⌜ x .updated ≡ readyAt q (now (r .entry)) ⌝ }
     ensures determinant { λ x. ⌜ Beside (x .updated .outcome) (now (r .entry)) (x .updated .state) (x .determinant) ⌝ }
 {
     let s = record::read_state(r);
@@ -91,6 +88,6 @@ pub fn updated(m: Model, q: Ready, r: &[u64]) -> Left
     if r[record::DETERMINANT] == record::determinant_with(f) {
         measured(model::update_ready(q, record::read_u(r), record::read_vt(r), s))
     } else {
-        unstored(wrong(m, q, s))
+        unstored(wrong(q, s))
     }
 }

@@ -6,16 +6,17 @@ use crate::judged::Judge;
 use crate::step;
 use crate::step::Step;
 use crate::step::Stepped;
+use crate::step::Taken;
 use model::Model;
-use model::Ready;
 use plasticity::Outcome;
 ghost use mathlib.Core.Path.{_≡_};
+ghost use mathlib.Core.Bool.{true};
 ghost use Prim.Native.Nat.{_+_, _*_, _^_, _≤_, _<_};
 ghost use lib.ListN.{length};
 ghost use Rattle.record.specs.Layout.{floats};
 ghost use Rattle.particles.specs.Plain.{recordLaw, recordOutcome, recordAfter};
-ghost use Rattle.particles.specs.Step.{stepLaw, readyFor};
-ghost use Rattle.particles.specs.Pass.{codeOf, valueOf, answered, recordAt, replaced, worked, answers, countedIf, counted, counts, sized, withoutVerdicts, passed, passedWithFailure, passRecords, passAnswers};
+ghost use Rattle.particles.specs.Step.{stepLaw, takenFinite, takenLaw};
+ghost use Rattle.particles.specs.Pass.{codeOf, valueOf, AmountFinite, answered, recordAt, replaced, worked, answers, countedIf, counted, counts, sized, withoutVerdicts, passed, passedWithFailure, passRecords, passAnswers};
 
 // How many records were left untouched, stored and refused.
 pub struct Counts {
@@ -35,7 +36,7 @@ pub fn update_record(m: Model, r: &mut [u64]) -> Outcome
     ensures { λ x. ⌜ now (r .exit) ≡ recordAfter m (now (r .entry)) ⌝ }
 {
     if r.len() == record::FLOATS {
-        let d = judged::step(m, model::make_ready(m), Judge::Nobody, r);
+        let d = judged::step(model::make_ready(m), Judge::Nobody, r);
         return d.outcome;
     }
     Outcome::Refused(answers::LENGTH)
@@ -52,13 +53,14 @@ fn code(o: Outcome) -> u64
     }
 }
 
-// And its second: 0, the amount's bits, or the refusal's number.
+// And its second: 0, the amount's bits, or the refusal's number. An amount that is stored is finite, and so it isn't tested for a NaN.
 fn value(o: Outcome) -> u64
+    requires { ⌜ AmountFinite o ⌝ }
     ensures { λ r. ⌜ r ≡ valueOf o ⌝ }
 {
     match o {
         Outcome::Untouched => 0,
-        Outcome::Stored(a) => numbers::bits_of(a),
+        Outcome::Stored(a) => record::finite_bits(a),
         Outcome::Refused(n) => n as u64,
     }
 }
@@ -100,7 +102,7 @@ fn count_one(c: FailureCounts, o: Outcome, failed: bool) -> FailureCounts
 
 // The two answers of record i.
 fn write_answer(out: &mut [u64], i: usize, o: Outcome)
-    requires { ⌜ i * 2 + 2 ≤ length (now out) ⌝ }
+    requires { ⌜ (i * 2 + 2 ≤ length (now out)) × AmountFinite o ⌝ }
     ensures { λ _. ⌜ now (out .exit) ≡ answered (now (out .entry)) i o ⌝ }
 {
     let k = i * 2;
@@ -109,22 +111,22 @@ fn write_answer(out: &mut [u64], i: usize, o: Outcome)
 }
 
 // Record i, and its two answers.
-fn one_ready(s: Step, q: Ready, xs: &mut [u64], out: &mut [u64], i: usize) -> Stepped
-    requires { ⌜ (i * floats + floats ≤ length (now xs)) × (i * 2 + 2 ≤ length (now out)) × (q ≡ readyFor s) ⌝ }
-    ensures outcome { λ d. ⌜ d .outcome ≡ stepLaw s (recordAt (now (xs .entry)) i) .outcome ⌝ }
-    ensures failed { λ d. ⌜ d .failed ≡ stepLaw s (recordAt (now (xs .entry)) i) .failed ⌝ }
-    ensures record { λ d. ⌜ now (xs .exit) ≡ replaced (now (xs .entry)) i (stepLaw s (recordAt (now (xs .entry)) i) .after) ⌝ }
+fn one_ready(t: Taken, xs: &mut [u64], out: &mut [u64], i: usize) -> Stepped
+    requires { ⌜ (i * floats + floats ≤ length (now xs)) × (i * 2 + 2 ≤ length (now out)) × (takenFinite t ≡ true) ⌝ }
+    ensures outcome { λ d. ⌜ d .outcome ≡ takenLaw t (recordAt (now (xs .entry)) i) .outcome ⌝ }
+    ensures failed { λ d. ⌜ d .failed ≡ takenLaw t (recordAt (now (xs .entry)) i) .failed ⌝ }
+    ensures record { λ d. ⌜ now (xs .exit) ≡ replaced (now (xs .entry)) i (takenLaw t (recordAt (now (xs .entry)) i) .after) ⌝ }
     ensures answer { λ d. ⌜ now (out .exit) ≡ answered (now (out .entry)) i (d .outcome) ⌝ }
 {
     let a = i * record::FLOATS;
     let b = a + record::FLOATS;
-    let d = step::take_step(s, q, &mut xs[a..b]);
+    let d = step::take_step(t, &mut xs[a..b]);
     let o = d.outcome;
     write_answer(out, i, o);
     d
 }
 
-// The same by itself.
+// The same by itself, made ready for it alone: written out, so that `one_ready` has one caller, the loop.
 pub fn one(s: Step, xs: &mut [u64], out: &mut [u64], i: usize) -> Stepped
     requires { ⌜ (i * floats + floats ≤ length (now xs)) × (i * 2 + 2 ≤ length (now out)) ⌝ }
     ensures outcome { λ d. ⌜ d .outcome ≡ stepLaw s (recordAt (now (xs .entry)) i) .outcome ⌝ }
@@ -132,15 +134,20 @@ pub fn one(s: Step, xs: &mut [u64], out: &mut [u64], i: usize) -> Stepped
     ensures record { λ d. ⌜ now (xs .exit) ≡ replaced (now (xs .entry)) i (stepLaw s (recordAt (now (xs .entry)) i) .after) ⌝ }
     ensures answer { λ d. ⌜ now (out .exit) ≡ answered (now (out .entry)) i (d .outcome) ⌝ }
 {
-    one_ready(s, step::ready_for(s), xs, out, i)
+    let a = i * record::FLOATS;
+    let b = a + record::FLOATS;
+    let d = step::take_step(step::ready_for(s), &mut xs[a..b]);
+    let o = d.outcome;
+    write_answer(out, i, o);
+    d
 }
 
 // Every record by its index, whatever the ones before it gave.
-fn pass_all(s: Step, q: Ready, xs: &mut [u64], out: &mut [u64], n: usize) -> FailureCounts
-    requires { ⌜ (length (now xs) ≡ n * floats) × (length (now out) ≡ n * 2) × (q ≡ readyFor s) ⌝ }
-    ensures tallies { λ c. ⌜ c ≡ counts (stepLaw s) (now (xs .entry)) n ⌝ }
-    ensures records { λ c. ⌜ now (xs .exit) ≡ worked (stepLaw s) (now (xs .entry)) n ⌝ }
-    ensures answers { λ c. ⌜ now (out .exit) ≡ answers (stepLaw s) (now (xs .entry)) n ⌝ }
+fn pass_all(t: Taken, xs: &mut [u64], out: &mut [u64], n: usize) -> FailureCounts
+    requires { ⌜ (length (now xs) ≡ n * floats) × (length (now out) ≡ n * 2) × (takenFinite t ≡ true) ⌝ }
+    ensures tallies { λ c. ⌜ c ≡ counts (takenLaw t) (now (xs .entry)) n ⌝ }
+    ensures records { λ c. ⌜ now (xs .exit) ≡ worked (takenLaw t) (now (xs .entry)) n ⌝ }
+    ensures answers { λ c. ⌜ now (out .exit) ≡ answers (takenLaw t) (now (xs .entry)) n ⌝ }
 {
     let mut c = FailureCounts {
         untouched: 0,
@@ -150,7 +157,7 @@ fn pass_all(s: Step, q: Ready, xs: &mut [u64], out: &mut [u64], n: usize) -> Fai
     };
     let mut i = 0;
     while i < n {
-        let d = one_ready(s, q, xs, out, i);
+        let d = one_ready(t, xs, out, i);
         let o = d.outcome;
         c = count_one(c, o, d.failed);
         i += 1;
@@ -175,7 +182,7 @@ pub fn pass_by(s: Step, xs: &mut [u64], out: &mut [u64]) -> PassedWithFailure
 {
     if well_sized(xs.len(), out.len()) {
         let n = xs.len() / record::FLOATS;
-        PassedWithFailure::Done(pass_all(s, step::ready_for(s), xs, out, n))
+        PassedWithFailure::Done(pass_all(step::ready_for(s), xs, out, n))
     } else {
         PassedWithFailure::Refused(answers::LENGTH)
     }

@@ -8,10 +8,10 @@ use model::Model;
 use model::Ready;
 use plasticity::Outcome;
 ghost use mathlib.Core.Path.{_≡_};
-ghost use mathlib.Core.Bool.{false};
+ghost use mathlib.Core.Bool.{true, false};
 ghost use lib.ListN.{length};
 ghost use Rattle.record.specs.Layout.{floats};
-ghost use Rattle.particles.specs.Step.{stepLaw, readyFor};
+ghost use Rattle.particles.specs.Step.{takenOf, takenFinite, takenLaw};
 
 // The plastic law; or that, and then the verdict, with these limits on the stress by this law; or our own factors, by themselves or
 // before one of these.
@@ -40,30 +40,38 @@ fn unjudged(o: Outcome) -> Stepped
     }
 }
 
-// What the step's model is made ready to be, once for all records.
-pub fn ready_for(s: Step) -> Ready
-    ensures { λ r. ⌜ r ≡ readyFor s ⌝ }
+// A step with its model made ready, once for all records.
+pub enum Taken {
+    Plain(Ready),
+    Judged(Ready, MaximumStressFailure, CorotatedLinearElasticity),
+    Factors,
+    FactoredPlain(Ready),
+    FactoredJudged(Ready, MaximumStressFailure, CorotatedLinearElasticity),
+}
+
+pub fn ready_for(s: Step) -> Taken
+    ensures { λ t. ⌜ t ≡ takenOf s ⌝ }
 {
     match s {
-        Step::Plain(m) => model::make_ready(m),
-        Step::Judged(m, _, _) => model::make_ready(m),
-        Step::Factors => Ready::Refused(0),
-        Step::FactoredPlain(m) => model::make_ready(m),
-        Step::FactoredJudged(m, _, _) => model::make_ready(m),
+        Step::Plain(m) => Taken::Plain(model::make_ready(m)),
+        Step::Judged(m, l, e) => Taken::Judged(model::make_ready(m), l, e),
+        Step::Factors => Taken::Factors,
+        Step::FactoredPlain(m) => Taken::FactoredPlain(model::make_ready(m)),
+        Step::FactoredJudged(m, l, e) => Taken::FactoredJudged(model::make_ready(m), l, e),
     }
 }
 
-pub fn take_step(s: Step, q: Ready, r: &mut [u64]) -> Stepped
-    requires { ⌜ (length (now r) ≡ floats) × (q ≡ readyFor s) ⌝ }
-    ensures outcome { λ x. ⌜ x .outcome ≡ stepLaw s (now (r .entry)) .outcome ⌝ }
-    ensures failed { λ x. ⌜ x .failed ≡ stepLaw s (now (r .entry)) .failed ⌝ }
-    ensures record { λ x. ⌜ now (r .exit) ≡ stepLaw s (now (r .entry)) .after ⌝ }
+pub fn take_step(t: Taken, r: &mut [u64]) -> Stepped
+    requires { ⌜ (length (now r) ≡ floats) × (takenFinite t ≡ true) ⌝ }
+    ensures outcome { λ x. ⌜ x .outcome ≡ takenLaw t (now (r .entry)) .outcome ⌝ }
+    ensures failed { λ x. ⌜ x .failed ≡ takenLaw t (now (r .entry)) .failed ⌝ }
+    ensures record { λ x. ⌜ now (r .exit) ≡ takenLaw t (now (r .entry)) .after ⌝ }
 {
-    match s {
-        Step::Plain(m) => judged::step(m, q, Judge::Nobody, r),
-        Step::Judged(m, l, e) => judged::step(m, q, Judge::By(l, e), r),
-        Step::Factors => unjudged(factored::alone(r)),
-        Step::FactoredPlain(m) => factored::first(m, q, Judge::Nobody, r),
-        Step::FactoredJudged(m, l, e) => factored::first(m, q, Judge::By(l, e), r),
+    match t {
+        Taken::Plain(q) => judged::step(q, Judge::Nobody, r),
+        Taken::Judged(q, l, e) => judged::step(q, Judge::By(l, e), r),
+        Taken::Factors => unjudged(factored::alone(r)),
+        Taken::FactoredPlain(q) => factored::first(q, Judge::Nobody, r),
+        Taken::FactoredJudged(q, l, e) => factored::first(q, Judge::By(l, e), r),
     }
 }

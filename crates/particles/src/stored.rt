@@ -1,5 +1,5 @@
 // What a law that stores writes into the record. All of it is finite, and so none is tested for a NaN.
-use model::Model;
+use model::Ready;
 use plasticity::Outcome;
 use plasticity::State;
 ghost use mathlib.Core.Path.{_≡_};
@@ -7,7 +7,8 @@ ghost use mathlib.Core.Bool.{true};
 ghost use lib.ListN.{length};
 ghost use Rattle.plasticity.specs.State.{scalarsFinite, stateFinite};
 ghost use Rattle.record.specs.Layout.{floats, determinantAt, putBare, putShape};
-ghost use Rattle.particles.specs.Plain.{snowScalars, rankineScalars, druckerPragerScalars, naccScalars, putScalars, putState, kept, Beside};
+ghost use Rattle.particles.specs.Plain.{snowScalars, rankineScalars, druckerPragerScalars, naccScalars, Beside};
+ghost use Rattle.particles.specs.Readied.{readyScalars, readyKept};
 
 fn write_snow(r: &mut [u64], s: State)
     requires { ⌜ (length (now r) ≡ floats) × (scalarsFinite (s .scalars) ≡ true) ⌝ }
@@ -40,24 +41,25 @@ fn write_nacc(r: &mut [u64], s: State)
     r[record::ALPHA] = record::finite_bits(s.scalars.alpha);
 }
 
-// Of the six scalars those that the law names.
-fn write_scalars(m: Model, r: &mut [u64], s: State)
+// Of the six scalars those that the law names; a model that is refused stores nothing.
+fn write_scalars(q: Ready, r: &mut [u64], s: State)
     requires { ⌜ (length (now r) ≡ floats) × (scalarsFinite (s .scalars) ≡ true) ⌝ }
-    ensures { λ _. ⌜ now (r .exit) ≡ putScalars m (now (r .entry)) s ⌝ }
+    ensures { λ _. ⌜ now (r .exit) ≡ readyScalars q (now (r .entry)) s ⌝ }
 {
-    match m {
-        Model::Snow(_) => {
+    match q {
+        Ready::Snow(_) => {
             write_snow(r, s);
         }
-        Model::Rankine(_) => {
+        Ready::Rankine(_) => {
             write_rankine(r, s);
         }
-        Model::DruckerPrager(_) => {
+        Ready::DruckerPrager(_) => {
             write_drucker_prager(r, s);
         }
-        Model::Nacc(_) => {
+        Ready::Nacc(_) => {
             write_nacc(r, s);
         }
+        Ready::Refused(_) => {}
     }
 }
 
@@ -74,23 +76,23 @@ fn write_shape(r: &mut [u64], s: State, w: u64)
 }
 
 // And the law's scalars.
-fn write_state(m: Model, r: &mut [u64], s: State, w: u64)
+fn write_state(q: Ready, r: &mut [u64], s: State, w: u64)
     requires { ⌜ (length (now r) ≡ floats) × ((w ≡ determinantAt (putBare (now r) s)) × (stateFinite s ≡ true)) ⌝ }
-    ensures { λ _. ⌜ now (r .exit) ≡ putState m (now (r .entry)) s ⌝ }
+    ensures { λ _. ⌜ now (r .exit) ≡ readyScalars q (putShape (now (r .entry)) s) s ⌝ }
 {
     write_shape(r, s, w);
-    write_scalars(m, r, s);
+    write_scalars(q, r, s);
 }
 
 // What an outcome leaves of the record: one that is refused or untouched keeps its bits.
-pub fn keep(m: Model, o: Outcome, s: State, w: u64, r: &mut [u64])
+pub fn keep(q: Ready, o: Outcome, s: State, w: u64, r: &mut [u64])
     requires { ⌜ (length (now r) ≡ floats) × Beside o (now r) s w ⌝ }
-    ensures { λ _. ⌜ now (r .exit) ≡ kept m o (now (r .entry)) s ⌝ }
+    ensures { λ _. ⌜ now (r .exit) ≡ readyKept q o (now (r .entry)) s ⌝ }
 {
     match o {
         Outcome::Untouched => {}
         Outcome::Stored(_) => {
-            write_state(m, r, s, w);
+            write_state(q, r, s, w);
         }
         Outcome::Refused(_) => {}
     }

@@ -2,10 +2,13 @@
 use mathlib.Core.Bool.{Bool, true, false, cond, _&&_}
 use mathlib.Core.List.{List, [], _∷_, _++_, map}
 use mathlib.Core.Path.{_≡_, refl, ap, _∙_}
+use Prim.Native.Nat.{ℕ}
+use lib.ListN.{length}
 use lib.Ieee.{Float, ofBits}
 use Rattle.numbers.specs.Floats.{finite}
 use Rattle.answers.specs.declared.Answer.{Answer}
 use Rattle.answers.specs.declared.Answer.the-variants as answers
+use Rattle.answers.specs.declared.Triple.{Triple}
 use Rattle.tensor.specs.Axes.{allOf}
 use Rattle.tensor.specs.Finite.{rowFinite, matFinite}
 use Rattle.tensor.specs.Matrix.{one, productOf, recomposeOf}
@@ -17,7 +20,8 @@ use Rattle.plasticity.specs.declared.Scalars.{Scalars}
 use Rattle.plasticity.specs.declared.State.{State}
 use Rattle.plasticity.specs.declared.Updated.{Updated}
 use Rattle.walk.specs.Expr.{Expr, value}
-use Rattle.walk.specs.Walk.{Walk, _then_, Ended, given, refused, result}
+use Rattle.walk.specs.Walk.{Function, Walk, asks, _then_, Ended, given, refused, result}
+use Rattle.walk.specs.Three.{answersOf, byThree, asks-by}
 use Rattle.walk.specs.Exact.{andThen, result-then}
 use Rattle.reason.specs.declared.Number.{Number}
 use Rattle.reason.specs.declared.Number.the-variants as number
@@ -30,7 +34,7 @@ use Rattle.plasticity_drucker_prager.specs.declared.DruckerPragerPlastic
 use Rattle.plasticity_drucker_prager.specs.declared.Measured.{Measured}
 use Rattle.plasticity_drucker_prager.specs.declared.Measured.the-variants as measured
 use Rattle.plasticity_drucker_prager.specs.Law.{parametersOf, parametersFinite}
-use Rattle.plasticity_drucker_prager.specs.Projection.{projectFloats, Way, isotropic, expanding, inside, surface, Returned, returnedWalk, tipWalk, branchOf, refusedProjection, walkedOf, projectedOf, tipOf, returnedOf, outcomeOf, resultsOf}
+use Rattle.plasticity_drucker_prager.specs.Projection.{projectFloats, Way, isotropic, expanding, inside, surface, Returned, returnedWalk, tipWalk, branchOf, refusedProjection, walkedOf, projectedOf, tipOf, returnedOf, resultsOf}
 use Rattle.plasticity_drucker_prager.specs.DruckerPrager.{stateOf, storeWalk, Measures, measureWalk, measuredAs, measuredOf, finiteResults, movedWalk, wayWalk, followedOf, floats}
 
 -- the inputs
@@ -49,6 +53,11 @@ unfolding projectFloats
 project-inputs p sigma gain alpha =
     all-append finite (parametersOf p) (sigma ++ (gain ∷ alpha ∷ []))
     ∙ rw (all-append finite sigma (gain ∷ alpha ∷ [])) (leftwards (parametersFinite p) (rowFinite sigma) (finite gain) (finite alpha))
+
+-- a function of three entries, by their indexes, at once
+pub asks-law : {A : Type 0} (n : ℕ) (f : Function) (l : List Float) (k : List Float → Walk A) (t : Triple) → length l ≡ 3 → answersOf f l ≡ t
+    → byThree (λ m. stopped m n) t (λ v. traced (k v)) ≡ traced (asks n f l k)
+asks-law n f l k t = asks-by (askedAt n) (λ m. stopped m n) (λ v k. refl) (λ m k. refl) (λ v. traced (asks n f v k)) (λ v. traced (k v)) f l t (λ x y z. refl)
 
 -- the tip, once the norm is known
 tipped : (w : Way) (ones : List Float) (a : Answer) → walkedOf (askedAt 10 a (λ v. reached (record { way = w; sigma = ones; dq = v }))) ≡ tipOf (branchOf w) ones a

@@ -6,6 +6,7 @@ use crate::Results;
 use crate::choice;
 use crate::steps;
 use answers::Answer;
+use answers::Triple;
 use plasticity::Outcome;
 ghost use mathlib.Core.Path.{_≡_};
 ghost use Rattle.tensor.specs.Matrix.{three, one};
@@ -48,22 +49,16 @@ fn tip(b: Branch, e: [f64; 3]) -> Projected
 fn surface(gamma: f64, norm: f64, b: [f64; 3]) -> Projected
     ensures { λ r. ⌜ r ≡ walkedOf (traced (surfaceWalk (num gamma) (num norm) b)) ⌝ }
 {
-    match exponential::exp_on_path(b[0]) {
-        Answer::Value(x) => match exponential::exp_on_path(b[1]) {
-            Answer::Value(y) => match exponential::exp_on_path(b[2]) {
-                Answer::Value(z) => {
-                    let new = [x, y, z];
-                    Projected {
-                        branch: Branch::Surface(gamma, 0.0, norm),
-                        sigma: new,
-                        dq: gamma,
-                    }
-                }
-                Answer::Refused(n) => refused_projection(n, steps::EXPS),
-            },
-            Answer::Refused(n) => refused_projection(n, steps::EXPS),
-        },
-        Answer::Refused(n) => refused_projection(n, steps::EXPS),
+    match exponential::exps_on_path(b[0], b[1], b[2]) {
+        Triple::Values(x, y, z) => {
+            let new = [x, y, z];
+            Projected {
+                branch: Branch::Surface(gamma, 0.0, norm),
+                sigma: new,
+                dq: gamma,
+            }
+        }
+        Triple::Refused(n) => refused_projection(n, steps::EXPS),
     }
 }
 
@@ -166,23 +161,17 @@ impl DruckerPragerPlasticity {
     pub(crate) fn projected(self, sigma: [f64; 3], gain: f64, alpha: f64) -> Projected
         ensures { λ r. ⌜ r ≡ walkedOf (traced (projectWalk dim self sigma gain alpha)) ⌝ }
     {
-        match logarithm::ln_on_path(sigma[0]) {
-            Answer::Value(x) => match logarithm::ln_on_path(sigma[1]) {
-                Answer::Value(y) => match logarithm::ln_on_path(sigma[2]) {
-                    Answer::Value(z) => {
-                        let l = [x, y, z];
-                        let e = choice::strain(l, gain);
-                        if choice::all_numbers(e) {
-                            self.strained(sigma, e, alpha)
-                        } else {
-                            refused_projection(answers::NO_NUMBER, steps::STRAIN)
-                        }
-                    }
-                    Answer::Refused(n) => refused_projection(n, steps::LOGS),
-                },
-                Answer::Refused(n) => refused_projection(n, steps::LOGS),
-            },
-            Answer::Refused(n) => refused_projection(n, steps::LOGS),
+        match logarithm::logs_on_path(sigma[0], sigma[1], sigma[2]) {
+            Triple::Values(x, y, z) => {
+                let l = [x, y, z];
+                let e = choice::strain(l, gain);
+                if choice::all_numbers(e) {
+                    self.strained(sigma, e, alpha)
+                } else {
+                    refused_projection(answers::NO_NUMBER, steps::STRAIN)
+                }
+            }
+            Triple::Refused(n) => refused_projection(n, steps::LOGS),
         }
     }
 

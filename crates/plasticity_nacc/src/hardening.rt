@@ -6,11 +6,12 @@ use answers::Answer;
 use reason::Number;
 ghost use mathlib.Core.Path.{_≡_};
 ghost use mathlib.Core.Bool.{true};
+ghost use Rattle.answers.specs.declared.Answer.the-variants.{Value};
 ghost use Rattle.tensor.specs.Axes.{allOf};
 ghost use Rattle.walk.specs.Expr.{num, value};
-ghost use Rattle.walk.specs.Walk.{holds};
+ghost use Rattle.walk.specs.Walk.{holds, root, answerOf};
 ghost use Rattle.reason.specs.Traced.{traced, numberAs};
-ghost use Rattle.plasticity_nacc.specs.Formulas.{quadratic, linear, constant};
+ghost use Rattle.plasticity_nacc.specs.Formulas.{quadratic, linear, constant, half};
 ghost use Rattle.plasticity_nacc.specs.Nacc.{sizeOf, growWalk, crossWalk, hardenWalk, conditions, hardenedWalk, settled};
 
 // The size of x; of either zero 0.0.
@@ -95,32 +96,30 @@ impl NaccPlasticity {
     }
 
     // From the centre, the pressure midway between the tips, to the trial state.
-    fn hardening_step(self, d: f64, t: Trial, alpha: f64) -> Number
+    fn hardening_step(self, d: f64, a: f64, norm: Answer, t: Trial, alpha: f64) -> Number
+        requires { ⌜ (norm ≡ answerOf root (t .squares)) × (Value a ≡ answerOf root (value (half (num d)))) ⌝ }
         ensures { λ r. ⌜ r ≡ numberAs (traced (hardenWalk (num d) self t alpha)) ⌝ }
     {
         let c = (1.0 - self.cohesion) * t.p0 / 2.0;
         if numbers::is_number(c) {
-            match square_root::sqrt_on_path((6.0 - d) / 2.0) {
-                Answer::Value(a) => match square_root::sqrt_on_path(t.squares) {
-                    Answer::Value(b) => {
-                        let x = c - t.p;
-                        let y = 0.0 - a * b;
-                        match square_root::sqrt_on_path(x * x + y * y) {
-                            Answer::Value(norm) => {
-                                let d0 = x / norm;
-                                let d1 = y / norm;
-                                if numbers::is_number(d0) & numbers::is_number(d1) {
-                                    self.crossed(t, c, d0, d1, alpha)
-                                } else {
-                                    Number::Refused(answers::NO_NUMBER, steps::DIRECTION)
-                                }
+            match norm {
+                Answer::Value(b) => {
+                    let x = c - t.p;
+                    let y = 0.0 - a * b;
+                    match square_root::sqrt_on_path(x * x + y * y) {
+                        Answer::Value(distance) => {
+                            let d0 = x / distance;
+                            let d1 = y / distance;
+                            if numbers::is_number(d0) & numbers::is_number(d1) {
+                                self.crossed(t, c, d0, d1, alpha)
+                            } else {
+                                Number::Refused(answers::NO_NUMBER, steps::DIRECTION)
                             }
-                            Answer::Refused(n) => Number::Refused(n, steps::DISTANCE),
                         }
+                        Answer::Refused(n) => Number::Refused(n, steps::DISTANCE),
                     }
-                    Answer::Refused(n) => Number::Refused(n, steps::STRESS_NORM),
-                },
-                Answer::Refused(n) => Number::Refused(n, steps::HALF_ROOT),
+                }
+                Answer::Refused(n) => Number::Refused(n, steps::STRESS_NORM),
             }
         } else {
             Number::Refused(answers::NO_NUMBER, steps::CENTRE)
@@ -137,13 +136,13 @@ impl NaccPlasticity {
             & (t.p > -self.cohesion * t.p0 + 0.0001)
     }
 
-    // The new alpha; d is the number of axes. The numbers compared are known to be no NaN.
-    pub fn hardened(self, d: f64, t: Trial, alpha: f64) -> Number
-        requires { ⌜ settled self t ≡ true ⌝ }
+    // The new alpha; d is the number of axes, a the root of (6 - d) / 2, norm that of the squares. The numbers compared are known to be no NaN.
+    pub fn hardened(self, d: f64, a: f64, norm: Answer, t: Trial, alpha: f64) -> Number
+        requires { ⌜ (settled self t ≡ true) × ((norm ≡ answerOf root (t .squares)) × (Value a ≡ answerOf root (value (half (num d))))) ⌝ }
         ensures { λ r. ⌜ r ≡ numberAs (traced (hardenedWalk (num d) self t alpha)) ⌝ }
     {
         if self.hardens(t) {
-            self.hardening_step(d, t, alpha)
+            self.hardening_step(d, a, norm, t, alpha)
         } else {
             Number::Value(alpha)
         }

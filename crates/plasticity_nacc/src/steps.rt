@@ -1,5 +1,5 @@
-// The law's steps by their numbers (docs/STEPS.md). 0 is the inputs; 2, the larger of -alpha and 0, and 13, the hardening step's conditions,
-// refuse nothing.
+// The law's steps by their numbers (docs/STEPS.md). 0 is the inputs; 2, the larger of -alpha and 0, 13, the hardening step's conditions,
+// and 15, the root of (6 - d) / 2, refuse nothing.
 // The moduli are finite.
 pub const MODULI: u8 = 1;
 
@@ -28,10 +28,8 @@ pub const TIP_SIZE: u8 = 11;
 
 pub const TIP_LOG: u8 = 12;
 
-// The hardening step: the centre, the root of 3/2, the norm of the trial stress, the distance and the direction.
+// The hardening step: the centre, the norm of the trial stress, the distance and the direction.
 pub const CENTRE: u8 = 14;
-
-pub const HALF_ROOT: u8 = 15;
 
 pub const STRESS_NORM: u8 = 16;
 

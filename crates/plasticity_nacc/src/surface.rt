@@ -9,10 +9,14 @@ use reason::Number;
 ghost use mathlib.Core.Path.{_≡_};
 ghost use mathlib.Core.Bool.{true};
 ghost use Rattle.walk.specs.Expr.{num, values};
+ghost use Rattle.walk.specs.Walk.{root, answerOf};
 ghost use Rattle.reason.specs.Traced.{traced};
 ghost use Rattle.plasticity_nacc.specs.Axes.{three-axes};
 ghost use Rattle.plasticity_nacc.specs.Formulas.{spread};
 ghost use Rattle.plasticity_nacc.specs.Nacc.{refusedStep, asBranch, tipWalk, rootsWalk, landWalk, surfaceWalk, settled};
+
+// The root of 3/2.
+const HALF_ROOT: f64 = 1.224744871391589;
 
 pub fn refused_step(n: u8, step: u8) -> Stepped
     ensures { λ r. ⌜ r ≡ refusedStep n step ⌝ }
@@ -81,7 +85,8 @@ impl NaccPlasticity {
     }
 
     // Onto the surface, once the new alpha is known.
-    fn land(self, b: Branch, t: Trial, s: [f64; 3], alpha: f64) -> Stepped
+    fn land(self, b: Branch, t: Trial, s: [f64; 3], norm: Answer, alpha: f64) -> Stepped
+        requires { ⌜ norm ≡ answerOf root (t .squares) ⌝ }
         ensures { λ r. ⌜ r ≡ asBranch b (traced (landWalk three-axes self t s alpha)) ⌝ }
     {
         match square_root::sqrt_on_path(-self.y1(t) / self.y0(3.0)) {
@@ -89,9 +94,9 @@ impl NaccPlasticity {
                 Answer::Value(w) => {
                     let k = self.scale(r, w);
                     if numbers::is_number(k) {
-                        match square_root::sqrt_on_path(t.squares) {
-                            Answer::Value(norm) => {
-                                let e = spread(k, s, norm, t.mean);
+                        match norm {
+                            Answer::Value(n) => {
+                                let e = spread(k, s, n, t.mean);
                                 if tensor::row_number(e) {
                                     roots(b, e, alpha)
                                 } else {
@@ -115,8 +120,9 @@ impl NaccPlasticity {
         requires { ⌜ settled self t ≡ true ⌝ }
         ensures { λ r. ⌜ r ≡ asBranch b (traced (surfaceWalk three-axes self t s alpha)) ⌝ }
     {
-        match self.hardened(3.0, t, alpha) {
-            Number::Value(a) => self.land(b, t, s, a),
+        let norm = square_root::sqrt_on_path(t.squares);
+        match self.hardened(3.0, HALF_ROOT, norm, t, alpha) {
+            Number::Value(a) => self.land(b, t, s, norm, a),
             Number::Refused(n, step) => refused_step(n, step),
         }
     }

@@ -2,14 +2,16 @@
 use mathlib.Core.Bool.{Bool, true, false, cond, _&&_}
 use mathlib.Core.List.{List, [], _∷_, _++_}
 use mathlib.Core.Path.{_≡_, refl, sym, ap, _∙_}
-use lib.ListN.{length, getD}
-use lib.Ieee.{Float, nan, ofBits}
+use Prim.Native.Nat.{ℕ}
+use lib.ListN.{length}
+use lib.Ieee.{Float, ofBits}
 use Rattle.numbers.specs.Floats.{finite, isNumber, minOf}
-use Rattle.tensor.specs.Axes.{allOf, pairwise, of-one}
-use Rattle.tensor.specs.Matrix.{add, sub, mul, one, three, dotOf, rowSubOf, recomposeOf}
+use Rattle.answers.specs.declared.Answer.the-variants as answers
+use Rattle.answers.specs.declared.Triple.{Triple}
+use Rattle.tensor.specs.Axes.{allOf, pairwise}
+use Rattle.tensor.specs.Matrix.{add, sub, mul, one, three, rowSubOf, recomposeOf}
 use Rattle.tensor.specs.Finite.{rowFinite, matFinite, rowsFinite}
 use Rattle.tensor.specs.Answer.{answeredVector, refusedVector}
-use Rattle.tensor.specs.declared.VectorAnswer.{VectorAnswer}
 use Rattle.physics.specs.Norm.{normOf}
 use Rattle.plasticity.specs.State as law
 use Rattle.plasticity.specs.State.{inputsFinite, stateFinite, scalarsFinite}
@@ -17,13 +19,14 @@ use Rattle.plasticity.specs.declared.Outcome.the-variants.{Stored}
 use Rattle.plasticity.specs.declared.Scalars.{Scalars}
 use Rattle.plasticity.specs.declared.State.{State}
 use Rattle.walk.specs.Expr.{Expr, num, _-_, value, values, nums}
-use Rattle.walk.specs.Walk.{Walk, _then_, Ended, given, refused, asked, result}
+use Rattle.walk.specs.Walk.{Function, Walk, asks, _then_, Ended, given, refused, asked, result}
+use Rattle.walk.specs.Three.{answersOf, byThree, asks-by}
 use Rattle.walk.specs.Number.{finite-number, sub-number, finite-sub}
 use Rattle.walk.specs.Exact.{andThen, result-then}
 use Rattle.walk.specs.Every.{and-left, and-right, all-append}
 use Rattle.walk.specs.Steps.{least-answers}
-use Rattle.walk.specs.Matrix.{dots, value-dots, value-entry, values-nums}
-use Rattle.walk.specs.Update.{Change, stored, updatedOf, inputs-finite}
+use Rattle.walk.specs.Matrix.{value-dots, value-entry, values-nums}
+use Rattle.walk.specs.Update.{stored, updatedOf, inputs-finite}
 use Rattle.plasticity_rankine.specs.declared.Rank.{Rank}
 use Rattle.plasticity_rankine.specs.declared.Rank.the-variants.{R012, R021, R102, R120, R201, R210}
 use Rattle.plasticity_rankine.specs.declared.RankineArguments.{RankineArguments}
@@ -190,14 +193,10 @@ module _ (p : RankinePlasticity) (u vt : List (List Float)) (s : State) where
       let w = projectWalk p e (num (value (softStrength p (s .scalars .«plastic_hardening»)))) in
       simp h (ap (updatedOf s) (result-then w (λ q. wayWalk p (q .way) e (q .strains) u vt s)) ∙ follows e (result w))
 
--- ---- three axes: each entry is read by its index
-pub exps-whole : (e : List Float) (u vt : List (List Float)) (h : Float) (s : State) → length e ≡ 3
-    → updatedOf s (result (expsWalk (three (getD e 0 nan) (getD e 1 nan) (getD e 2 nan)) u vt (num h) s)) ≡ updatedOf s (result (expsWalk e u vt (num h) s))
-exps-whole e u vt h s = of-one (λ l. updatedOf s (result (expsWalk l u vt (num h) s))) nan e
-
-pub run-whole : (p : RankinePlasticity) (sigma : List Float) (u vt : List (List Float)) (s : State) → length sigma ≡ 3
-    → updatedOf s (result (runWalk p (three (getD sigma 0 nan) (getD sigma 1 nan) (getD sigma 2 nan)) u vt s)) ≡ updatedOf s (result (runWalk p sigma u vt s))
-run-whole p sigma u vt s = of-one (λ l. updatedOf s (result (runWalk p l u vt s))) nan sigma
+-- ---- three axes: a function of the three entries, by their indexes, at once
+pub asks-law : {A : Type 0} (n : ℕ) (f : Function) (l : List Float) (k : List Float → Walk A) (t : Triple) → length l ≡ 3 → answersOf f l ≡ t
+    → byThree refused t (λ v. result (k v)) ≡ result (asks n f l k)
+asks-law n f l k t = asks-by asked refused (λ v k. refl) (λ m k. refl) (λ v. result (asks n f v k)) (λ v. result (k v)) f l t (λ x y z. refl)
 
 -- ---- the results as the code tests them
 stores : (s new : State) (h : Float) (b : Bool) → updatedOf s (cond b (given (stored new h)) (refused 3)) ≡ cond b (record { state = new; outcome = Stored h }) (law.refused 3 s)

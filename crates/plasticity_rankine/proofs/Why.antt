@@ -1,20 +1,23 @@
 -- The reason (ticket 8) as the pieces of the walk tell it and as the code hands it on.
 use mathlib.Core.Bool.{Bool, true, false, cond, _&&_}
-use mathlib.Core.List.{List, [], _∷_}
+use mathlib.Core.List.{List}
 use mathlib.Core.Path.{_≡_, refl, sym, ap, _∙_}
 use Prim.Native.Nat.{ℕ}
-use lib.ListN.{length, getD}
+use lib.ListN.{length}
 use lib.Ieee as Ieee
-use lib.Ieee.{Float, nan}
+use lib.Ieee.{Float}
 use Rattle.numbers.specs.Floats.{finite, isNumber, minOf}
-use Rattle.tensor.specs.Axes.{allOf, pairwise, of-one}
-use Rattle.tensor.specs.Matrix.{add, mul, three, rowSubOf, recomposeOf}
+use Rattle.answers.specs.declared.Answer.the-variants as answers
+use Rattle.answers.specs.declared.Triple.{Triple}
+use Rattle.tensor.specs.Axes.{pairwise}
+use Rattle.tensor.specs.Matrix.{add, mul, rowSubOf, recomposeOf}
 use Rattle.tensor.specs.Finite.{rowFinite, matFinite}
 use Rattle.physics.specs.Norm.{normOf}
 use Rattle.plasticity.specs.State.{inputsFinite}
 use Rattle.plasticity.specs.declared.State.{State}
 use Rattle.walk.specs.Expr.{Expr, num, _-_, value, values, nums}
-use Rattle.walk.specs.Walk.{Walk, _then_, Ended, given, refused, result}
+use Rattle.walk.specs.Walk.{Function, Walk, asks, _then_, Ended, given, refused, result}
+use Rattle.walk.specs.Three.{answersOf, byThree, asks-by}
 use Rattle.walk.specs.Number.{finite-number}
 use Rattle.walk.specs.Matrix.{sum, value-dots, value-entry, values-nums}
 use Rattle.reason.specs.declared.Reason.{Reason}
@@ -137,11 +140,7 @@ module _ (p : RankinePlasticity) (u vt : List (List Float)) (s : State) where
       ∙ ap (λ r. whyThen (result w) r (λ q. why r (wayWalk p (q .way) e (q .strains) u vt s))) (first-why p (orderOf e) e (arrangeOf (orderOf e) e) soft h)
       ∙ follows e (result w))
 
--- ---- three axes: each entry is read by its index
-pub exps-whole-why : (r : Reason) (e : List Float) (u vt : List (List Float)) (h : Float) (s : State) → length e ≡ 3
-    → why r (expsWalk (three (getD e 0 nan) (getD e 1 nan) (getD e 2 nan)) u vt (num h) s) ≡ why r (expsWalk e u vt (num h) s)
-exps-whole-why r e u vt h s = of-one (λ l. why r (expsWalk l u vt (num h) s)) nan e
-
-pub run-whole-why : (p : RankinePlasticity) (sigma : List Float) (u vt : List (List Float)) (s : State) → length sigma ≡ 3
-    → why untold (runWalk p (three (getD sigma 0 nan) (getD sigma 1 nan) (getD sigma 2 nan)) u vt s) ≡ why untold (runWalk p sigma u vt s)
-run-whole-why p sigma u vt s = of-one (λ l. why untold (runWalk p l u vt s)) nan sigma
+-- ---- three axes: a function of the three entries at once
+pub asks-why : {A : Type 0} (r : Reason) (n : ℕ) (f : Function) (l : List Float) (k : List Float → Walk A) (t : Triple) → length l ≡ 3 → answersOf f l ≡ t
+    → byThree (λ m. reason.Refused m n) t (λ v. why r (k v)) ≡ why r (asks n f l k)
+asks-why r n f l k t = asks-by (askedAt n) (λ m. reason.Refused m n) (λ v k. refl) (λ m k. refl) (λ v. why r (asks n f v k)) (λ v. why r (k v)) f l t (λ x y z. refl)

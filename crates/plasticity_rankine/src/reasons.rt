@@ -6,6 +6,7 @@ use crate::RankinePlasticity;
 use crate::sorting;
 use crate::update;
 use answers::Answer;
+use answers::Triple;
 use plasticity::State;
 use reason::Reason;
 ghost use mathlib.Core.Path.{_≡_};
@@ -50,22 +51,16 @@ fn exps_reason(
 ) -> Reason
     ensures { λ r. ⌜ r ≡ why told (expsWalk e u vt (num h) s) ⌝ }
 {
-    match exponential::exp_on_path(e[0]) {
-        Answer::Value(x) => match exponential::exp_on_path(e[1]) {
-            Answer::Value(y) => match exponential::exp_on_path(e[2]) {
-                Answer::Value(z) => {
-                    let sigma = [x, y, z];
-                    if update::results_finite(tensor::recompose(u, sigma, vt), sigma, h) {
-                        told
-                    } else {
-                        Reason::Refused(answers::NO_NUMBER, RESULTS)
-                    }
-                }
-                Answer::Refused(n) => Reason::Refused(n, EXPONENTIALS),
-            },
-            Answer::Refused(n) => Reason::Refused(n, EXPONENTIALS),
-        },
-        Answer::Refused(n) => Reason::Refused(n, EXPONENTIALS),
+    match exponential::exps_on_path(e[0], e[1], e[2]) {
+        Triple::Values(x, y, z) => {
+            let sigma = [x, y, z];
+            if update::results_finite(tensor::recompose(u, sigma, vt), sigma, h) {
+                told
+            } else {
+                Reason::Refused(answers::NO_NUMBER, RESULTS)
+            }
+        }
+        Triple::Refused(n) => Reason::Refused(n, EXPONENTIALS),
     }
 }
 
@@ -153,19 +148,13 @@ impl RankinePlasticity {
         requires { ⌜ parametersFinite self && inputsFinite u vt s ≡ true ⌝ }
         ensures { λ r. ⌜ r ≡ why untold (runWalk self sigma u vt s) ⌝ }
     {
-        match logarithm::ln_on_path(sigma[0]) {
-            Answer::Value(x) => match logarithm::ln_on_path(sigma[1]) {
-                Answer::Value(y) => match logarithm::ln_on_path(sigma[2]) {
-                    Answer::Value(z) => {
-                        let e = [x, y, z];
-                        let soft = self.soft_strength(s.scalars.plastic_hardening);
-                        self.followed_reason(self.projected(e, soft), e, u, vt, s)
-                    }
-                    Answer::Refused(n) => Reason::Refused(n, LOGARITHMS),
-                },
-                Answer::Refused(n) => Reason::Refused(n, LOGARITHMS),
-            },
-            Answer::Refused(n) => Reason::Refused(n, LOGARITHMS),
+        match logarithm::logs_on_path(sigma[0], sigma[1], sigma[2]) {
+            Triple::Values(x, y, z) => {
+                let e = [x, y, z];
+                let soft = self.soft_strength(s.scalars.plastic_hardening);
+                self.followed_reason(self.projected(e, soft), e, u, vt, s)
+            }
+            Triple::Refused(n) => Reason::Refused(n, LOGARITHMS),
         }
     }
 

@@ -4,6 +4,7 @@ use crate::Moves;
 use crate::Projected;
 use crate::RankinePlasticity;
 use answers::Answer;
+use answers::Triple;
 use plasticity::Outcome;
 use plasticity::Scalars;
 use plasticity::State;
@@ -83,18 +84,12 @@ fn store(u: [[f64; 3]; 3], sigma: [f64; 3], vt: [[f64; 3]; 3], h: f64, s: State)
 fn exps(e: [f64; 3], u: [[f64; 3]; 3], vt: [[f64; 3]; 3], h: f64, s: State) -> Updated
     ensures { λ r. ⌜ r ≡ updatedOf s (result (expsWalk e u vt (num h) s)) ⌝ }
 {
-    match exponential::exp_on_path(e[0]) {
-        Answer::Value(x) => match exponential::exp_on_path(e[1]) {
-            Answer::Value(y) => match exponential::exp_on_path(e[2]) {
-                Answer::Value(z) => {
-                    let sigma = [x, y, z];
-                    store(u, sigma, vt, h, s)
-                }
-                Answer::Refused(n) => plasticity::refuse(n, s),
-            },
-            Answer::Refused(n) => plasticity::refuse(n, s),
-        },
-        Answer::Refused(n) => plasticity::refuse(n, s),
+    match exponential::exps_on_path(e[0], e[1], e[2]) {
+        Triple::Values(x, y, z) => {
+            let sigma = [x, y, z];
+            store(u, sigma, vt, h, s)
+        }
+        Triple::Refused(n) => plasticity::refuse(n, s),
     }
 }
 
@@ -166,19 +161,13 @@ impl RankinePlasticity {
         requires { ⌜ parametersFinite self && inputsFinite u vt s ≡ true ⌝ }
         ensures { λ r. ⌜ r ≡ updatedOf s (result (runWalk self sigma u vt s)) ⌝ }
     {
-        match logarithm::ln_on_path(sigma[0]) {
-            Answer::Value(x) => match logarithm::ln_on_path(sigma[1]) {
-                Answer::Value(y) => match logarithm::ln_on_path(sigma[2]) {
-                    Answer::Value(z) => {
-                        let e = [x, y, z];
-                        let soft = self.soft_strength(s.scalars.plastic_hardening);
-                        self.followed(self.projected(e, soft), e, u, vt, s)
-                    }
-                    Answer::Refused(n) => plasticity::refuse(n, s),
-                },
-                Answer::Refused(n) => plasticity::refuse(n, s),
-            },
-            Answer::Refused(n) => plasticity::refuse(n, s),
+        match logarithm::logs_on_path(sigma[0], sigma[1], sigma[2]) {
+            Triple::Values(x, y, z) => {
+                let e = [x, y, z];
+                let soft = self.soft_strength(s.scalars.plastic_hardening);
+                self.followed(self.projected(e, soft), e, u, vt, s)
+            }
+            Triple::Refused(n) => plasticity::refuse(n, s),
         }
     }
 

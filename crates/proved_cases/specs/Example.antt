@@ -1,10 +1,9 @@
 -- Section 7's example: Snow with the default parameters on the record at rest is stored, and the amount is 1. By computation.
 use mathlib.Core.Path.{_≡_, refl}
 use lib.Ieee as Ieee
-use lib.Ieee.{binary64, ofBits}
-use Rattle.exact.specs.Units.{mag, L}
+use lib.Ieee.{binary64, ofBits, toBits}
 use Rattle.numbers.specs.Floats.{finite, isNumber}
-use Rattle.exponential.specs.Worked.{expOf, expBits, packOf, partOf, tailOf}
+use Rattle.exponential.specs.Worked.{expOf, nearestOf, restOf, seriesOf, scaleBits, timesOf}
 use Rattle.tensor.specs.Matrix.{one, sumOf, dotOf, scaledRowOf}
 use Rattle.plasticity.specs.declared.Outcome.the-variants.{Stored}
 use Rattle.walk.specs.Matrix.{total, product, entry}
@@ -13,5 +12,5 @@ use Rattle.plasticity_snow.specs.Snow.{defaults, snowUpdate, snowWalk, floats, 
 use Rattle.proved_cases.specs.Table.{identity, rested}
 
 pub example : snowUpdate defaults identity identity rested .outcome ≡ Stored one
-unfolding snowWalk floats floatsOf runWalk hardenWalk storeWalk total product entry sumOf dotOf scaledRowOf expOf expBits packOf partOf tailOf mag L finite isNumber ofBits Ieee.add Ieee.sub Ieee.mul Ieee.div Ieee.neg Ieee.le Ieee.lt Ieee.eq
+unfolding snowWalk floats floatsOf runWalk hardenWalk storeWalk total product entry sumOf dotOf scaledRowOf expOf nearestOf restOf seriesOf scaleBits timesOf finite isNumber ofBits toBits Ieee.add Ieee.sub Ieee.mul Ieee.div Ieee.neg Ieee.le Ieee.lt Ieee.eq
 example = refl

@@ -6,7 +6,7 @@ use Prim.Native.Nat.{ℕ, suc}
 use lib.Dec.{T}
 use lib.ListN.{length}
 use lib.Ieee.{Float, nan, inf, fin, binary64, le, lt, eq}
-use lib.Ieee.Bits.{ofBits-fits}
+use lib.Ieee.Fits.{add-fits}
 use Rattle.exact.specs.Units.{Fin64}
 use Rattle.numbers.specs.Floats.{isNumber}
 use Rattle.answers.specs.Refusals.{noNumber}
@@ -52,8 +52,8 @@ ln-fine : (x : Float) → F64 x → Answers Fin64 (answerOf ln x)
 ln-fine x f = in-range Fin64 (isNumber x) (inRange logarithm.low logarithm.high x) (sideOf logarithm.low logarithm.high x) (logarithm.lnOf x) (λ r. ln-near x f r .fine)
 
 exp-f64 : (x : Float) → Answers F64 (answerOf exp x)
-unfolding exponential.expOf
-exp-f64 x = in-range F64 (isNumber x) (inRange exponential.low exponential.high x) (sideOf exponential.low exponential.high x) (exponential.expOf x) (λ r. ofBits-fits binary64 _)
+unfolding exponential.expOf exponential.timesOf
+exp-f64 x = in-range F64 (isNumber x) (inRange exponential.low exponential.high x) (sideOf exponential.low exponential.high x) (exponential.expOf x) (λ r. add-fits binary64 _ _)
 
 pub of-each : (F G : Float → Type 0) → ((x : Float) → F x → G x) → (l : List Float) → Each F l → Each G l
 of-each F G f [] h = tt

@@ -18,16 +18,20 @@ use Rattle.tensor.specs.Finite.{rowFinite, matFinite, rowsFinite}
 use Rattle.plasticity.specs.State.{scalarsFinite, stateFinite, inputsFinite}
 use Rattle.record.specs.Layout.{layout, place, placeF, placeSigma, placeDeterminant, floatAt, rowAt, matAt, rowsAt, uAt, vtAt, stateAt, recordFinite, low}
 
--- a pattern with no sign, its exponent one more, is low where that exponent was not all ones
-below-ones : (m : ℕ) → m < 2 ^ 63 → low (m + 2 ^ 52) ≡ not (eqb (m / 2 ^ 52) 2047)
-below-ones m h = go (low (m + 2 ^ 52)) refl
+-- the upper half of a pattern with no sign, its exponent one more, is low where that exponent was not all ones
+below-ones : (m h : ℕ) → h < 2 ^ 31 → m / 2 ^ 52 ≡ h / 2 ^ 20 → low (h + 2 ^ 20) ≡ not (eqb (m / 2 ^ 52) 2047)
+below-ones m h k e = go (low (h + 2 ^ 20)) refl
   where
-    go : (b : Bool) → low (m + 2 ^ 52) ≡ b → b ≡ not (eqb (m / 2 ^ 52) 2047)
-    go true q = let k = ltb-true (m + 2 ^ 52) (2 ^ 63) q in rw (ne-eqb (m / 2 ^ 52) 2047 (λ g. absurd (omega arith))) refl
-    go false q = let k = ltb-false (m + 2 ^ 52) (2 ^ 63) q in rw (eq-eqb (m / 2 ^ 52) 2047 (omega arith)) refl
+    go : (b : Bool) → low (h + 2 ^ 20) ≡ b → b ≡ not (eqb (m / 2 ^ 52) 2047)
+    go true q = let l = ltb-true (h + 2 ^ 20) (2 ^ 31) q in rw (ne-eqb (m / 2 ^ 52) 2047 (λ g. absurd (omega arith))) refl
+    go false q = let l = ltb-false (h + 2 ^ 20) (2 ^ 31) q in rw (eq-eqb (m / 2 ^ 52) 2047 (omega arith)) refl
 
-pub lifted : (n : ℕ) → low (n % 2 ^ 63 + 2 ^ 52) ≡ finite (ofBits binary64 n)
-lifted n = below-ones (n % 2 ^ 63) (omega arith) ∙ sym (finite-bits n)
+-- its exponent stands whole in the upper half
+same-exponent : (n : ℕ) → n % 2 ^ 63 / 2 ^ 52 ≡ n / 2 ^ 32 % 2 ^ 31 / 2 ^ 20
+same-exponent n = omega arith
+
+pub lifted : (n : ℕ) → low (n / 2 ^ 32 % 2 ^ 31 + 2 ^ 20) ≡ finite (ofBits binary64 n)
+lifted n = below-ones (n % 2 ^ 63) (n / 2 ^ 32 % 2 ^ 31) (omega arith) (same-exponent n) ∙ sym (finite-bits n)
 
 -- an OR is low where both are
 pub or-low : (a b : ℕ) → low (bitOr a b) ≡ low a && low b
@@ -37,9 +41,9 @@ or-low a b = go (low a) (low b) refl refl
     sum = or-add-and a b
 
     go : (p q : Bool) → low a ≡ p → low b ≡ q → low (bitOr a b) ≡ p && q
-    go true true p q = lt-ltb (bitOr a b) (2 ^ 63) (or-lt 63 a b (ltb-true a (2 ^ 63) p) (ltb-true b (2 ^ 63) q))
-    go true false p q = le-ltb (bitOr a b) (2 ^ 63) (omega (arith, sum, and-le-l a b, ltb-false b (2 ^ 63) q))
-    go false d p q = le-ltb (bitOr a b) (2 ^ 63) (omega (arith, sum, and-le-r a b, ltb-false a (2 ^ 63) p))
+    go true true p q = lt-ltb (bitOr a b) (2 ^ 31) (or-lt 31 a b (ltb-true a (2 ^ 31) p) (ltb-true b (2 ^ 31) q))
+    go true false p q = le-ltb (bitOr a b) (2 ^ 31) (omega (arith, sum, and-le-l a b, ltb-false b (2 ^ 31) q))
+    go false d p q = le-ltb (bitOr a b) (2 ^ 31) (omega (arith, sum, and-le-r a b, ltb-false a (2 ^ 31) p))
 
 pub finite-number : (x : Float) → finite x ≡ true → T (not (isNan x))
 unfolding finite isNan

@@ -110,9 +110,9 @@ stateAt r =
 abbrev pub recordFinite : List ℕ → Bool
 recordFinite r = inputsFinite (uAt r) (vtAt r) (stateAt r) && finite (floatAt r placeDeterminant)
 
--- below a sign's bit, 2^63
+-- below a sign's bit in an upper half, 2^31
 abbrev pub low : ℕ → Bool
-low n = ltb n (2 ^ 63)
+low n = ltb n (2 ^ 31)
 
 -- a NaN's bits are 7ff8000000000000
 abbrev pub bits : Float → ℕ

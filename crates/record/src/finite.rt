@@ -13,14 +13,15 @@ ghost use Rattle.tensor.specs.Finite.{rowFinite, matFinite, rowsFinite};
 ghost use Rattle.plasticity.specs.State.{scalarsFinite};
 ghost use Rattle.record.specs.Layout.{floats, placeF, rowAt, matAt, rowsAt, uAt, vtAt, stateAt, recordFinite, determinantRight, low, bits};
 
-// A sign's bit.
-const SIGN: u64 = 0x8000_0000_0000_0000;
+// A sign's bit in the upper half of a pattern.
+const SIGN: u32 = 0x8000_0000;
 
-// A pattern with no sign, its exponent one more: it reaches the sign where the exponent was all ones.
-fn lifted(n: u64) -> u64
+// The upper half of a pattern with no sign, its exponent one more: it reaches the sign where the exponent was all ones. In 32
+// bits the compiler takes four patterns at a step.
+fn lifted(n: u64) -> u32
     ensures { λ x. ⌜ low x ≡ finite (Ieee.ofBits binary64 n) ⌝ }
 {
-    n % SIGN + 0x10_0000_0000_0000
+    (n / 0x1_0000_0000) as u32 % SIGN + 0x10_0000
 }
 
 // Whether a pattern is a finite float's: its exponent is not all ones.
@@ -30,21 +31,21 @@ pub fn word_finite(n: u64) -> bool
     lifted(n) < SIGN
 }
 
-fn row_lifted(r: &[u64], at: usize) -> u64
+fn row_lifted(r: &[u64], at: usize) -> u32
     requires { ⌜ at + 3 ≤ length (now r) ⌝ }
     ensures { λ x. ⌜ low x ≡ rowFinite (rowAt (now (r .entry)) at) ⌝ }
 {
     lifted(r[at]) | lifted(r[at + 1]) | lifted(r[at + 2])
 }
 
-fn mat_lifted(r: &[u64], at: usize) -> u64
+fn mat_lifted(r: &[u64], at: usize) -> u32
     requires { ⌜ at + 9 ≤ length (now r) ⌝ }
     ensures { λ x. ⌜ low x ≡ matFinite (matAt (now (r .entry)) at) ⌝ }
 {
     row_lifted(r, at) | row_lifted(r, at + 3) | row_lifted(r, at + 6)
 }
 
-fn scalars_lifted(r: &[u64]) -> u64
+fn scalars_lifted(r: &[u64]) -> u32
     requires { ⌜ length (now r) ≡ floats ⌝ }
     ensures { λ x. ⌜ low x ≡ scalarsFinite (stateAt (now (r .entry)) .scalars) ⌝ }
 {

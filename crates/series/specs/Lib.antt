@@ -3,7 +3,6 @@ pub mod Exponential
 pub mod Remainder
 pub mod Powers
 pub mod Bounds
-pub mod Tested
 pub mod Sine
 pub mod SinNear
 pub mod SinSure
@@ -12,7 +11,11 @@ pub mod SineNest
 pub mod ExpNear
 pub mod Scale
 pub mod LogNear
+pub mod SignedPowers
 pub mod Logs
 pub mod Ln2
 pub mod ThirdsNear
 pub mod SinhNear
+pub mod LogTail
+pub mod ExpSigned
+pub mod ExpSmall

@@ -7,7 +7,7 @@ use native.Mathlib.Omega.{arith}
 use native.Mathlib.Bridge.{le-by-compare, IsLe}
 use lib.Dec.{T, leb, leb→le, nleb→lt}
 use lib.Pow.{pow-pos, pow-add}
-use lib.Ieee.{Float, binary64, unlike, ofBits, toBits, fits}
+use lib.Ieee.{Float, binary64, unlike, ofBits, toBits, fits, neg, add, mul, le}
 use Rattle.exact.specs.Units.{L, L-pos, mag, sgn, Fin64}
 use Rattle.exact.specs.Sums.{pl, mi}
 use Rattle.exact.specs.Fields.{signAt}
@@ -16,44 +16,19 @@ use Rattle.fixed_point.specs.FloatOfLaw.{float-of}
 use Rattle.answers.specs.Range.{inRange}
 use Rattle.series.specs.Sine.{odd, ratio, den, added, taken}
 use Rattle.series.specs.SinNear.{SinNear}
-use Rattle.series.specs.SinSure.{Sure, sure}
-use Rattle.sine.specs.Sine.{stepOf, nested, plusOf, minusOf, differenceOf, eighthOf, eighthAt, low, high, sinOf}
+use Rattle.series.specs.SinSure.{Sure}
+use Rattle.sine.specs.Sine.{plusOf, minusOf, differenceOf, eighthAt, low, high, one, hornerOf, shortOf, sinAt, sinOf}
 use Rattle.sine.proofs.Cuts.{Cut}
 use Rattle.sine.proofs.Terms.{plus-cut, minus-cut}
 use Rattle.sine.proofs.Size.{sized}
+use Rattle.sine.proofs.Last.{factorial, next-small, near-by}
+use Rattle.sine.proofs.ShortWay.{short-near}
 use Rattle.sine.proofs.Argument.{Eighth, small-x, sign-is, eighth-is}
 
 -- ---- the term after the last
--- (2 n + 1)!
-unfoldable factorial : ℕ → ℕ
-factorial zero = 1
-factorial (suc n) = factorial n * ((2 * n + 2) * (2 * n + 3))
-
-den-is : (q n : ℕ) → den q n ≡ factorial n * odd q n
-unfolding den odd factorial
-den-is q zero = omega arith
-den-is q (suc n) = step-plain (den q n) (factorial n) (odd q n) ((2 * n + 2) * (2 * n + 3)) (q * q) (den-is q n)
-  where
-    step-plain : (d f o r s : ℕ) → d ≡ f * o → d * (r * s) ≡ f * r * (o * s)
-    step-plain d f o r s e = omega (arith, ap (λ v. v * (r * s)) e)
-
-odd-le : (p q n : ℕ) → p ≤ 8 * q → odd p n ≤ odd 8 n * odd q n
-unfolding odd
-odd-le p q zero h = h
-odd-le p q (suc n) h = le-trans (mul-le-mul (odd-le p q n h) (mul-le-mul h h)) (le-of-eq (eights (odd 8 n) (odd q n) q))
-  where
-    eights : (a b q : ℕ) → a * b * (8 * q * (8 * q)) ≡ a * (8 * 8) * (b * (q * q))
-    eights a b q = omega arith
-
 next-closed : odd 8 22 * 2 ^ 54 ≤ 7 * factorial 22
 unfolding odd factorial IsLe
 next-closed = le-by-compare (odd 8 22 * 2 ^ 54) (7 * factorial 22) tt
-
-next-plain : (R g o F d E : ℕ) → R ≤ g * o → g * E ≤ 7 * F → d ≡ F * o → R * E ≤ 7 * d
-next-plain R g o F d E h k e = rw e (omega (arith, mul-le-mul-right E h, mul-le-mul-right o k))
-
-next-small : (p q : ℕ) → p ≤ 8 * q → odd p 22 * 2 ^ 54 ≤ 7 * den q 22
-next-small p q h = next-plain (odd p 22) (odd 8 22) (odd q 22) (factorial 22) (den q 22) (2 ^ 54) (odd-le p q 22 h) next-closed (den-is q 22)
 
 falls-plain : (p q : ℕ) → p ≤ 8 * q → p * p ≤ 1980 * (q * q)
 falls-plain p q h = omega (arith, mul-le-mul h h)
@@ -168,7 +143,7 @@ module _ (p v : ℕ) (hp : p ≤ 8 * L) (E : Eighth v p) (s : Bool) where
   minus-near = minus-cut p L v L-pos hp (E .fits) (E .cut)
 
   last : odd p 22 * 2 ^ 54 ≤ 7 * (den L 21 * ratio L 21)
-  last = subst (λ (d : ℕ). odd p 22 * 2 ^ 54 ≤ 7 * d) (den-next L) (next-small p L hp)
+  last = subst (λ (d : ℕ). odd p 22 * 2 ^ 54 ≤ 7 * d) (den-next L) (next-small 8 p L 22 (2 ^ 54) 7 hp next-closed)
 
   module _ (r : Float) where
     least : (l : ℕ) (t : Bool) → l ≤ 2 ^ 60 → FloatOf l 54 t r → l * 2 ^ 1020 ≤ mag r + 256 * 2 ^ 1020
@@ -226,18 +201,23 @@ module _ (p v : ℕ) (hp : p ≤ 8 * L) (E : Eighth v p) (s : Bool) where
       go true f g = found-same (f tt)
       go false f g = found-other (g tt)
 
-pub sin-near : (x : Float) → T (fits binary64 x) → inRange low high x ≡ true → SinNear x (sinOf x)
-unfolding sinOf Found
-sin-near x f r =
-    let y = sinOf x in
+-- beyond 1
+long-near : (x : Float) → T (fits binary64 x) → inRange low high x ≡ true → SinNear x (sinAt (toBits binary64 x))
+unfolding Found
+long-near x f r =
+    let y = sinAt (toBits binary64 x) in
     let g = found (mag x) (eighthAt (toBits binary64 x)) (small-x x f r) (eighth-is x f r) (signAt (toBits binary64 x)) in
-    let s : Sure (mag x) L (pl (unlike (sgn x) (sgn y)) (mag y)) (mi (unlike (sgn x) (sgn y)) (mag y)) L (2 ^ 45) 21 = subst (λ (t : Bool). Sure (mag x) L (pl (unlike t (sgn y)) (mag y)) (mi (unlike t (sgn y)) (mag y)) L (2 ^ 45) 21) (sym (sign-is x f r)) (g .1) in
-    record {
-      fine = g .0;
-      near = λ n h. sure (mag x) L (pl (unlike (sgn x) (sgn y)) (mag y)) (mi (unlike (sgn x) (sgn y)) (mag y)) L (2 ^ 45) n 21 L-pos s h;
-    }
+    near-by x y 21 (g .0) (subst (λ (t : Bool). Sure (mag x) L (pl (unlike t (sgn y)) (mag y)) (mi (unlike t (sgn y)) (mag y)) L (2 ^ 45) 21) (sym (sign-is x f r)) (g .1))
+
+pub sin-near : (x : Float) → T (fits binary64 x) → inRange low high x ≡ true → SinNear x (sinOf x)
+unfolding sinOf
+sin-near x f r = go (inRange (neg one) one x) (short-near x f) (long-near x f r)
+  where
+    go : (t : Bool) → (t ≡ true → SinNear x (shortOf x)) → SinNear x (sinAt (toBits binary64 x)) → SinNear x (cond t (shortOf x) (sinAt (toBits binary64 x)))
+    go true s l = s refl
+    go false s l = l
 
 -- exactly 0 at 0, of either sign
 pub sin-zero : (sinOf (ofBits binary64 0) ≡ ofBits binary64 0) × (sinOf (ofBits binary64 0x8000_0000_0000_0000) ≡ ofBits binary64 0)
-unfolding sinOf differenceOf plusOf minusOf eighthOf nested stepOf toFloatOf ofBits toBits
+unfolding sinOf shortOf hornerOf ofBits neg add mul le
 sin-zero = (refl, refl)

@@ -1,14 +1,31 @@
--- The sine as it is worked, in whole numbers: its own series, by nesting, the terms with a plus and those with a minus apart. What it is near is
--- said by series/specs/SinNear.
+-- The sine as it is worked, by its own series: from -1 to 1 in floats, eight terms; beyond, in whole numbers, by nesting, the terms with a plus and
+-- those with a minus apart. What it is near is said by series/specs/SinNear.
 use mathlib.Core.Bool.{Bool, not, cond}
 use mathlib.Core.List.{List, [], _∷_}
 use Prim.Native.Nat.{ℕ, _+_, _-_, _*_, _/_, _^_}
 use lib.Dec.{leb}
-use lib.Ieee.{Float, binary64, toBits, ofBits, neg}
+use lib.Ieee.{Float, binary64, toBits, ofBits, neg, add, mul}
 use Rattle.exact.specs.Fields.{signAt, exponentAt, digitsAt}
-use Rattle.answers.specs.Range.{ranged}
+use Rattle.answers.specs.Range.{inRange, ranged}
 use Rattle.answers.specs.declared.Answer.{Answer}
 use Rattle.fixed_point.specs.ToFloat.{toFloatOf}
+
+-- 1, and (-1) ^ k / (2 k + 1)! for k = 1 to 7, each the nearest float
+abbrev pub one : Float
+one = ofBits binary64 0x3ff0_0000_0000_0000
+
+abbrev pub shorts : List Float
+shorts = neg (ofBits binary64 0x3fc5_5555_5555_5555) ∷ ofBits binary64 0x3f81_1111_1111_1111 ∷ neg (ofBits binary64 0x3f2a_01a0_1a01_a01a) ∷ ofBits binary64 0x3ec7_1de3_a556_c734 ∷ neg (ofBits binary64 0x3e5a_e645_67f5_44e4) ∷ ofBits binary64 0x3de6_1246_13a8_6d09 ∷ neg (ofBits binary64 0x3d6a_e7f3_e733_b81f) ∷ []
+
+-- c + y (d + y (..))
+unfoldable pub hornerOf : Float → List Float → Float
+hornerOf y [] = ofBits binary64 0
+hornerOf y (c ∷ []) = c
+hornerOf y (c ∷ d ∷ cs) = add binary64 c (mul binary64 y (hornerOf y (d ∷ cs)))
+
+-- x + x y (-1 / 6 + y (1 / 120 + ..)), y = x x
+unfoldable pub shortOf : Float → Float
+shortOf x = let y = mul binary64 x x in add binary64 x (mul binary64 (mul binary64 x y) (hornerOf y shorts))
 
 -- 8 ^ (2 k + 1) / (2 k + 1)! in units of 2 ^ -54, cut: k = 0, 2, .. 20, and k = 1, 3, .. 21
 abbrev pub plusses : List ℕ
@@ -59,8 +76,9 @@ eighthAt b = eighthOf (exponentAt b) (2 ^ 52 + digitsAt b)
 abbrev pub sinAt : ℕ → Float
 sinAt b = differenceOf (plusOf (eighthAt b)) (minusOf (eighthAt b)) (signAt b)
 
+-- from -1 to 1 the short way
 unfoldable pub sinOf : Float → Float
-sinOf x = sinAt (toBits binary64 x)
+sinOf x = cond (inRange (neg one) one x) (shortOf x) (sinAt (toBits binary64 x))
 
 -- within its range
 abbrev pub sinRanged : Float → Answer

@@ -1,4 +1,4 @@
-// The sine of every number from -8 to 8, within 2^-45 (RULES, section 3), by its own series in whole numbers.
+// The sine of every number from -8 to 8, within 2^-45 (RULES, section 3), by its own series: in floats from -1 to 1, else in whole numbers.
 use answers::Answer;
 ghost use mathlib.Core.Path.{_≡_};
 ghost use mathlib.Core.Bool.{true};
@@ -7,7 +7,21 @@ ghost use Rattle.answers.specs.declared.Answer.the-variants.{Value};
 ghost use Prim.Native.Nat.{_+_, _^_, _≤_, _<_};
 ghost use Rattle.answers.specs.Range.{inRange, bare, onPath};
 ghost use Rattle.series.specs.SinNear.{SinNear};
-ghost use Rattle.sine.specs.Sine.{stepOf, nested, plusses, minuses, eighthOf, plusOf, minusOf, differenceOf, low, high, sinOf, sinRanged};
+ghost use Rattle.sine.specs.Sine.{stepOf, nested, plusses, minuses, eighthOf, plusOf, minusOf, differenceOf, shortOf, low, high, sinOf, sinRanged};
+
+// The series up to x^15 / 15!, nested by y: (-1)^k / (2k+1)! for k = 7, 6, .. 1.
+fn short(x: f64) -> f64
+    ensures { λ r. ⌜ r ≡ shortOf x ⌝ }
+{
+    let y = x * x;
+    let h6 = 1.6059043836821613e-10 + y * -7.647163731819816e-13;
+    let h5 = -2.505210838544172e-8 + y * h6;
+    let h4 = 2.7557319223985893e-6 + y * h5;
+    let h3 = -0.0001984126984126984 + y * h4;
+    let h2 = 0.008333333333333333 + y * h3;
+    let h1 = -0.16666666666666666 + y * h2;
+    x + x * y * h1
+}
 
 // One step of a nested sum: c + h * z, z in units of 2^-64.
 fn step(c: u64, h: u64, z: u64) -> u64
@@ -88,6 +102,9 @@ fn sin_value(x: f64) -> f64
     requires { ⌜ inRange low high x ≡ true ⌝ }
     ensures { λ r. ⌜ r ≡ sinOf x ⌝ }
 {
+    if answers::in_range(-1.0, 1.0, x) {
+        return short(x);
+    }
     let b = numbers::bits_of(x);
     let e = b % 0x8000_0000_0000_0000 / 0x10_0000_0000_0000;
     let m = 0x10_0000_0000_0000 + b % 0x10_0000_0000_0000;

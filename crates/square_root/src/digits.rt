@@ -132,5 +132,5 @@ pub(crate) fn of_digits(q: u64, k: u64) -> f64
     ensures { λ r. ⌜ RootAt q k r ⌝ }
 {
     let r = root(q << (k % 2));
-    numbers::float_of((k / 2 - 26) * 0x10_0000_0000_0000 + r)
+    f64::from_bits((k / 2 - 26) * 0x10_0000_0000_0000 + r)
 }

@@ -1,5 +1,4 @@
-pub mod Steps
 pub mod Powers
-pub mod Cubes
-pub mod Rooted
+pub mod Products
 pub mod Near
+pub mod Answers

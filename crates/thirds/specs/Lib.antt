@@ -1,2 +1,1 @@
-pub mod Root
 pub mod Thirds

@@ -1,10 +1,11 @@
--- The powers 1/3, 2/3, -1/3 and -2/3 as worked (RULES, section 3): the cube root, its square, and their inverses.
+-- The powers 1/3, 2/3, -1/3 and -2/3 as worked (RULES, section 3): exp (c ln x). How near they are stands in `series`, ThirdsNear;
+-- that they are so near, in proofs/Near.
 use lib.Ieee as Ieee
-use lib.Ieee.{Float, binary64, ofBits, toBits}
-use Rattle.numbers.specs.Power.{one}
+use lib.Ieee.{Float, binary64, ofBits}
 use Rattle.answers.specs.Range.{ranged}
 use Rattle.answers.specs.declared.Answer.{Answer}
-use Rattle.thirds.specs.Root.{rootBits}
+use Rattle.exponential.specs.Worked.{expOf}
+use Rattle.logarithm.specs.Worked.{lnOf}
 
 -- from 2 ^ -60
 abbrev pub low : Float
@@ -14,17 +15,28 @@ low = ofBits binary64 0x3c30_0000_0000_0000
 abbrev pub high : Float
 high = ofBits binary64 0x43b0_0000_0000_0000
 
+-- 1/3 and 2/3, less 2 ^ -54 of themselves
+abbrev pub third : Float
+third = ofBits binary64 0x3fd5_5555_5555_5555
+
+abbrev pub twoThirds : Float
+twoThirds = ofBits binary64 0x3fe5_5555_5555_5555
+
+-- x ^ c
+abbrev pub powerOf : Float → Float → Float
+powerOf x c = expOf (Ieee.mul binary64 (lnOf x) c)
+
 unfoldable pub cbrtOf : Float → Float
-cbrtOf x = ofBits binary64 (rootBits (toBits binary64 x))
+cbrtOf x = powerOf x third
 
 unfoldable pub cbrtSquaredOf : Float → Float
-cbrtSquaredOf x = Ieee.mul binary64 (cbrtOf x) (cbrtOf x)
+cbrtSquaredOf x = powerOf x twoThirds
 
 unfoldable pub invCbrtOf : Float → Float
-invCbrtOf x = Ieee.div binary64 one (cbrtOf x)
+invCbrtOf x = powerOf x (Ieee.neg third)
 
 unfoldable pub invCbrtSquaredOf : Float → Float
-invCbrtSquaredOf x = Ieee.div binary64 one (cbrtSquaredOf x)
+invCbrtSquaredOf x = powerOf x (Ieee.neg twoThirds)
 
 -- what each answers at a number: its value within the range, or the refusal
 abbrev pub cbrtRanged : Float → Answer

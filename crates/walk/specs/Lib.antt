@@ -14,3 +14,4 @@ pub mod Power
 pub mod Numbers
 pub mod Inner
 pub mod Before
+pub mod Three

@@ -1,11 +1,13 @@
 -- `exponential::exp_ranged` meets its contract. Assumes nothing.
-use mathlib.Core.Path.{sym, _∙_}
+use mathlib.Core.Path.{sym, _∙_, subst}
 use borrow.Author.Needs.{needs}
+use lib.Dec.{T}
+use Rattle.exponential.proofs.Unpacking.{ranged-sized}
 use Rattle.exponential.proofs.exp_ranged.Statement.{statement}
 use Rattle.exponential.proofs.exp_ranged.Tie as tie
 
 exp-value-requires : tie.Need-exp-value-requires
-exp-value-requires c κs = sym (c .before .in-range .ensures) ∙ c .if1 .taken
+exp-value-requires c κs = let s = c .before .before in ranged-sized (s .args .x) (subst T (sym (s .good .0 .1)) tt) (sym (c .before .in-range .ensures) ∙ c .if1 .taken)
 
 returns : tie.Need-returns
 returns c = rw (c .exp-value .ensures, sym (c .before .before .in-range .ensures) ∙ c .before .if1 .taken)

@@ -2,9 +2,8 @@
 use mathlib.Core.Path.{sym, ap₂, subst}
 use lib.Dec.{T}
 use lib.Ieee as Ieee
-use lib.Ieee.{Float, binary64}
+use lib.Ieee.{binary64}
 use borrow.Author.Needs.{needs}
-use Rattle.series.specs.LogNear.{LogNear}
 use Rattle.logarithm.specs.Worked.{lnOf, ln2}
 use Rattle.logarithm.proofs.Laws.{no-nan}
 use Rattle.logarithm.proofs.ln_value.Statement.{statement}

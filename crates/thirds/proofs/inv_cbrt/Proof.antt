@@ -1,23 +1,26 @@
--- The answer is the function's, called by itself; a value lies within the distance.
+-- The answer is the power's, called by itself; a value lies within the distance.
 use mathlib.Core.Path.{sym, subst, ap, _∙_}
 use borrow.Author.Needs.{needs}
 use lib.Dec.{T}
-use Rattle.answers.specs.Range.{bare, ranged}
+use Rattle.answers.specs.Range.{bare}
 use Rattle.answers.proofs.Values.{bare-near}
 use Rattle.series.specs.ThirdsNear.{InvCbrtNear}
-use Rattle.thirds.specs.Thirds.{invCbrtOf, low, high}
-use Rattle.thirds.proofs.Near.{inv-cbrt-near}
+use Rattle.thirds.specs.Thirds.{invCbrtOf, invCbrtRanged, low, high}
+use Rattle.thirds.proofs.Products.{small}
+use Rattle.thirds.proofs.Near.{minus-one, inv-cbrt-near}
+use Rattle.answers.proofs.Values.{bare-path}
 use Rattle.thirds.proofs.inv_cbrt.Statement.{statement}
 use Rattle.thirds.proofs.inv_cbrt.Tie as tie
 
 returns : tie.Need-returns
+unfolding invCbrtOf
 returns c =
-    let s = c .before .before .before in
+    let s = c .before .before in
     let x = s .args .x in
-    let e = c .bare .ensures ∙ ap (bare x) ((c .before .answer .ensures ∙ ap (ranged low high x) (c .before .before .inv-cbrt-value .ensures))) in
+    let e = c .bare .ensures ∙ ap (bare x) (c .before .power-on-path .ensures) ∙ bare-path x (invCbrtRanged x) in
     (e, λ v h. bare-near low high x v (invCbrtOf x) (InvCbrtNear x) (inv-cbrt-near x (subst T (sym (s .good .0 .1)) tt)) (sym e ∙ h))
 
 pub inv-cbrt-spec : {M : Type 1} → statement M
 inv-cbrt-spec =
     tie.close
-    (tie.spec (λ c κs. search needs) (λ c κs. search needs) (λ c κs. search needs) returns)
+    (tie.spec (λ c κs. small minus-one) (λ c κs. search needs) returns)

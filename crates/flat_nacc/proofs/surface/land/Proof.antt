@@ -1,4 +1,4 @@
--- `flat_nacc::surface::land` answers `shapedOf (result (landWalk two-axes p t s alpha))`.
+-- `flat_nacc::surface::land` answers `shapedOf (result (landWalk two-axes p t s alpha))`: the stress's norm comes with it.
 use borrow.Author.Needs.{needs}
 use Rattle.plasticity_nacc.specs.Nacc.{landWalk}
 use Rattle.flat_nacc.proofs.Laws.{squared-given, squared-refused}
@@ -13,18 +13,18 @@ returns c =
     let c5 = c4 .before in
     let c6 = c5 .before in
     let c7 = c6 .before in
-    let c8 = c7 .before in
-    let c10 = c8 .before .before in
-    let c12 = c10 .before .before in
-    let c14 = c12 .before .before in
+    let c9 = c7 .before .before in
+    let c11 = c9 .before .before in
+    let c13 = c11 .before .before in
+    let c14 = c13 .before in
     let c15 = c14 .before in
-    let c16 = c15 .before in
-    let t0 = simp (c14 .sqrt-on-path .ensures, c15 .y0 .ensures, c16 .y1 .ensures) at (c12 .r .given .1) in
-    let within = simp (c10 .within .ensures) at (c8 .enum-told .given .1) in
-    let t1 = squared-given (c16 .before .args .t .j) within in
-    let t2 = simp (c6 .is-number .ensures, c7 .scale .ensures) at (c5 .if1 .taken) in
-    let t3 = simp (c4 .sqrt-on-path2 .ensures) at (c2 .norm .given .1) in
-    simp (c .landed .ensures, c7 .scale .ensures, t0, t1, t2, t3)
+    let start = c15 .before in
+    let t0 = simp (c13 .sqrt-on-path .ensures, c14 .y0 .ensures, c15 .y1 .ensures) at (c11 .r .given .1) in
+    let within = simp (c9 .within .ensures) at (c7 .enum-told .given .1) in
+    let t1 = squared-given (start .args .t .j) within in
+    let t2 = simp (c5 .is-number .ensures, c6 .scale .ensures) at (c4 .if1 .taken) in
+    let t3 = simp (start .pre) at (c2 .norm .given .1) in
+    simp (c .landed .ensures, c6 .scale .ensures, t0, t1, t2, t3)
 
 returns-2 : tie.Need-returns-2
 unfolding landWalk
@@ -34,17 +34,17 @@ returns-2 c =
     let c5 = c4 .before in
     let c6 = c5 .before in
     let c7 = c6 .before in
-    let c8 = c7 .before in
-    let c10 = c8 .before .before in
-    let c12 = c10 .before .before in
-    let c14 = c12 .before .before in
+    let c9 = c7 .before .before in
+    let c11 = c9 .before .before in
+    let c13 = c11 .before .before in
+    let c14 = c13 .before in
     let c15 = c14 .before in
-    let c16 = c15 .before in
-    let t0 = simp (c14 .sqrt-on-path .ensures, c15 .y0 .ensures, c16 .y1 .ensures) at (c12 .r .given .1) in
-    let within = simp (c10 .within .ensures) at (c8 .enum-told .given .1) in
-    let t1 = squared-given (c16 .before .args .t .j) within in
-    let t2 = simp (c6 .is-number .ensures, c7 .scale .ensures) at (c5 .if1 .taken) in
-    let t3 = simp (c4 .sqrt-on-path2 .ensures) at (c2 .n .given .1) in
+    let start = c15 .before in
+    let t0 = simp (c13 .sqrt-on-path .ensures, c14 .y0 .ensures, c15 .y1 .ensures) at (c11 .r .given .1) in
+    let within = simp (c9 .within .ensures) at (c7 .enum-told .given .1) in
+    let t1 = squared-given (start .args .t .j) within in
+    let t2 = simp (c5 .is-number .ensures, c6 .scale .ensures) at (c4 .if1 .taken) in
+    let t3 = simp (start .pre) at (c2 .norm2 .given .1) in
     simp (c .refused-step .ensures, t0, t1, t2, t3)
 
 returns-3 : tie.Need-returns-3
@@ -75,7 +75,7 @@ returns-4 c =
     let c9 = c8 .before in
     let c10 = c9 .before in
     let t0 = simp (c8 .sqrt-on-path .ensures, c9 .y0 .ensures, c10 .y1 .ensures) at (c6 .r .given .1) in
-    let within = simp (c4 .within .ensures) at (c2 .n2 .given .1) in
+    let within = simp (c4 .within .ensures) at (c2 .n .given .1) in
     let t1 = squared-refused (c10 .before .args .t .j) within in
     simp (c .refused-step3 .ensures, t0, t1)
 
@@ -86,8 +86,8 @@ returns-5 c =
     let c4 = c2 .before .before in
     let c5 = c4 .before in
     let c6 = c5 .before in
-    let t0 = simp (c4 .sqrt-on-path .ensures, c5 .y0 .ensures, c6 .y1 .ensures) at (c2 .n3 .given .1) in
+    let t0 = simp (c4 .sqrt-on-path .ensures, c5 .y0 .ensures, c6 .y1 .ensures) at (c2 .n2 .given .1) in
     simp (c .refused-step4 .ensures, t0)
 
 pub land-spec : {M : Type 1} → statement M
-land-spec = tie.close (tie.spec (λ c κs. search needs) (λ c κs. search needs) (λ c κs. search needs) (λ c. search needs) (λ c κs. search needs) (λ c. search needs) (λ c κs. search needs) (λ c κs. search needs) (λ c κs. search needs) (λ c. search needs) (λ c κs. search needs) (λ c. search needs) (λ c κs. search needs) (λ c κs. search needs) (λ c. search needs) (λ c κs. search needs) (λ c. search needs) (λ c κs. search needs) returns returns-2 returns-3 returns-4 returns-5)
+land-spec = tie.close (tie.spec (λ c κs. search needs) (λ c κs. search needs) (λ c κs. search needs) (λ c. search needs) (λ c κs. search needs) (λ c. search needs) (λ c κs. search needs) (λ c κs. search needs) (λ c. search needs) (λ c κs. search needs) (λ c. search needs) (λ c κs. search needs) (λ c κs. search needs) (λ c. search needs) (λ c κs. search needs) (λ c. search needs) (λ c κs. search needs) returns returns-2 returns-3 returns-4 returns-5)

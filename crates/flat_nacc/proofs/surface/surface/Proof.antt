@@ -1,9 +1,15 @@
 -- `flat_nacc::surface::surface` answers `shapedOf (result (surfaceWalk two-axes p t s alpha))`.
 use borrow.Author.Needs.{needs}
 use Rattle.plasticity_nacc.specs.Nacc.{surfaceWalk}
-use Rattle.flat_nacc.proofs.Laws.{alpha-then}
+use Rattle.flat_nacc.proofs.Laws.{alpha-then, half-root}
 use Rattle.flat_nacc.proofs.surface.surface.Statement.{statement}
 use Rattle.flat_nacc.proofs.surface.surface.Tie as tie
+
+hardened-requires : tie.Need-hardened-requires
+hardened-requires c κs = (c .before .pre, (c .sqrt-on-path .ensures, half-root))
+
+land-requires : tie.Need-land-requires
+land-requires c κs = c .before .before .before .before .sqrt-on-path .ensures
 
 returns : tie.Need-returns
 unfolding surfaceWalk
@@ -22,4 +28,4 @@ returns-2 c =
     simp (c .refused-step .ensures, t0, alpha-then)
 
 pub surface-spec : {M : Type 1} → statement M
-surface-spec = tie.close (tie.spec (λ c κs. search needs) (λ c. search needs) (λ c κs. search needs) (λ c. search needs) (λ c κs. search needs) returns returns-2)
+surface-spec = tie.close (tie.spec (λ c κs. search needs) hardened-requires (λ c. search needs) land-requires (λ c. search needs) (λ c κs. search needs) returns returns-2)

@@ -5,10 +5,10 @@ use mathlib.Core.List.{List}
 use Prim.Native.Nat.{ℕ}
 use borrow.Author.Needs.{needs}
 use borrow.Author.Tests.{not-true, not-false}
-use Rattle.model.specs.Model.{modelFinite}
-use Rattle.model.proofs.ReadyLaws.{ready-parameters}
+use Rattle.model.specs.Ready.{parametersReady}
 use Rattle.particles.specs.Pass.{Worked}
-use Rattle.particles.specs.Judged.{finiteBy, lawBy}
+use Rattle.particles.specs.Judged.{finiteBy}
+use Rattle.particles.specs.Readied.{readyLaw}
 use Rattle.particles.proofs.FactoredLaws.{inputs-refused, factors-refused, stepped, held-law}
 use Rattle.particles.proofs.factored.first.Statement.{statement}
 use Rattle.particles.proofs.factored.first.Tie as tie
@@ -16,28 +16,28 @@ use Rattle.particles.proofs.factored.first.Tie as tie
 returns : tie.Need-returns
 returns c =
     let a = c .before .before .before .before .args in
-    let b = modelFinite (a .m) && finiteBy (a .j) in
-    let i = not-true b (simp (c .before .judge-finite .ensures, c .before .before .parameters-ready .ensures, c .before .before .before .before .pre .1, ready-parameters) at (c .if1 .taken)) in
-    let q = sym (inputs-refused (a .r .now) b (lawBy (a .m) (a .j)) i) in
+    let b = parametersReady (a .q) && finiteBy (a .j) in
+    let i = not-true b (simp (c .before .judge-finite .ensures, c .before .before .parameters-ready .ensures) at (c .if1 .taken)) in
+    let q = sym (inputs-refused (a .r .now) b (readyLaw (a .q) (a .j)) i) in
     (ap (λ (w : Worked). w .outcome) q, (ap (λ (w : Worked). w .failed) q, ap (λ (w : Worked). w .after) q))
 
 returns-2 : tie.Need-returns-2
 returns-2 c =
     let a = c .before .before .before .before .before .before .before .before .before .before .before .before .before .args in
-    let b = modelFinite (a .m) && finiteBy (a .j) in
+    let b = parametersReady (a .q) && finiteBy (a .j) in
     let f = c .before .before .before .factor .ensures in
-    let i = not-false b (simp (c .before .before .before .before .before .before .before .before .before .before .judge-finite .ensures, c .before .before .before .before .before .before .before .before .before .before .before .parameters-ready .ensures, c .before .before .before .before .before .before .before .before .before .before .before .before .before .pre .1, ready-parameters) at (c .before .before .before .before .before .before .before .before .before .if1 .left)) in
-    let q = factors-refused (a .r .now) b (lawBy (a .m) (a .j)) i (f .0, f .1) (c .if2 .taken) in
+    let i = not-false b (simp (c .before .before .before .before .before .before .before .before .before .before .judge-finite .ensures, c .before .before .before .before .before .before .before .before .before .before .before .parameters-ready .ensures) at (c .before .before .before .before .before .before .before .before .before .if1 .left)) in
+    let q = factors-refused (a .r .now) b (readyLaw (a .q) (a .j)) i (f .0, f .1) (c .if2 .taken) in
     let z = sym (q .0) in
     (ap (λ (w : Worked). w .outcome) z, (ap (λ (w : Worked). w .failed) z, q .1 ∙ ap (λ (w : Worked). w .after) z))
 
 returns-3 : tie.Need-returns-3
 returns-3 c =
     let a = c .before .before .before .before .before .before .before .before .before .before .before .before .before .before .before .before .before .before .before .before .before .before .args in
-    let b = modelFinite (a .m) && finiteBy (a .j) in
-    let w = lawBy (a .m) (a .j) in
+    let b = parametersReady (a .q) && finiteBy (a .j) in
+    let w = readyLaw (a .q) (a .j) in
     let f = c .before .before .before .before .before .before .before .before .before .before .before .before .factor .ensures in
-    let i = not-false b (simp (c .before .before .before .before .before .before .before .before .before .before .before .before .before .before .before .before .before .before .before .judge-finite .ensures, c .before .before .before .before .before .before .before .before .before .before .before .before .before .before .before .before .before .before .before .before .parameters-ready .ensures, c .before .before .before .before .before .before .before .before .before .before .before .before .before .before .before .before .before .before .before .before .before .before .pre .1, ready-parameters) at (c .before .before .before .before .before .before .before .before .before .before .before .before .before .before .before .before .before .before .if1 .left)) in
+    let i = not-false b (simp (c .before .before .before .before .before .before .before .before .before .before .before .before .before .before .before .before .before .before .before .judge-finite .ensures, c .before .before .before .before .before .before .before .before .before .before .before .before .before .before .before .before .before .before .before .before .parameters-ready .ensures) at (c .before .before .before .before .before .before .before .before .before .before .before .before .before .before .before .before .before .before .if1 .left)) in
     let q = stepped (a .r .now) b w i (f .0, f .1) (c .before .before .before .before .before .before .before .before .before .if2 .left) in
     let s = c .before .before .before .before .before .before .before .step .ensures in
     let z = sym (q .0) in

@@ -1,7 +1,6 @@
 -- `particles::judged::finite_step` meets its contract: the law, the verdict on what it leaves, and the mark.
 use mathlib.Core.Path.{_∙_}
 use borrow.Author.Needs.{needs}
-use Rattle.particles.specs.Plain.{recordLaw}
 use Rattle.particles.proofs.judged.finite_step.Statement.{statement}
 use Rattle.particles.proofs.judged.finite_step.Tie as tie
 
@@ -9,7 +8,6 @@ mark-requires : tie.Need-mark-requires
 mark-requires c κs = (c .before .before .before .before .before .before .before .pre .0, c .before .before .before .before .updated .ensures .1)
 
 returns : tie.Need-returns
-unfolding recordLaw
 returns c =
     let k = c .before .before .mark .ensures in
     let v = c .before .before .before .before .verdict .ensures in

@@ -16,14 +16,14 @@ returns : tie.Need-returns
 returns c =
     let a = c .before .before .before .before .before .before .before .before .before .before .before .args in
     let f = sym (c .before .before .failed-by .ensures) ∙ c .before .if1 .taken in
-    let e = marked-yes (a .m) (a .r .now) (a .x .updated) (a .v) (c .before .before .before .before .before .before .before .outcome-by .ensures) (c .before .before .before .before .before .keep .ensures) f in
+    let e = marked-yes (a .q) (a .r .now) (a .x .updated) (a .v) (c .before .before .before .before .before .before .before .outcome-by .ensures) (c .before .before .before .before .before .keep .ensures) f in
     (e .0, (e .1, rw (c .bits-of .ensures) (e .2)))
 
 returns-2 : tie.Need-returns-2
 returns-2 c =
     let a = c .before .before .before .before .before .before .before .before .before .before .args in
     let f = sym (c .before .failed-by .ensures) ∙ c .if1 .left in
-    let e = marked-no (a .m) (a .r .now) (a .x .updated) (a .v) (c .before .before .before .before .before .before .outcome-by .ensures) (c .before .before .before .before .keep .ensures) f in
+    let e = marked-no (a .q) (a .r .now) (a .x .updated) (a .v) (c .before .before .before .before .before .before .outcome-by .ensures) (c .before .before .before .before .keep .ensures) f in
     (e .0, (e .1, e .2))
 
 pub mark-spec : {M : Type 1} → statement M

@@ -1,23 +1,19 @@
 -- `particles::law::updated` meets its contract: 11 before the law, and then its determinant.
-use mathlib.Core.Path.{sym, ap, _∙_}
+use mathlib.Core.Path.{ap, _∙_}
 use borrow.Author.Needs.{needs}
 use borrow.Author.Tests.{eq-eqb, ne-eqb}
-use Rattle.record.specs.Layout.{uAt, vtAt, stateAt, determinantAt, determinantRight}
+use Rattle.record.specs.Layout.{determinantAt, determinantRight}
 use Rattle.record.proofs.Parts.{record-inputs}
-use Rattle.model.specs.declared.Ready.{Ready}
-use Rattle.model.specs.Ready.{readyUpdate}
-use Rattle.model.proofs.ReadyLaws.{ready-finite, ready-update}
 use Rattle.model.proofs.StoredFinite.{stored-finite}
 use Rattle.particles.specs.declared.law.Left.{Left}
-use Rattle.particles.specs.Plain.{updatedAt}
-use Rattle.particles.proofs.NotFinite.{law-right, law-wrong}
+use Rattle.particles.specs.Readied.{readyAt}
 use Rattle.particles.proofs.law.updated.Statement.{statement}
 use Rattle.particles.proofs.law.updated.Tie as tie
 
 update-ready-requires : tie.Need-update-ready-requires
 update-ready-requires c κs =
     let s = c .before .before .before .before .before .before .before .before in (
-      rw (s .pre .2) (ready-finite (s .args .m)),
+      s .pre .2,
       rw (c .before .before .before .before .before .before .read-state .ensures, c .read-vt .ensures, c .before .read-u .ensures) (record-inputs (s .args .r .now) (s .pre .1)),
     )
 
@@ -29,37 +25,34 @@ measured-requires c κs a e =
     let vt = b .read-vt .result in
     let st = b .before .before .before .before .before .before .read-state .result in
     let i = update-ready-requires b κs .1 in
-    let q = c .update-ready .ensures ∙ ap (λ (x : Ready). readyUpdate x u vt st) (s .pre .2) ∙ ready-update u vt st i (s .args .m) in
-    rw q (stored-finite (s .args .m) u vt st i a (rw q at e) .0)
+    let q = c .update-ready .ensures in
+    rw q (stored-finite u vt st i a (s .args .q) (rw q at e) .0)
 
 returns : tie.Need-returns
-unfolding updatedAt determinantRight determinantAt
+unfolding readyAt determinantRight determinantAt
 returns c =
     let s = c .before .before .before .before .before .before .before .before .before .before in
-    let m = s .args .m in
     let r = s .args .r .now in
     let st = c .before .before .before .before .before .before .before .before .read-state .ensures in
     let d = c .before .before .before .before .before .determinant-with .ensures .0 in
     let t = simp (d, st) at (c .before .before .before .before .if1 .taken) in
     let e = c .measured .ensures in (
-      e .0 m r (s .pre .0) (s .pre .1)
-          ∙ (simp (c .before .update-ready .ensures, s .pre .2, c .before .before .read-vt .ensures, c .before .before .before .read-u .ensures, st, ready-update (uAt r) (vtAt r) (stateAt r) (record-inputs r (s .pre .1)) m))
-          ∙ sym (law-right m r (s .pre .1) (eq-eqb _ _ t)),
+      e .0 r (s .pre .0) (s .pre .1)
+          ∙ simp (c .before .update-ready .ensures, c .before .before .read-vt .ensures, c .before .before .before .read-u .ensures, st, eq-eqb _ _ t),
       e .1 r (s .pre .0),
     )
 
 returns-2 : tie.Need-returns-2
-unfolding determinantRight determinantAt
+unfolding readyAt determinantRight determinantAt
 returns-2 c =
     let s = c .before .before .before .before .before .before .before .before in
-    let m = s .args .m in
     let r = s .args .r .now in
     let st = c .before .before .before .before .before .before .read-state .ensures in
     let d = c .before .before .before .determinant-with .ensures .0 in
     let t = simp (d, st) at (c .before .before .if1 .left) in
     let u = c .unstored .ensures in
     let n = c .before .wrong .ensures in (
-      ap (λ (x : Left). x .updated) u ∙ n ∙ (simp st) ∙ sym (law-wrong m r (s .pre .1) (ne-eqb _ _ t)),
+      ap (λ (x : Left). x .updated) u ∙ n ∙ simp (st, ne-eqb _ _ t),
       rw (u, n) tt,
     )
 

@@ -3,8 +3,12 @@ use Prim.Native.Nat.{_*_}
 use native.Mathlib.Nat.{add-sub-cancel-left}
 use Rattle.record.specs.Layout.{floats}
 use borrow.Author.Needs.{needs}
+use Rattle.particles.proofs.ReadiedLaws.{taken-amount}
 use Rattle.particles.proofs.list.one_ready.Statement.{statement}
 use Rattle.particles.proofs.list.one_ready.Tie as tie
+
+write-answer-requires : tie.Need-write-answer-requires
+write-answer-requires c κs = (search needs, rw (c .before .before .before .take-step .ensures .0) (taken-amount (c .before .before .before .before .before .before .before .args .t) _))
 
 returns : tie.Need-returns
 returns c =
@@ -17,5 +21,5 @@ pub one-ready-spec : {M : Type 1} → statement M
 one-ready-spec =
     tie.close
     (tie.spec (λ c. search needs) (λ c. search needs) (λ c. search needs) (λ c. search needs) (λ c. search needs)
-    (λ c. search needs) (λ c κs. search needs) (λ c κs. search needs) (λ c. search needs) (λ c. search needs)
+    (λ c. search needs) (λ c κs. search needs) write-answer-requires (λ c. search needs) (λ c. search needs)
     returns)

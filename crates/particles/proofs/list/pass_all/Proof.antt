@@ -6,19 +6,19 @@ use mathlib.Core.List.{List, _++_}
 use Prim.Native.Nat.{ℕ, _≤_, _<_, _*_, _-_}
 use lib.ListN.{drop}
 use Rattle.record.specs.Layout.{floats}
-use Rattle.particles.specs.Step.{stepLaw}
+use Rattle.particles.specs.Step.{takenLaw}
 use Rattle.particles.specs.Pass.{worked, answers, counts}
-use Rattle.particles.proofs.JudgedLaws.{step-keeps}
+use Rattle.particles.proofs.ReadiedLaws.{taken-keeps}
 use Rattle.particles.proofs.PassLaws.{worked-step, answers-step, counts-step, counts-most, records-length, record-same, answers-long, all-done}
 use Rattle.particles.proofs.list.pass_all.Statement.{statement}
 use Rattle.particles.proofs.list.pass_all.Tie as tie
 
 abbrev Inv-loop : tie.InvT-loop
-Inv-loop s q xs₀ out₀ n c₀ i₀ xs out c i =
-    (i ≤ n) × (c ≡ counts (stepLaw s) xs₀ i) × (xs ≡ worked (stepLaw s) xs₀ i ++ drop (i * floats) xs₀) × (out ≡ answers (stepLaw s) xs₀ i ++ drop (i * 2) out₀)
+Inv-loop t xs₀ out₀ n c₀ i₀ xs out c i =
+    (i ≤ n) × (c ≡ counts (takenLaw t) xs₀ i) × (xs ≡ worked (takenLaw t) xs₀ i ++ drop (i * floats) xs₀) × (out ≡ answers (takenLaw t) xs₀ i ++ drop (i * 2) out₀)
 
 abbrev μ-loop : tie.MeasureT-loop
-μ-loop s q xs₀ out₀ n c₀ i₀ xs out c i = n - i
+μ-loop t xs₀ out₀ n c₀ i₀ xs out c i = n - i
 
 loop-holds : tie.Need-loop-holds Inv-loop μ-loop
 unfolding worked answers counts
@@ -30,15 +30,15 @@ one-ready-requires c κs =
     let a = c .before .before .before .before .before .before .args in
     let t : l .i < a .n = c .before .before .loop-test .taken in
     let q = c .before .before .before .before .before .before .pre in
-    let e = records-length (stepLaw (a .s)) (step-keeps (a .s)) (a .xs .now) (l .i) (l .xs) (l .inv .2) (omega arith) in
-    let f = answers-long (stepLaw (a .s)) (a .xs .now) (a .out .now) (l .i) (l .out) (l .inv .3) (omega arith) in
+    let e = records-length (takenLaw (a .t)) (taken-keeps (a .t)) (a .xs .now) (l .i) (l .xs) (l .inv .2) (omega arith) in
+    let f = answers-long (takenLaw (a .t)) (a .xs .now) (a .out .now) (l .i) (l .out) (l .inv .3) (omega arith) in
     (omega arith, omega arith, q .2)
 
 count-one-requires : tie.Need-count-one-requires Inv-loop μ-loop
 count-one-requires c κs =
     let l = c .before .before .before .before .before .before .before .before .loop in
     let s = c .before .before .before .before .before .before .before .before .before .before .before in
-    let m = counts-most (stepLaw (s .args .s)) (s .args .xs .now) (l .i) in
+    let m = counts-most (takenLaw (s .args .t)) (s .args .xs .now) (l .i) in
     let t = c .before .before .before .before .before .before .before .loop-test .taken in
     let g = s .good in
     let q = s .pre in
@@ -57,8 +57,8 @@ loop-again c =
     let l = c .before .before .before .before .before .before .before .before .before .loop in
     let s = c .before .before .before .before .before .before .before .before .before .before .before .before in
     let q = s .pre in
-    let law = stepLaw (s .args .s) in
-    let keeps = step-keeps (s .args .s) in
+    let law = takenLaw (s .args .t) in
+    let keeps = taken-keeps (s .args .t) in
     let xs = s .args .xs .now in
     let same = record-same law keeps xs (l .i) (l .xs) (l .inv .2) (omega arith) in
     let f = o .ensures .0 ∙ ap (λ (r : List ℕ). law r .outcome) same in
@@ -74,14 +74,14 @@ same-length c =
     let l = c .before .loop in
     let a = c .before .before .before .before .args in
     let q = c .before .before .before .before .pre in
-    records-length (stepLaw (a .s)) (step-keeps (a .s)) (a .xs .now) (l .i) (l .xs) (l .inv .2) (omega arith)
+    records-length (takenLaw (a .t)) (taken-keeps (a .t)) (a .xs .now) (l .i) (l .xs) (l .inv .2) (omega arith)
 
 same-length-2 : tie.Need-same-length-2 Inv-loop μ-loop
 same-length-2 c =
     let l = c .before .loop in
     let a = c .before .before .before .before .args in
     let q = c .before .before .before .before .pre in
-    answers-long (stepLaw (a .s)) (a .xs .now) (a .out .now) (l .i) (l .out) (l .inv .3) (omega arith)
+    answers-long (takenLaw (a .t)) (a .xs .now) (a .out .now) (l .i) (l .out) (l .inv .3) (omega arith)
 
 returns : tie.Need-returns Inv-loop μ-loop
 returns c =

@@ -3,6 +3,9 @@ use borrow.Author.Needs.{needs}
 use Rattle.particles.proofs.list.value.Statement.{statement}
 use Rattle.particles.proofs.list.value.Tie as tie
 
+finite-bits-requires : tie.Need-finite-bits-requires
+finite-bits-requires c κs = rw (c .before .o .given .1) at (c .before .before .before .pre)
+
 returns : tie.Need-returns
 returns c =
     let t0 = c .enum-told .given .1 in
@@ -11,7 +14,7 @@ returns c =
 returns-2 : tie.Need-returns-2
 returns-2 c =
     let t0 = c .before .before .o .given .1 in
-    simp (c .bits-of .ensures, t0)
+    simp (c .finite-bits .ensures, t0)
 
 returns-3 : tie.Need-returns-3
 returns-3 c =
@@ -21,5 +24,5 @@ returns-3 c =
 pub value-spec : {M : Type 1} → statement M
 value-spec =
     tie.close
-    (tie.spec (λ c. search needs) (λ c. search needs) (λ c κs. search needs) (λ c. search needs) (λ c. search needs)
+    (tie.spec (λ c. search needs) (λ c. search needs) finite-bits-requires (λ c. search needs) (λ c. search needs)
     returns returns-2 returns-3)

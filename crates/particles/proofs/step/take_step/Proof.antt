@@ -1,6 +1,5 @@
 -- `particles::step::take_step` meets its contract: by the step.
 use borrow.Author.Needs.{needs}
-use Rattle.model.proofs.KindLaws.{and-true}
 use Rattle.particles.proofs.FactoredLaws.{factor-unjudged}
 use Rattle.particles.proofs.step.take_step.Statement.{statement}
 use Rattle.particles.proofs.step.take_step.Tie as tie
@@ -8,33 +7,33 @@ use Rattle.particles.proofs.step.take_step.Tie as tie
 step-requires : tie.Need-step-requires
 step-requires c κs =
     let p = c .before .before .before .before .before .pre in
-    (p .0, simp (c .before .before .s .given .1) at (p .1))
+    (p .0, simp (c .before .before .t .given .1) at (p .1))
 
 step-requires-2 : tie.Need-step-requires-2
 step-requires-2 c κs =
     let p = c .before .before .before .before .before .pre in
-    (p .0, simp (c .before .before .s2 .given .1) at (p .1))
+    (p .0, simp (c .before .before .t2 .given .1) at (p .1))
 
 first-requires : tie.Need-first-requires
 first-requires c κs =
     let p = c .before .before .before .before .before .pre in
-    (p .0, simp (c .before .before .s3 .given .1) at (p .1))
+    (p .0, simp (c .before .before .t3 .given .1) at (p .1))
 
 first-requires-2 : tie.Need-first-requires-2
 first-requires-2 c κs =
     let p = c .before .before .before .before .before .pre in
-    (p .0, simp (c .before .before .s4 .given .1) at (p .1))
+    (p .0, simp (c .before .before .t4 .given .1) at (p .1))
 
 returns : tie.Need-returns
 returns c =
     let st = c .before .before .step .ensures in
-    let t = c .before .before .before .before .before .s .given .1 in
+    let t = c .before .before .before .before .before .t .given .1 in
     (simp (st .0, t), (simp (st .1 .0, t), simp (st .1 .1, t)))
 
 returns-2 : tie.Need-returns-2
 returns-2 c =
     let st = c .before .before .step2 .ensures in
-    let t = c .before .before .before .before .before .s2 .given .1 in
+    let t = c .before .before .before .before .before .t2 .given .1 in
     (simp (st .0, t), (simp (st .1 .0, t), simp (st .1 .1, t)))
 
 returns-3 : tie.Need-returns-3
@@ -47,13 +46,13 @@ returns-3 c =
 returns-4 : tie.Need-returns-4
 returns-4 c =
     let st = c .before .before .first .ensures in
-    let t = c .before .before .before .before .before .s3 .given .1 in
-    (simp (st .0, and-true, t), (simp (st .1 .0, and-true, t), simp (st .1 .1, and-true, t)))
+    let t = c .before .before .before .before .before .t3 .given .1 in
+    (simp (st .0, t), (simp (st .1 .0, t), simp (st .1 .1, t)))
 
 returns-5 : tie.Need-returns-5
 returns-5 c =
     let st = c .before .before .first2 .ensures in
-    let t = c .before .before .before .before .before .s4 .given .1 in
+    let t = c .before .before .before .before .before .t4 .given .1 in
     (simp (st .0, t), (simp (st .1 .0, t), simp (st .1 .1, t)))
 
 pub take-step-spec : {M : Type 1} → statement M

@@ -23,9 +23,12 @@ returns-4 c =
     let t0 = c .before .before .before .before .enum-told4 .given .1 in
     simp (c .before .before .write-nacc .ensures, t0)
 
+returns-5 : tie.Need-returns-5
+returns-5 c = simp (c .enum-told5 .given .1)
+
 pub write-scalars-spec : {M : Type 1} → statement M
 write-scalars-spec =
     tie.close
     (tie.spec (λ c. search needs) (λ c κs. search needs) (λ c. search needs) (λ c κs. search needs)
     (λ c. search needs) (λ c κs. search needs) (λ c. search needs) (λ c κs. search needs) (λ c. search needs)
-    returns (λ c. search needs) returns-2 (λ c. search needs) returns-3 (λ c. search needs) returns-4)
+    (λ c. search needs) returns (λ c. search needs) returns-2 (λ c. search needs) returns-3 (λ c. search needs) returns-4 returns-5)

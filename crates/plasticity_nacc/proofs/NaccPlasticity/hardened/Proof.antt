@@ -11,7 +11,7 @@ returns c =
     let c2 = c1 .before in
     let c3 = c2 .before in
     let a = c3 .args in
-    let law = harden-law (num (a .d)) (a .self) (a .t) (a .alpha) (c3 .pre) in
+    let law = harden-law (num (a .d)) (a .self) (a .t) (a .alpha) (c3 .pre .0) in
     let t0 = simp (c2 .hardens .ensures) at (c1 .if1 .taken) in
     simp (c .hardening-step .ensures, t0, law)
 
@@ -20,7 +20,7 @@ returns-2 c =
     let c1 = c .before in
     let c2 = c1 .before in
     let a = c2 .args in
-    let law = harden-law (num (a .d)) (a .self) (a .t) (a .alpha) (c2 .pre) in
+    let law = harden-law (num (a .d)) (a .self) (a .t) (a .alpha) (c2 .pre .0) in
     let t0 = simp (c1 .hardens .ensures) at (c .if1 .left) in
     simp (t0, law)
 

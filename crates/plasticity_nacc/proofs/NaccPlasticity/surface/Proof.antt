@@ -2,8 +2,15 @@
 use borrow.Author.Needs.{needs}
 use Rattle.plasticity_nacc.specs.Nacc.{surfaceWalk}
 use Rattle.plasticity_nacc.proofs.Laws.{alpha-then}
+use Rattle.plasticity_nacc.proofs.Cases.{half-root}
 use Rattle.plasticity_nacc.proofs.NaccPlasticity.surface.Statement.{statement}
 use Rattle.plasticity_nacc.proofs.NaccPlasticity.surface.Tie as tie
+
+hardened-requires : tie.Need-hardened-requires
+hardened-requires c κs = (c .before .pre, (c .sqrt-on-path .ensures, half-root))
+
+land-requires : tie.Need-land-requires
+land-requires c κs = c .before .before .before .before .sqrt-on-path .ensures
 
 returns : tie.Need-returns
 unfolding surfaceWalk
@@ -24,4 +31,4 @@ returns-2 c =
 pub surface-spec : {M : Type 1} → statement M
 surface-spec =
     tie.close
-    (tie.spec (λ c κs. search needs) (λ c. search needs) (λ c κs. search needs) (λ c. search needs) (λ c κs. search needs) returns returns-2)
+    (tie.spec (λ c κs. search needs) hardened-requires (λ c. search needs) land-requires (λ c. search needs) (λ c κs. search needs) returns returns-2)

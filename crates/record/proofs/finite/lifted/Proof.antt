@@ -10,4 +10,4 @@ returns c = lifted (c .args .n)
 pub lifted-spec : {M : Type 1} → statement M
 lifted-spec =
     tie.close
-    (tie.spec (λ c. search needs) returns)
+    (tie.spec (λ c. search needs) (λ c. search needs) returns)

@@ -1,0 +1,1 @@
+// No code: the lemmas stand in specs/.

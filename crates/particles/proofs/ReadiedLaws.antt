@@ -1,0 +1,225 @@
+-- A model made ready makes of a record what the model makes of it, and so does a step; it keeps the record's length, and an amount that it
+-- stores is finite. Assumes nothing.
+use mathlib.Core.Path.{_≡_, refl, sym, ap, _∙_}
+use mathlib.Core.Bool.{Bool, true, false, cond, _&&_}
+use mathlib.Core.List.{List}
+use mathlib.Core.Logic.{_⊎_, inl, inr}
+use Prim.Native.Nat.{ℕ}
+use lib.Dec.{eqb}
+use lib.Ieee as Ieee
+use lib.Ieee.{Float, binary64}
+use lib.ListN.{length, length-set}
+use Rattle.numbers.specs.Floats.{finite}
+use Rattle.numbers.proofs.Laws.{and-both}
+use Rattle.answers.specs.Refusals.{notFinite, noNumber, wrongDeterminant}
+use Rattle.tensor.specs.Matrix.{zero}
+use Rattle.failure_maximum_stress.specs.declared.Verdict.{Verdict}
+use Rattle.failure_maximum_stress.specs.declared.Verdict.the-variants as verdicts
+use Rattle.plasticity.specs.State.{refused}
+use Rattle.plasticity.specs.declared.Outcome.{Outcome}
+use Rattle.plasticity.specs.declared.Outcome.the-variants.{Untouched, Stored, Refused}
+use Rattle.plasticity.specs.declared.State.{State}
+use Rattle.plasticity.specs.declared.Updated.{Updated}
+use Rattle.plasticity_rankine.specs.Law as rankine-law
+use Rattle.plasticity_nacc.specs.Law as nacc-law
+use Rattle.record.specs.Layout.{placeDeterminant, floatAt, uAt, vtAt, stateAt, recordFinite, determinantRight, putShape}
+use Rattle.record.proofs.Parts.{record-inputs}
+use Rattle.model.specs.declared.Model.{Model}
+use Rattle.model.specs.declared.Model.the-variants.{Snow, Rankine, DruckerPrager, Nacc}
+use Rattle.model.specs.declared.Ready.{Ready}
+use Rattle.model.specs.declared.Ready.the-variants as ready
+use Rattle.model.specs.Model.{modelFinite}
+use Rattle.model.specs.Ready.{readyOf, parametersReady, readyUpdate}
+use Rattle.model.proofs.KindLaws.{and-true}
+use Rattle.model.proofs.ReadyLaws.{ready-finite, ready-parameters, ready-update}
+use Rattle.model.proofs.StoredFinite.{stored-finite}
+use Rattle.particles.specs.declared.judged.Judge.{Judge}
+use Rattle.particles.specs.declared.judged.Judge.the-variants.{Nobody, By}
+use Rattle.particles.specs.declared.step.Step.{Step}
+use Rattle.particles.specs.declared.step.Step.the-variants as steps
+use Rattle.particles.specs.declared.step.Taken.{Taken}
+use Rattle.particles.specs.declared.step.Taken.the-variants as taken
+use Rattle.particles.specs.Pass.{Worked, AmountFinite}
+use Rattle.particles.specs.Plain.{putScalars, kept, keptBy, updatedAt, lawAt, recordLaw}
+use Rattle.particles.specs.Judged.{verdictBy, refusedRecord, marked, finiteBy, lawBy}
+use Rattle.particles.specs.Factored.{withFactors, factorRefusal, factorLaw, orAsItCame, factoredLaw}
+use Rattle.particles.specs.Readied.{readyScalars, shaped, readyKept, readyKeptBy, readyAt, readyMarked, readyLaw, readyFirst}
+use Rattle.particles.specs.Step.{stepLaw, takenOf, takenFinite, takenLaw}
+use Rattle.particles.proofs.Written.{scalars-last}
+use Rattle.particles.proofs.NotFinite.{law-right, law-wrong, refused-first, finite-first}
+use Rattle.particles.proofs.PassLaws.{Keeps}
+use Rattle.particles.proofs.JudgedLaws.{marked-length}
+use Rattle.particles.proofs.FactoredLaws.{factor-keeps, factored-keeps}
+
+-- ---- what is written: the scalars of the model's law, or the model is refused
+abbrev Writes : Ready → Model → Type 0
+Writes q m = ((r : List ℕ) (s : State) → readyScalars q r s ≡ putScalars m r s) ⊎ ((n : ℕ) × (q ≡ ready.Refused n))
+
+refused-or : {q : Ready} (m : Model) (b : Bool) → Writes q m → (n : ℕ) → Writes (cond b q (ready.Refused n)) m
+refused-or m true h n = h
+refused-or m false h n = inr (n, refl)
+
+writes : (m : Model) → Writes (readyOf m) m
+unfolding readyOf
+writes (Snow p) = refused-or (Snow p) (modelFinite (Snow p)) (inl (λ r s. refl)) notFinite
+writes (Rankine a) = refused-or (Rankine a) (modelFinite (Rankine a)) (refused-or (Rankine a) (rankine-law.moduliFinite (rankine-law.lawOf a)) (inl (λ r s. refl)) noNumber) notFinite
+writes (DruckerPrager p) = refused-or (DruckerPrager p) (modelFinite (DruckerPrager p)) (inl (λ r s. refl)) notFinite
+writes (Nacc a) = refused-or (Nacc a) (modelFinite (Nacc a)) (refused-or (Nacc a) (nacc-law.moduliFinite (nacc-law.lawOf a)) (inl (λ r s. refl)) noNumber) notFinite
+
+-- a refused model refuses
+refused-at : (n : ℕ) (r : List ℕ) → (k : ℕ) × (readyAt (ready.Refused n) r ≡ refused k (stateAt r))
+unfolding readyAt
+refused-at n r = go (determinantRight r) (finite (floatAt r placeDeterminant)) (parametersReady (ready.Refused n))
+  where
+    s : State
+    s = stateAt r
+
+    go : (a b c : Bool) → (k : ℕ) × (cond a (cond b (refused n s) (refused noNumber s)) (refused (cond c wrongDeterminant notFinite) s) ≡ refused k s)
+    go true true c = (n, refl)
+    go true false c = (noNumber, refl)
+    go false b c = (cond c wrongDeterminant notFinite, refl)
+
+module _ (m : Model) (r : List ℕ) where
+  kept-same : ((t : List ℕ) (s : State) → readyScalars (readyOf m) t s ≡ putScalars m t s) → (o : Outcome) (s : State) → readyKept (readyOf m) o r s ≡ kept m o r s
+  kept-same h Untouched s = refl
+  kept-same h (Stored a) s = h (putShape r s) s
+  kept-same h (Refused n) s = refl
+
+  kept-by : readyKeptBy (readyOf m) (readyAt (readyOf m) r) r ≡ keptBy m (readyAt (readyOf m) r) r
+  kept-by = go (writes m)
+    where
+      go : Writes (readyOf m) m → readyKeptBy (readyOf m) (readyAt (readyOf m) r) r ≡ keptBy m (readyAt (readyOf m) r) r
+      go (inl h) =
+          let d = readyAt (readyOf m) r in
+          ap (λ (l : List ℕ). record { outcome = d .outcome; failed = false; after = l }) (kept-same h (d .outcome) (d .state))
+      go (inr (n, e)) = let k = refused-at n r in rw (e, k .1) refl
+
+  -- ---- no scalar touches the determinant
+  last-same : (o : Outcome) (s : State) → floatAt (kept m o r s) placeDeterminant ≡ floatAt (shaped o r s) placeDeterminant
+  last-same Untouched s = refl
+  last-same (Stored a) s = ap (Ieee.ofBits binary64) (scalars-last m (putShape r s) s)
+  last-same (Refused n) s = refl
+
+  at-same : recordFinite r ≡ true → readyAt (readyOf m) r ≡ lawAt m r
+  unfolding readyAt updatedAt
+  at-same f = go (determinantRight r) refl
+    where
+      go : (b : Bool) → determinantRight r ≡ b → readyAt (readyOf m) r ≡ lawAt m r
+      go true d =
+          let u = ready-update (uAt r) (vtAt r) (stateAt r) (record-inputs r f) m in
+          let x = updatedAt m r in
+          (rw (d, u) refl) ∙ ap (λ (y : Float). cond (finite y) x (refused noNumber (x .state))) (sym (last-same (x .outcome) (x .state))) ∙ sym (law-right m r f d)
+      go false d = (rw (d, ready-parameters m) refl) ∙ sym (law-wrong m r f d)
+
+  pub ready-law : (j : Judge) → readyLaw (readyOf m) j r ≡ lawBy m j r
+  unfolding readyLaw recordLaw
+  ready-law j = go (finiteBy j && recordFinite r) refl
+    where
+      go : (b : Bool) → finiteBy j && recordFinite r ≡ b → readyLaw (readyOf m) j r ≡ lawBy m j r
+      go true t =
+          let f = finite-first m r j t in
+          (rw (t, kept-by, at-same (f .0)) refl) ∙ sym (f .1)
+      go false t = (rw t refl) ∙ sym (refused-first m r j t)
+
+-- ---- of a step
+pub taken-finite : (s : Step) → takenFinite (takenOf s) ≡ true
+taken-finite (steps.Plain m) = ready-finite m
+taken-finite (steps.Judged m l e) = ready-finite m
+taken-finite steps.Factors = refl
+taken-finite (steps.FactoredPlain m) = ready-finite m
+taken-finite (steps.FactoredJudged m l e) = ready-finite m
+
+ready-first : (m : Model) (j : Judge) → readyFirst (readyOf m) j ≡ factoredLaw (modelFinite m && finiteBy j) (lawBy m j)
+ready-first m j =
+    let law : readyLaw (readyOf m) j ≡ lawBy m j = λ i r. ready-law m r j i in
+    rw (ready-parameters m, law) refl
+
+pub taken-law : (s : Step) → takenLaw (takenOf s) ≡ stepLaw s
+taken-law (steps.Plain m) = λ i r. ready-law m r Nobody i
+taken-law (steps.Judged m l e) = λ i r. ready-law m r (By l e) i
+taken-law steps.Factors = refl
+taken-law (steps.FactoredPlain m) = ready-first m Nobody ∙ ap (λ (b : Bool). factoredLaw b (recordLaw m)) (and-true (modelFinite m))
+taken-law (steps.FactoredJudged m l e) = ready-first m (By l e)
+
+-- ---- every record keeps its length
+scalars-length : (q : Ready) (r : List ℕ) (s : State) → length (readyScalars q r s) ≡ length r
+scalars-length (ready.Snow p) r s = simp length-set
+scalars-length (ready.Rankine p) r s = simp length-set
+scalars-length (ready.DruckerPrager p) r s = simp length-set
+scalars-length (ready.Nacc p) r s = simp length-set
+scalars-length (ready.Refused n) r s = refl
+
+ready-kept-length : (q : Ready) (o : Outcome) (r : List ℕ) (s : State) → length (readyKept q o r s) ≡ length r
+ready-kept-length q Untouched r s = refl
+ready-kept-length q (Stored a) r s = scalars-length q (putShape r s) s ∙ simp length-set
+ready-kept-length q (Refused n) r s = refl
+
+ready-keeps : (q : Ready) (j : Judge) → Keeps (readyLaw q j)
+unfolding readyLaw
+ready-keeps q j r = go (finiteBy j && recordFinite r)
+  where
+    go : (b : Bool) → length (cond b (readyMarked q j r) (refusedRecord notFinite r) .after) ≡ length r
+    go true = let d = readyAt q r in marked-length (verdictBy j (stateAt r .scalars .phase) d) r (readyKeptBy q d r) (ready-kept-length q (d .outcome) r (d .state))
+    go false = refl
+
+pub taken-keeps : (t : Taken) → Keeps (takenLaw t)
+taken-keeps (taken.Plain q) = ready-keeps q Nobody
+taken-keeps (taken.Judged q l e) = ready-keeps q (By l e)
+taken-keeps taken.Factors = factor-keeps
+taken-keeps (taken.FactoredPlain q) = factored-keeps _ (readyLaw q Nobody) (ready-keeps q Nobody)
+taken-keeps (taken.FactoredJudged q l e) = factored-keeps _ (readyLaw q (By l e)) (ready-keeps q (By l e))
+
+-- ---- an amount that is stored is finite
+amount : (o : Outcome) → ((a : Float) → o ≡ Stored a → finite a ≡ true) → AmountFinite o
+amount Untouched h = tt
+amount (Stored a) h = h a refl
+amount (Refused n) h = tt
+
+marked-amount : (v : Verdict) (r : List ℕ) (w : Worked) → AmountFinite (w .outcome) → AmountFinite (marked v r w .outcome)
+marked-amount verdicts.No r w h = h
+marked-amount verdicts.Yes r w h = h
+marked-amount (verdicts.Refused n) r w h = tt
+
+at-amount : (q : Ready) (r : List ℕ) → recordFinite r ≡ true → AmountFinite (readyAt q r .outcome)
+unfolding readyAt
+at-amount q r f = go (determinantRight r) _ (finite (floatAt (shaped (d .outcome) r (d .state)) placeDeterminant))
+  where
+    d : Updated
+    d = readyUpdate q (uAt r) (vtAt r) (stateAt r)
+
+    go : (b : Bool) (n : ℕ) (c : Bool) → AmountFinite (cond b (cond c d (refused noNumber (d .state))) (refused n (stateAt r)) .outcome)
+    go true n true = amount (d .outcome) (λ a e. stored-finite (uAt r) (vtAt r) (stateAt r) (record-inputs r f) a q e .1)
+    go true n false = tt
+    go false n c = tt
+
+ready-amount : (q : Ready) (j : Judge) (r : List ℕ) → AmountFinite (readyLaw q j r .outcome)
+unfolding readyLaw
+ready-amount q j r = go (finiteBy j && recordFinite r) refl
+  where
+    go : (b : Bool) → finiteBy j && recordFinite r ≡ b → AmountFinite (cond b (readyMarked q j r) (refusedRecord notFinite r) .outcome)
+    go true t = marked-amount (verdictBy j (stateAt r .scalars .phase) (readyAt q r)) r (readyKeptBy q (readyAt q r) r) (at-amount q r (and-both (finiteBy j) (recordFinite r) t .1))
+    go false t = tt
+
+factor-amount : (r : List ℕ) → AmountFinite (factorLaw r .outcome)
+unfolding factorLaw finite Ieee.ofBits
+factor-amount r = go (eqb (factorRefusal r) 0)
+  where
+    go : (b : Bool) → AmountFinite (cond b (record { outcome = Stored zero; failed = false; after = withFactors r }) (refusedRecord (factorRefusal r) r) .outcome)
+    go true = refl
+    go false = tt
+
+first-amount : (q : Ready) (j : Judge) (r : List ℕ) → AmountFinite (readyFirst q j r .outcome)
+unfolding factoredLaw
+first-amount q j r = go (parametersReady q && finiteBy j) (eqb (factorRefusal r) 0)
+  where
+    go : (a b : Bool) → AmountFinite (cond a (cond b (orAsItCame r (readyLaw q j (withFactors r))) (refusedRecord (factorRefusal r) r)) (refusedRecord notFinite r) .outcome)
+    go true true = ready-amount q j (withFactors r)
+    go true false = tt
+    go false b = tt
+
+pub taken-amount : (t : Taken) (r : List ℕ) → AmountFinite (takenLaw t r .outcome)
+taken-amount (taken.Plain q) = ready-amount q Nobody
+taken-amount (taken.Judged q l e) = ready-amount q (By l e)
+taken-amount taken.Factors = factor-amount
+taken-amount (taken.FactoredPlain q) = first-amount q Nobody
+taken-amount (taken.FactoredJudged q l e) = first-amount q (By l e)
