@@ -1,8 +1,7 @@
 -- Whether all entries are neither a NaN nor an infinity (RULES, section 6, number 1).
-use mathlib.Core.Bool.{Bool, true, false, _&&_}
+use mathlib.Core.Bool.{Bool, _&&_}
 use mathlib.Core.List.{List}
-use lib.Dec.{eqb}
-use lib.Ieee.{Float, nan, inf, fin}
+use lib.Ieee.{Float}
 use Rattle.numbers.specs.Floats.{finite}
 use Rattle.tensor.specs.Axes.{allOf}
 use Rattle.tensor.specs.declared.Rows.{Rows}
@@ -15,9 +14,3 @@ matFinite m = allOf rowFinite m
 
 abbrev pub rowsFinite : Rows → Bool
 rowsFinite m = rowFinite (m .r0) && rowFinite (m .r1) && rowFinite (m .r2)
-
--- a zero of either sign, or the NaN
-unfoldable pub isNought : Float → Bool
-isNought nan = true
-isNought (inf s) = false
-isNought (fin s m e) = eqb m 0

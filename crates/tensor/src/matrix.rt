@@ -1,9 +1,7 @@
 use crate::Rows;
 ghost use mathlib.Core.Path.{_≡_};
-ghost use mathlib.Core.Bool.{true, _&&_};
-ghost use Rattle.numbers.specs.Floats.{isNumber};
 ghost use Rattle.tensor.specs.Matrix.{detOf, scaledRowOf, scaledOf, recomposeOf, transposeOf, dotOf, rowTimesOf, mulColsOf, mulOf, sumOf, productOf, rowsOf, ofRows, traceOf, rowAddOf, rowSubOf, rowScaleOf, matAddOf, matSubOf, matScaleOf, identityTimesOf, matVecOf};
-ghost use Rattle.tensor.specs.Finite.{rowFinite, matFinite, rowsFinite, isNought};
+ghost use Rattle.tensor.specs.Finite.{rowFinite, matFinite, rowsFinite};
 
 pub fn transpose(m: [[f64; 3]; 3]) -> [[f64; 3]; 3]
     ensures { λ r. ⌜ r ≡ transposeOf m ⌝ }
@@ -179,25 +177,17 @@ pub fn of_rows(m: Rows) -> [[f64; 3]; 3]
     [a, b, c]
 }
 
-// A zero or a NaN, times each entry: a NaN stays, and a zero times a NaN or an infinity is one.
-fn nought(z: f64, a: [f64; 3]) -> f64
-    requires { ⌜ isNought z ≡ true ⌝ }
-    ensures { λ r. ⌜ (isNought r ≡ true) × (isNumber r ≡ isNumber z && rowFinite a) ⌝ }
-{
-    z * a[0] * a[1] * a[2]
-}
-
 // Whether every entry is finite.
 pub fn row_finite(a: [f64; 3]) -> bool
     ensures { λ r. ⌜ r ≡ rowFinite a ⌝ }
 {
-    numbers::is_number(nought(0.0, a))
+    numbers::is_finite(a[0]) & numbers::is_finite(a[1]) & numbers::is_finite(a[2])
 }
 
 pub fn mat_finite(m: [[f64; 3]; 3]) -> bool
     ensures { λ r. ⌜ r ≡ matFinite m ⌝ }
 {
-    numbers::is_number(nought(nought(nought(0.0, m[0]), m[1]), m[2]))
+    row_finite(m[0]) & row_finite(m[1]) & row_finite(m[2])
 }
 
 pub fn rows_finite(m: Rows) -> bool
@@ -206,5 +196,5 @@ pub fn rows_finite(m: Rows) -> bool
     let a = m.r0;
     let b = m.r1;
     let c = m.r2;
-    numbers::is_number(nought(nought(nought(0.0, a), b), c))
+    row_finite(a) & row_finite(b) & row_finite(c)
 }
