@@ -83,10 +83,12 @@ three-outside low high a b c u v w r = by (inRange low high a) refl
   where
     third : inRange low high a ≡ true → inRange low high b ≡ true → inRange low high c ≡ false
     third p q = simp (p, q) at r
+
     by-second : inRange low high a ≡ true → (y : Bool) → inRange low high b ≡ y
         → tripleOf (onPath a (ranged low high a u)) (onPath b (ranged low high b v)) (onPath c (ranged low high c w)) ≡ triple.Refused (firstRefusal low high a b c)
     by-second p true q = rw (on-path-inside low high a u p, on-path-inside low high b v q, on-path-outside low high c w (third p q), p, q) refl
     by-second p false q = rw (on-path-inside low high a u p, on-path-outside low high b v q, p, q) refl
+
     by : (x : Bool) → inRange low high a ≡ x
         → tripleOf (onPath a (ranged low high a u)) (onPath b (ranged low high b v)) (onPath c (ranged low high c w)) ≡ triple.Refused (firstRefusal low high a b c)
     by true p = by-second p (inRange low high b) refl
