@@ -26,8 +26,9 @@ isn't finite, the determinant of the new F stored, answers and counts written (`
 
 LIMITS = """
 ## What limits the rest
-- **The root by digits.** Two digits of base 2^26, a guess of each made exact by whole numbers, and no division; NACC takes two to three roots a record on average here, Drucker-Prager and Rankine up to one. What the processor's own root would save is in [LANDINGS.md](LANDINGS.md).
-- **Time beyond instructions.** A record's logarithms, return, exponentials, F and determinant wait for each other, and a processor sees half a record ahead. std's logarithm and exponential multiply and add in one instruction where the processor has it; ours are for plain x86-64.
+- **The root by digits.** Two digits of base 2^26, a guess of each made exact by whole numbers, and no division; NACC takes two to three roots a record on average here and eight on its surface, Drucker-Prager and Rankine up to one. What the processor's own root would save is in [LANDINGS.md](LANDINGS.md).
+- **Waiting.** A record's logarithms, return, exponentials, F and determinant follow each other. A load that takes bytes of two recent stores is held until both have left the processor, and so are the records behind it: `beside/waits` lists those of each law.
+- std's logarithm and exponential multiply and add in one instruction where the processor has it; ours are for plain x86-64.
 - **What the rival leaves out**: the ranges and NaNs inside an update, whether a record is untouched, the new sigma.
 - **Factors**: the check is exact over whole numbers, nalgebra's SVD is not checked.
 """
@@ -84,6 +85,13 @@ def principal(row):
     ours = [None if None in (a, b) else a - b for a, b in zip(row["ours"], row["stress"])]
     rows = {"principal": {"ours": ours, "nalgebra": row["nalgebra"]}}
     return ["stress and verdict less the stress", *beside(rows, "principal", "nalgebra")]
+
+
+def first_factored(rows):
+    for key, title, _ in LAWS:
+        yield [title, *beside(rows, f"factored {key}, 4096", "Rust")]
+    active = next(name for name in rows if name.startswith("factored drucker_prager, active"))
+    yield ["Drucker-Prager, the active alone", *beside(rows, active, "Rust")]
 
 
 def by_hosts(hosts):
@@ -153,7 +161,8 @@ def main():
     text += "\n## Principal values worked here and checked, beside nalgebra's, unchecked (target 2)\n"
     text += table(["", *heads("nalgebra")], [principal(rows["stress and verdict, 4096"])])
     text += "\n## A record of the pass that factors first, beside the untouched Rust's update (target 1.5)\n"
-    text += table(["", *heads("Rust")], ([t, *beside(rows, f"factored {k}, 4096", "Rust")] for k, t, _ in LAWS))
+    text += table(["", *heads("Rust")], first_factored(rows))
+    text += "\nOf Drucker-Prager's records that its flag leaves, a quarter, the Rust works no factors; ours writes them into every record. The last row is without those.\n"
     text += "\n## A call of an elementary function, beside std's\n"
     functions = [name for name, sides in rows.items() if "std" in sides]
     text += table(["", *heads("std")], ([f, *beside(rows, f, "std")] for f in functions))

@@ -1,7 +1,7 @@
 //! Times of ours beside the Rust, in one run: medians of interleaved rounds, CPU time; and instructions, by callgrind.
-//! timing WORK [--count | --growth]: WORK is the folder with libuntouched.so, and speed.tsv is left there; --count is how the program
-//! runs itself under callgrind; --growth tells besides how a pass grows with its list, and leaves the records in WORK/drawn0 to 3 and
-//! 100 sheets of them in WORK/sheets.
+//! timing WORK [--count | --growth | --drawn]: WORK is the folder with libuntouched.so, and speed.tsv is left there; --count is how the
+//! program runs itself under callgrind; --growth tells besides how a pass grows with its list, and leaves the records in WORK/drawn0 to 3
+//! and 100 sheets of them in WORK/sheets; --drawn leaves the records alone.
 mod callgrind;
 #[path = "../../calls.rs"]
 #[allow(dead_code)]
@@ -82,7 +82,19 @@ fn factored(work: &str) -> Vec<Row> {
         let sides = vec![some(OurPass::factored(model, &p, &records)), rust];
         Row { name: format!("factored {}, {units}", LAWS[model].name), units, sides }
     };
-    (0..LAWS.len()).flat_map(|model| [row(model, 4096), row(model, 200)]).collect()
+    let mut rows: Vec<Row> = (0..LAWS.len()).flat_map(|model| [row(model, 4096), row(model, 200)]).collect();
+    rows.push(active(&file));
+    rows
+}
+
+/// The same of Drucker-Prager's records without those that its flag leaves: of these the Rust works no factors.
+fn active(file: &str) -> Row {
+    const PHASE: usize = 30;
+    let p = bits(LAWS[2].parameters);
+    let records: Vec<u64> = drawn(2, 4096).chunks(FLOATS).filter(|r| r[PHASE] == 0).flatten().copied().collect();
+    let rust = untouched(file).and_then(|updates| some(RustPass::new(2, &p, &records, true, Box::new(updates))));
+    let units = records.len() / FLOATS;
+    Row { name: format!("factored drucker_prager, active, {units}"), units, sides: vec![some(OurPass::factored(2, &p, &records)), rust] }
 }
 
 type Ours = unsafe extern "C" fn(f64, *mut u64, usize) -> u8;
@@ -297,6 +309,9 @@ fn load() -> String {
 fn main() {
     let args: Vec<String> = std::env::args().collect();
     let work = &args[1];
+    if args.iter().any(|a| a == "--drawn") {
+        return write_drawn(work, 0);
+    }
     let (mut laws, mut functions, mut sheets) = (laws(work), functions(), sheets());
     let (mut factors, mut verdicts, mut factored) = (factors(work), verdicts(work), factored(work));
     if args.iter().any(|a| a == "--count") {

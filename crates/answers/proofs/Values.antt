@@ -8,8 +8,8 @@ use lib.Ieee as Ieee
 use lib.Ieee.{Float, nan, inf, fin}
 use Rattle.numbers.specs.Floats.{finite, isNumber}
 use Rattle.numbers.proofs.Laws.{and-both}
-use Rattle.answers.specs.Refusals.{notFinite}
-use Rattle.answers.specs.Range.{inRange, allInRange, sideOf, ranged, bare, onPath}
+use Rattle.answers.specs.Refusals.{notFinite, noNumber}
+use Rattle.answers.specs.Range.{inRange, allInRange, sideOf, ranged, bare, onPath, refusalOf, firstRefusal}
 use Rattle.answers.specs.Answer.{tripleOf}
 use Rattle.answers.specs.declared.Answer.{Answer}
 use Rattle.answers.specs.declared.Answer.the-variants.{Value, Refused}
@@ -67,3 +67,29 @@ pub three-inside : (low high a b c u v w : Float) → allInRange low high a b c 
 three-inside low high a b c u v w r =
     let i = each-inside low high a b c r in
     rw (on-path-inside low high a u (i .0), on-path-inside low high b v (i .1), on-path-inside low high c w (i .2)) refl
+
+-- outside it a law is refused, and of three numbers by the first that isn't in it
+
+pub on-path-outside : (low high x v : Float) → inRange low high x ≡ false → onPath x (ranged low high x v) ≡ Refused (refusalOf low high x)
+on-path-outside low high x v r = rw r (go (isNumber x))
+  where
+    go : (b : Bool) → cond b (Refused (sideOf low high x)) (Refused noNumber) ≡ Refused (cond b (sideOf low high x) noNumber)
+    go true = refl
+    go false = refl
+
+pub three-outside : (low high a b c u v w : Float) → allInRange low high a b c ≡ false
+    → tripleOf (onPath a (ranged low high a u)) (onPath b (ranged low high b v)) (onPath c (ranged low high c w)) ≡ triple.Refused (firstRefusal low high a b c)
+three-outside low high a b c u v w r = by (inRange low high a) refl
+  where
+    third : inRange low high a ≡ true → inRange low high b ≡ true → inRange low high c ≡ false
+    third p q = simp (p, q) at r
+
+    by-second : inRange low high a ≡ true → (y : Bool) → inRange low high b ≡ y
+        → tripleOf (onPath a (ranged low high a u)) (onPath b (ranged low high b v)) (onPath c (ranged low high c w)) ≡ triple.Refused (firstRefusal low high a b c)
+    by-second p true q = rw (on-path-inside low high a u p, on-path-inside low high b v q, on-path-outside low high c w (third p q), p, q) refl
+    by-second p false q = rw (on-path-inside low high a u p, on-path-outside low high b v q, p, q) refl
+
+    by : (x : Bool) → inRange low high a ≡ x
+        → tripleOf (onPath a (ranged low high a u)) (onPath b (ranged low high b v)) (onPath c (ranged low high c w)) ≡ triple.Refused (firstRefusal low high a b c)
+    by true p = by-second p (inRange low high b) refl
+    by false p = rw (on-path-outside low high a u p, p) refl

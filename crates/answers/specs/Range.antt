@@ -34,3 +34,11 @@ bare x e = cond (finite x) e (Refused notFinite)
 -- inside a law: a NaN arose on the path, refusal 3; an infinity lies on its side of the range
 abbrev pub onPath : Float → Answer → Answer
 onPath x e = cond (isNumber x) e (Refused noNumber)
+
+-- the number that refuses there an argument outside the range
+abbrev pub refusalOf : Float → Float → Float → ℕ
+refusalOf low high x = cond (isNumber x) (sideOf low high x) noNumber
+
+-- of three that aren't all in it, the first's that isn't
+abbrev pub firstRefusal : Float → Float → Float → Float → Float → ℕ
+firstRefusal low high a b c = cond (inRange low high a) (cond (inRange low high b) (refusalOf low high c) (refusalOf low high b)) (refusalOf low high a)

@@ -1,8 +1,8 @@
 // What a call answers: a number, two or three, or the refusal's number (RULES, section 6); and what a call asked by itself and one
 // asked inside a law make of the same answer.
 ghost use mathlib.Core.Path.{_≡_};
-ghost use Rattle.answers.specs.Answer.{answeredOf, finiteAnswerOf, pairOf, tripleOf};
-ghost use Rattle.answers.specs.Range.{inRange, allInRange, outsideOf, bare, onPath};
+ghost use Rattle.answers.specs.Answer.{answeredOf, finiteAnswerOf, pairOf};
+ghost use Rattle.answers.specs.Range.{inRange, allInRange, sideOf, outsideOf, refusalOf, firstRefusal, bare, onPath};
 
 // The refusals by name (section 6, then the tickets in order).
 pub const NOT_FINITE: u8 = 1;
@@ -87,22 +87,6 @@ pub fn answered_pair(x: f64, y: f64) -> Pair
     }
 }
 
-// Three answers, or the first refusal in their order.
-pub fn all_three(a: Answer, b: Answer, c: Answer) -> Triple
-    ensures { λ r. ⌜ r ≡ tripleOf a b c ⌝ }
-{
-    match a {
-        Answer::Value(x) => match b {
-            Answer::Value(y) => match c {
-                Answer::Value(z) => Triple::Values(x, y, z),
-                Answer::Refused(n) => Triple::Refused(n),
-            },
-            Answer::Refused(n) => Triple::Refused(n),
-        },
-        Answer::Refused(n) => Triple::Refused(n),
-    }
-}
-
 // Whether x lies in an elementary function's range, ends included.
 pub fn in_range(low: f64, high: f64, x: f64) -> bool
     ensures { λ r. ⌜ r ≡ inRange low high x ⌝ }
@@ -117,14 +101,43 @@ pub fn all_in_range(low: f64, high: f64, a: f64, b: f64, c: f64) -> bool
     in_range(low, high, a) & in_range(low, high, b) & in_range(low, high, c)
 }
 
-// The refusal of an argument outside the range from low to high, by its side: an infinity lies on its own.
+// On which side of the range an argument lies that isn't in it: an infinity on its own.
+fn side(low: f64, high: f64, x: f64) -> u8
+    ensures { λ r. ⌜ r ≡ sideOf low high x ⌝ }
+{
+    if x < low { BELOW_RANGE } else { ABOVE_RANGE }
+}
+
+// The refusal of an argument outside the range from low to high.
 pub fn outside(low: f64, high: f64, x: f64) -> Answer
     ensures { λ r. ⌜ r ≡ outsideOf low high x ⌝ }
 {
-    if x < low {
-        Answer::Refused(BELOW_RANGE)
+    Answer::Refused(side(low, high, x))
+}
+
+// Its number inside a law: a NaN arose on the path.
+fn refusal(low: f64, high: f64, a: f64) -> u8
+    ensures { λ r. ⌜ r ≡ refusalOf low high a ⌝ }
+{
+    if numbers::is_number(a) {
+        side(low, high, a)
     } else {
-        Answer::Refused(ABOVE_RANGE)
+        NO_NUMBER
+    }
+}
+
+// Of three arguments that aren't all in the range, the number of the first that isn't. No function is worked for it.
+pub fn first_refusal(low: f64, high: f64, a: f64, b: f64, c: f64) -> u8
+    ensures { λ r. ⌜ r ≡ firstRefusal low high a b c ⌝ }
+{
+    if in_range(low, high, a) {
+        if in_range(low, high, b) {
+            refusal(low, high, c)
+        } else {
+            refusal(low, high, b)
+        }
+    } else {
+        refusal(low, high, a)
     }
 }
 

@@ -1,5 +1,4 @@
 // Three exponentials at once, as a law asks them.
-use super::exp_on_path;
 use super::exp_value;
 use answers::Triple;
 ghost use mathlib.Core.Path.{_≡_};
@@ -14,6 +13,6 @@ pub fn exps_on_path(a: f64, b: f64, c: f64) -> Triple
     if answers::all_in_range(-700.0, 700.0, a, b, c) {
         Triple::Values(exp_value(a), exp_value(b), exp_value(c))
     } else {
-        answers::all_three(exp_on_path(a), exp_on_path(b), exp_on_path(c))
+        Triple::Refused(answers::first_refusal(-700.0, 700.0, a, b, c))
     }
 }

@@ -1,5 +1,4 @@
 // Three logarithms at once, as a law asks them.
-use super::ln_on_path;
 use super::ln_value;
 use answers::Triple;
 ghost use mathlib.Core.Path.{_≡_};
@@ -14,6 +13,12 @@ pub fn logs_on_path(a: f64, b: f64, c: f64) -> Triple
     if answers::all_in_range(8.673617379884035e-19, 1152921504606846976.0, a, b, c) {
         Triple::Values(ln_value(a), ln_value(b), ln_value(c))
     } else {
-        answers::all_three(ln_on_path(a), ln_on_path(b), ln_on_path(c))
+        Triple::Refused(answers::first_refusal(
+            8.673617379884035e-19,
+            1152921504606846976.0,
+            a,
+            b,
+            c,
+        ))
     }
 }

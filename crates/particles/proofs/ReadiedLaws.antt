@@ -37,14 +37,15 @@ use Rattle.particles.specs.declared.judged.Judge.{Judge}
 use Rattle.particles.specs.declared.judged.Judge.the-variants.{Nobody, By}
 use Rattle.particles.specs.declared.step.Step.{Step}
 use Rattle.particles.specs.declared.step.Step.the-variants as steps
+use Rattle.particles.specs.declared.step.How.{How}
+use Rattle.particles.specs.declared.step.How.the-variants as hows
 use Rattle.particles.specs.declared.step.Taken.{Taken}
-use Rattle.particles.specs.declared.step.Taken.the-variants as taken
 use Rattle.particles.specs.Pass.{Worked, AmountFinite}
 use Rattle.particles.specs.Plain.{putScalars, kept, keptBy, updatedAt, lawAt, recordLaw}
 use Rattle.particles.specs.Judged.{verdictBy, refusedRecord, marked, finiteBy, lawBy}
 use Rattle.particles.specs.Factored.{withFactors, factorRefusal, factorLaw, orAsItCame, factoredLaw}
 use Rattle.particles.specs.Readied.{readyScalars, shaped, readyKept, readyKeptBy, readyAt, readyMarked, readyLaw, readyFirst}
-use Rattle.particles.specs.Step.{stepLaw, takenOf, takenFinite, takenLaw}
+use Rattle.particles.specs.Step.{stepLaw, takenOf, takenFinite, howLaw, takenLaw}
 use Rattle.particles.proofs.Written.{scalars-last}
 use Rattle.particles.proofs.NotFinite.{law-right, law-wrong, refused-first, finite-first}
 use Rattle.particles.proofs.PassLaws.{Keeps}
@@ -163,11 +164,12 @@ ready-keeps q j r = go (finiteBy j && recordFinite r)
     go false = refl
 
 pub taken-keeps : (t : Taken) → Keeps (takenLaw t)
-taken-keeps (taken.Plain q) = ready-keeps q Nobody
-taken-keeps (taken.Judged q l e) = ready-keeps q (By l e)
-taken-keeps taken.Factors = factor-keeps
-taken-keeps (taken.FactoredPlain q) = factored-keeps _ (readyLaw q Nobody) (ready-keeps q Nobody)
-taken-keeps (taken.FactoredJudged q l e) = factored-keeps _ (readyLaw q (By l e)) (ready-keeps q (By l e))
+taken-keeps t = go (t .how) (t .ready) (t .judge)
+  where
+    go : (h : How) (q : Ready) (j : Judge) → Keeps (howLaw h q j)
+    go hows.Law q j = ready-keeps q j
+    go hows.Factors q j = factor-keeps
+    go hows.Factored q j = factored-keeps _ (readyLaw q j) (ready-keeps q j)
 
 -- ---- an amount that is stored is finite
 amount : (o : Outcome) → ((a : Float) → o ≡ Stored a → finite a ≡ true) → AmountFinite o
@@ -217,9 +219,12 @@ first-amount q j r = go (parametersReady q && finiteBy j) (eqb (factorRefusal r)
     go true false = tt
     go false b = tt
 
-pub taken-amount : (t : Taken) (r : List ℕ) → AmountFinite (takenLaw t r .outcome)
-taken-amount (taken.Plain q) = ready-amount q Nobody
-taken-amount (taken.Judged q l e) = ready-amount q (By l e)
-taken-amount taken.Factors = factor-amount
-taken-amount (taken.FactoredPlain q) = first-amount q Nobody
-taken-amount (taken.FactoredJudged q l e) = first-amount q (By l e)
+pub how-amount : (h : How) (q : Ready) (j : Judge) (r : List ℕ) → AmountFinite (howLaw h q j r .outcome)
+how-amount hows.Law q j = ready-amount q j
+how-amount hows.Factors q j = factor-amount
+how-amount hows.Factored q j = first-amount q j
+
+pub step-amount : (s : Step) (r : List ℕ) → AmountFinite (stepLaw s r .outcome)
+step-amount s r =
+    let t = takenOf s in
+    rw (← taken-law s) (how-amount (t .how) (t .ready) (t .judge) r)

@@ -4,18 +4,21 @@ use crate::failure::PassedWithFailure;
 use crate::judged;
 use crate::judged::Judge;
 use crate::step;
+use crate::step::How;
 use crate::step::Step;
 use crate::step::Stepped;
 use crate::step::Taken;
 use model::Model;
+use model::Ready;
 use plasticity::Outcome;
 ghost use mathlib.Core.Path.{_≡_};
 ghost use mathlib.Core.Bool.{true};
 ghost use Prim.Native.Nat.{_+_, _*_, _^_, _≤_, _<_};
 ghost use lib.ListN.{length};
 ghost use Rattle.record.specs.Layout.{floats};
+ghost use Rattle.model.specs.Ready.{readyFinite};
 ghost use Rattle.particles.specs.Plain.{recordLaw, recordOutcome, recordAfter};
-ghost use Rattle.particles.specs.Step.{stepLaw, takenFinite, takenLaw};
+ghost use Rattle.particles.specs.Step.{stepLaw, howLaw, takenFinite, takenLaw};
 ghost use Rattle.particles.specs.Pass.{codeOf, valueOf, AmountFinite, answered, recordAt, replaced, worked, answers, countedIf, counted, counts, sized, withoutVerdicts, passed, passedWithFailure, passRecords, passAnswers};
 
 // How many records were left untouched, stored and refused.
@@ -110,17 +113,18 @@ fn write_answer(out: &mut [u64], i: usize, o: Outcome)
     out[k + 1] = value(o);
 }
 
-// Record i, and its two answers.
-fn one_ready(t: Taken, xs: &mut [u64], out: &mut [u64], i: usize) -> Stepped
-    requires { ⌜ (i * floats + floats ≤ length (now xs)) × (i * 2 + 2 ≤ length (now out)) × (takenFinite t ≡ true) ⌝ }
-    ensures outcome { λ d. ⌜ d .outcome ≡ takenLaw t (recordAt (now (xs .entry)) i) .outcome ⌝ }
-    ensures failed { λ d. ⌜ d .failed ≡ takenLaw t (recordAt (now (xs .entry)) i) .failed ⌝ }
-    ensures record { λ d. ⌜ now (xs .exit) ≡ replaced (now (xs .entry)) i (takenLaw t (recordAt (now (xs .entry)) i) .after) ⌝ }
+// Record i, and its two answers. The loop alone calls it, and it alone `take_step`: so both are compiled into the loop, and no record
+// costs a copy of what was made ready.
+fn one_ready(how: How, q: Ready, j: Judge, xs: &mut [u64], out: &mut [u64], i: usize) -> Stepped
+    requires { ⌜ (i * floats + floats ≤ length (now xs)) × (i * 2 + 2 ≤ length (now out)) × (readyFinite q ≡ true) ⌝ }
+    ensures outcome { λ d. ⌜ d .outcome ≡ howLaw how q j (recordAt (now (xs .entry)) i) .outcome ⌝ }
+    ensures failed { λ d. ⌜ d .failed ≡ howLaw how q j (recordAt (now (xs .entry)) i) .failed ⌝ }
+    ensures record { λ d. ⌜ now (xs .exit) ≡ replaced (now (xs .entry)) i (howLaw how q j (recordAt (now (xs .entry)) i) .after) ⌝ }
     ensures answer { λ d. ⌜ now (out .exit) ≡ answered (now (out .entry)) i (d .outcome) ⌝ }
 {
     let a = i * record::FLOATS;
     let b = a + record::FLOATS;
-    let d = step::take_step(t, &mut xs[a..b]);
+    let d = step::take_step(how, q, j, &mut xs[a..b]);
     let o = d.outcome;
     write_answer(out, i, o);
     d
@@ -136,7 +140,7 @@ pub fn one(s: Step, xs: &mut [u64], out: &mut [u64], i: usize) -> Stepped
 {
     let a = i * record::FLOATS;
     let b = a + record::FLOATS;
-    let d = step::take_step(step::ready_for(s), &mut xs[a..b]);
+    let d = step::step_alone(s, &mut xs[a..b]);
     let o = d.outcome;
     write_answer(out, i, o);
     d
@@ -155,9 +159,12 @@ fn pass_all(t: Taken, xs: &mut [u64], out: &mut [u64], n: usize) -> FailureCount
         refused: 0,
         failed: 0,
     };
+    let how = t.how;
+    let q = t.ready;
+    let j = t.judge;
     let mut i = 0;
     while i < n {
-        let d = one_ready(t, xs, out, i);
+        let d = one_ready(how, q, j, xs, out, i);
         let o = d.outcome;
         c = count_one(c, o, d.failed);
         i += 1;

@@ -11,7 +11,8 @@ ghost use mathlib.Core.Path.{_≡_};
 ghost use mathlib.Core.Bool.{true, false};
 ghost use lib.ListN.{length};
 ghost use Rattle.record.specs.Layout.{floats};
-ghost use Rattle.particles.specs.Step.{takenOf, takenFinite, takenLaw};
+ghost use Rattle.model.specs.Ready.{readyFinite};
+ghost use Rattle.particles.specs.Step.{stepLaw, howLaw, takenOf};
 
 // The plastic law; or that, and then the verdict, with these limits on the stress by this law; or our own factors, by themselves or
 // before one of these.
@@ -40,38 +41,78 @@ fn unjudged(o: Outcome) -> Stepped
     }
 }
 
-// A step with its model made ready, once for all records.
-pub enum Taken {
-    Plain(Ready),
-    Judged(Ready, MaximumStressFailure, CorotatedLinearElasticity),
+// Which of them a step takes: the law with the verdict, our own factors, or the one after the other.
+pub enum How {
+    Law,
     Factors,
-    FactoredPlain(Ready),
-    FactoredJudged(Ready, MaximumStressFailure, CorotatedLinearElasticity),
+    Factored,
+}
+
+// A step with its model made ready, once for all records. Factors alone ask no model: a refused one stands there.
+pub struct Taken {
+    pub how: How,
+    pub ready: Ready,
+    pub judge: Judge,
 }
 
 pub fn ready_for(s: Step) -> Taken
     ensures { λ t. ⌜ t ≡ takenOf s ⌝ }
 {
     match s {
-        Step::Plain(m) => Taken::Plain(model::make_ready(m)),
-        Step::Judged(m, l, e) => Taken::Judged(model::make_ready(m), l, e),
-        Step::Factors => Taken::Factors,
-        Step::FactoredPlain(m) => Taken::FactoredPlain(model::make_ready(m)),
-        Step::FactoredJudged(m, l, e) => Taken::FactoredJudged(model::make_ready(m), l, e),
+        Step::Plain(m) => Taken {
+            how: How::Law,
+            ready: model::make_ready(m),
+            judge: Judge::Nobody,
+        },
+        Step::Judged(m, l, e) => Taken {
+            how: How::Law,
+            ready: model::make_ready(m),
+            judge: Judge::By(l, e),
+        },
+        Step::Factors => Taken {
+            how: How::Factors,
+            ready: Ready::Refused(0),
+            judge: Judge::Nobody,
+        },
+        Step::FactoredPlain(m) => Taken {
+            how: How::Factored,
+            ready: model::make_ready(m),
+            judge: Judge::Nobody,
+        },
+        Step::FactoredJudged(m, l, e) => Taken {
+            how: How::Factored,
+            ready: model::make_ready(m),
+            judge: Judge::By(l, e),
+        },
     }
 }
 
-pub fn take_step(t: Taken, r: &mut [u64]) -> Stepped
-    requires { ⌜ (length (now r) ≡ floats) × (takenFinite t ≡ true) ⌝ }
-    ensures outcome { λ x. ⌜ x .outcome ≡ takenLaw t (now (r .entry)) .outcome ⌝ }
-    ensures failed { λ x. ⌜ x .failed ≡ takenLaw t (now (r .entry)) .failed ⌝ }
-    ensures record { λ x. ⌜ now (r .exit) ≡ takenLaw t (now (r .entry)) .after ⌝ }
+// One record, by what was made ready.
+pub fn take_step(how: How, q: Ready, j: Judge, r: &mut [u64]) -> Stepped
+    requires { ⌜ (length (now r) ≡ floats) × (readyFinite q ≡ true) ⌝ }
+    ensures outcome { λ x. ⌜ x .outcome ≡ howLaw how q j (now (r .entry)) .outcome ⌝ }
+    ensures failed { λ x. ⌜ x .failed ≡ howLaw how q j (now (r .entry)) .failed ⌝ }
+    ensures record { λ x. ⌜ now (r .exit) ≡ howLaw how q j (now (r .entry)) .after ⌝ }
 {
-    match t {
-        Taken::Plain(q) => judged::step(q, Judge::Nobody, r),
-        Taken::Judged(q, l, e) => judged::step(q, Judge::By(l, e), r),
-        Taken::Factors => unjudged(factored::alone(r)),
-        Taken::FactoredPlain(q) => factored::first(q, Judge::Nobody, r),
-        Taken::FactoredJudged(q, l, e) => factored::first(q, Judge::By(l, e), r),
+    match how {
+        How::Law => judged::step(q, j, r),
+        How::Factors => unjudged(factored::alone(r)),
+        How::Factored => factored::first(q, j, r),
+    }
+}
+
+// One record by itself, made ready for it alone: by its own arms, so that `take_step` has one caller.
+pub fn step_alone(s: Step, r: &mut [u64]) -> Stepped
+    requires { ⌜ length (now r) ≡ floats ⌝ }
+    ensures outcome { λ x. ⌜ x .outcome ≡ stepLaw s (now (r .entry)) .outcome ⌝ }
+    ensures failed { λ x. ⌜ x .failed ≡ stepLaw s (now (r .entry)) .failed ⌝ }
+    ensures record { λ x. ⌜ now (r .exit) ≡ stepLaw s (now (r .entry)) .after ⌝ }
+{
+    match s {
+        Step::Plain(m) => judged::step(model::make_ready(m), Judge::Nobody, r),
+        Step::Judged(m, l, e) => judged::step(model::make_ready(m), Judge::By(l, e), r),
+        Step::Factors => unjudged(factored::alone(r)),
+        Step::FactoredPlain(m) => factored::first(model::make_ready(m), Judge::Nobody, r),
+        Step::FactoredJudged(m, l, e) => factored::first(model::make_ready(m), Judge::By(l, e), r),
     }
 }

@@ -3,15 +3,18 @@ use mathlib.Core.Bool.{true}
 use mathlib.Core.List.{List, [], _∷_}
 use mathlib.Core.Path.{_≡_, refl, ap, _∙_}
 use lib.Ieee as Ieee
-use lib.Ieee.{Float, binary64, ofBits}
+use lib.Ieee.{Float, binary64, ofBits, round, size}
+use Rattle.numbers.specs.Constants as constants
 use Rattle.numbers.specs.Floats.{finite, isNumber}
 use Rattle.answers.specs.declared.Answer.the-variants.{Value}
 use Rattle.logarithm.specs.Worked.{lnOf}
-use Rattle.exact.specs.RootOf.{sqrtOf}
+use Rattle.exact.specs.RootOf.{sqrtOf, floorRoot, rootIn}
+use Rattle.exact.specs.Units.{mag, L}
 use Rattle.tensor.specs.Matrix.{mul, div, zero, one, three, sumOf, productOf, dotOf, scaledRowOf, rowsOf}
 use Rattle.plasticity.specs.declared.Outcome.the-variants.{Stored}
 use Rattle.plasticity.specs.declared.State.{State}
-use Rattle.walk.specs.Walk.{result, answerAs, given}
+use Rattle.walk.specs.Expr.{num, value, _/_}
+use Rattle.walk.specs.Walk.{root, answerOf, result, answerAs, given}
 use Rattle.reason.specs.Traced.{reached, traced, untraced}
 use Rattle.reason.proofs.Laws.{result-traced}
 use Rattle.walk.specs.Exact.{number-then}
@@ -27,6 +30,11 @@ use Rattle.plasticity_drucker_prager.proofs.Laws.{store-law, way-then, 
 -- a degree as Rust's `to_radians` has it: pi over 180
 abbrev degree : Float
 degree = div (ofBits binary64 0x4009_21fb_5444_2d18) (ofBits binary64 0x4066_8000_0000_0000)
+
+-- the root of 2/3, which the slope takes
+pub slope-root : answerOf root (value (two / num constants.three)) ≡ Value (ofBits binary64 0x3fea_20bd_700c_2c3e)
+unfolding sqrtOf floorRoot rootIn mag L isNumber ofBits round size Ieee.div Ieee.le Ieee.lt Ieee.eq
+slope-root = refl
 
 -- 35, 9 and 10 degrees
 pub angles :

@@ -7,6 +7,9 @@ ghost use Rattle.walk.specs.Walk.{result, answerAs};
 ghost use Rattle.reason.specs.Traced.{traced, numberAs};
 ghost use Rattle.plasticity_drucker_prager.specs.Alpha.{alphaWalk, alphaCall};
 
+// The root of 2/3, worked once for all.
+const ROOT: f64 = 0.816496580927726;
+
 impl DruckerPragerPlasticity {
     // The slope of the cone at the hardening q, as a step of the law: a NaN is 3.
     pub fn alpha_on_path(self, q: f64) -> Number
@@ -15,17 +18,14 @@ impl DruckerPragerPlasticity {
         match exponential::exp_on_path(-self.h2 * q) {
             Answer::Value(e) => {
                 match sine::sin_on_path(self.h0 + (self.h1 * q - self.h3) * e) {
-                    Answer::Value(s) => match square_root::sqrt_on_path(2.0 / 3.0) {
-                        Answer::Value(r) => {
-                            let a = r * (2.0 * s) / (3.0 - s);
-                            if numbers::is_number(a) {
-                                Number::Value(a)
-                            } else {
-                                Number::Refused(answers::NO_NUMBER, steps::SLOPE)
-                            }
+                    Answer::Value(s) => {
+                        let a = ROOT * (2.0 * s) / (3.0 - s);
+                        if numbers::is_number(a) {
+                            Number::Value(a)
+                        } else {
+                            Number::Refused(answers::NO_NUMBER, steps::SLOPE)
                         }
-                        Answer::Refused(n) => Number::Refused(n, steps::ROOT),
-                    },
+                    }
                     Answer::Refused(n) => Number::Refused(n, steps::SINE),
                 }
             }

@@ -2,12 +2,10 @@
 // The flag: only active when failed.
 pub const FLAG: u8 = 1;
 
-// alpha: the exponential, the sine, the root of 2/3, the slope.
+// alpha: the exponential, the sine, the slope. 4 is the root of 2/3, which refuses nothing.
 pub const DECAY: u8 = 2;
 
 pub const SINE: u8 = 3;
-
-pub const ROOT: u8 = 4;
 
 pub const SLOPE: u8 = 5;
 

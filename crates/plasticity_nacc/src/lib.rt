@@ -12,12 +12,12 @@ use plasticity::Outcome;
 use tensor::Rows;
 pub use update::scalars_of;
 
-// The law with its moduli; made by `new` or `with_m`.
+// The law with its moduli; made by `new` or `with_m`. In this order the code reads as a whole what it copied as a whole.
 pub struct NaccPlasticity {
     mu: f64,
     kappa: f64,
-    hardening_enabled: bool,
     hardening_factor: f64,
+    hardening_enabled: bool,
     cohesion: f64,
     friction: f64,
 }

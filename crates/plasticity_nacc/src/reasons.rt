@@ -4,7 +4,6 @@ use crate::NaccArguments;
 use crate::NaccPlasticity;
 use crate::Projected;
 use crate::steps;
-use crate::update;
 use plasticity::State;
 use reason::Reason;
 ghost use mathlib.Core.Path.{_≡_};
@@ -37,7 +36,7 @@ impl NaccPlasticity {
         if self.moduli_finite() {
             let sigma = s.sigma;
             let f = s.f;
-            branch_reason(update::projected(self.steps(sigma, s.scalars.alpha), f, u, vt))
+            branch_reason(self.project(f, u, sigma, vt, s.scalars.alpha))
         } else {
             Reason::Refused(answers::NO_NUMBER, steps::MODULI)
         }

@@ -18,7 +18,7 @@ ghost use Rattle.walk.specs.Walk.{result};
 ghost use Rattle.walk.specs.Update.{updatedOf};
 ghost use Rattle.reason.specs.Traced.{traced};
 ghost use Rattle.plasticity_nacc.specs.Law.{parametersFinite, moduliFinite};
-ghost use Rattle.plasticity_nacc.specs.Nacc.{outcomeOf, resultsOf, besideZeros, refusedProjection, recomposedOf, byBranch, walkedOf, projectedOf, projectInputs, projectCall, scalarsOf, stateOf, storedBy, runWalk, naccUpdate};
+ghost use Rattle.plasticity_nacc.specs.Nacc.{outcomeOf, resultsOf, besideZeros, refusedProjection, recomposedOf, byBranch, walkedOf, projectedOf, projectInputs, projectWalk, projectCall, scalarsOf, stateOf, storedBy, runWalk, naccUpdate};
 
 // Zeros beside the branch.
 fn beside_zeros(b: Branch) -> Projected
@@ -82,7 +82,7 @@ fn outcome_of(b: Branch, alpha: f64) -> Outcome
 }
 
 // F is recomposed, but inside the yield surface as it came.
-pub(crate) fn projected(q: Stepped, f: Rows, u: [[f64; 3]; 3], vt: [[f64; 3]; 3]) -> Projected
+fn projected(q: Stepped, f: Rows, u: [[f64; 3]; 3], vt: [[f64; 3]; 3]) -> Projected
     ensures { λ r. ⌜ r ≡ byBranch (q .branch) (q .sigma) (q .alpha) f u vt ⌝ }
 {
     let b = q.branch;
@@ -172,6 +172,22 @@ impl NaccPlasticity {
             & numbers::is_finite(alpha)
     }
 
+    // The steps, and F recomposed after them: one place for the update, the call by itself and the reason. Where each called both, what
+    // passes between them went through memory, and a record waited for it.
+    pub(crate) fn project(
+        self,
+        f: Rows,
+        u: [[f64; 3]; 3],
+        sigma: [f64; 3],
+        vt: [[f64; 3]; 3],
+        alpha: f64,
+    ) -> Projected
+        requires { ⌜ finite alpha ≡ true ⌝ }
+        ensures { λ r. ⌜ r ≡ walkedOf (traced (projectWalk self f u sigma vt alpha)) ⌝ }
+    {
+        projected(self.steps(sigma, alpha), f, u, vt)
+    }
+
     // The projection by itself, with its branch.
     fn projected_by_itself(
         self,
@@ -185,7 +201,7 @@ impl NaccPlasticity {
     {
         if self.projection_inputs(f, u, sigma, vt, alpha) {
             if self.moduli_finite() {
-                projected(self.steps(sigma, alpha), tensor::to_rows(f), u, vt)
+                self.project(tensor::to_rows(f), u, sigma, vt, alpha)
             } else {
                 refused_projection(answers::NO_NUMBER, steps::MODULI)
             }
@@ -214,7 +230,7 @@ impl NaccPlasticity {
     {
         let sigma = s.sigma;
         let f = s.f;
-        stored(projected(self.steps(sigma, s.scalars.alpha), f, u, vt), s)
+        stored(self.project(f, u, sigma, vt, s.scalars.alpha), s)
     }
 
     // The update of one particle: untouched, or F, sigma and alpha are new, or the state comes back as it was with a

@@ -1,10 +1,10 @@
 -- The whole-number work of the square root: one digit after the other. Assumes nothing.
-use mathlib.Core.Path.{_≡_}
+use mathlib.Core.Path.{_≡_, ap}
 use Prim.Native.Nat.{ℕ, zero, suc, _+_, _-_, _*_, _^_, _≤_, _<_}
-use native.Mathlib.Nat.{mul-le-mul, mul-le-mul-right, le-of-mul-le-mul-left}
-use native.Mathlib.Omega.{arith}
+use native.Mathlib.Nat.{mul-le-mul, le-of-mul-le-mul-left}
+use native.Mathlib.Omega.{arith, pred-cases}
 use Rattle.exact.specs.WholeRoot.{square-lt}
-use Rattle.square_root.specs.Digits.{Whole, Nearest}
+use Rattle.square_root.specs.Digits.{Begins, Nearest}
 use Rattle.square_root.specs.declared.digits.Begun.{Begun}
 
 -- two numbers of 32 binary digits have a product of 64
@@ -28,35 +28,30 @@ given-back b d v t h e = omega (arith, product-less b d h)
 pub square-less : (d : ℕ) → 0 < d → (d - 1) * (d - 1) + (d + d - 1) ≡ d * d
 square-less d h = omega (arith, product-less d d h, product-less (d - 1) d h)
 
--- ---- the first digit, of n: so small that nothing overflows
-pub sum-small : (a b : ℕ) → a + b ≤ a * a + b
-sum-small zero b = omega arith
-sum-small (suc a) b = omega arith
+-- ---- the first digit, of n: neither small nor large
+pub bounds : (n : ℕ) (s : Begun) → 2 ^ 52 ≤ n → n < 2 ^ 54 → Begins n s → s .rest ≤ 4 * s .root + 2 → (2 ^ 25 ≤ s .root) × (s .root ≤ 2 ^ 27)
+bounds n s a b e l =
+    let r = s .root in
+    let h = square-lt (2 ^ 26) (r + 2) (omega arith) in
+    let k = square-lt (r - 1) (2 ^ 27) (omega (arith, square-less r (omega arith))) in
+    (omega arith, omega arith)
 
-pub bounds : (n : ℕ) (s : Begun) → 2 ^ 52 ≤ n → n < 2 ^ 54 → Whole n s → (2 ^ 26 ≤ s .root) × (s .root < 2 ^ 27)
-bounds n s a b w =
-    let l = square-lt (2 ^ 26) (suc (s .root)) (omega (arith, w .is, w .last)) in
-    let h = square-lt (s .root) (2 ^ 27) (omega (arith, w .is)) in
-    (omega arith, h)
+-- ---- the second digit, g, after twice the first less one, b, with the rest p: b taken g times from p * 2 ^ 26 leaves u
+pub few : (b p g u : ℕ) → 2 ^ 25 ≤ b → p ≤ b + b + 4 → b * g + u ≡ p * 2 ^ 26 → g ≤ 2 ^ 28
+few b p g u o l e = le-of-mul-le-mul-left {m = g} {n = 2 ^ 28} {k = b} (omega arith) (omega arith)
 
--- ---- the second digit, g, after the root r with the rest p: twice the root taken g times from p * 2 ^ 26 leaves u
-pub few : (r p g u : ℕ) → 0 < r → p ≤ r + r → (r + r) * g + u ≡ p * 2 ^ 26 → g ≤ 2 ^ 26
-few r p g u o l e = le-of-mul-le-mul-left {m = g} {n = 2 ^ 26} {k = r + r} (omega (arith, mul-le-mul-right (2 ^ 26) l)) (omega arith)
-
-pub square-few : (g : ℕ) → g ≤ 2 ^ 26 → g * g ≤ 2 ^ 52
+pub square-few : (g : ℕ) → g ≤ 2 ^ 28 → g * g ≤ 2 ^ 56
 square-few g h = omega (arith, mul-le-mul h h)
 
--- ---- both digits: whether the root or the next one up is nearer
-pub down : (n : ℕ) (s : Begun) → Whole (n * 2 ^ 52) s → s .rest ≤ s .root → Nearest n (s .root)
-down n s w h = record {
-  m = s .root + s .root;
-  floor = record { under = omega (arith, w .is); over = omega (arith, w .is) };
-  half = omega arith;
-}
+-- b times 2 ^ 25 and the digit d, g or lower, begin the root of n * 2 ^ 52
+pub onto : (n r b p g u d v q : ℕ) → b + 1 ≡ r + r → r * r + p ≡ n + r → b * g + u ≡ p * 2 ^ 26 → b * 2 ^ 26 * d + v ≡ b * 2 ^ 26 * g + (u * 2 ^ 26 + b * 2 ^ 25) → q ≡ d * d + 2 ^ 50 → q ≤ v + d
+    → (b * 2 ^ 25 + d) * (b * 2 ^ 25 + d) + (v + d - q) ≡ n * 2 ^ 52 + (b * 2 ^ 25 + d)
+onto n r b p g u d v q h e f k i l = omega (arith, ap (λ x. x * x) h)
 
-pub up : (n : ℕ) (s : Begun) → Whole (n * 2 ^ 52) s → s .root < s .rest → Nearest n (s .root + 1)
-up n s w h = record {
-  m = s .root + s .root + 1;
-  floor = record { under = omega (arith, w .is); over = omega (arith, w .is, w .last) };
-  half = omega arith;
-}
+-- ---- both digits: a root that leaves so much is the nearest
+pub nearest : (n r z : ℕ) → r * r + z ≡ n * 2 ^ 52 + r → 0 < z → z ≤ r + r → Nearest n r
+nearest n zero z e o l = absurd (omega arith)
+nearest n (suc k) z e o l =
+    pred-cases (suc k - z) _
+    (λ h _. record { m = suc k + suc k; floor = record { under = omega arith; over = omega arith }; half = omega arith })
+    (λ h. record { m = k + suc k; floor = record { under = omega arith; over = omega arith }; half = omega arith })

@@ -1,8 +1,8 @@
--- Three values where all lie in the range, else the answers one by one.
+-- Three values where all lie in the range, else the first refusal.
 use mathlib.Core.Path.{sym, _∙_, subst}
 use borrow.Author.Needs.{needs}
 use lib.Dec.{T}
-use Rattle.answers.proofs.Values.{each-inside, three-inside}
+use Rattle.answers.proofs.Values.{each-inside, three-inside, three-outside}
 use Rattle.exponential.specs.Worked.{low, high, expOf}
 use Rattle.exponential.proofs.Unpacking.{ranged-sized}
 use Rattle.exponential.proofs.three.exps_on_path.Statement.{statement}
@@ -37,10 +37,13 @@ returns c =
 
 returns-2 : tie.Need-returns-2
 returns-2 c =
-    rw (c .all-three .ensures, c .before .exp-on-path3 .ensures, c .before .before .exp-on-path2 .ensures, c .before .before .before .exp-on-path .ensures)
+    let s = c .before .before in
+    let a = s .before .args in
+    rw (c .first-refusal .ensures)
+    (sym (three-outside low high (a .a) (a .b) (a .c) (expOf (a .a)) (expOf (a .b)) (expOf (a .c)) (sym (s .all-in-range .ensures) ∙ c .before .if1 .left)))
 
 pub exps-on-path-spec : {M : Type 1} → statement M
 exps-on-path-spec =
     tie.close
     (tie.spec (λ c κs. search needs) exp-value-requires exp-value-requires-2 exp-value-requires-3
-    (λ c κs. search needs) (λ c κs. search needs) (λ c κs. search needs) (λ c κs. search needs) returns returns-2)
+    (λ c κs. search needs) returns returns-2)

@@ -1,7 +1,7 @@
--- Three values where all lie in the range, else the answers one by one.
+-- Three values where all lie in the range, else the first refusal.
 use mathlib.Core.Path.{sym, _∙_}
 use borrow.Author.Needs.{needs}
-use Rattle.answers.proofs.Values.{each-inside, three-inside}
+use Rattle.answers.proofs.Values.{each-inside, three-inside, three-outside}
 use Rattle.logarithm.specs.Worked.{low, high, lnOf}
 use Rattle.logarithm.proofs.three.logs_on_path.Statement.{statement}
 use Rattle.logarithm.proofs.three.logs_on_path.Tie as tie
@@ -32,10 +32,13 @@ returns c =
 
 returns-2 : tie.Need-returns-2
 returns-2 c =
-    rw (c .all-three .ensures, c .before .ln-on-path3 .ensures, c .before .before .ln-on-path2 .ensures, c .before .before .before .ln-on-path .ensures)
+    let s = c .before .before in
+    let a = s .before .args in
+    rw (c .first-refusal .ensures)
+    (sym (three-outside low high (a .a) (a .b) (a .c) (lnOf (a .a)) (lnOf (a .b)) (lnOf (a .c)) (sym (s .all-in-range .ensures) ∙ c .before .if1 .left)))
 
 pub logs-on-path-spec : {M : Type 1} → statement M
 logs-on-path-spec =
     tie.close
     (tie.spec (λ c κs. search needs) ln-value-requires ln-value-requires-2 ln-value-requires-3
-    (λ c κs. search needs) (λ c κs. search needs) (λ c κs. search needs) (λ c κs. search needs) returns returns-2)
+    (λ c κs. search needs) returns returns-2)

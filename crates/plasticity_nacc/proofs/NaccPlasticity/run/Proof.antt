@@ -1,16 +1,14 @@
 -- `plasticity_nacc::NaccPlasticity::run` answers `updatedOf s (result (runWalk self u vt s))`.
 use borrow.Author.Needs.{needs}
-use Rattle.plasticity_nacc.proofs.Laws.{run-law, project-law}
+use Rattle.plasticity_nacc.proofs.Laws.{run-law}
 use Rattle.plasticity_nacc.proofs.NaccPlasticity.run.Statement.{statement}
 use Rattle.plasticity_nacc.proofs.NaccPlasticity.run.Tie as tie
 
 returns : tie.Need-returns
 returns c =
-    let c1 = c .before in
-    let c2 = c1 .before in
-    simp (c .stored .ensures, c1 .projected .ensures, c2 .steps .ensures, run-law, project-law)
+    simp (c .stored .ensures, c .before .project .ensures, run-law)
 
 pub run-spec : {M : Type 1} → statement M
 run-spec =
     tie.close
-    (tie.spec (λ c κs. search needs) (λ c κs. search needs) (λ c κs. search needs) returns)
+    (tie.spec (λ c κs. search needs) (λ c κs. search needs) returns)

@@ -1,5 +1,6 @@
 -- `square_root::digits::newton` meets its contract. Assumes nothing.
-use Prim.Native.Nat.{_*_, _/_, _%_, _^_}
+use Prim.Native.Nat.{_-_, _*_, _/_, _^_}
+use native.Mathlib.Nat.{mul-le-mul}
 use native.Mathlib.Omega.{arith}
 use borrow.Author.Needs.{needs}
 use Rattle.square_root.proofs.Laws.{fits}
@@ -7,17 +8,16 @@ use Rattle.square_root.proofs.digits.newton.Statement.{statement}
 use Rattle.square_root.proofs.digits.newton.Tie as tie
 
 mul-wrapping-sub-u64 : tie.Need-mul-wrapping-sub-u64
-mul-wrapping-sub-u64 c = omega (arith, fits (c .args .x) (c .args .y) (omega arith) (omega arith))
+mul-wrapping-sub-u64 c = omega (arith, fits (c .args .y) (c .args .y) (omega arith) (omega arith))
 
 mul-wrapping-sub-u64-2 : tie.Need-mul-wrapping-sub-u64-2
 mul-wrapping-sub-u64-2 c =
-    let x = c .args .x in
     let y = c .args .y in
-    let h = fits x y (omega arith) (omega arith) in
-    omega (arith, fits (x * y / 2 ^ 32) y (omega arith) (omega arith))
+    let h = fits y y (omega arith) (omega arith) in
+    omega (arith, mul-le-mul {n₁ = c .args .x} {m₁ = y * y / 2 ^ 31} {n₂ = 2 ^ 31 - 1} {m₂ = 2 ^ 33} (omega arith) (omega arith))
 
 mul-result : tie.Need-mul-result
-mul-result c = omega (arith, fits (c .before .args .y) (c .wrapping-sub-u64 .result % 2 ^ 32) (omega arith) (omega arith))
+mul-result c = omega (arith, fits (c .before .args .y) (c .wrapping-sub-u64 .result / 2 ^ 32) (omega arith) (omega arith))
 
 pub newton-spec : {M : Type 1} → statement M
 newton-spec =
