@@ -1,17 +1,18 @@
 -- Straight-line float code: a list of operations, each on results so far, the last one first. It runs over floats, over fractions, and over
 -- intervals with an error; where the third is good it holds of the first two: `sound`. Assumes nothing.
-use mathlib.Core.Path.{_≡_, refl, sym, ap, _∙_}
+use mathlib.Core.Path.{_≡_, sym, ap, _∙_}
 use mathlib.Core.List.{List, [], _∷_}
 use Prim.Native.Nat.{ℕ, zero, suc, _+_, _*_, _/_, _≤_, zero-le}
 use native.Mathlib.Nat.{le-refl}
 use native.Mathlib.Omega.{arith}
 use mathlib.Core.Bool.{Bool, true, false, _&&_}
 use lib.Dec.{T}
-use lib.IntN.{ℤ, pos, negℤ, _+ℤ_, _*ℤ_, _-ℤ_, negℤ-negℤ, negℤ-+ℤ}
-use lib.Ieee.{Float, nan, inf, fin, binary64, neg, add, sub, mul, div, fits, up, down}
-use lib.Ieee.Fits.{neg-fits, and-l, and-r}
+use lib.IntN.{ℤ, pos, negℤ, _+ℤ_, _*ℤ_, _-ℤ_, negℤ-+ℤ}
+use lib.Ieee.{Float, fin, binary64, neg, add, sub, mul, div, fits}
+use lib.Ieee.Fits.{and-l, and-r}
 use lib.Ieee.Scale.{finite}
 use Rattle.exact.specs.Units.{L, mag, Fin64}
+use Rattle.exact.specs.Distances.{neg-val, neg-fine}
 use Rattle.exact.specs.Integers.{abs, abs-neg, abs-pos, neg-*, _≤ᶻ_, neg-parts}
 use Rattle.exact.specs.Ring.{ring, var, con, _:-_, _:*_}
 use Rattle.exact.specs.Value.{val}
@@ -103,19 +104,6 @@ nth-stands (f ∷ fs) [] bs h i = absurd h
 nth-stands (f ∷ fs) (q ∷ qs) [] h i = absurd h
 nth-stands (f ∷ fs) (q ∷ qs) (b ∷ bs) h zero = h .0
 nth-stands (f ∷ fs) (q ∷ qs) (b ∷ bs) h (suc i) = nth-stands fs qs bs (h .1) i
-
-pub neg-val : (y : Float) → Fin64 y → val (neg y) ≡ negℤ (val y)
-unfolding neg mag val
-neg-val nan f = absurd (f .0)
-neg-val (inf s) f = absurd (f .0)
-neg-val (fin false m e) f = refl
-neg-val (fin true m e) f = sym (negℤ-negℤ (pos (m * up e * L / down e)))
-
-pub neg-fine : (y : Float) → Fin64 y → Fin64 (neg y)
-unfolding neg
-neg-fine nan f = absurd (f .0)
-neg-fine (inf s) f = absurd (f .0)
-neg-fine (fin s m e) f = (tt, neg-fits binary64 (fin s m e) (f .1))
 
 neg-stands : (y : Float) (q : Q) (b : S) → In y q b → In (neg y) (negQ q) (negS b)
 neg-stands y q b j = record {

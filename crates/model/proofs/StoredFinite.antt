@@ -17,6 +17,7 @@ use Rattle.plasticity.specs.State.{scalarsFinite, stateFinite, inputsFinite}
 use Rattle.plasticity.specs.declared.Outcome.the-variants.{Stored}
 use Rattle.plasticity.specs.declared.Scalars.{Scalars}
 use Rattle.plasticity.specs.declared.State.{State}
+use Rattle.plasticity.proofs.Parts.{state-parts, Scalars-finite, scalars-parts}
 use Rattle.walk.specs.Expr.{Expr, num, _+_, value, values, nums}
 use Rattle.walk.specs.Matrix.{product, value-entry, values-nums}
 use Rattle.walk.specs.Walk.{Walk, exp, ln, end, _then_, Ended, given, refused, result}
@@ -55,30 +56,6 @@ results-parts u sigma vt e t =
     (b .0, b .1, a .1)
 
 -- ---- the scalars of a finite state
-record Scalars-finite (x : Scalars) : Type 0 where
-  phase : finite (x .phase) ≡ true
-  determinant : finite (x .«plastic_determinant») ≡ true
-  hardening : finite (x .«plastic_hardening») ≡ true
-  elastic : finite (x .«elastic_hardening») ≡ true
-  gain : finite (x .«log_gain») ≡ true
-  alpha : finite (x .alpha) ≡ true
-
-scalars-parts : (s : State) → stateFinite s ≡ true → Scalars-finite (s .scalars)
-scalars-parts s q =
-    let x = s .scalars in
-    let p = finite (x .phase) in
-    let d = finite (x .«plastic_determinant») in
-    let h = finite (x .«plastic_hardening») in
-    let e = finite (x .«elastic_hardening») in
-    let g = finite (x .«log_gain») in
-    let all = and-both (rowsFinite (s .f) && rowFinite (s .sigma)) (scalarsFinite x) q .1 in
-    let to-gain = and-both (p && d && h && e && g) (finite (x .alpha)) all in
-    let to-elastic = and-both (p && d && h && e) g (to-gain .0) in
-    let to-hardening = and-both (p && d && h) e (to-elastic .0) in
-    let to-determinant = and-both (p && d) h (to-hardening .0) in
-    let two = and-both p d (to-determinant .0) in
-    record { phase = two .0; determinant = two .1; hardening = to-determinant .1; elastic = to-hardening .1; gain = to-elastic .1; alpha = to-gain .1 }
-
 scalars-whole : (x : Scalars) → Scalars-finite x → scalarsFinite x ≡ true
 scalars-whole x q = rw (q .phase, q .determinant, q .hardening, q .elastic, q .gain, q .alpha) refl
 
@@ -101,7 +78,7 @@ add-finite (fin s m e) (fin t n d) h = refl
 
 module _ (u vt : List (List Float)) (s : State) (q : stateFinite s ≡ true) where
   abbrev old : Scalars-finite (s .scalars)
-  old = scalars-parts s q
+  old = scalars-parts (s .scalars) (state-parts s q .2)
 
   -- ---- Snow
   snow-store : (sigma : List Float) (d h : Expr) → Ends Finite (snow.storeWalk u sigma vt d h s)

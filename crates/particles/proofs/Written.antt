@@ -3,14 +3,9 @@ use mathlib.Core.Path.{_≡_, refl, ap, _∙_}
 use mathlib.Core.List.{List}
 use Prim.Native.Nat.{ℕ, _+_, _<_}
 use native.Mathlib.Omega.{arith}
-use mathlib.Core.Bool.{true, _&&_}
+use mathlib.Core.Bool.{true}
 use lib.ListN.{length, getD, set, take, length-set}
 use lib.Seq.{getD-set-same, getD-set-other, take-set-le}
-use Rattle.numbers.specs.Floats.{finite}
-use Rattle.numbers.proofs.Laws.{and-both}
-use Rattle.tensor.specs.Finite.{rowFinite, rowsFinite}
-use Rattle.plasticity.specs.State.{scalarsFinite, stateFinite}
-use Rattle.plasticity.specs.declared.Scalars.{Scalars}
 use Rattle.plasticity.specs.declared.Outcome.{Outcome}
 use Rattle.plasticity.specs.declared.Outcome.the-variants.{Untouched, Stored, Refused}
 use Rattle.plasticity.specs.declared.State.{State}
@@ -91,22 +86,3 @@ pub take-kept : (m : Model) (o : Outcome) (r : List ℕ) (s : State) → take ba
 take-kept m Untouched r s = refl
 take-kept m (Stored a) r s = take-scalars bare m (putShape r s) s ∙ ap (λ (t : List ℕ). putScalars m t s) (take-shape r s)
 take-kept m (Refused n) r s = refl
-
--- ---- what is finite of a finite state
-pub state-parts : (s : State) → stateFinite s ≡ true → (rowsFinite (s .f) ≡ true) × (rowFinite (s .sigma) ≡ true) × (scalarsFinite (s .scalars) ≡ true)
-state-parts s q =
-    let t = and-both (rowsFinite (s .f) && rowFinite (s .sigma)) (scalarsFinite (s .scalars)) q in
-    let u = and-both (rowsFinite (s .f)) (rowFinite (s .sigma)) (t .0) in
-    (u .0, u .1, t .1)
-
--- the five scalars that a law may write
-pub scalars-parts : (x : Scalars) → scalarsFinite x ≡ true
-    → (finite (x .«plastic_determinant») ≡ true) × (finite (x .«plastic_hardening») ≡ true) × (finite (x .«elastic_hardening») ≡ true) × (finite (x .«log_gain») ≡ true) × (finite (x .alpha) ≡ true)
-scalars-parts x q =
-    let three = finite (x .phase) && finite (x .«plastic_determinant») && finite (x .«plastic_hardening») in
-    let a = and-both (three && finite (x .«elastic_hardening») && finite (x .«log_gain»)) (finite (x .alpha)) q in
-    let b = and-both (three && finite (x .«elastic_hardening»)) (finite (x .«log_gain»)) (a .0) in
-    let c = and-both three (finite (x .«elastic_hardening»)) (b .0) in
-    let d = and-both (finite (x .phase) && finite (x .«plastic_determinant»)) (finite (x .«plastic_hardening»)) (c .0) in
-    let e = and-both (finite (x .phase)) (finite (x .«plastic_determinant»)) (d .0) in
-    (e .1, d .1, c .1, b .1, a .1)

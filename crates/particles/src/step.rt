@@ -11,7 +11,7 @@ ghost use mathlib.Core.Path.{_≡_};
 ghost use mathlib.Core.Bool.{true, false};
 ghost use lib.ListN.{length};
 ghost use Rattle.record.specs.Layout.{floats};
-ghost use Rattle.model.specs.Ready.{readyFinite};
+ghost use Rattle.model.specs.Ready.{readyOf, readyFinite};
 ghost use Rattle.particles.specs.Step.{stepLaw, howLaw, takenOf};
 
 // The plastic law; or that, and then the verdict, with these limits on the stress by this law; or our own factors, by themselves or
@@ -55,35 +55,30 @@ pub struct Taken {
     pub judge: Judge,
 }
 
+// A step that asks a model.
+fn asking(how: How, m: Model, j: Judge) -> Taken
+    ensures { λ t. ⌜ t ≡ record { how = how; ready = readyOf m; judge = j } ⌝ }
+{
+    Taken {
+        how,
+        ready: model::make_ready(m),
+        judge: j,
+    }
+}
+
 pub fn ready_for(s: Step) -> Taken
     ensures { λ t. ⌜ t ≡ takenOf s ⌝ }
 {
     match s {
-        Step::Plain(m) => Taken {
-            how: How::Law,
-            ready: model::make_ready(m),
-            judge: Judge::Nobody,
-        },
-        Step::Judged(m, l, e) => Taken {
-            how: How::Law,
-            ready: model::make_ready(m),
-            judge: Judge::By(l, e),
-        },
+        Step::Plain(m) => asking(How::Law, m, Judge::Nobody),
+        Step::Judged(m, l, e) => asking(How::Law, m, Judge::By(l, e)),
         Step::Factors => Taken {
             how: How::Factors,
             ready: Ready::Refused(0),
             judge: Judge::Nobody,
         },
-        Step::FactoredPlain(m) => Taken {
-            how: How::Factored,
-            ready: model::make_ready(m),
-            judge: Judge::Nobody,
-        },
-        Step::FactoredJudged(m, l, e) => Taken {
-            how: How::Factored,
-            ready: model::make_ready(m),
-            judge: Judge::By(l, e),
-        },
+        Step::FactoredPlain(m) => asking(How::Factored, m, Judge::Nobody),
+        Step::FactoredJudged(m, l, e) => asking(How::Factored, m, Judge::By(l, e)),
     }
 }
 

@@ -1,17 +1,17 @@
 -- `particles::stored::write_drucker_prager` meets its contract: what its calls ensure, on each path.
 use borrow.Author.Needs.{needs}
-use Rattle.particles.proofs.Written.{scalars-parts}
+use Rattle.plasticity.proofs.Parts.{scalars-parts}
 use Rattle.particles.proofs.stored.write_drucker_prager.Statement.{statement}
 use Rattle.particles.proofs.stored.write_drucker_prager.Tie as tie
 
 finite-bits-requires : tie.Need-finite-bits-requires
-finite-bits-requires c κs = let s = c .before in scalars-parts (s .args .s .scalars) (s .pre .1) .0
+finite-bits-requires c κs = let s = c .before in scalars-parts (s .args .s .scalars) (s .pre .1) .determinant
 
 finite-bits-requires-2 : tie.Need-finite-bits-requires-2
-finite-bits-requires-2 c κs = let s = c .before .before in scalars-parts (s .args .s .scalars) (s .pre .1) .1
+finite-bits-requires-2 c κs = let s = c .before .before in scalars-parts (s .args .s .scalars) (s .pre .1) .hardening
 
 finite-bits-requires-3 : tie.Need-finite-bits-requires-3
-finite-bits-requires-3 c κs = let s = c .before .before .before in scalars-parts (s .args .s .scalars) (s .pre .1) .3
+finite-bits-requires-3 c κs = let s = c .before .before .before in scalars-parts (s .args .s .scalars) (s .pre .1) .gain
 
 returns : tie.Need-returns
 returns c =

@@ -1,6 +1,7 @@
 -- `particles::stored::write_shape` meets its contract: the word is the determinant of the F that was written.
 use borrow.Author.Needs.{needs}
-use Rattle.particles.proofs.Written.{shape-length, state-parts}
+use Rattle.plasticity.proofs.Parts.{state-parts}
+use Rattle.particles.proofs.Written.{shape-length}
 use Rattle.particles.proofs.stored.write_shape.Statement.{statement}
 use Rattle.particles.proofs.stored.write_shape.Tie as tie
 

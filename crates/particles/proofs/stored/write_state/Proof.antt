@@ -1,6 +1,6 @@
 -- `particles::stored::write_state` meets its contract: what its calls ensure, on each path.
 use borrow.Author.Needs.{needs}
-use Rattle.particles.proofs.Written.{state-parts}
+use Rattle.plasticity.proofs.Parts.{state-parts}
 use Rattle.particles.proofs.stored.write_state.Statement.{statement}
 use Rattle.particles.proofs.stored.write_state.Tie as tie
 
