@@ -1179,6 +1179,32 @@ class NoDivision(InFolder):
         self.wrong("digits: divides or takes a root", "r += 2", "r += n / (r + 3)")
         self.wrong("pasoletu_sqrt: divides or takes a root", "digits(n + 1) + 1", "(unsigned long)((double)digits(n + 1) / (double)n)")
 
+    def test_a_multiplication(self):
+        self.wrong("digits: multiplies", "r += 2", "r += n * r + 2")
+
+    def test_a_load_in_the_loop(self):
+        self.wrong("digits: reads memory inside the loop", "r += 2", "r += *(volatile unsigned long *)0x1000 + 2")
+
+    def test_too_many_bytes(self):
+        self.assertEqual(self.built(self.RIGHT.replace("r = 0;", 'r = 0; __asm__ volatile(".skip 301, 0x90");'))[0], 0)
+        named = no_division.disassembled(self.folder / "root.o").replace("digits", "square_root::digits")
+        lines, passed, failed = no_division.checked(named)
+        self.assertEqual((passed, failed), (2, 1), lines)
+        self.assertRegex(lines[-1], r"^the crate's own functions: 3[0-9]+ bytes of 300;")
+
+    def test_sources(self):
+        right = "ghost use a.{_*_};\n// n * n\nfn f(n: u64) -> u64\n    ensures { λ r. ⌜ r ≡ n * n / 3 ⌝ }\n{\n    std::num::wrapping_sub_u64(n / 0x10_00 % 8, n >> 2)\n}\n"
+        self.assertEqual(no_division.source_faults(right), [])
+        for old, new, words in (
+            ("n >> 2", "n * 2", "`*`"),
+            ("n >> 2", "n / 3", "`/` by what is no constant power of two"),
+            ("% 8", "% n", "`%` by what is no constant power of two"),
+            ("n >> 2", "TABLE[n]", "an array"),
+            ("n >> 2", "fixed_point::product(n, n)", "asks fixed_point::product"),
+        ):
+            self.assertIn((6, words), no_division.source_faults(right.replace(old, new)))
+        self.assertEqual(no_division.sources(no_division.SOURCES)[2], 0)
+
     def test_the_machines_root(self):
         self.wrong("sqrtsd", "digits(n + 1) + 1", "(unsigned long)__builtin_sqrt((double)digits(n + 1))", "-fno-math-errno")
 

@@ -1,19 +1,15 @@
 -- The state of a flat record, its finite inputs, and what a flat law hands back (RULES, sections 6 and 7; ticket 13).
-use mathlib.Core.Bool.{Bool, cond, _&&_}
+use mathlib.Core.Bool.{Bool, _&&_}
 use mathlib.Core.List.{List, [], _∷_}
 use Prim.Native.Nat.{ℕ}
 use lib.ListN.{getD}
 use lib.Ieee.{Float}
-use Rattle.answers.specs.Refusals.{noNumber}
 use Rattle.tensor.specs.Finite.{rowFinite, matFinite}
 use Rattle.plasticity.specs.State.{scalarsFinite}
-use Rattle.plasticity.specs.declared.Outcome.{Outcome}
-use Rattle.plasticity.specs.declared.Outcome.the-variants.{Untouched, Stored, Refused}
-use Rattle.plasticity.specs.declared.Scalars.{Scalars}
+use Rattle.plasticity.specs.declared.Outcome.the-variants.{Untouched, Refused}
 use Rattle.flat.specs.declared.Rows.{Rows}
 use Rattle.flat.specs.declared.State.{State}
 use Rattle.flat.specs.declared.Updated.{Updated}
-use Rattle.flat.specs.Axes.{recomposeOver}
 
 abbrev pub rowsOf : List (List Float) → Rows
 rowsOf m = record { r0 = getD m 0 []; r1 = getD m 1 [] }
@@ -37,14 +33,3 @@ refused n s = record { state = s; outcome = Refused n }
 
 abbrev pub untouchedOf : State → Updated
 untouchedOf s = record { state = s; outcome = Untouched }
-
--- F, sigma and scalars are new
-abbrev pub stateOf : List (List Float) → List Float → Scalars → State
-stateOf f sigma scalars = record { f = rowsOf f; sigma = sigma; scalars = scalars }
-
--- stored where F, sigma and the scalars that the law names are finite, else 3
-abbrev pub keptOf : List (List Float) → List Float → List (List Float) → Bool → Scalars → Float → State → Updated
-keptOf u sigma vt named scalars amount s =
-    cond (matFinite (recomposeOver 2 u sigma vt) && (rowFinite sigma && named))
-    (record { state = stateOf (recomposeOver 2 u sigma vt) sigma scalars; outcome = Stored amount })
-    (refused noNumber s)

@@ -2,7 +2,7 @@ use crate::Rows;
 ghost use mathlib.Core.Path.{_≡_};
 ghost use Rattle.tensor.specs.Matrix.{sumOf, productOf, dotOf, rowSubOf, scaledRowOf};
 ghost use Rattle.tensor.specs.Finite.{rowFinite, matFinite};
-ghost use Rattle.flat.specs.Axes.{recomposeOver};
+ghost use Rattle.walk.specs.Axes.{recomposeOver};
 ghost use Rattle.flat.specs.State.{rowsOf, ofRows, rowsFinite};
 
 // The sum of products, by rising index.

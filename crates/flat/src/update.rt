@@ -5,7 +5,8 @@ use crate::matrix;
 use plasticity::Outcome;
 use plasticity::Scalars;
 ghost use mathlib.Core.Path.{_≡_};
-ghost use Rattle.flat.specs.State.{inputsFinite, refused, untouchedOf, keptOf};
+ghost use Rattle.flat.specs.State.{inputsFinite, refused, untouchedOf};
+ghost use Rattle.flat.specs.Update.{keptOf};
 
 // Whether every float of a flat record is finite.
 pub fn inputs_finite(u: [[f64; 2]; 2], vt: [[f64; 2]; 2], s: State) -> bool
@@ -52,7 +53,7 @@ pub fn stored(
     ensures { λ r. ⌜ r ≡ keptOf u sigma vt named scalars amount s ⌝ }
 {
     let f = matrix::recompose(u, sigma, vt);
-    if matrix::mat_finite(f) & (matrix::row_finite(sigma) & named) {
+    if (matrix::mat_finite(f) & matrix::row_finite(sigma)) & named {
         Updated {
             state: State {
                 f: matrix::to_rows(f),

@@ -1,7 +1,7 @@
 -- What is handed from one piece of the walk to the next, as the code hands it on.
 use mathlib.Core.Bool.{_&&_}
 use mathlib.Core.List.{List, [], _∷_}
-use mathlib.Core.Path.{_≡_, refl, ap, sym, _∙_}
+use mathlib.Core.Path.{_≡_, refl, ap, _∙_}
 use native.Mathlib.Omega.{arith}
 use lib.ListN.{length}
 use lib.Ieee.{Float, nan}
@@ -9,33 +9,26 @@ use Rattle.numbers.specs.Floats.{finite}
 use Rattle.answers.specs.declared.Answer.{Answer}
 use Rattle.answers.specs.declared.Answer.the-variants as answers
 use Rattle.tensor.specs.Axes.{allOf}
-use Rattle.tensor.specs.Matrix.{one, productOf}
+use Rattle.tensor.specs.Matrix.{one}
 use Rattle.physics.specs.Norm.{normOf}
-use Rattle.walk.specs.Expr.{num, value}
+use Rattle.walk.specs.Expr.{num}
 use Rattle.walk.specs.Walk.{Walk, exp, asks, end, _then_, Ended, given, refused, answerOf, asked, result}
 use Rattle.walk.specs.Exact.{andThen, result-then}
-use Rattle.walk.specs.Matrix.{product, value-dot}
-use Rattle.reason.specs.Traced.{Traced, reached, stopped, traced, untraced}
+use Rattle.walk.specs.Matrix.{value-dot}
+use Rattle.walk.specs.Body.{inputs-finite}
 use Rattle.plasticity_drucker_prager.specs.declared.DruckerPragerPlasticity.{DruckerPragerPlasticity}
-use Rattle.plasticity_drucker_prager.specs.declared.Measured.{Measured}
-use Rattle.plasticity_drucker_prager.specs.declared.Measured.the-variants as measured
 use Rattle.plasticity_drucker_prager.specs.Law.{parametersOf, parametersFinite}
 use Rattle.plasticity_drucker_prager.specs.Projection.{Way, isotropic, expanding, inside, surface, Returned, tipWalk, surfaceWalk}
-use Rattle.plasticity_drucker_prager.specs.DruckerPrager.{scalarsOf, Measures, measureWalk, measuredAs, measuredOf}
-use Rattle.plasticity_drucker_prager.proofs.Laws.{then-traced, measured-law}
-use Rattle.flat.specs.Axes.{pair-entries}
-use Rattle.flat.specs.State as law
-use Rattle.flat.specs.State.{inputsFinite, keptOf}
-use Rattle.flat.specs.Update.{Change, updatedOf, inputs-finite, storeWalk, store-law}
+use Rattle.plasticity_drucker_prager.specs.Over as over
+use Rattle.flat.specs.State.{inputsFinite}
+use Rattle.flat.specs.Update.{inTwo, updatedOf}
 use Rattle.flat.specs.declared.State.{State}
-use Rattle.flat.specs.declared.Updated.{Updated}
-use Rattle.flat_drucker_prager.specs.declared.Projected.{Projected}
-use Rattle.flat_drucker_prager.specs.DruckerPrager.{movedWalk, wayWalk, floats, outcomeOf, projectedOf, tipOf, surfacedOf, followedOf}
+use Rattle.flat_drucker_prager.specs.DruckerPrager.{wayWalk, outcomeOf, projectedOf, tipOf, surfacedOf, followedOf}
 
 -- the inputs
-pub inputs-law : (p : DruckerPragerPlasticity) (u vt : List (List Float)) (s : State) → allOf finite (floats p u vt s) ≡ parametersFinite p && inputsFinite u vt s
-unfolding floats
-inputs-law p u vt s = inputs-finite (parametersOf p) u vt s
+pub inputs-law : (p : DruckerPragerPlasticity) (u vt : List (List Float)) (s : State) → allOf finite (over.floats inTwo p u vt s) ≡ parametersFinite p && inputsFinite u vt s
+unfolding over.floats
+inputs-law p u vt s = inputs-finite inTwo (parametersOf p) u vt s
 
 -- the tip, once the norm is known
 module _ (w : Way) (stores : (dq : Float) → outcomeOf w dq ≡ outcomeOf (expanding nan) dq) where
@@ -83,7 +76,7 @@ surface-law g norm b = surfaced g norm b (λ new. new)
 -- the projection is followed by its branch
 module _ (p : DruckerPragerPlasticity) (u vt : List (List Float)) (s : State) where
   way-law : (w : Way) (sigma : List Float) (dq : Float) → updatedOf s (result (wayWalk p w sigma dq u vt s)) ≡ followedOf (outcomeOf w dq) p sigma u vt s
-  unfolding wayWalk
+  unfolding over.wayWalk
   way-law (isotropic x) sigma dq = refl
   way-law (expanding x) sigma dq = refl
   way-law (inside x) sigma dq = refl
@@ -99,24 +92,3 @@ module _ (p : DruckerPragerPlasticity) (u vt : List (List Float)) (s : State) wh
       → updatedOf s (result (w then (λ q. wayWalk p (q .way) (q .sigma) (q .dq) u vt s)))
       ≡ followedOf (projectedOf (result w) .outcome) p (projectedOf (result w) .sigma) u vt s
   way-then w = ap (updatedOf s) (result-then w (λ q. wayWalk p (q .way) (q .sigma) (q .dq) u vt s)) ∙ follows (result w)
-
--- what is stored beside F and sigma, and then the results
-module _ (p : DruckerPragerPlasticity) (sigma : List Float) (dq : Float) (u vt : List (List Float)) (s : State) where
-  abbrev pub storedBy : Measured → Updated
-  storedBy (measured.Values d h gain) = keptOf u sigma vt (allOf finite (d ∷ h ∷ gain ∷ [])) (scalarsOf d h gain (s .scalars)) dq s
-  storedBy (measured.Refused n step) = law.refused n s
-
-  abbrev afterMeasures : Measures → Walk Change
-  afterMeasures m =
-      storeWalk 19 u sigma vt (m .determinant ∷ m .hardening ∷ m .gain ∷ []) (scalarsOf (value (m .determinant)) (value (m .hardening)) (value (m .gain)) (s .scalars)) dq s
-
-  measures : (x : Traced Measures) → updatedOf s (andThen (untraced x) (λ m. result (afterMeasures m))) ≡ storedBy (measuredAs x)
-  measures (reached m) =
-      store-law 19 u sigma vt (m .determinant ∷ m .hardening ∷ m .gain ∷ []) (scalarsOf (value (m .determinant)) (value (m .hardening)) (value (m .gain)) (s .scalars)) dq s
-  measures (stopped n step) = refl
-
-  pub moved-law : updatedOf s (result (movedWalk p sigma dq u vt s)) ≡ storedBy (measuredOf p (productOf (s .sigma)) (productOf sigma) dq (s .scalars))
-  unfolding movedWalk
-  moved-law =
-      let w = measureWalk p (product (s .sigma)) (product sigma) dq (s .scalars) in
-      ap (updatedOf s) (then-traced w afterMeasures) ∙ measures (traced w) ∙ ap storedBy (measured-law p (s .sigma) sigma dq (s .scalars))

@@ -1,5 +1,5 @@
 -- Drucker-Prager on two axes (document 02, ticket 13; plasticity_drucker_prager.rs with DIM = 2): the walk of three axes with 2 for their number.
-use mathlib.Core.List.{List, [], _∷_, _++_}
+use mathlib.Core.List.{List, [], _∷_}
 use Prim.Native.Nat.{ℕ}
 use lib.Ieee.{Float}
 use Rattle.answers.specs.declared.Answer.{Answer}
@@ -7,16 +7,14 @@ use Rattle.answers.specs.declared.Answer.the-variants as answers
 use Rattle.tensor.specs.Matrix.{zero, one}
 use Rattle.plasticity.specs.declared.Outcome.{Outcome}
 use Rattle.plasticity.specs.declared.Outcome.the-variants as outcome
-use Rattle.walk.specs.Expr.{Expr, value}
+use Rattle.walk.specs.Expr.{Expr}
 use Rattle.walk.specs.Constants.{two}
-use Rattle.walk.specs.Matrix.{product}
-use Rattle.walk.specs.Walk.{Walk, inputs, end, _then_, Ended, given, refused, result}
+use Rattle.walk.specs.Walk.{Walk, Ended, given, refused, result}
 use Rattle.plasticity_drucker_prager.specs.declared.DruckerPragerPlasticity.{DruckerPragerPlasticity}
-use Rattle.plasticity_drucker_prager.specs.Law.{parametersOf}
 use Rattle.plasticity_drucker_prager.specs.Projection.{Way, isotropic, expanding, inside, surface, Returned}
-use Rattle.plasticity_drucker_prager.specs.DruckerPrager.{scalarsOf, measureWalk, lawWalk}
+use Rattle.plasticity_drucker_prager.specs.Over as over
 use Rattle.flat.specs.State as law
-use Rattle.flat.specs.Update.{Change, untouched, updatedOf, floatsOf, storeWalk}
+use Rattle.flat.specs.Update.{inTwo, Change, updatedOf}
 use Rattle.flat.specs.declared.State.{State}
 use Rattle.flat.specs.declared.Updated.{Updated}
 use Rattle.flat_drucker_prager.specs.declared.Projected.{Projected}
@@ -25,29 +23,17 @@ use Rattle.flat_drucker_prager.specs.declared.Projected.{Projected}
 abbrev pub dim : Expr
 dim = two
 
--- new singular values
-unfoldable pub movedWalk : DruckerPragerPlasticity → List Float → Float → List (List Float) → List (List Float) → State → Walk Change
-movedWalk p sigma dq u vt s =
-    measureWalk p (product (s .sigma)) (product sigma) dq (s .scalars) then (λ m.
-    storeWalk 19 u sigma vt (m .determinant ∷ m .hardening ∷ m .gain ∷ [])
-    (scalarsOf (value (m .determinant)) (value (m .hardening)) (value (m .gain)) (s .scalars)) dq s)
+abbrev pub movedWalk : DruckerPragerPlasticity → List Float → Float → List (List Float) → List (List Float) → State → Walk Change
+movedWalk p sigma dq u vt s = over.movedWalk inTwo p sigma dq u vt s
 
--- after the projection
-unfoldable pub wayWalk : DruckerPragerPlasticity → Way → List Float → Float → List (List Float) → List (List Float) → State → Walk Change
-wayWalk p (inside x) sigma dq u vt s = end untouched
-wayWalk p (isotropic x) sigma dq u vt s = movedWalk p sigma dq u vt s
-wayWalk p (expanding x) sigma dq u vt s = movedWalk p sigma dq u vt s
-wayWalk p (surface x norm) sigma dq u vt s = movedWalk p sigma dq u vt s
+abbrev pub wayWalk : DruckerPragerPlasticity → Way → List Float → Float → List (List Float) → List (List Float) → State → Walk Change
+wayWalk p w sigma dq u vt s = over.wayWalk inTwo p w sigma dq u vt s
 
-unfoldable pub runWalk : DruckerPragerPlasticity → List (List Float) → List (List Float) → State → Walk Change
-runWalk p u vt s = lawWalk dim p (s .sigma) (s .scalars) (end untouched) (λ q. wayWalk p (q .way) (q .sigma) (q .dq) u vt s)
+abbrev pub runWalk : DruckerPragerPlasticity → List (List Float) → List (List Float) → State → Walk Change
+runWalk p u vt s = over.runWalk inTwo dim p u vt s
 
--- parameters first
-unfoldable pub floats : DruckerPragerPlasticity → List (List Float) → List (List Float) → State → List Float
-floats p u vt s = parametersOf p ++ floatsOf u vt s
-
-unfoldable pub druckerWalk : DruckerPragerPlasticity → List (List Float) → List (List Float) → State → Walk Change
-druckerWalk p u vt s = inputs (floats p u vt s) (runWalk p u vt s)
+abbrev pub druckerWalk : DruckerPragerPlasticity → List (List Float) → List (List Float) → State → Walk Change
+druckerWalk p u vt s = over.druckerWalk inTwo dim p u vt s
 
 abbrev pub druckerUpdate : DruckerPragerPlasticity → List (List Float) → List (List Float) → State → Updated
 druckerUpdate p u vt s = updatedOf s (result (druckerWalk p u vt s))

@@ -16,8 +16,6 @@ use Rattle.numbers.specs.Floats.{finite, isNumber, maxOf}
 use Rattle.thirds.specs.Thirds as thirds
 use Rattle.tensor.specs.Axes.{allOf}
 use Rattle.tensor.specs.Matrix.{zero}
-use Rattle.tensor.specs.Finite.{rowFinite, matFinite}
-use Rattle.plasticity.specs.State.{scalarsFinite}
 use Rattle.walk.specs.Expr.{num, value}
 use Rattle.walk.specs.Walk.{Walk, root, third, two-thirds, minus-two-thirds, at, answerOf, _then_, Ended, given, refused, result}
 use Rattle.walk.specs.Exact.{andThen, result-then}
@@ -34,24 +32,20 @@ use Rattle.plasticity_nacc.specs.Axes.{two-axes}
 use Rattle.plasticity_nacc.specs.Formulas.{low, half}
 use Rattle.plasticity_nacc.specs.Nacc.{Way, upper, lower, inside, surface, Shape, Landed, tipWalk, ends, pressWalk, stepsWalk, scalarsOf}
 use Rattle.plasticity_nacc.proofs.Laws as nacc
-use Rattle.flat.specs.State.{inputsFinite, stateFinite, rowsFinite, keptOf}
-use Rattle.flat.specs.Update.{updatedOf, inputs-finite, store-law}
+use Rattle.walk.specs.Body.{inputs-finite, finite-scalars, store-law}
+use Rattle.flat.specs.State.{inputsFinite}
+use Rattle.flat.specs.Update.{inTwo, updatedOf, keptOf}
 use Rattle.flat.specs.declared.State.{State}
 use Rattle.flat_nacc.specs.Nacc.{withinOf, storedWalk, wayWalk, runWalk, floats, shapedOf, outcomeOf, steppedOf, followedOf}
 
 -- ---- the inputs
 pub inputs-law : (a : NaccArguments) (u vt : List (List Float)) (s : State) → allOf finite (floats a u vt s) ≡ argumentsFinite a && inputsFinite u vt s
 unfolding floats
-inputs-law a u vt s = inputs-finite (argumentsFloats a) u vt s
+inputs-law a u vt s = inputs-finite inTwo (argumentsFloats a) u vt s
 
 -- alpha is one of them
 pub run-alpha : (a : NaccArguments) (u vt : List (List Float)) (s : State) → argumentsFinite a && inputsFinite u vt s ≡ true → finite (s .scalars .alpha) ≡ true
-run-alpha a u vt s h =
-    let x = s .scalars in
-    let before = finite (x .phase) && finite (x .«plastic_determinant») && finite (x .«plastic_hardening») && finite (x .«elastic_hardening») && finite (x .«log_gain») in
-    and-right before (finite (x .alpha))
-    (and-right (rowsFinite (s .f) && rowFinite (s .sigma)) (scalarsFinite x)
-    (and-right (matFinite u && matFinite vt) (stateFinite s) (and-right (argumentsFinite a) (inputsFinite u vt s) h)))
+run-alpha a u vt s h = nacc.alpha-of (s .scalars) (finite-scalars inTwo u vt s (and-right (argumentsFinite a) (inputsFinite u vt s) h))
 
 -- ---- what lies within the range of one power lies within that of the others
 abbrev answer-of : Bool → Bool → ℕ → Float → Answer
@@ -136,7 +130,7 @@ surface-then x y v = ap steppedOf (result-then v (ends (surface x y))) ∙ ended
 module _ (u vt : List (List Float)) (s : State) where
   stores : (q : Shape) → updatedOf s (result (storedWalk q u vt s)) ≡ keptOf u (q .sigma) vt (finite (q .alpha)) (scalarsOf (q .alpha) (s .scalars)) (q .alpha) s
   unfolding storedWalk
-  stores q = store-law 30 u (q .sigma) vt (num (q .alpha) ∷ []) (scalarsOf (q .alpha) (s .scalars)) (q .alpha) s
+  stores q = store-law inTwo 30 u (q .sigma) vt (num (q .alpha) ∷ []) (scalarsOf (q .alpha) (s .scalars)) (q .alpha) s
 
   way-law : (w : Way) (q : Shape) → updatedOf s (result (wayWalk w q u vt s)) ≡ followedOf (outcomeOf w (q .alpha)) (q .sigma) u vt s
   unfolding wayWalk

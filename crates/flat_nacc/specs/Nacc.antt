@@ -11,6 +11,7 @@ use Rattle.plasticity.specs.declared.Outcome.{Outcome}
 use Rattle.plasticity.specs.declared.Outcome.the-variants as outcome
 use Rattle.walk.specs.Expr.{num, values}
 use Rattle.walk.specs.Walk.{Walk, inputs, end, _then_, Ended, given, refused, result}
+use Rattle.walk.specs.Body.{floatsOf, storeWalk}
 use Rattle.plasticity_nacc.specs.declared.NaccArguments.{NaccArguments}
 use Rattle.plasticity_nacc.specs.declared.NaccPlasticity.{NaccPlasticity}
 use Rattle.plasticity_nacc.specs.Law.{lawOf, argumentsFloats}
@@ -18,8 +19,7 @@ use Rattle.plasticity_nacc.specs.Axes.{two-axes, dimOf}
 use Rattle.plasticity_nacc.specs.Formulas.{trialOf, stress}
 use Rattle.plasticity_nacc.specs.Nacc.{Way, upper, lower, inside, surface, Shape, Landed, stepsWalk, moduli, scalarsOf}
 use Rattle.flat.specs.State as law
-use Rattle.flat.specs.State.{keptOf}
-use Rattle.flat.specs.Update.{Change, untouched, updatedOf, floatsOf, storeWalk}
+use Rattle.flat.specs.Update.{inTwo, Change, untouched, updatedOf, keptOf}
 use Rattle.flat.specs.declared.State.{State}
 use Rattle.flat.specs.declared.Updated.{Updated}
 use Rattle.flat_nacc.specs.declared.Stepped.{Stepped}
@@ -27,7 +27,7 @@ use Rattle.flat_nacc.specs.declared.Stressed.{Stressed}
 
 -- ---- the update: F, sigma and alpha are new, and alpha is the amount
 unfoldable pub storedWalk : Shape → List (List Float) → List (List Float) → State → Walk Change
-storedWalk q u vt s = storeWalk 30 u (q .sigma) vt (num (q .alpha) ∷ []) (scalarsOf (q .alpha) (s .scalars)) (q .alpha) s
+storedWalk q u vt s = storeWalk inTwo 30 u (q .sigma) vt (num (q .alpha) ∷ []) (scalarsOf (q .alpha) (s .scalars)) (q .alpha)
 
 unfoldable pub wayWalk : Way → Shape → List (List Float) → List (List Float) → State → Walk Change
 wayWalk (upper x y) q u vt s = storedWalk q u vt s
@@ -40,7 +40,7 @@ runWalk p u vt s = stepsWalk two-axes p (s .sigma) (s .scalars .alpha) then (λ 
 
 -- parameters first
 unfoldable pub floats : NaccArguments → List (List Float) → List (List Float) → State → List Float
-floats a u vt s = argumentsFloats a ++ floatsOf u vt s
+floats a u vt s = argumentsFloats a ++ floatsOf inTwo u vt s
 
 -- by the law that `with_m` makes of the arguments
 unfoldable pub naccWalk : NaccArguments → List (List Float) → List (List Float) → State → Walk Change

@@ -13,27 +13,27 @@ use Rattle.plasticity.specs.declared.Outcome.{Outcome}
 use Rattle.plasticity.specs.declared.Outcome.the-variants.{Untouched, Stored, Refused}
 use Rattle.walk.specs.Exact.{path}
 use Rattle.walk.specs.Update.{refusalOf}
-use Rattle.walk.specs.Numbers.{Stops, Clear}
+use Rattle.walk.specs.Numbers.{refused-when, accepted-when, Stops, Clear}
 use Rattle.model.specs.declared.Model.{Model}
 use Rattle.particles.specs.declared.list.Counts.{Counts}
 use Rattle.particles.specs.declared.list.Passed.{Passed}
 use Rattle.particles.specs.declared.list.Passed.the-variants as passed-variants
 use Rattle.particles.specs.Pass.{Worked}
 use Rattle.flat.specs.declared.State.{State}
-use Rattle.flat.specs.Update.{refused-when, accepted-when}
+use Rattle.flat.specs.Update.{inTwo}
 use Rattle.flat_particles.specs.Layout.{uAt, vtAt, stateAt}
 use Rattle.flat_particles.specs.Law.{walkOf, kept, updatedAt, flatLaw}
-use Rattle.flat_particles.specs.Pass.{wellSizedOver, countsOver, passedOver}
+use Rattle.flat_particles.specs.Pass.{threeOf, wellSizedOver, countsOver, passedOver}
 
 -- ---- one record
 module _ (m : Model) (r : List ℕ) where
   pub record-refused : (n : ℕ) → (flatLaw m r .outcome ≡ Refused n) ↔ Stops n (path (walkOf m (uAt r) (vtAt r) (stateAt r)))
   unfolding flatLaw updatedAt
-  record-refused n = refused-when (stateAt r) (walkOf m (uAt r) (vtAt r) (stateAt r)) n
+  record-refused n = refused-when inTwo (stateAt r) (walkOf m (uAt r) (vtAt r) (stateAt r)) n
 
   pub record-accepted : (refusalOf (flatLaw m r .outcome) ≡ none) ↔ Clear (path (walkOf m (uAt r) (vtAt r) (stateAt r)))
   unfolding flatLaw updatedAt
-  record-accepted = accepted-when (stateAt r) (walkOf m (uAt r) (vtAt r) (stateAt r))
+  record-accepted = accepted-when inTwo (stateAt r) (walkOf m (uAt r) (vtAt r) (stateAt r))
 
 kept-refused : (m : Model) (o : Outcome) (r : List ℕ) (s : State) (n : ℕ) → o ≡ Refused n → kept m o r s ≡ r
 kept-refused m Untouched r s n e = refl
@@ -59,4 +59,4 @@ eight true c = (λ e. absurd (let z : _≡_ {A = ℕ} 0 1 = cc in omega arith), 
 eight false c = (λ e. refl, λ e. refl)
 
 pub pass-refused : (w : ℕ) (step : List ℕ → Worked) (xs out : List ℕ) → (passedOver w step xs out ≡ passed-variants.Refused wrongLength) ↔ (wellSizedOver w xs out ≡ false)
-pass-refused w step xs out = eight (wellSizedOver w xs out) (countsOver w step xs (length xs / w))
+pass-refused w step xs out = eight (wellSizedOver w xs out) (threeOf (countsOver w step xs (length xs / w)))

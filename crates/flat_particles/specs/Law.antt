@@ -7,23 +7,25 @@ use lib.ListN.{length}
 use lib.Ieee.{Float}
 use Rattle.answers.specs.Refusals.{wrongLength}
 use Rattle.plasticity.specs.declared.Outcome.{Outcome}
-use Rattle.plasticity.specs.declared.Outcome.the-variants.{Untouched, Stored, Refused}
+use Rattle.plasticity.specs.declared.Outcome.the-variants.{Refused}
 use Rattle.walk.specs.Walk.{Walk, result}
 use Rattle.model.specs.declared.Model.{Model}
 use Rattle.model.specs.declared.Model.the-variants.{Snow, Rankine, DruckerPrager, Nacc}
+use Rattle.record.specs.Layout.{widths}
+use Rattle.particles.specs.Named.{snowNamed, rankineNamed, druckerPragerNamed, naccNamed, named, byOutcome}
 use Rattle.particles.specs.Pass.{Worked}
 use Rattle.flat.specs.declared.State.{State}
 use Rattle.flat.specs.declared.Updated.{Updated}
-use Rattle.flat.specs.Update.{Change, updatedOf}
-use Rattle.flat_snow.specs.Snow.{snowWalk}
+use Rattle.plasticity_snow.specs.Snow.{snowWalk}
+use Rattle.flat.specs.Update.{inTwo, Change, updatedOf}
 use Rattle.flat_rankine.specs.Rankine.{argumentsWalk}
 use Rattle.flat_drucker_prager.specs.DruckerPrager.{druckerWalk}
 use Rattle.flat_nacc.specs.Nacc.{naccWalk}
-use Rattle.flat_particles.specs.Layout.{floats, uAt, vtAt, stateAt, putShape, putPlasticDeterminant, putPlasticHardening, putElasticHardening, putLogGain, putAlpha}
+use Rattle.flat_particles.specs.Layout.{floats, uAt, vtAt, stateAt, putShape}
 
 -- the law that the model names, on two axes: 1 over its parameters and all the record's floats comes first in each
 unfoldable pub walkOf : Model → List (List Float) → List (List Float) → State → Walk Change
-walkOf (Snow p) u vt s = snowWalk p u vt s
+walkOf (Snow p) u vt s = snowWalk inTwo p u vt s
 walkOf (Rankine a) u vt s = argumentsWalk a u vt s
 walkOf (DruckerPrager p) u vt s = druckerWalk p u vt s
 walkOf (Nacc a) u vt s = naccWalk a u vt s
@@ -33,32 +35,26 @@ flatUpdate m u vt s = updatedOf s (result (walkOf m u vt s))
 
 -- of the six scalars an update writes only those that its law names
 abbrev pub snowScalars : List ℕ → State → List ℕ
-snowScalars r s = putElasticHardening (putPlasticDeterminant r (s .scalars .«plastic_determinant»)) (s .scalars .«elastic_hardening»)
+snowScalars r s = snowNamed (widths 2) r (s .scalars)
 
 abbrev pub rankineScalars : List ℕ → State → List ℕ
-rankineScalars r s = putPlasticHardening r (s .scalars .«plastic_hardening»)
+rankineScalars r s = rankineNamed (widths 2) r (s .scalars)
 
 abbrev pub druckerPragerScalars : List ℕ → State → List ℕ
-druckerPragerScalars r s =
-    putLogGain (putPlasticHardening (putPlasticDeterminant r (s .scalars .«plastic_determinant»)) (s .scalars .«plastic_hardening»)) (s .scalars .«log_gain»)
+druckerPragerScalars r s = druckerPragerNamed (widths 2) r (s .scalars)
 
 abbrev pub naccScalars : List ℕ → State → List ℕ
-naccScalars r s = putAlpha r (s .scalars .alpha)
+naccScalars r s = naccNamed (widths 2) r (s .scalars)
 
 abbrev pub putScalars : Model → List ℕ → State → List ℕ
-putScalars (Snow p) r s = snowScalars r s
-putScalars (Rankine a) r s = rankineScalars r s
-putScalars (DruckerPrager p) r s = druckerPragerScalars r s
-putScalars (Nacc a) r s = naccScalars r s
+putScalars m r s = named (widths 2) m r (s .scalars)
 
 abbrev pub putState : Model → List ℕ → State → List ℕ
 putState m r s = putScalars m (putShape r s) s
 
 -- a record that is untouched or refused holds its bits
 abbrev pub kept : Model → Outcome → List ℕ → State → List ℕ
-kept m Untouched r s = r
-kept m (Stored a) r s = putState m r s
-kept m (Refused n) r s = r
+kept m o r s = byOutcome o r (putState m r s)
 
 unfoldable pub updatedAt : Model → List ℕ → Updated
 updatedAt m r = flatUpdate m (uAt r) (vtAt r) (stateAt r)

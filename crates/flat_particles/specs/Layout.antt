@@ -8,7 +8,7 @@ use lib.ListN.{getD, set}
 use lib.Ieee.{Float, nan}
 use Rattle.record.specs.Layout as solid
 use Rattle.record.specs.Layout.{widths, place, whole, floatAt, bits}
-use Rattle.flat.specs.Axes.{axesFrom}
+use Rattle.walk.specs.Axes.{axesFrom}
 use Rattle.flat.specs.State.{ofRows, rowsOf}
 use Rattle.flat.specs.declared.State.{State}
 
@@ -69,19 +69,3 @@ stateAt r =
 -- an update that stores writes F and sigma
 abbrev pub putShape : List ℕ → State → List ℕ
 putShape r s = putRowOver 2 (putMatOver 2 r (place (widths 2) 0) (ofRows (s .f))) (place (widths 2) 2) (s .sigma)
-
--- and of the six scalars those that its law names
-abbrev pub putPlasticDeterminant : List ℕ → Float → List ℕ
-putPlasticDeterminant r x = set r (place (widths 2) 5) (bits x)
-
-abbrev pub putPlasticHardening : List ℕ → Float → List ℕ
-putPlasticHardening r x = set r (place (widths 2) 6) (bits x)
-
-abbrev pub putElasticHardening : List ℕ → Float → List ℕ
-putElasticHardening r x = set r (place (widths 2) 7) (bits x)
-
-abbrev pub putLogGain : List ℕ → Float → List ℕ
-putLogGain r x = set r (place (widths 2) 8) (bits x)
-
-abbrev pub putAlpha : List ℕ → Float → List ℕ
-putAlpha r x = set r (place (widths 2) 9) (bits x)

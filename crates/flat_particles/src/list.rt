@@ -12,7 +12,7 @@ ghost use lib.ListN.{length};
 ghost use Rattle.particles.specs.Pass.{answered};
 ghost use Rattle.flat_particles.specs.Layout.{floats};
 ghost use Rattle.flat_particles.specs.Law.{flatLaw};
-ghost use Rattle.flat_particles.specs.Pass.{recordOver, replacedOver, workedOver, answersOver, countsOver, sizedOver, passedOver, recordsOver, listOver};
+ghost use Rattle.flat_particles.specs.Pass.{threeOf, recordOver, replacedOver, workedOver, answersOver, countsOver, sizedOver, passedOver, recordsOver, listOver};
 
 // Record i, and its two answers.
 fn one(m: Model, xs: &mut [u64], out: &mut [u64], i: usize) -> Outcome
@@ -31,7 +31,7 @@ fn one(m: Model, xs: &mut [u64], out: &mut [u64], i: usize) -> Outcome
 // Every record by its index, whatever the ones before it gave.
 fn pass_all(m: Model, xs: &mut [u64], out: &mut [u64], n: usize) -> Counts
     requires { ⌜ (length (now xs) ≡ n * floats) × (length (now out) ≡ n * 2) ⌝ }
-    ensures tallies { λ c. ⌜ c ≡ countsOver floats (flatLaw m) (now (xs .entry)) n ⌝ }
+    ensures tallies { λ c. ⌜ c ≡ threeOf (countsOver floats (flatLaw m) (now (xs .entry)) n) ⌝ }
     ensures records { λ c. ⌜ now (xs .exit) ≡ workedOver floats (flatLaw m) (now (xs .entry)) n ⌝ }
     ensures answers { λ c. ⌜ now (out .exit) ≡ answersOver floats (flatLaw m) (now (xs .entry)) n ⌝ }
 {

@@ -7,11 +7,11 @@ use plasticity_snow::SnowPlasticity;
 ghost use mathlib.Core.Path.{_≡_};
 ghost use mathlib.Core.Bool.{true, _&&_};
 ghost use Rattle.numbers.specs.Floats.{finite};
-ghost use Rattle.plasticity_snow.specs.Snow.{clampedOf, parametersFinite};
+ghost use Rattle.plasticity_snow.specs.Snow.{clampedOf, parametersFinite, scalarsOf, runWalk};
 ghost use Rattle.walk.specs.Walk.{result};
-ghost use Rattle.flat.specs.State.{inputsFinite, keptOf};
-ghost use Rattle.flat.specs.Update.{updatedOf};
-ghost use Rattle.flat_snow.specs.Snow.{scalarsOf, runWalk, flatSnow};
+ghost use Rattle.flat.specs.State.{inputsFinite};
+ghost use Rattle.flat.specs.Update.{inTwo, keptOf, updatedOf};
+ghost use Rattle.flat_snow.specs.Snow.{flatSnow};
 
 // The bare clamp of each singular value, with no refusal.
 pub fn clamped(law: SnowPlasticity, sigma: [f64; 2]) -> [f64; 2]
@@ -29,7 +29,7 @@ fn store(
     hardening: f64,
     s: State,
 ) -> Updated
-    ensures { λ r. ⌜ r ≡ keptOf u sigma vt (finite d && finite hardening) (scalarsOf d hardening s) hardening s ⌝ }
+    ensures { λ r. ⌜ r ≡ keptOf u sigma vt (finite d && finite hardening) (scalarsOf d hardening (s .scalars)) hardening s ⌝ }
 {
     let scalars = Scalars {
         phase: s.scalars.phase,
@@ -46,7 +46,7 @@ fn store(
 // The steps in the law's order. Of finite inputs the clamp hides no NaN; one in the determinant is in what the exponential is given.
 fn run(law: SnowPlasticity, u: [[f64; 2]; 2], vt: [[f64; 2]; 2], s: State) -> Updated
     requires { ⌜ parametersFinite law && inputsFinite u vt s ≡ true ⌝ }
-    ensures { λ r. ⌜ r ≡ updatedOf s (result (runWalk law u vt s)) ⌝ }
+    ensures { λ r. ⌜ r ≡ updatedOf s (result (runWalk inTwo law u vt s)) ⌝ }
 {
     let sigma = s.sigma;
     let new = clamped(law, sigma);

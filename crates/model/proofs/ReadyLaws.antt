@@ -22,6 +22,9 @@ use Rattle.plasticity_nacc.specs.declared.NaccArguments.{NaccArguments}
 use Rattle.plasticity_nacc.specs.Law as nacc-law
 use Rattle.plasticity_nacc.specs.Nacc as nacc
 use Rattle.plasticity_nacc.proofs.Laws as nacc-laws
+use Rattle.plasticity_rankine.specs.Over as rankine-over
+use Rattle.plasticity_drucker_prager.specs.Over as drucker-over
+use Rattle.walk.specs.Update.{inThree}
 use Rattle.model.specs.declared.Model.{Model}
 use Rattle.model.specs.declared.Model.the-variants.{Snow, Rankine, DruckerPrager, Nacc}
 use Rattle.model.specs.Model.{modelFinite, modelUpdate}
@@ -77,10 +80,10 @@ ready-parameters (Nacc a) =
 module _ (u vt : List (List Float)) (s : State) (h : inputsFinite u vt s ≡ true) where
   snow-ready : (p : SnowPlasticity) → readyUpdate (readyOf (Snow p)) u vt s ≡ snow.snowUpdate p u vt s
   unfolding readyOf snow.snowWalk
-  snow-ready p = either-way (snow.parametersFinite p) (λ t. simp t) (λ f. simp (snow-laws.inputs-law, f))
+  snow-ready p = either-way (snow.parametersFinite p) (λ t. simp t) (λ f. simp (snow-laws.inputs-law inThree, f))
 
   rankine-ready : (a : RankineArguments) → readyUpdate (readyOf (Rankine a)) u vt s ≡ rankine.argumentsUpdate a u vt s
-  unfolding readyOf rankine.argumentsWalk rankine.rankineWalk
+  unfolding readyOf rankine-over.argumentsWalk rankine-over.rankineWalk
   rankine-ready a =
       either-way (rankine-law.argumentsFinite a)
       (λ t. either-way (rankine-law.moduliFinite (rankine-law.lawOf a))
@@ -89,7 +92,7 @@ module _ (u vt : List (List Float)) (s : State) (h : inputsFinite u vt s ≡ tru
       (λ f. simp (rankine-laws.inputs-law, f))
 
   drucker-prager-ready : (p : DruckerPragerPlasticity) → readyUpdate (readyOf (DruckerPrager p)) u vt s ≡ drucker-prager.druckerUpdate p u vt s
-  unfolding readyOf drucker-prager.druckerWalk
+  unfolding readyOf drucker-over.druckerWalk
   drucker-prager-ready p = either-way (drucker-prager-law.parametersFinite p) (λ t. simp t) (λ f. simp (drucker-prager-laws.inputs-law, f))
 
   nacc-ready : (a : NaccArguments) → readyUpdate (readyOf (Nacc a)) u vt s ≡ nacc.argumentsUpdate a u vt s

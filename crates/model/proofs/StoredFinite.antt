@@ -21,7 +21,7 @@ use Rattle.plasticity.proofs.Parts.{state-parts, Scalars-finite, scalars-parts}
 use Rattle.walk.specs.Expr.{Expr, num, _+_, value, values, nums}
 use Rattle.walk.specs.Matrix.{product, value-entry, values-nums}
 use Rattle.walk.specs.Walk.{Walk, exp, ln, end, _then_, Ended, given, refused, result}
-use Rattle.walk.specs.Update.{Change, untouched, stored, updatedOf, recomposed}
+use Rattle.walk.specs.Update.{inThree, Change, untouched, stored, updatedOf, recomposed}
 use Rattle.plasticity_snow.specs.declared.SnowPlasticity.{SnowPlasticity}
 use Rattle.plasticity_snow.specs.Snow as snow
 use Rattle.plasticity_rankine.specs.declared.RankinePlasticity.{RankinePlasticity}
@@ -34,6 +34,9 @@ use Rattle.plasticity_drucker_prager.specs.DruckerPrager as drucker-prager
 use Rattle.plasticity_nacc.specs.declared.NaccPlasticity.{NaccPlasticity}
 use Rattle.plasticity_nacc.specs.Axes.{three-axes}
 use Rattle.plasticity_nacc.specs.Nacc as nacc
+use Rattle.plasticity_rankine.specs.Over as rankine-over
+use Rattle.plasticity_drucker_prager.specs.Over as drucker-over
+use Rattle.walk.specs.Body as body
 use Rattle.model.specs.declared.Ready.{Ready}
 use Rattle.model.specs.declared.Ready.the-variants.{Snow, Rankine, DruckerPrager, Nacc, Refused}
 use Rattle.model.specs.Ready.{readyUpdate}
@@ -81,12 +84,12 @@ module _ (u vt : List (List Float)) (s : State) (q : stateFinite s ≡ true) whe
   old = scalars-parts (s .scalars) (state-parts s q .2)
 
   -- ---- Snow
-  snow-store : (sigma : List Float) (d h : Expr) → Ends Finite (snow.storeWalk u sigma vt d h s)
-  unfolding snow.storeWalk
+  snow-store : (sigma : List Float) (d h : Expr) → Ends Finite (body.storeWalk inThree 4 u sigma vt (d ∷ h ∷ []) (snow.scalarsOf (value d) (value h) (s .scalars)) (value h))
+  unfolding body.storeWalk
   snow-store sigma d h =
       λ t. let r = results-parts u sigma vt (d ∷ h ∷ []) t in
       let new = and-both (finite (value d)) (finite (value h)) (r .2) in
-      let x = snow.stateOf (recomposeOf u sigma vt) sigma (value d) (value h) s .scalars in
+      let x = snow.scalarsOf (value d) (value h) (s .scalars) in
       let scalars = scalars-whole x (record { phase = old .phase; determinant = new .0; hardening = old .hardening; elastic = new .1; gain = old .gain; alpha = old .alpha }) in
       (three-whole (matFinite (recomposeOf u sigma vt)) (rowFinite sigma) (scalarsFinite x) (r .0) (r .1) scalars, new .1)
 
@@ -94,15 +97,15 @@ module _ (u vt : List (List Float)) (s : State) (q : stateFinite s ≡ true) whe
   snow-clamps p [] k h = h []
   snow-clamps p (x ∷ l) k h = λ y z. snow-clamps p l (λ vs. k (value z ∷ vs)) (λ vs. h (value z ∷ vs))
 
-  snow-ends : (p : SnowPlasticity) → Ends Finite (snow.snowWalk p u vt s)
+  snow-ends : (p : SnowPlasticity) → Ends Finite (snow.snowWalk inThree p u vt s)
   unfolding snow.snowWalk snow.runWalk snow.hardenWalk
   snow-ends p =
-      snow-clamps p (s .sigma) (λ new. snow.hardenWalk p new u vt s)
+      snow-clamps p (s .sigma) (λ new. snow.hardenWalk inThree p new u vt s)
       (λ new h. snow-store new (snow.determinant (s .scalars .«plastic_determinant») (s .sigma) new) h)
 
   -- ---- Rankine
   rankine-store : (sigma : List Float) (h : Expr) → Ends Finite (rankine.storeWalk u sigma vt h s)
-  unfolding rankine.storeWalk
+  unfolding body.storeWalk
   rankine-store sigma h =
       λ t. let r = results-parts u sigma vt (h ∷ []) t in
       let x = rankine.stateOf (recomposeOf u sigma vt) sigma (value h) s .scalars in
@@ -110,30 +113,30 @@ module _ (u vt : List (List Float)) (s : State) (q : stateFinite s ≡ true) whe
       (three-whole (matFinite (recomposeOf u sigma vt)) (rowFinite sigma) (scalarsFinite x) (r .0) (r .1) scalars, r .2)
 
   rankine-moved : (p : RankinePlasticity) (e : List Float) (new : List Expr) → Ends Finite (rankine.movedWalk p e new u vt s)
-  unfolding rankine.movedWalk rankine.hardenWalk rankine.expsWalk
+  unfolding rankine-over.movedWalk rankine-over.hardenWalk rankine-over.expsWalk
   rankine-moved p e new =
       λ norm grown h. ends-asks Finite 9 exp (values new) (λ sigma. rankine.storeWalk u sigma vt h s) (λ sigma. rankine-store sigma h)
 
   rankine-way : (p : RankinePlasticity) (w : rankine-projection.Way) (e : List Float) (new : List Expr) → Ends Finite (rankine.wayWalk p w e new u vt s)
-  unfolding rankine.wayWalk
+  unfolding rankine-over.wayWalk
   rankine-way p (rankine-projection.none-moves x y) e new = tt
   rankine-way p (rankine-projection.one-moves x y) e new = rankine-moved p e new
   rankine-way p (rankine-projection.two-move x y) e new = rankine-moved p e new
   rankine-way p (rankine-projection.all-move x y) e new = rankine-moved p e new
 
   rankine-strained : (p : RankinePlasticity) (e : List Float) → Ends Finite (rankine.strainedWalk p e u vt s)
-  unfolding rankine.strainedWalk
+  unfolding rankine-over.strainedWalk
   rankine-strained p e =
       λ l. ends-after Finite (λ m. rankine.wayWalk p (m .way) e (m .strains) u vt s) (λ m. rankine-way p (m .way) e (m .strains))
       (rankine-projection.projectWalk p e (num (getD l 0 (value (rankine.softStrength p (s .scalars .«plastic_hardening»))))))
 
   rankine-ends : (p : RankinePlasticity) → Ends Finite (rankine.rankineWalk p u vt s)
-  unfolding rankine.rankineWalk rankine.runWalk
+  unfolding rankine-over.rankineWalk rankine-over.runWalk
   rankine-ends p = λ t. ends-asks Finite 2 ln (s .sigma) (λ e. rankine.strainedWalk p e u vt s) (λ e. rankine-strained p e)
 
   -- ---- Drucker-Prager: the amount is a term of the hardening
   drucker-store : (sigma : List Float) (d h gain : Expr) (x dq : Float) → h ≡ num x + num dq → Ends Finite (drucker-prager.storeWalk u sigma vt d h gain dq s)
-  unfolding drucker-prager.storeWalk
+  unfolding body.storeWalk
   drucker-store sigma d h gain x dq e =
       λ t. let r = results-parts u sigma vt (d ∷ h ∷ gain ∷ []) t in
       let a = and-both (finite (value d) && finite (value h)) (finite (value gain)) (r .2) in
@@ -143,7 +146,7 @@ module _ (u vt : List (List Float)) (s : State) (q : stateFinite s ≡ true) whe
       (three-whole (matFinite (recomposeOf u sigma vt)) (rowFinite sigma) (scalarsFinite y) (r .0) (r .1) scalars, add-finite x dq (rw e at (b .1)))
 
   drucker-moved : (p : DruckerPragerPlasticity) (sigma : List Float) (dq : Float) → Ends Finite (drucker-prager.movedWalk p sigma dq u vt s)
-  unfolding drucker-prager.movedWalk
+  unfolding drucker-over.movedWalk
   drucker-moved p sigma dq =
       let x = s .scalars .«plastic_hardening» in
       ends-then (λ (m : drucker-prager.Measures). m .hardening ≡ num x + num dq) Finite
@@ -153,14 +156,14 @@ module _ (u vt : List (List Float)) (s : State) (q : stateFinite s ≡ true) whe
       (λ diff new d y z. refl)
 
   drucker-way : (p : DruckerPragerPlasticity) (w : drucker-projection.Way) (sigma : List Float) (dq : Float) → Ends Finite (drucker-prager.wayWalk p w sigma dq u vt s)
-  unfolding drucker-prager.wayWalk
+  unfolding drucker-over.wayWalk
   drucker-way p (drucker-projection.inside x) sigma dq = tt
   drucker-way p (drucker-projection.isotropic x) sigma dq = drucker-moved p sigma dq
   drucker-way p (drucker-projection.expanding x) sigma dq = drucker-moved p sigma dq
   drucker-way p (drucker-projection.surface x norm) sigma dq = drucker-moved p sigma dq
 
   drucker-ends : (p : DruckerPragerPlasticity) → Ends Finite (drucker-prager.druckerWalk p u vt s)
-  unfolding drucker-prager.druckerWalk drucker-prager.runWalk
+  unfolding drucker-over.druckerWalk drucker-over.runWalk
   drucker-ends p =
       let follows : drucker-projection.Returned → Walk Change = λ r. drucker-prager.wayWalk p (r .way) (r .sigma) (r .dq) u vt s in
       let projects : Float → Walk drucker-projection.Returned = λ alpha. drucker-projection.projectWalk dim p (s .sigma) (s .scalars .«log_gain») alpha in (
@@ -225,7 +228,7 @@ module _ (u vt : List (List Float)) (s : State) (q : inputsFinite u vt s ≡ tru
   walked w h = given-finite s (result w) (ends-given Finite w h) a
 
   pub stored-finite : (m : Ready) → readyUpdate m u vt s .outcome ≡ Stored a → (stateFinite (readyUpdate m u vt s .state) ≡ true) × (finite a ≡ true)
-  stored-finite (Snow p) e = walked (snow.snowWalk p u vt s) (snow-ends u vt s state p) e
+  stored-finite (Snow p) e = walked (snow.snowWalk inThree p u vt s) (snow-ends u vt s state p) e
   stored-finite (Rankine p) e = walked (rankine.rankineWalk p u vt s) (rankine-ends u vt s state p) e
   stored-finite (DruckerPrager p) e = walked (drucker-prager.druckerWalk p u vt s) (drucker-ends u vt s state p) e
   stored-finite (Nacc p) e = walked (nacc.naccWalk p u vt s) (nacc-ends u vt s state p) e

@@ -16,8 +16,7 @@ use Rattle.physics.specs.Physics.{lambdaOf, shearModulusOf}
 use Rattle.tensor.specs.Matrix.{one, sumOf, dotOf, scaledRowOf}
 use Rattle.plasticity.specs.declared.Outcome.the-variants.{Untouched}
 use Rattle.walk.specs.Matrix.{total, sum, product, entry}
-use Rattle.walk.specs.Update.{floatsOf}
-use Rattle.plasticity_snow.specs.Snow.{defaults, snowWalk, floats, runWalk, hardenWalk, storeWalk}
+use Rattle.plasticity_snow.specs.Snow.{defaults, snowWalk, floats, runWalk, hardenWalk}
 use Rattle.plasticity_rankine.specs.Law.{argumentsOf}
 use Rattle.plasticity_rankine.specs.Sorting.{orderOf}
 use Rattle.plasticity_rankine.specs.Projection.{thirdWalk, secondWalk, firstWalk}
@@ -25,6 +24,9 @@ use Rattle.plasticity_rankine.specs.Rankine as rankine
 use Rattle.plasticity_drucker_prager.specs.declared.DruckerPragerPlasticity.{DruckerPragerPlasticity}
 use Rattle.plasticity_drucker_prager.specs.Law.{defaultsOf}
 use Rattle.plasticity_drucker_prager.specs.DruckerPrager as drucker
+use Rattle.plasticity_rankine.specs.Over as rankine-over
+use Rattle.plasticity_drucker_prager.specs.Over as drucker-over
+use Rattle.walk.specs.Body as body
 use Rattle.failure_maximum_stress.specs.declared.MaximumStressFailure.{MaximumStressFailure}
 use Rattle.failure_maximum_stress.specs.declared.Verdict.{Verdict}
 use Rattle.failure_maximum_stress.specs.declared.Verdict.the-variants.{No, Yes}
@@ -75,29 +77,29 @@ came l e r = verdictAfter l e (stateAt r .scalars .phase) (stateAt r)
 
 -- soft snow: over the limit as it came, and merely about to yield
 soft-snow : (came limits law stretched ≡ Yes) × (failureLaw (Snow defaults) limits law stretched .failed ≡ false)
-unfolding failureLaw judgedAt verdictAfter updatedAt lawAt recordLaw determinantRight determinantAt toBits snowWalk floats floatsOf runWalk hardenWalk storeWalk principalWalk overLimit verdictOf total product entry sumOf dotOf scaledRowOf expOf nearestOf restOf seriesOf scaleBits timesOf mag L finite isNumber ofBits Ieee.add Ieee.sub Ieee.mul Ieee.div Ieee.neg Ieee.le Ieee.lt Ieee.eq
+unfolding failureLaw judgedAt verdictAfter updatedAt lawAt recordLaw determinantRight determinantAt toBits snowWalk floats body.floatsOf runWalk hardenWalk body.storeWalk principalWalk overLimit verdictOf total product entry sumOf dotOf scaledRowOf expOf nearestOf restOf seriesOf scaleBits timesOf mag L finite isNumber ofBits Ieee.add Ieee.sub Ieee.mul Ieee.div Ieee.neg Ieee.le Ieee.lt Ieee.eq
 soft-snow = (refl, refl)
 
 -- so a Rankine record: mu and lambda are 4, strength and rate 1
 weak-rankine : let m = Rankine (argumentsOf (f64 0x4024_0000_0000_0000) (f64 0x3fd0_0000_0000_0000) one one) in
     (came limits law stretched ≡ Yes) × (failureLaw m limits law stretched .failed ≡ false)
-unfolding failureLaw judgedAt verdictAfter updatedAt lawAt recordLaw determinantRight determinantAt toBits rankine.argumentsWalk rankine.floats floatsOf rankine.runWalk rankine.strainedWalk firstWalk secondWalk thirdWalk rankine.wayWalk rankine.movedWalk rankine.hardenWalk rankine.expsWalk rankine.storeWalk principalWalk overLimit verdictOf total sum product entry orderOf lambdaOf shearModulusOf ln.lnOf ln.exponentOf ln.fractionOf ln.partOf expOf nearestOf restOf seriesOf scaleBits timesOf sqrtOf floorRoot rootIn mag val L fits finite isNumber ofBits round size Ieee.add Ieee.sub Ieee.mul Ieee.div Ieee.neg Ieee.le Ieee.lt Ieee.eq sumOf dotOf scaledRowOf
+unfolding failureLaw judgedAt verdictAfter updatedAt lawAt recordLaw determinantRight determinantAt toBits rankine-over.argumentsWalk rankine-over.floats body.floatsOf rankine-over.runWalk rankine-over.strainedWalk firstWalk secondWalk thirdWalk rankine-over.wayWalk rankine-over.movedWalk rankine-over.hardenWalk rankine-over.expsWalk body.storeWalk principalWalk overLimit verdictOf total sum product entry orderOf lambdaOf shearModulusOf ln.lnOf ln.exponentOf ln.fractionOf ln.partOf expOf nearestOf restOf seriesOf scaleBits timesOf sqrtOf floorRoot rootIn mag val L fits finite isNumber ofBits round size Ieee.add Ieee.sub Ieee.mul Ieee.div Ieee.neg Ieee.le Ieee.lt Ieee.eq sumOf dotOf scaledRowOf
 weak-rankine = (refl, refl)
 
 -- the other way round, with limits 100 and 1: the law hardens it from 1 to 218
 hardened-snow : let l = limitsAt 0x4059_0000_0000_0000 unit in (came l law crushed ≡ No) × (failureLaw (Snow defaults) l law crushed .failed ≡ true)
-unfolding failureLaw judgedAt verdictAfter updatedAt lawAt recordLaw determinantRight determinantAt toBits snowWalk floats floatsOf runWalk hardenWalk storeWalk principalWalk overLimit verdictOf total product entry sumOf dotOf scaledRowOf expOf nearestOf restOf seriesOf scaleBits timesOf mag L finite isNumber ofBits Ieee.add Ieee.sub Ieee.mul Ieee.div Ieee.neg Ieee.le Ieee.lt Ieee.eq
+unfolding failureLaw judgedAt verdictAfter updatedAt lawAt recordLaw determinantRight determinantAt toBits snowWalk floats body.floatsOf runWalk hardenWalk body.storeWalk principalWalk overLimit verdictOf total product entry sumOf dotOf scaledRowOf expOf nearestOf restOf seriesOf scaleBits timesOf mag L finite isNumber ofBits Ieee.add Ieee.sub Ieee.mul Ieee.div Ieee.neg Ieee.le Ieee.lt Ieee.eq
 hardened-snow = (refl, refl)
 
 -- with mu 1e307 that hardening's stress is refused: the record is as it came
 stress-refused : failureLaw (Snow defaults) limits (elasticAt 0 0x7fac_7b1f_3cac_7433) crushed ≡ refusedRecord 3 crushed
-unfolding failureLaw judgedAt verdictAfter updatedAt lawAt recordLaw determinantRight determinantAt toBits snowWalk floats floatsOf runWalk hardenWalk storeWalk principalWalk overLimit verdictOf total product entry sumOf dotOf scaledRowOf expOf nearestOf restOf seriesOf scaleBits timesOf mag L finite isNumber ofBits Ieee.add Ieee.sub Ieee.mul Ieee.div Ieee.neg Ieee.le Ieee.lt Ieee.eq
+unfolding failureLaw judgedAt verdictAfter updatedAt lawAt recordLaw determinantRight determinantAt toBits snowWalk floats body.floatsOf runWalk hardenWalk body.storeWalk principalWalk overLimit verdictOf total product entry sumOf dotOf scaledRowOf expOf nearestOf restOf seriesOf scaleBits timesOf mag L finite isNumber ofBits Ieee.add Ieee.sub Ieee.mul Ieee.div Ieee.neg Ieee.le Ieee.lt Ieee.eq
 stress-refused = refl
 
 -- Snow's exponential is asked above its range: 10, and no verdict on the record, which limit -1 would have failed
 law-refused : let r = of unit 0xc08f_4000_0000_0000 in
     let l = limitsAt 0xbff0_0000_0000_0000 unit in (came l law r ≡ Yes) × (failureLaw (Snow defaults) l law r ≡ refusedRecord 10 r)
-unfolding failureLaw judgedAt verdictAfter updatedAt lawAt recordLaw determinantRight determinantAt toBits snowWalk floats floatsOf runWalk hardenWalk sideOf principalWalk overLimit verdictOf product finite isNumber ofBits Ieee.add Ieee.sub Ieee.mul Ieee.div Ieee.neg Ieee.le Ieee.lt Ieee.eq
+unfolding failureLaw judgedAt verdictAfter updatedAt lawAt recordLaw determinantRight determinantAt toBits snowWalk floats body.floatsOf runWalk hardenWalk sideOf principalWalk overLimit verdictOf product finite isNumber ofBits Ieee.add Ieee.sub Ieee.mul Ieee.div Ieee.neg Ieee.le Ieee.lt Ieee.eq
 law-refused = (refl, refl)
 
 -- Drucker-Prager only for failed records meets the phase as it came: it leaves the record, which then fails
@@ -107,7 +109,7 @@ only-failed =
     record { h0 = p .h0; h1 = p .h1; h2 = p .h2; h3 = p .h3; lambda = one; mu = one; «only_active_when_failed» = true; «volume_correction» = one }
 
 whole-sand : let w = failureLaw (DruckerPrager only-failed) limits law stretched in (w .outcome ≡ Untouched) × (w .failed ≡ true)
-unfolding failureLaw judgedAt verdictAfter updatedAt lawAt recordLaw determinantRight determinantAt toBits drucker.druckerWalk drucker.floats drucker.runWalk floatsOf principalWalk overLimit verdictOf product finite isNumber ofBits Ieee.add Ieee.sub Ieee.mul Ieee.div Ieee.neg Ieee.le Ieee.lt Ieee.eq Ieee.ne
+unfolding failureLaw judgedAt verdictAfter updatedAt lawAt recordLaw determinantRight determinantAt toBits drucker-over.druckerWalk drucker-over.floats drucker-over.runWalk body.floatsOf principalWalk overLimit verdictOf product finite isNumber ofBits Ieee.add Ieee.sub Ieee.mul Ieee.div Ieee.neg Ieee.le Ieee.lt Ieee.eq Ieee.ne
 whole-sand = (refl, refl)
 
 -- ---- the determinant: of an F of zeros it is 0.0, and -0.0 is another in one bit
@@ -139,5 +141,5 @@ abbrev torn : List ℕ
 torn = rows (large ∷ 0 ∷ 0 ∷ 0 ∷ large ∷ 0 ∷ 0 ∷ 0 ∷ large ∷ unit ∷ unit ∷ unit ∷ rows (unit ∷ unit ∷ unit ∷ unit ∷ 0 ∷ 0 ∷ unit ∷ []))
 
 no-determinant : recordLaw (Snow defaults) torn ≡ refusedRecord 3 torn
-unfolding recordLaw lawAt updatedAt determinantRight determinantAt snowWalk floats floatsOf runWalk hardenWalk storeWalk total product entry sumOf dotOf scaledRowOf expOf nearestOf restOf seriesOf scaleBits timesOf mag L finite isNumber ofBits toBits Ieee.add Ieee.sub Ieee.mul Ieee.div Ieee.neg Ieee.le Ieee.lt Ieee.eq
+unfolding recordLaw lawAt updatedAt determinantRight determinantAt snowWalk floats body.floatsOf runWalk hardenWalk body.storeWalk total product entry sumOf dotOf scaledRowOf expOf nearestOf restOf seriesOf scaleBits timesOf mag L finite isNumber ofBits toBits Ieee.add Ieee.sub Ieee.mul Ieee.div Ieee.neg Ieee.le Ieee.lt Ieee.eq
 no-determinant = refl

@@ -6,7 +6,7 @@ use Prim.Native.Nat.{ℕ}
 use lib.Ieee.{Float}
 use Rattle.numbers.specs.Floats.{finite}
 use Rattle.numbers.proofs.Laws.{and-both}
-use Rattle.walk.specs.Update.{Change, updatedOf}
+use Rattle.walk.specs.Update.{inThree, Change, updatedOf}
 use Rattle.walk.specs.Walk as walk
 use Rattle.answers.specs.Refusals.{notFinite, wrongDeterminant}
 use Rattle.plasticity.specs.State.{inputsFinite, refused}
@@ -23,6 +23,8 @@ use Rattle.plasticity_drucker_prager.specs.DruckerPrager as drucker-prager
 use Rattle.plasticity_nacc.proofs.Laws as nacc-laws
 use Rattle.plasticity_nacc.specs.Law as nacc-law
 use Rattle.plasticity_nacc.specs.Nacc as nacc
+use Rattle.plasticity_rankine.specs.Over as rankine-over
+use Rattle.plasticity_drucker_prager.specs.Over as drucker-over
 use Rattle.failure_maximum_stress.specs.declared.MaximumStressFailure.{MaximumStressFailure}
 use Rattle.failure_maximum_stress.specs.declared.Verdict.{Verdict}
 use Rattle.elasticity_corotated_linear.specs.declared.CorotatedLinearElasticity.{CorotatedLinearElasticity}
@@ -41,8 +43,8 @@ module _ (u vt : List (List Float)) (s : State) where
   first w p q = ap (λ (t : Bool). updatedOf s (cond t w (walk.refused notFinite))) (p ∙ q)
 
   pub not-finite : (m : Model) → modelFinite m && inputsFinite u vt s ≡ false → modelUpdate m u vt s ≡ refused notFinite s
-  unfolding snow.snowWalk rankine.argumentsWalk drucker-prager.druckerWalk nacc.argumentsWalk
-  not-finite (Snow p) q = first (walk.result (snow.runWalk p u vt s)) (snow-laws.inputs-law p u vt s) q
+  unfolding snow.snowWalk rankine-over.argumentsWalk drucker-over.druckerWalk nacc.argumentsWalk
+  not-finite (Snow p) q = first (walk.result (snow.runWalk inThree p u vt s)) (snow-laws.inputs-law inThree p u vt s) q
   not-finite (Rankine a) q =
       let p = rankine-law.lawOf a in
       first (walk.result (rankine-law.moduli p (rankine.runWalk p (s .sigma) u vt s))) (rankine-laws.inputs-law (rankine-law.argumentsFloats a) u vt s) q

@@ -1,40 +1,48 @@
--- Laws of a pass by any step that keeps a record's length: what record i adds to the records, the answers and the counts.
+-- Laws of a pass over records of any width w, by any step that keeps a record's length: what record i adds to the records, the answers and the
+-- counts.
 -- Assumes nothing.
 use mathlib.Core.Bool.{Bool, true, false, cond}
 use mathlib.Core.Path.{_≡_, refl, sym, ap, _∙_}
 use mathlib.Core.List.{List, [], _∷_, _++_, append-assoc, append-nil}
 use Prim.Native.Nat.{ℕ, zero, suc, _+_, _*_, _≤_, _<_}
+use native.Mathlib.Nat.{zero-mul}
 use native.Mathlib.Omega.{arith}
 use native.Mathlib.Numerals.{add-one}
 use lib.ListN.{length, set, take, drop, getD, length-set, length-append, length-take, length-drop}
 use lib.Seq.{take-at, drop-at, drop-drop, drop-cons, set-at, drop-length}
 use Rattle.plasticity.specs.declared.Outcome.{Outcome}
 use Rattle.plasticity.specs.declared.Outcome.the-variants.{Untouched, Stored, Refused}
+use Rattle.plasticity.specs.declared.Scalars.{Scalars}
 use Rattle.plasticity.specs.declared.State.{State}
-use Rattle.record.specs.Layout.{floats, placeDeterminant, determinantAt}
+use Rattle.record.specs.Layout.{layout, placeDeterminant, determinantAt, putShape}
 use Rattle.model.specs.declared.Model.{Model}
 use Rattle.model.specs.declared.Model.the-variants.{Snow, Rankine, DruckerPrager, Nacc}
 use Rattle.particles.specs.declared.list.Passed.the-variants as passed-variants
 use Rattle.particles.specs.declared.failure.FailureCounts.{FailureCounts}
 use Rattle.particles.specs.declared.failure.PassedWithFailure.the-variants as failure-variants
+use Rattle.particles.specs.Named.{named, byOutcome}
 use Rattle.particles.specs.Plain.{recordLaw, kept, lawAt, putState}
 use Rattle.particles.specs.Fill.{fillLaw}
-use Rattle.particles.specs.Pass.{Worked, answered, recordAt, replaced, worked, answers, countedIf, counted, counts, threeOf, withoutVerdicts}
+use Rattle.particles.specs.Pass.{Worked, answered, countedIf, counted, recordOver, replacedOver, workedOver, answersOver, countsOver, threeOf, withoutVerdicts}
 
 -- a law keeps a record's length
 abbrev pub Keeps : (List ℕ → Worked) → Type 0
 Keeps law = (r : List ℕ) → length (law r .after) ≡ length r
 
-put-length : (m : Model) (r : List ℕ) (s : State) → length (putState m r s) ≡ length r
-put-length (Snow p) r s = simp length-set
-put-length (Rankine a) r s = simp length-set
-put-length (DruckerPrager p) r s = simp length-set
-put-length (Nacc a) r s = simp length-set
+-- of any layout
+pub named-length : (ws : List ℕ) (m : Model) (r : List ℕ) (x : Scalars) → length (named ws m r x) ≡ length r
+named-length ws (Snow p) r x = simp length-set
+named-length ws (Rankine a) r x = simp length-set
+named-length ws (DruckerPrager p) r x = simp length-set
+named-length ws (Nacc a) r x = simp length-set
+
+pub outcome-length : (o : Outcome) (r q : List ℕ) → length q ≡ length r → length (byOutcome o r q) ≡ length r
+outcome-length Untouched r q h = refl
+outcome-length (Stored a) r q h = h
+outcome-length (Refused n) r q h = refl
 
 pub kept-length : (m : Model) (o : Outcome) (r : List ℕ) (s : State) → length (kept m o r s) ≡ length r
-kept-length m Untouched r s = refl
-kept-length m (Stored a) r s = put-length m r s
-kept-length m (Refused n) r s = refl
+kept-length m o r s = outcome-length o r (putState m r s) (named-length layout m (putShape r s) (s .scalars) ∙ simp length-set)
 
 pub record-keeps : (m : Model) → Keeps (recordLaw m)
 unfolding recordLaw
@@ -43,36 +51,36 @@ record-keeps m r = kept-length m (lawAt m r .outcome) r (lawAt m r .state)
 pub fill-keeps : Keeps fillLaw
 fill-keeps r = length-set r placeDeterminant (determinantAt r)
 
-module _ (law : List ℕ → Worked) (k : Keeps law) (l : List ℕ) where
-  pub worked-length : (i : ℕ) → i * floats ≤ length l → length (worked law l i) ≡ i * floats
-  unfolding worked
-  worked-length zero h = refl
+module _ (w : ℕ) (law : List ℕ → Worked) (k : Keeps law) (l : List ℕ) where
+  pub worked-length : (i : ℕ) → i * w ≤ length l → length (workedOver w law l i) ≡ i * w
+  unfolding workedOver
+  worked-length zero h = sym (zero-mul w)
   worked-length (suc i) h =
-      let e : i * floats ≤ length l = omega arith in
+      let e : i * w ≤ length l = omega arith in
       let ih = worked-length i e in
       simp (length-append, k, length-take, length-drop) (omega arith)
 
-  pub worked-step : (i : ℕ) → i * floats + floats ≤ length l → (xs : List ℕ) → xs ≡ worked law l i ++ drop (i * floats) l
-      → replaced xs i (law (recordAt xs i) .after) ≡ worked law l (i + 1) ++ drop ((i + 1) * floats) l
-  unfolding worked
+  pub worked-step : (i : ℕ) → i * w + w ≤ length l → (xs : List ℕ) → xs ≡ workedOver w law l i ++ drop (i * w) l
+      → replacedOver w xs i (law (recordOver w xs i) .after) ≡ workedOver w law l (i + 1) ++ drop ((i + 1) * w) l
+  unfolding workedOver
   worked-step i h xs e =
-      let n : length (worked law l i) ≡ i * floats = worked-length i (omega arith) in
-      let t : take (i * floats) xs ≡ worked law l i = ap (take (i * floats)) e ∙ take-at (worked law l i) (drop (i * floats) l) (i * floats) n in
-      let d : drop (i * floats) xs ≡ drop (i * floats) l = ap (drop (i * floats)) e ∙ drop-at (worked law l i) (drop (i * floats) l) (i * floats) n in
-      let j : suc i * floats ≡ i * floats + floats = omega arith in
+      let n : length (workedOver w law l i) ≡ i * w = worked-length i (omega arith) in
+      let t : take (i * w) xs ≡ workedOver w law l i = ap (take (i * w)) e ∙ take-at (workedOver w law l i) (drop (i * w) l) (i * w) n in
+      let d : drop (i * w) xs ≡ drop (i * w) l = ap (drop (i * w)) e ∙ drop-at (workedOver w law l i) (drop (i * w) l) (i * w) n in
+      let j : suc i * w ≡ i * w + w = omega arith in
       simp (t, d, drop-drop, j, add-one i, append-assoc)
 
-  module _ (i : ℕ) (xs : List ℕ) (e : xs ≡ worked law l i ++ drop (i * floats) l) (h : i * floats ≤ length l) where
+  module _ (i : ℕ) (xs : List ℕ) (e : xs ≡ workedOver w law l i ++ drop (i * w) l) (h : i * w ≤ length l) where
     pub records-length : length xs ≡ length l
     records-length =
         let n = worked-length i h in
         ap length e ∙ simp (length-append, length-drop) (omega arith)
 
     -- record i is still as it came
-    pub record-same : recordAt xs i ≡ recordAt l i
+    pub record-same : recordOver w xs i ≡ recordOver w l i
     record-same =
-        ap (λ (t : List ℕ). take floats (drop (i * floats) t)) e
-        ∙ ap (take floats) (drop-at (worked law l i) (drop (i * floats) l) (i * floats) (worked-length i h))
+        ap (λ (t : List ℕ). take w (drop (i * w) t)) e
+        ∙ ap (take w) (drop-at (workedOver w law l i) (drop (i * w) l) (i * w) (worked-length i h))
 
 -- two places after a prefix are written
 pub two-set : (q a : List ℕ) (k v w : ℕ) → length q ≡ k → k + 2 ≤ length a → set (set (q ++ drop k a) k v) (k + 1) w ≡ (q ++ (v ∷ w ∷ [])) ++ drop (k + 2) a
@@ -102,34 +110,34 @@ counted-most c Untouched f i h = (omega arith, omega arith, omega arith, counted
 counted-most c (Stored a) f i h = (omega arith, omega arith, omega arith, counted-if-most (c .failed) i f (h .3))
 counted-most c (Refused n) f i h = (omega arith, omega arith, omega arith, counted-if-most (c .failed) i f (h .3))
 
-module _ (law : List ℕ → Worked) (l : List ℕ) where
-  pub answers-length : (i : ℕ) → length (answers law l i) ≡ i * 2
-  unfolding answers
+module _ (w : ℕ) (law : List ℕ → Worked) (l : List ℕ) where
+  pub answers-length : (i : ℕ) → length (answersOver w law l i) ≡ i * 2
+  unfolding answersOver
   answers-length zero = refl
   answers-length (suc i) =
       let ih = answers-length i in
       simp length-append (omega arith)
 
-  pub answers-long : (a : List ℕ) (i : ℕ) (out : List ℕ) → out ≡ answers law l i ++ drop (i * 2) a → i * 2 ≤ length a → length out ≡ length a
+  pub answers-long : (a : List ℕ) (i : ℕ) (out : List ℕ) → out ≡ answersOver w law l i ++ drop (i * 2) a → i * 2 ≤ length a → length out ≡ length a
   answers-long a i out e h =
       let n = answers-length i in
       ap length e ∙ simp (length-append, length-drop) (omega arith)
 
-  pub answers-step : (i : ℕ) (a : List ℕ) → i * 2 + 2 ≤ length a → (out : List ℕ) → out ≡ answers law l i ++ drop (i * 2) a
-      → (o : Outcome) → o ≡ law (recordAt l i) .outcome → answered out i o ≡ answers law l (i + 1) ++ drop ((i + 1) * 2) a
-  unfolding answers
+  pub answers-step : (i : ℕ) (a : List ℕ) → i * 2 + 2 ≤ length a → (out : List ℕ) → out ≡ answersOver w law l i ++ drop (i * 2) a
+      → (o : Outcome) → o ≡ law (recordOver w l i) .outcome → answered out i o ≡ answersOver w law l (i + 1) ++ drop ((i + 1) * 2) a
+  unfolding answersOver
   answers-step i a h out e o f =
       let k : suc i * 2 ≡ i * 2 + 2 = omega arith in
-      rw (e, f, add-one i, k) (two-set (answers law l i) a (i * 2) _ _ (answers-length i) h)
+      rw (e, f, add-one i, k) (two-set (answersOver w law l i) a (i * 2) _ _ (answers-length i) h)
 
-  pub counts-most : (i : ℕ) → Most (counts law l i) i
-  unfolding counts
+  pub counts-most : (i : ℕ) → Most (countsOver w law l i) i
+  unfolding countsOver
   counts-most zero = omega arith
-  counts-most (suc i) = counted-most (counts law l i) (law (recordAt l i) .outcome) (law (recordAt l i) .failed) i (counts-most i)
+  counts-most (suc i) = counted-most (countsOver w law l i) (law (recordOver w l i) .outcome) (law (recordOver w l i) .failed) i (counts-most i)
 
-  pub counts-step : (i : ℕ) (c : FailureCounts) (o : Outcome) (f : Bool) → c ≡ counts law l i → o ≡ law (recordAt l i) .outcome
-      → f ≡ law (recordAt l i) .failed → counted c o f ≡ counts law l (i + 1)
-  unfolding counts
+  pub counts-step : (i : ℕ) (c : FailureCounts) (o : Outcome) (f : Bool) → c ≡ countsOver w law l i → o ≡ law (recordOver w l i) .outcome
+      → f ≡ law (recordOver w l i) .failed → counted c o f ≡ countsOver w law l (i + 1)
+  unfolding countsOver
   counts-step i c o f e g h = rw (add-one i, e, g, h)
 
 -- the first three counts, or the refusal

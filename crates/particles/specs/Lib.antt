@@ -2,6 +2,7 @@ pub mod Bare
 pub mod Factored
 pub mod Fill
 pub mod Judged
+pub mod Named
 pub mod Pass
 pub mod Plain
 pub mod Readied

@@ -12,31 +12,27 @@ use Rattle.plasticity.specs.declared.Outcome.{Outcome}
 use Rattle.plasticity.specs.declared.Outcome.the-variants.{Untouched, Stored, Refused}
 use Rattle.plasticity.specs.declared.State.{State}
 use Rattle.plasticity.specs.declared.Updated.{Updated}
-use Rattle.record.specs.Layout.{floats, placeDeterminant, floatAt, uAt, vtAt, stateAt, recordFinite, determinantAt, determinantRight, putBare, putShape, putPlasticDeterminant, putPlasticHardening, putElasticHardening, putLogGain, putAlpha}
+use Rattle.record.specs.Layout.{layout, floats, placeDeterminant, floatAt, uAt, vtAt, stateAt, recordFinite, determinantAt, determinantRight, putBare, putShape}
 use Rattle.model.specs.declared.Model.{Model}
-use Rattle.model.specs.declared.Model.the-variants.{Snow, Rankine, DruckerPrager, Nacc}
 use Rattle.model.specs.Model.{modelFinite, modelUpdate}
+use Rattle.particles.specs.Named.{snowNamed, rankineNamed, druckerPragerNamed, naccNamed, named, byOutcome}
 use Rattle.particles.specs.Pass.{Worked}
 
--- of the six scalars an update writes only those that its law names
+-- ---- three axes
 abbrev pub snowScalars : List ℕ → State → List ℕ
-snowScalars r s = putElasticHardening (putPlasticDeterminant r (s .scalars .«plastic_determinant»)) (s .scalars .«elastic_hardening»)
+snowScalars r s = snowNamed layout r (s .scalars)
 
 abbrev pub rankineScalars : List ℕ → State → List ℕ
-rankineScalars r s = putPlasticHardening r (s .scalars .«plastic_hardening»)
+rankineScalars r s = rankineNamed layout r (s .scalars)
 
 abbrev pub druckerPragerScalars : List ℕ → State → List ℕ
-druckerPragerScalars r s =
-    putLogGain (putPlasticHardening (putPlasticDeterminant r (s .scalars .«plastic_determinant»)) (s .scalars .«plastic_hardening»)) (s .scalars .«log_gain»)
+druckerPragerScalars r s = druckerPragerNamed layout r (s .scalars)
 
 abbrev pub naccScalars : List ℕ → State → List ℕ
-naccScalars r s = putAlpha r (s .scalars .alpha)
+naccScalars r s = naccNamed layout r (s .scalars)
 
 abbrev pub putScalars : Model → List ℕ → State → List ℕ
-putScalars (Snow p) r s = snowScalars r s
-putScalars (Rankine a) r s = rankineScalars r s
-putScalars (DruckerPrager p) r s = druckerPragerScalars r s
-putScalars (Nacc a) r s = naccScalars r s
+putScalars m r s = named layout m r (s .scalars)
 
 abbrev pub putState : Model → List ℕ → State → List ℕ
 putState m r s = putScalars m (putShape r s) s
@@ -46,9 +42,7 @@ updatedAt m r = modelUpdate m (uAt r) (vtAt r) (stateAt r)
 
 -- a record that is untouched or refused holds its bits
 abbrev pub kept : Model → Outcome → List ℕ → State → List ℕ
-kept m Untouched r s = r
-kept m (Stored a) r s = putState m r s
-kept m (Refused n) r s = r
+kept m o r s = byOutcome o r (putState m r s)
 
 -- the word beside an update is the determinant of the F that it stores, if it stores; what it stores is finite
 abbrev pub Beside : Outcome → List ℕ → State → ℕ → Type 0

@@ -12,13 +12,14 @@ use Rattle.plasticity.specs.declared.Outcome.{Outcome}
 use Rattle.plasticity.specs.declared.Outcome.the-variants.{Untouched, Stored, Refused}
 use Rattle.particles.specs.declared.list.Counts.{Counts}
 use Rattle.particles.specs.declared.failure.FailureCounts.{FailureCounts}
-use Rattle.particles.specs.Pass.{Worked, codeOf, valueOf, recordAt, answers, countedIf, counted, counts, threeOf}
+use Rattle.particles.specs.Pass.{Worked, codeOf, valueOf, recordAt, answers, countedIf, counted, counts, threeOf, answersOver, countsOver}
 use Rattle.particles.proofs.PassLaws.{answers-length}
 use Rattle.sheet.specs.Sheet.{headerOf, recordsOf}
 use Rattle.sheet_run.specs.Run.{lawOf, ranOf, ranAnswers}
 use Rattle.parts.specs.Parts.{Lent}
 use Rattle.parts.specs.Counts.{coded, codedCounts}
 use Rattle.parts.proofs.Ran.{ran-refused, ran-particles, answers-are, counts-are}
+use Rattle.record.specs.Layout.{floats}
 
 coded-front : (c : ℕ) (a b : List ℕ) (n : ℕ) → n * 2 ≤ length a → coded c (a ++ b) n ≡ coded c a n
 unfolding coded
@@ -44,11 +45,11 @@ module _ (law : List ℕ → Worked) (l : List ℕ) where
   outcome n = law (recordAt l n) .outcome
 
   one : (c n : ℕ) → coded c (answers law l (suc n)) (suc n) ≡ countedIf (coded c (answers law l n) n) (eqb (codeOf (outcome n)) c)
-  unfolding coded answers
+  unfolding coded answersOver
   one c n =
       let a = answers law l n in
       let two = codeOf (outcome n) ∷ valueOf (outcome n) ∷ [] in
-      let m = answers-length law l n in
+      let m = answers-length floats law l n in
       let e : getD (a ++ two) (n * 2) 0 ≡ codeOf (outcome n) = ap (λ (x : ℕ). getD (a ++ two) x 0) (let y : n * 2 ≡ length a + 0 = omega arith in y) ∙ getD-append-add a two 0 0 in
       rw (coded-front c a two n (omega arith), e)
 
@@ -57,7 +58,7 @@ module _ (law : List ℕ → Worked) (l : List ℕ) where
   none c = refl
 
   pub answers-counted : (n : ℕ) → codedCounts (answers law l n) n ≡ threeOf (counts law l n)
-  unfolding counts
+  unfolding countsOver
   answers-counted zero = rw (none 0, none 1, none 2)
   answers-counted (suc n) =
       rw (one 0 n, one 1 n, one 2 n)
@@ -69,7 +70,7 @@ module _ (s xs out : List ℕ) (lent : Lent xs out) where
       let h = headerOf s in
       let a = answers (lawOf h) (recordsOf s h) (h .count) in
       let r = drop (h .count * 2) out in
-      let m = answers-length (lawOf h) (recordsOf s h) (h .count) in
+      let m = answers-length floats (lawOf h) (recordsOf s h) (h .count) in
       let f : (c : ℕ) → coded c (a ++ r) (h .count) ≡ coded c a (h .count) = λ c. coded-front c a r (h .count) (omega arith) in
       ap (λ (x : List ℕ). codedCounts x (ranOf s xs out .particles)) (answers-are s xs out lent z)
       ∙ ap (codedCounts (a ++ r)) (ran-particles s xs out lent z)

@@ -8,7 +8,7 @@ use native.Mathlib.Nat.{mul-le-mul-right}
 use lib.ListN.{length, take, drop, length-append, length-drop}
 use lib.Seq.{drop-append-le, take-append-le, drop-at, take-at, take-all, drop-drop}
 use Rattle.record.specs.Layout.{floats}
-use Rattle.particles.specs.Pass.{Worked, codeOf, valueOf, answered, recordAt, replaced, worked, answers}
+use Rattle.particles.specs.Pass.{Worked, codeOf, valueOf, answered, recordAt, replaced, worked, answers, workedOver, answersOver}
 use Rattle.particles.proofs.PassLaws.{Keeps, worked-length, answers-length, two-set}
 use Rattle.sheet.specs.Records.{sheetFloats, completed, each, listWords}
 use Rattle.sheet.specs.Sheet.{wordOf, wordsOf}
@@ -76,12 +76,12 @@ module _ (law : List ℕ → Worked) where
       rw (drop-append-le (i * floats) a b (omega arith), take-append-le floats (drop (i * floats) a) b (omega arith))
 
   worked-stay : (a b : List ℕ) (k : ℕ) → k * floats ≤ length a → worked law (a ++ b) k ≡ worked law a k
-  unfolding worked
+  unfolding workedOver
   worked-stay a b zero h = refl
   worked-stay a b (suc k) h = rw (record-stays a b k h, worked-stay a b k (omega arith))
 
   answers-stay : (a b : List ℕ) (k : ℕ) → k * floats ≤ length a → answers law (a ++ b) k ≡ answers law a k
-  unfolding answers
+  unfolding answersOver
   answers-stay a b zero h = refl
   answers-stay a b (suc k) h = rw (record-stays a b k h, answers-stay a b k (omega arith))
 
@@ -90,18 +90,18 @@ module _ (law : List ℕ → Worked) where
     new-record = rw (drop-at ws new (k * floats) e) (take-all floats new (omega arith))
 
     worked-more : worked law (ws ++ new) (suc k) ≡ worked law ws k ++ law new .after
-    unfolding worked
+    unfolding workedOver
     worked-more = rw (new-record, worked-stay ws new k (omega arith))
 
     answers-more : answers law (ws ++ new) (suc k) ≡ answers law ws k ++ answerOf (law new .outcome)
-    unfolding answers
+    unfolding answersOver
     answers-more = rw (new-record, answers-stay ws new k (omega arith))
 
     -- in front of what the lent lists held
     module _ (keeps : Keeps law) (xs₀ xs : List ℕ) (x : xs ≡ worked law ws k ++ drop (k * floats) xs₀) where
       pub records-grow : replaced xs k (law new .after) ≡ worked law (ws ++ new) (suc k) ++ drop (suc k * floats) xs₀
       records-grow =
-          let n = worked-length law keeps ws k (omega arith) in
+          let n = worked-length floats law keeps ws k (omega arith) in
           let j : suc k * floats ≡ k * floats + floats = omega arith in
           rw (x, worked-more, j, take-at (worked law ws k) (drop (k * floats) xs₀) (k * floats) n, drop-at (worked law ws k) (drop (k * floats) xs₀) (k * floats) n, drop-drop floats (k * floats) xs₀)
           (sym (append-assoc (worked law ws k) (law new .after) (drop (k * floats + floats) xs₀)))
@@ -110,4 +110,4 @@ module _ (law : List ℕ → Worked) where
         → answered out k (law new .outcome) ≡ answers law (ws ++ new) (suc k) ++ drop (suc k * 2) out₀
     answers-grow out₀ out h x =
         let j : suc k * 2 ≡ k * 2 + 2 = omega arith in
-        rw (x, answers-more, j) (two-set (answers law ws k) out₀ (k * 2) (codeOf (law new .outcome)) (valueOf (law new .outcome)) (answers-length law ws k) h)
+        rw (x, answers-more, j) (two-set (answers law ws k) out₀ (k * 2) (codeOf (law new .outcome)) (valueOf (law new .outcome)) (answers-length floats law ws k) h)

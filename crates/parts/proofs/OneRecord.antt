@@ -7,7 +7,7 @@ use lib.ListN.{length, take, drop, take-append-drop}
 use lib.Seq.{length-take-le, take-all, drop-drop}
 use Rattle.plasticity.specs.declared.Outcome.{Outcome}
 use Rattle.record.specs.Layout.{floats}
-use Rattle.particles.specs.Pass.{Worked, codeOf, valueOf, answered, worked, answers, passRecords, passAnswers}
+use Rattle.particles.specs.Pass.{Worked, codeOf, valueOf, answered, answers, passRecords, passAnswers, workedOver, answersOver}
 use Rattle.particles.proofs.PassLaws.{two-set}
 use Rattle.sheet.specs.Records.{sheetFloats, completed}
 use Rattle.sheet.specs.Sheet.{wordsOf, recordAt, placed, roomAt}
@@ -31,11 +31,11 @@ room-length model bytes r e =
 
 module _ (law : List ℕ → Worked) (r out : List ℕ) (e : length r ≡ floats) (f : length out ≡ 2) where
   one-record : passRecords law r out ≡ law r .after
-  unfolding worked
+  unfolding workedOver
   one-record = rw (e, f, take-all floats r (omega arith))
 
   one-answer : passAnswers law r out ≡ answerOf (law r .outcome)
-  unfolding answers
+  unfolding answersOver
   one-answer = rw (e, f, take-all floats r (omega arith))
 
 module _ (h : Header) (bytes r out : List ℕ) (e : length r ≡ floats) (f : length out ≡ 2) where

@@ -12,7 +12,7 @@ use lib.Dec.{ltb, eqb}
 use borrow.Author.Tests.{ltb-true, ltb-false, lt-ltb, le-ltb, eqb-true, eqb-false}
 use Rattle.record.specs.Layout.{floats}
 use Rattle.model.specs.Kinds.{last}
-use Rattle.particles.specs.Pass.{Worked, recordAt, worked, answers}
+use Rattle.particles.specs.Pass.{Worked, recordAt, worked, answers, workedOver, answersOver}
 use Rattle.model.specs.Fields.{modelOf}
 use Rattle.particles.proofs.PassLaws.{record-keeps, worked-length, answers-length}
 use Rattle.sheet.specs.Records.{sheetFloats, completed}
@@ -46,8 +46,8 @@ Listed xs₀ out₀ law model k bytes xs out =
 -- the lists keep their lengths
 pub listed-lent : (xs₀ out₀ : List ℕ) → Lent xs₀ out₀ → (h : Header) (model k : ℕ) (bytes xs out : List ℕ) → k ≤ most → Listed xs₀ out₀ (lawOf h) model k bytes xs out → Lent xs out
 listed-lent xs₀ out₀ lent h model k bytes xs out u l =
-    let a = worked-length (lawOf h) (record-keeps (modelOf (h .model) (h .parameters))) (firstRecords model k bytes) k (omega (arith, first-length model k bytes)) in
-    let b = answers-length (lawOf h) (firstRecords model k bytes) k in
+    let a = worked-length floats (lawOf h) (record-keeps (modelOf (h .model) (h .parameters))) (firstRecords model k bytes) k (omega (arith, first-length model k bytes)) in
+    let b = answers-length floats (lawOf h) (firstRecords model k bytes) k in
     let c = lent .0 in
     let d = lent .1 in
     (ap length (l .0) ∙ simp (length-append, length-drop) (omega arith), ap length (l .1) ∙ simp (length-append, length-drop) (omega arith))
@@ -134,7 +134,7 @@ module _ (xs₀ out₀ : List ℕ) (lent : Lent xs₀ out₀) (s : List ℕ) (x 
     headed-next = next-preamble (w .arrival) x (w .records) (w .answers) (p .going) few (λ z. let y = p .wants in omega arith)
 
     from-preamble : (f : Preamble) → preambleOf longer ≡ f → Stands xs₀ out₀ longer (next w x)
-    unfolding worked answers
+    unfolding workedOver answersOver
     from-preamble (Open model bits count at) e =
         let i = ends-late s (x ∷ []) b model bits count at e (p .shut) in
         let n = length-append s (x ∷ []) in

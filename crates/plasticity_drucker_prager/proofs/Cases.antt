@@ -18,14 +18,16 @@ use Rattle.walk.specs.Walk.{root, answerOf, result, answerAs, given}
 use Rattle.reason.specs.Traced.{reached, traced, untraced}
 use Rattle.reason.proofs.Laws.{result-traced}
 use Rattle.walk.specs.Exact.{number-then}
-use Rattle.walk.specs.Update.{updatedOf}
+use Rattle.walk.specs.Body.{store-law}
+use Rattle.walk.specs.Update.{inThree, updatedOf}
 use Rattle.walk.specs.Matrix.{value-sum, value-product, value-dot}
 use Rattle.plasticity_drucker_prager.specs.declared.DruckerPragerPlasticity.{DruckerPragerPlasticity}
 use Rattle.plasticity_drucker_prager.specs.Law.{defaultsOf}
 use Rattle.plasticity_drucker_prager.specs.Alpha.{two, dim, alphaWalk}
 use Rattle.plasticity_drucker_prager.specs.Projection.{isotropic, Returned, tipWalk, strainedWalk, projectWalk}
-use Rattle.plasticity_drucker_prager.specs.DruckerPrager.{movedWalk, runWalk, druckerWalk, druckerUpdate}
-use Rattle.plasticity_drucker_prager.proofs.Laws.{store-law, way-then, inputs-law}
+use Rattle.plasticity_drucker_prager.specs.Over as over
+use Rattle.plasticity_drucker_prager.specs.DruckerPrager.{movedWalk, runWalk, druckerUpdate}
+use Rattle.plasticity_drucker_prager.proofs.Laws.{way-then, inputs-law}
 
 -- a degree as Rust's `to_radians` has it: pi over 180
 abbrev degree : Float
@@ -77,20 +79,20 @@ rested =
     }
 
 moved : (l m : Float) → lnOf one ≡ zero → updatedOf rested (result (movedWalk (defaultsOf l m) ones zero identity identity rested)) .outcome ≡ Stored zero
-unfolding movedWalk productOf sumOf dotOf scaledRowOf finite isNumber Ieee.add Ieee.sub Ieee.mul Ieee.div Ieee.le Ieee.lt Ieee.eq ofBits
-moved l m h = simp (h, value-product, store-law)
+unfolding over.movedWalk productOf sumOf dotOf scaledRowOf finite isNumber Ieee.add Ieee.sub Ieee.mul Ieee.div Ieee.le Ieee.lt Ieee.eq ofBits
+moved l m h = simp (h, value-product, store-law inThree)
 
 run :
     (l m a : Float) → lnOf one ≡ zero → sqrtOf zero ≡ zero → answerAs (result (alphaWalk (defaultsOf l m) one)) ≡ Value a →
     updatedOf rested (result (runWalk (defaultsOf l m) identity identity rested)) .outcome ≡ Stored zero
-unfolding runWalk
+unfolding over.runWalk
 run l m a h k e = simp (number-then, e, way-then, projects (defaultsOf l m) a h k, moved l m h)
 
 -- P12: the default law with finite moduli stores, and dq is 0
 pub p12 :
     (l m a : Float) → finite l ≡ true → finite m ≡ true → lnOf one ≡ zero → sqrtOf zero ≡ zero → answerAs (result (alphaWalk (defaultsOf l m) one)) ≡ Value a →
     druckerUpdate (defaultsOf l m) identity identity rested .outcome ≡ Stored zero
-unfolding druckerWalk finite ofBits
+unfolding over.druckerWalk finite ofBits
 p12 l m a f g h k e = simp (inputs-law, f, g, run l m a h k e)
 
 -- the same walk on two axes: P12's projection there

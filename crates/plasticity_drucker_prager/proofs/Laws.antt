@@ -10,17 +10,17 @@ use Rattle.answers.specs.declared.Answer.{Answer}
 use Rattle.answers.specs.declared.Answer.the-variants as answers
 use Rattle.answers.specs.declared.Triple.{Triple}
 use Rattle.tensor.specs.Axes.{allOf}
-use Rattle.tensor.specs.Finite.{rowFinite, matFinite}
+use Rattle.tensor.specs.Finite.{rowFinite}
 use Rattle.tensor.specs.Matrix.{one, productOf, recomposeOf}
 use Rattle.physics.specs.Norm.{normOf}
 use Rattle.plasticity.specs.State as law
 use Rattle.plasticity.specs.State.{inputsFinite}
+use Rattle.plasticity.specs.declared.Outcome.the-variants as outcome
 use Rattle.plasticity.specs.declared.Outcome.the-variants.{Stored}
 use Rattle.plasticity.specs.declared.Scalars.{Scalars}
 use Rattle.plasticity.specs.declared.State.{State}
-use Rattle.plasticity.specs.declared.Updated.{Updated}
 use Rattle.walk.specs.Expr.{Expr, value}
-use Rattle.walk.specs.Walk.{Function, Walk, asks, _then_, Ended, given, refused, result}
+use Rattle.walk.specs.Walk.{Function, Walk, asks, _then_, Ended, refused, result}
 use Rattle.walk.specs.Three.{answersOf, byThree, asks-by}
 use Rattle.walk.specs.Exact.{andThen, result-then}
 use Rattle.reason.specs.declared.Number.{Number}
@@ -28,19 +28,23 @@ use Rattle.reason.specs.declared.Number.the-variants as number
 use Rattle.reason.specs.Traced.{Traced, reached, stopped, askedAt, traced, untraced, onwards, numberAs}
 use Rattle.reason.proofs.Laws.{traced-then, result-traced}
 use Rattle.walk.specs.Every.{all-append}
-use Rattle.walk.specs.Update.{Change, stored, updatedOf, inputs-finite}
-use Rattle.walk.specs.Matrix.{product, value-product, value-dot, value-entry, values-nums}
+use Rattle.walk.specs.Body as body
+use Rattle.walk.specs.Body.{Body, Change, updatedOf, keptOf, inputs-finite}
+use Rattle.walk.specs.Update as update
+use Rattle.walk.specs.Update.{inThree}
+use Rattle.walk.specs.Matrix.{product, value-product, value-dot, values-nums}
 use Rattle.plasticity_drucker_prager.specs.declared.DruckerPragerPlasticity.{DruckerPragerPlasticity}
 use Rattle.plasticity_drucker_prager.specs.declared.Measured.{Measured}
 use Rattle.plasticity_drucker_prager.specs.declared.Measured.the-variants as measured
 use Rattle.plasticity_drucker_prager.specs.Law.{parametersOf, parametersFinite}
 use Rattle.plasticity_drucker_prager.specs.Projection.{projectFloats, Way, isotropic, expanding, inside, surface, Returned, returnedWalk, tipWalk, branchOf, refusedProjection, walkedOf, projectedOf, tipOf, returnedOf, resultsOf}
-use Rattle.plasticity_drucker_prager.specs.DruckerPrager.{stateOf, storeWalk, Measures, measureWalk, measuredAs, measuredOf, finiteResults, movedWalk, wayWalk, followedOf, floats}
+use Rattle.plasticity_drucker_prager.specs.Over as over
+use Rattle.plasticity_drucker_prager.specs.DruckerPrager.{scalarsOf, stateOf, storeWalk, Measures, measureWalk, measuredAs, measuredOf, finiteResults, wayWalk, followedOf}
 
 -- the inputs
-pub inputs-law : (p : DruckerPragerPlasticity) (u vt : List (List Float)) (s : State) → allOf finite (floats p u vt s) ≡ parametersFinite p && inputsFinite u vt s
-unfolding floats
-inputs-law p u vt s = inputs-finite (parametersOf p) u vt s
+pub inputs-law : (p : DruckerPragerPlasticity) (u vt : List (List Float)) (s : State) → allOf finite (over.floats inThree p u vt s) ≡ parametersFinite p && inputsFinite u vt s
+unfolding over.floats
+inputs-law p u vt s = inputs-finite inThree (parametersOf p) u vt s
 
 leftwards : (a b c d : Bool) → a && (b && (c && d)) ≡ a && b && c && d
 leftwards true true c d = refl
@@ -108,39 +112,31 @@ alpha-then w g = then-traced w g ∙ stepped (λ a. result (g a)) (traced w)
 
 -- the projection is followed by its branch
 module _ (p : DruckerPragerPlasticity) (u vt : List (List Float)) (s : State) where
-  way-law : (w : Way) (sigma : List Float) (dq : Float) → updatedOf s (result (wayWalk p w sigma dq u vt s)) ≡ followedOf (branchOf w) p sigma dq u vt s
-  unfolding wayWalk
+  way-law : (w : Way) (sigma : List Float) (dq : Float) → update.updatedOf s (result (wayWalk p w sigma dq u vt s)) ≡ followedOf (branchOf w) p sigma dq u vt s
+  unfolding over.wayWalk
   way-law (isotropic x) sigma dq = refl
   way-law (expanding x) sigma dq = refl
   way-law (inside x) sigma dq = refl
   way-law (surface x norm) sigma dq = refl
 
-  abbrev afterWay : Returned → Ended Change
+  abbrev afterWay : Returned → Ended (Change State)
   afterWay q = result (wayWalk p (q .way) (q .sigma) (q .dq) u vt s)
 
-  follows : (x : Traced Returned) → updatedOf s (andThen (untraced x) afterWay) ≡ followedOf (walkedOf x .branch) p (walkedOf x .sigma) (walkedOf x .dq) u vt s
+  follows : (x : Traced Returned) → update.updatedOf s (andThen (untraced x) afterWay) ≡ followedOf (walkedOf x .branch) p (walkedOf x .sigma) (walkedOf x .dq) u vt s
   follows (reached q) = way-law (q .way) (q .sigma) (q .dq)
   follows (stopped n step) = refl
 
   pub way-then : (w : Walk Returned)
-      → updatedOf s (result (w then (λ q. wayWalk p (q .way) (q .sigma) (q .dq) u vt s)))
+      → update.updatedOf s (result (w then (λ q. wayWalk p (q .way) (q .sigma) (q .dq) u vt s)))
       ≡ followedOf (walkedOf (traced w) .branch) p (walkedOf (traced w) .sigma) (walkedOf (traced w) .dq) u vt s
-  way-then w = ap (updatedOf s) (then-traced w (λ q. wayWalk p (q .way) (q .sigma) (q .dq) u vt s)) ∙ follows (traced w)
+  way-then w = ap (update.updatedOf s) (then-traced w (λ q. wayWalk p (q .way) (q .sigma) (q .dq) u vt s)) ∙ follows (traced w)
 
 -- the results as the code tests them
-kept : (s new : State) (dq : Float) (b : Bool) → updatedOf s (cond b (given (stored new dq)) (refused 3)) ≡ cond b (record { state = new; outcome = Stored dq }) (law.refused 3 s)
-kept s new dq true = refl
-kept s new dq false = refl
-
 pub store-law : (u : List (List Float)) (sigma : List Float) (vt : List (List Float)) (d h gain : Expr) (dq : Float) (s : State)
-    → updatedOf s (result (storeWalk u sigma vt d h gain dq s))
+    → update.updatedOf s (result (storeWalk u sigma vt d h gain dq s))
     ≡ cond (finiteResults (recomposeOf u sigma vt) sigma (value d) (value h) (value gain))
     (record { state = stateOf (recomposeOf u sigma vt) sigma (value d) (value h) (value gain) s; outcome = Stored dq }) (law.refused 3 s)
-unfolding storeWalk
-store-law u sigma vt d h gain dq s =
-    let f = recomposeOf u sigma vt in
-    simp (value-entry, values-nums)
-    (kept s (stateOf f sigma (value d) (value h) (value gain) s) dq ((matFinite f && rowFinite sigma) && ((finite (value d) && finite (value h)) && finite (value gain))))
+store-law u sigma vt d h gain dq s = body.store-law inThree 19 u sigma vt (d ∷ h ∷ gain ∷ []) (scalarsOf (value d) (value h) (value gain) (s .scalars)) dq s
 
 -- what is stored beside F and sigma is told of the products' values
 pub measured-law : (p : DruckerPragerPlasticity) (old sigma : List Float) (dq : Float) (x : Scalars)
@@ -148,22 +144,22 @@ pub measured-law : (p : DruckerPragerPlasticity) (old sigma : List Float) (dq : 
 unfolding measuredOf
 measured-law p old sigma dq x = rw (← value-product old, ← value-product sigma) refl
 
--- what is stored beside F and sigma, and then the results
-module _ (p : DruckerPragerPlasticity) (sigma : List Float) (dq : Float) (u vt : List (List Float)) (s : State) where
-  abbrev pub storedBy : Measured → Updated
-  storedBy (measured.Values d h gain) =
-      cond (finiteResults (recomposeOf u sigma vt) sigma d h gain) (record { state = stateOf (recomposeOf u sigma vt) sigma d h gain s; outcome = Stored dq }) (law.refused 3 s)
-  storedBy (measured.Refused n step) = law.refused n s
+-- what is stored beside F and sigma, and then the results: over any number of axes
+module _ {S R : Type 0} (b : Body S R) (p : DruckerPragerPlasticity) (sigma : List Float) (dq : Float) (u vt : List (List Float)) (s : S) where
+  abbrev pub storedBy : Measured → R
+  storedBy (measured.Values d h gain) = keptOf b u sigma vt (allOf finite (d ∷ h ∷ gain ∷ [])) (scalarsOf d h gain (b .scalars s)) dq s
+  storedBy (measured.Refused n step) = b .handed s (outcome.Refused n)
 
-  abbrev afterMeasures : Measures → Walk Change
-  afterMeasures m = storeWalk u sigma vt (m .determinant) (m .hardening) (m .gain) dq s
+  abbrev afterMeasures : Measures → Walk (Change S)
+  afterMeasures m = over.storeWalk b u sigma vt (m .determinant) (m .hardening) (m .gain) dq s
 
-  measures : (x : Traced Measures) → updatedOf s (andThen (untraced x) (λ m. result (afterMeasures m))) ≡ storedBy (measuredAs x)
-  measures (reached m) = store-law u sigma vt (m .determinant) (m .hardening) (m .gain) dq s
+  measures : (x : Traced Measures) → updatedOf b s (andThen (untraced x) (λ m. result (afterMeasures m))) ≡ storedBy (measuredAs x)
+  measures (reached m) =
+      body.store-law b 19 u sigma vt (m .determinant ∷ m .hardening ∷ m .gain ∷ []) (scalarsOf (value (m .determinant)) (value (m .hardening)) (value (m .gain)) (b .scalars s)) dq s
   measures (stopped n step) = refl
 
-  pub moved-law : updatedOf s (result (movedWalk p sigma dq u vt s)) ≡ storedBy (measuredOf p (productOf (s .sigma)) (productOf sigma) dq (s .scalars))
-  unfolding movedWalk
+  pub moved-law : updatedOf b s (result (over.movedWalk b p sigma dq u vt s)) ≡ storedBy (measuredOf p (productOf (b .sigma s)) (productOf sigma) dq (b .scalars s))
+  unfolding over.movedWalk
   moved-law =
-      let w = measureWalk p (product (s .sigma)) (product sigma) dq (s .scalars) in
-      ap (updatedOf s) (then-traced w afterMeasures) ∙ measures (traced w) ∙ ap storedBy (measured-law p (s .sigma) sigma dq (s .scalars))
+      let w = measureWalk p (product (b .sigma s)) (product sigma) dq (b .scalars s) in
+      ap (updatedOf b s) (then-traced w afterMeasures) ∙ measures (traced w) ∙ ap storedBy (measured-law p (b .sigma s) sigma dq (b .scalars s))

@@ -14,19 +14,22 @@ use Rattle.walk.specs.Expr.{Expr, num, value, values, nums}
 use Rattle.walk.specs.Matrix.{sum, dot, values-nums}
 use Rattle.walk.specs.Walk.{Walk, exp, ln, zeros, less, at-most, works, branch, end, _then_, result, answerAs}
 use Rattle.walk.specs.Exact.{path, final, first, Refusal, answer, exactly, last, lastFrom, Reason}
-use Rattle.walk.specs.Update.{Change, untouched, refusalOf, numberOf, refused-exactly}
+use Rattle.walk.specs.Body as body
+use Rattle.walk.specs.Body.{refused-exactly}
+use Rattle.walk.specs.Update.{inThree, Change, untouched, refusalOf, numberOf}
 use Rattle.walk.specs.Reason.{final-then, last-then, Told, asks-told, branch-told}
 use Rattle.plasticity_drucker_prager.specs.declared.Branch.{Branch}
 use Rattle.plasticity_drucker_prager.specs.declared.Branch.the-variants as branches
 use Rattle.plasticity_drucker_prager.specs.declared.DruckerPragerPlasticity.{DruckerPragerPlasticity}
 use Rattle.plasticity_drucker_prager.specs.Alpha.{dim, alphaWalk, alphaCall}
 use Rattle.plasticity_drucker_prager.specs.Projection.{Way, isotropic, expanding, inside, surface, Returned, strain, deviatoric, gamma, back, tipWalk, surfaceWalk, yieldWalk, strainedWalk, projectWalk, projectCall, branchOf, projectedOf}
-use Rattle.plasticity_drucker_prager.specs.DruckerPrager.{storeWalk, movedWalk, wayWalk, staysOf, runWalk, druckerWalk, druckerUpdate}
+use Rattle.plasticity_drucker_prager.specs.Over as over
+use Rattle.plasticity_drucker_prager.specs.DruckerPrager.{wayWalk, staysOf, druckerWalk, druckerUpdate}
 
 -- ---- the refusal
 pub drucker-refused : (p : DruckerPragerPlasticity) (u vt : List (List Float)) (s : State)
     → refusalOf (druckerUpdate p u vt s .outcome) ≡ numberOf (first (path (druckerWalk p u vt s)))
-drucker-refused p u vt s = refused-exactly s (druckerWalk p u vt s)
+drucker-refused p u vt s = refused-exactly inThree s (druckerWalk p u vt s)
 
 -- the two calls by themselves
 abbrev pub elementaryRefusal : Answer → Option ℕ
@@ -109,7 +112,7 @@ module _ (dim : Expr) (p : DruckerPragerPlasticity) (sigma : List Float) where
 -- after the projection no test counts
 quiet : (p : DruckerPragerPlasticity) (w : Way) (sigma : List Float) (dq : Float) (u vt : List (List Float)) (s : State) (r : Option Reason)
     → lastFrom r (path (wayWalk p w sigma dq u vt s)) ≡ r
-unfolding wayWalk movedWalk storeWalk
+unfolding over.wayWalk over.movedWalk body.storeWalk
 quiet p (isotropic d) sigma dq u vt s r = refl
 quiet p (expanding x) sigma dq u vt s r = refl
 quiet p (inside x) sigma dq u vt s r = refl
@@ -120,7 +123,7 @@ abbrev pub projectionOf : DruckerPragerPlasticity → State → Returned
 projectionOf p s = final (projectWalk dim p (s .sigma) (s .scalars .«log_gain») (final (alphaWalk p (s .scalars .«plastic_hardening»))))
 
 module _ (p : DruckerPragerPlasticity) (u vt : List (List Float)) (s : State) where
-  abbrev W : Returned → Walk Change
+  abbrev pub W : Returned → Walk Change
   W q = wayWalk p (q .way) (q .sigma) (q .dq) u vt s
 
   -- after the projection no test counts, whatever singular values were projected
@@ -134,7 +137,7 @@ module _ (p : DruckerPragerPlasticity) (u vt : List (List Float)) (s : State) wh
   -- the last test and its numbers are the branch's, and that branch gives the stored record
   pub drucker-reason : staysOf p (s .scalars .phase) ≡ false
       → (last (path (druckerWalk p u vt s)) ≡ some (reasonOf (projectionOf p s .way))) × (final (druckerWalk p u vt s) ≡ final (W (projectionOf p s)))
-  unfolding druckerWalk runWalk
+  unfolding over.druckerWalk over.runWalk
   drucker-reason h =
       let a = alphaWalk p (s .scalars .«plastic_hardening») in
       let g : Float → Walk Returned = λ alpha. projectWalk dim p (s .sigma) (s .scalars .«log_gain») alpha in
@@ -148,5 +151,5 @@ module _ (p : DruckerPragerPlasticity) (u vt : List (List Float)) (s : State) wh
   -- left untouched by its flag, the law names the flag
   pub drucker-stays : staysOf p (s .scalars .phase) ≡ true
       → (last (path (druckerWalk p u vt s)) ≡ some (record { test = 1; compares = []; held = true })) × (final (druckerWalk p u vt s) ≡ untouched)
-  unfolding druckerWalk runWalk
+  unfolding over.druckerWalk over.runWalk
   drucker-stays h = (simp h, simp h)

@@ -13,9 +13,10 @@ use Rattle.plasticity.specs.State.{inputsFinite}
 use Rattle.plasticity.specs.declared.State.{State}
 use Rattle.walk.specs.Expr.{Expr, num, _+_, _/_, value, values}
 use Rattle.walk.specs.Matrix.{sum, product, dot, value-entry, values-nums}
-use Rattle.walk.specs.Walk.{Walk, Function, at, exp, ln, zeros, less, at-most, holds, works, asks, branch, end, _then_}
+use Rattle.walk.specs.Walk.{Walk, Function, at, exp, ln, zeros, less, at-most, holds, asks, branch, end, _then_}
 use Rattle.walk.specs.Exact.{path, final, last}
-use Rattle.walk.specs.Update.{Change, untouched, stored}
+use Rattle.walk.specs.Body as body
+use Rattle.walk.specs.Update.{inThree, Change, untouched, stored}
 use Rattle.reason.specs.declared.Number.{Number}
 use Rattle.reason.specs.declared.Number.the-variants as number
 use Rattle.reason.specs.declared.Reason.{Reason}
@@ -30,7 +31,8 @@ use Rattle.plasticity_drucker_prager.specs.declared.Measured.the-variant
 use Rattle.plasticity_drucker_prager.specs.Law.{parametersFinite}
 use Rattle.plasticity_drucker_prager.specs.Alpha.{dim, alphaWalk}
 use Rattle.plasticity_drucker_prager.specs.Projection.{Way, isotropic, expanding, inside, surface, Returned, deviatoric, gamma, back, tipWalk, surfaceWalk, yieldWalk, strainedWalk, projectWalk, branchOf, walkedOf}
-use Rattle.plasticity_drucker_prager.specs.DruckerPrager.{stateOf, storeWalk, Measures, measureWalk, measuredAs, measuredOf, finiteResults, movedWalk, wayWalk, staysOf, runWalk, floats, druckerWalk}
+use Rattle.plasticity_drucker_prager.specs.Over as over
+use Rattle.plasticity_drucker_prager.specs.DruckerPrager.{stateOf, storeWalk, Measures, measureWalk, measuredAs, measuredOf, finiteResults, wayWalk, staysOf, runWalk, druckerWalk}
 use Rattle.plasticity_drucker_prager.specs.Told.{testOf, movedTold, branchTold, followWalk}
 use Rattle.plasticity_drucker_prager.proofs.Laws.{inputs-law, measured-law}
 use Rattle.plasticity_drucker_prager.proofs.Reason as walk
@@ -90,7 +92,7 @@ kept false c r = refl
 
 module _ (r : Reason) (p : DruckerPragerPlasticity) (sigma : List Float) (dq : Float) (u vt : List (List Float)) (s : State) where
   store-told : (d h gain : Expr) → reasonWith (traced (storeWalk u sigma vt d h gain dq s)) (λ c. r) ≡ cond (finiteResults (recomposeOf u sigma vt) sigma (value d) (value h) (value gain)) r (Refused 3 19)
-  unfolding storeWalk
+  unfolding body.storeWalk
   store-told d h gain = simp (value-entry, values-nums) (kept (finiteResults (recomposeOf u sigma vt) sigma (value d) (value h) (value gain)) (stored (stateOf (recomposeOf u sigma vt) sigma (value d) (value h) (value gain) s) dq) r)
 
   abbrev pub measuresTold : Measured → Reason
@@ -105,7 +107,7 @@ module _ (r : Reason) (p : DruckerPragerPlasticity) (sigma : List Float) (dq : F
   measures (stopped n step) = refl
 
   pub moved-told : movedTold r p sigma dq u vt s ≡ measuresTold (measuredOf p (productOf (s .sigma)) (productOf sigma) dq (s .scalars))
-  unfolding movedTold movedWalk
+  unfolding movedTold over.movedWalk
   moved-told =
       let w = measureWalk p (product (s .sigma)) (product sigma) dq (s .scalars) in
       ap (λ x. reasonWith x (λ c. r)) (traced-then w after) ∙ measures (traced w) ∙ ap measuresTold (measured-law p (s .sigma) sigma dq (s .scalars))
@@ -119,7 +121,7 @@ module _ (p : DruckerPragerPlasticity) (u vt : List (List Float)) (s : State) wh
   T q = testOf (branchOf (q .way))
 
   way-told : (w : Way) (sigma : List Float) (dq : Float) → reasonWith (traced (wayWalk p w sigma dq u vt s)) (λ c. testOf (branchOf w)) ≡ branchTold (branchOf w) p sigma dq u vt s
-  unfolding wayWalk movedTold
+  unfolding over.wayWalk movedTold
   way-told (isotropic d) sigma dq = refl
   way-told (expanding x) sigma dq = refl
   way-told (inside x) sigma dq = refl
@@ -178,9 +180,9 @@ module _ (p : DruckerPragerPlasticity) (u vt : List (List Float)) (s : State) wh
   flag-told false e = ap (λ l. reasonWith (traced (A then (λ a. G a then W))) (λ c. lastAs l)) (drucker-reason p u vt s e .0) ∙ alpha-told
 
   pub run-told : reasonOf (runWalk p u vt s) ≡ cond (staysOf p (s .scalars .phase)) (Flagged 1 true) (alphaTold (numberAs (traced A)))
-  unfolding runWalk druckerWalk
+  unfolding over.runWalk over.druckerWalk
   run-told = reason-traced (runWalk p u vt s) ∙ flag-told (staysOf p (s .scalars .phase)) refl
 
   pub drucker-told : reasonOf (druckerWalk p u vt s) ≡ cond (parametersFinite p && inputsFinite u vt s) (reasonOf (runWalk p u vt s)) (Refused 1 0)
-  unfolding druckerWalk
-  drucker-told = reason-inputs (floats p u vt s) (runWalk p u vt s) ∙ ap (λ b. cond b (reasonOf (runWalk p u vt s)) (Refused 1 0)) (inputs-law p u vt s)
+  unfolding over.druckerWalk
+  drucker-told = reason-inputs (over.floats inThree p u vt s) (runWalk p u vt s) ∙ ap (λ b. cond b (reasonOf (runWalk p u vt s)) (Refused 1 0)) (inputs-law p u vt s)

@@ -33,6 +33,13 @@ pub data Way : Type 0 where
   inside : Float → Way
   surface : Float → Float → Way
 
+-- the branch's number (docs/STEPS.md)
+abbrev pub wayNumber : Way → ℕ
+wayNumber (isotropic d) = 1
+wayNumber (expanding x) = 1
+wayNumber (inside x) = 0
+wayNumber (surface x norm) = 2
+
 pub record Returned : Type 0 where
   pub way : Way
   pub sigma : List Float

@@ -8,10 +8,11 @@ use Rattle.numbers.specs.Floats.{finite, isNumber, maxOf}
 use Rattle.tensor.specs.Axes.{allOf}
 use Rattle.tensor.specs.Matrix as tensor
 use Rattle.tensor.specs.Matrix.{recomposeOf, rowsOf}
-use Rattle.tensor.specs.Finite.{rowFinite, matFinite, rowsFinite}
+use Rattle.tensor.specs.Finite.{rowFinite, matFinite}
 use Rattle.tensor.specs.declared.Rows.{Rows}
 use Rattle.plasticity.specs.State as law
-use Rattle.plasticity.specs.State.{inputsFinite, stateFinite, scalarsFinite}
+use Rattle.plasticity.specs.State.{inputsFinite, scalarsFinite}
+use Rattle.plasticity.specs.declared.Scalars.{Scalars}
 use Rattle.plasticity.specs.declared.State.{State}
 use Rattle.plasticity.specs.declared.Updated.{Updated}
 use Rattle.walk.specs.Expr.{Expr, num, neg, value, zero-number}
@@ -20,7 +21,8 @@ use Rattle.walk.specs.Number.{finite-number, neg-number, add-number, sub-number
 use Rattle.walk.specs.Exact.{andThen, result-then}
 use Rattle.walk.specs.Every.{and-left, and-right, flat, all-append, all-flat}
 use Rattle.walk.specs.Matrix.{value-entry, values-nums}
-use Rattle.walk.specs.Update.{Change, updatedOf, inputs-finite}
+use Rattle.walk.specs.Body.{inputs-finite, finite-scalars}
+use Rattle.walk.specs.Update.{inThree, Change, updatedOf}
 use Rattle.reason.specs.declared.Number.{Number}
 use Rattle.reason.specs.declared.Number.the-variants as number
 use Rattle.reason.specs.Traced.{Traced, reached, stopped, traced, untraced, onwards, numberAs}
@@ -162,13 +164,14 @@ module _ (s : State) where
 -- ---- the inputs
 pub inputs-law : (l : List Float) (u vt : List (List Float)) (s : State) → allOf finite (floats l u vt s) ≡ allOf finite l && inputsFinite u vt s
 unfolding floats
-inputs-law l u vt s = inputs-finite l u vt s
+inputs-law l u vt s = inputs-finite inThree l u vt s
+
+pub alpha-of : (x : Scalars) → scalarsFinite x ≡ true → finite (x .alpha) ≡ true
+alpha-of x h =
+    and-right (finite (x .phase) && finite (x .«plastic_determinant») && finite (x .«plastic_hardening») && finite (x .«elastic_hardening») && finite (x .«log_gain»)) (finite (x .alpha)) h
 
 pub alpha-finite : (u vt : List (List Float)) (s : State) → inputsFinite u vt s ≡ true → finite (s .scalars .alpha) ≡ true
-alpha-finite u vt s h =
-    let before = finite (s .scalars .phase) && finite (s .scalars .«plastic_determinant») && finite (s .scalars .«plastic_hardening») && finite (s .scalars .«elastic_hardening») && finite (s .scalars .«log_gain») in
-    and-right before (finite (s .scalars .alpha))
-    (and-right (rowsFinite (s .f) && rowFinite (s .sigma)) (scalarsFinite (s .scalars)) (and-right (matFinite u && matFinite vt) (stateFinite s) h))
+alpha-finite u vt s h = alpha-of (s .scalars) (finite-scalars inThree u vt s h)
 
 leftwards : (a b c d e f : Bool) → a && (b && (c && (d && (e && f)))) ≡ a && b && c && d && e && f
 leftwards true true true true e f = refl

@@ -14,7 +14,7 @@ use Rattle.plasticity.specs.declared.State.{State}
 use Rattle.walk.specs.Expr.{Expr, num, value}
 use Rattle.walk.specs.Walk.{Walk, root, less, end, branch, ask, _then_}
 use Rattle.walk.specs.Exact.{path, final, last, lastFrom, Reason}
-use Rattle.walk.specs.Update.{Change}
+use Rattle.walk.specs.Update.{inThree, Change}
 use Rattle.walk.specs.Reason.{final-then, last-then, Told, branch-told, Branchless, quiet, branchless-when, branchless-asks, branchless-then}
 use Rattle.walk.specs.Numbers.{Stops, refused-when}
 use Rattle.plasticity_nacc.specs.declared.NaccArguments.{NaccArguments}
@@ -28,10 +28,10 @@ use Rattle.plasticity_nacc.specs.Nacc.{Way, upper, lower, inside, surfac
 
 -- ---- the refusal
 pub nacc-refused : (p : NaccPlasticity) (u vt : List (List Float)) (s : State) (n : ℕ) → (naccUpdate p u vt s .outcome ≡ Refused n) ↔ Stops n (path (naccWalk p u vt s))
-nacc-refused p u vt s n = refused-when s (naccWalk p u vt s) n
+nacc-refused p u vt s n = refused-when inThree s (naccWalk p u vt s) n
 
 pub arguments-refused : (a : NaccArguments) (u vt : List (List Float)) (s : State) (n : ℕ) → (argumentsUpdate a u vt s .outcome ≡ Refused n) ↔ Stops n (path (argumentsWalk a u vt s))
-arguments-refused a u vt s n = refused-when s (argumentsWalk a u vt s) n
+arguments-refused a u vt s n = refused-when inThree s (argumentsWalk a u vt s) n
 
 -- ---- no test counts in a tip, the hardening step or the surface
 module _ (p : NaccPlasticity) where

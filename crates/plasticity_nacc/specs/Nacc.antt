@@ -44,6 +44,13 @@ pub data Way : Type 0 where
   inside : Float → Float → Way
   surface : Float → Float → Way
 
+-- the branch's number (docs/STEPS.md)
+abbrev pub wayNumber : Way → ℕ
+wayNumber (upper x y) = 1
+wayNumber (lower x y) = 2
+wayNumber (inside x y) = 0
+wayNumber (surface x y) = 3
+
 pub record Shape : Type 0 where
   pub sigma : List Float
   pub alpha : Float

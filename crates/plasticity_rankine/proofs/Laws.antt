@@ -10,11 +10,12 @@ use Rattle.answers.specs.declared.Answer.the-variants as answers
 use Rattle.answers.specs.declared.Triple.{Triple}
 use Rattle.tensor.specs.Axes.{allOf, pairwise}
 use Rattle.tensor.specs.Matrix.{add, sub, mul, one, three, rowSubOf, recomposeOf}
-use Rattle.tensor.specs.Finite.{rowFinite, matFinite, rowsFinite}
+use Rattle.tensor.specs.Finite.{rowFinite, matFinite}
 use Rattle.tensor.specs.Answer.{answeredVector, refusedVector}
 use Rattle.physics.specs.Norm.{normOf}
 use Rattle.plasticity.specs.State as law
-use Rattle.plasticity.specs.State.{inputsFinite, stateFinite, scalarsFinite}
+use Rattle.plasticity.specs.State.{inputsFinite, scalarsFinite}
+use Rattle.plasticity.specs.declared.Outcome.the-variants as outcome
 use Rattle.plasticity.specs.declared.Outcome.the-variants.{Stored}
 use Rattle.plasticity.specs.declared.Scalars.{Scalars}
 use Rattle.plasticity.specs.declared.State.{State}
@@ -25,8 +26,11 @@ use Rattle.walk.specs.Number.{finite-number, sub-number, finite-sub}
 use Rattle.walk.specs.Exact.{andThen, result-then}
 use Rattle.walk.specs.Every.{and-left, and-right, all-append}
 use Rattle.walk.specs.Steps.{least-answers}
-use Rattle.walk.specs.Matrix.{value-dots, value-entry, values-nums}
-use Rattle.walk.specs.Update.{stored, updatedOf, inputs-finite}
+use Rattle.walk.specs.Matrix.{value-dots, values-nums}
+use Rattle.walk.specs.Body as body
+use Rattle.walk.specs.Body.{Body, updatedOf, inputs-finite, finite-scalars}
+use Rattle.walk.specs.Update as update
+use Rattle.walk.specs.Update.{inThree}
 use Rattle.plasticity_rankine.specs.declared.Rank.{Rank}
 use Rattle.plasticity_rankine.specs.declared.Rank.the-variants.{R012, R021, R102, R120, R201, R210}
 use Rattle.plasticity_rankine.specs.declared.RankineArguments.{RankineArguments}
@@ -34,12 +38,14 @@ use Rattle.plasticity_rankine.specs.declared.RankinePlasticity.{RankineP
 use Rattle.plasticity_rankine.specs.Law.{lawOf, parametersOf, argumentsFloats, elasticFinite, parametersFinite, moduli}
 use Rattle.plasticity_rankine.specs.Sorting.{indexesOf, restoredOf}
 use Rattle.plasticity_rankine.specs.Projection.{Way, none-moves, one-moves, two-move, all-move, Moved, projectWalk, returnedWalk, callFloats, projectCall, argumentsCall, branchOf, movedOf, projectedOf, vectorOf, byBranch, projectOf, argumentsProject}
-use Rattle.plasticity_rankine.specs.Rankine.{stateOf, storeWalk, expsWalk, hardenWalk, movedWalk, wayWalk, softStrength, strainedWalk, runWalk, floats, rankineWalk, argumentsWalk, followedOf, rankineUpdate, grows, changes}
+use Rattle.plasticity_rankine.specs.Over as over
+use Rattle.plasticity_rankine.specs.Over.{hardenedOf}
+use Rattle.plasticity_rankine.specs.Rankine.{stateOf, storeWalk, wayWalk, softStrength, strainedWalk, runWalk, rankineWalk, argumentsWalk, followedOf, rankineUpdate, grows, changes}
 
 -- ---- the inputs
-pub inputs-law : (l : List Float) (u vt : List (List Float)) (s : State) → allOf finite (floats l u vt s) ≡ allOf finite l && inputsFinite u vt s
-unfolding floats
-inputs-law l u vt s = inputs-finite l u vt s
+pub inputs-law : (l : List Float) (u vt : List (List Float)) (s : State) → allOf finite (over.floats inThree l u vt s) ≡ allOf finite l && inputsFinite u vt s
+unfolding over.floats
+inputs-law l u vt s = inputs-finite inThree l u vt s
 
 leftwards : (a b c : Bool) → a && (b && c) ≡ a && b && c
 leftwards true b c = refl
@@ -58,11 +64,11 @@ twice f true false x m i w = refl
 twice f false n x m i w = refl
 
 pub arguments-law : (a : RankineArguments) (u vt : List (List Float)) (s : State)
-    → updatedOf s (result (argumentsWalk a u vt s)) ≡ cond (elasticFinite a) (rankineUpdate (lawOf a) u vt s) (law.refused 1 s)
-unfolding argumentsWalk rankineWalk
+    → update.updatedOf s (result (argumentsWalk a u vt s)) ≡ cond (elasticFinite a) (rankineUpdate (lawOf a) u vt s) (law.refused 1 s)
+unfolding over.argumentsWalk over.rankineWalk
 arguments-law a u vt s =
     rw (inputs-law (argumentsFloats a) u vt s, inputs-law (parametersOf (lawOf a)) u vt s)
-    (twice (updatedOf s) (finite (a .«young_modulus»)) (finite (a .«poisson_ratio»)) (finite (a .«tensile_strength»)) (finite (a .«softening_rate»)) (inputsFinite u vt s)
+    (twice (update.updatedOf s) (finite (a .«young_modulus»)) (finite (a .«poisson_ratio»)) (finite (a .«tensile_strength»)) (finite (a .«softening_rate»)) (inputsFinite u vt s)
     (result (moduli (lawOf a) (runWalk (lawOf a) (s .sigma) u vt s))))
 
 pub arguments-call : (a : RankineArguments) (e : List Float) (s : Float)
@@ -95,9 +101,8 @@ soft-of p x h f = finite-sub (p .«tensile_strength») (sub x one) h (sub-number
 pub soft-number : (p : RankinePlasticity) (u vt : List (List Float)) (s : State) → parametersFinite p && inputsFinite u vt s ≡ true
     → isNumber (value (softStrength p (s .scalars .«plastic_hardening»))) ≡ true
 soft-number p u vt s h =
-    let i = and-right (matFinite u && matFinite vt) (stateFinite s) (and-right (parametersFinite p) (inputsFinite u vt s) h) in
     soft-of p (s .scalars .«plastic_hardening») (strength-finite p u vt s h)
-    (hardening-of (s .scalars) (and-right (rowsFinite (s .f) && rowFinite (s .sigma)) (scalarsFinite (s .scalars)) i))
+    (hardening-of (s .scalars) (finite-scalars inThree u vt s (and-right (parametersFinite p) (inputsFinite u vt s) h)))
 
 -- ---- the strains in index order
 pub restored : (k : Rank) (x y z : Expr) → values (restoredOf (indexesOf k) (three x y z)) ≡ restoredOf (indexesOf k) (three (value x) (value y) (value z))
@@ -158,40 +163,56 @@ grows-law p hardening norm k h =
     same (isNumber grown) _ (result (k (num (minOf grown strength))))
     (λ i. least-answers 8 (num grown) (num strength) k i (finite-number strength h))
 
-module _ (p : RankinePlasticity) (u vt : List (List Float)) (s : State) where
+module _ {S R : Type 0} (b : Body S R) (p : RankinePlasticity) (u vt : List (List Float)) (s : S) where
   pub moved-law : (old : List Float) (new : List Expr)
-      → result (movedWalk p old new u vt s) ≡ asked (normOf (rowSubOf old (values new))) (λ norm. result (hardenWalk p (num norm) (values new) u vt s))
-  unfolding movedWalk
-  moved-law old new = changes-law old new (λ norm. hardenWalk p norm (values new) u vt s)
+      → result (over.movedWalk b p old new u vt s) ≡ asked (normOf (rowSubOf old (values new))) (λ norm. result (over.hardenWalk b p (num norm) (values new) u vt s))
+  unfolding over.movedWalk
+  moved-law old new = changes-law old new (λ norm. over.hardenWalk b p norm (values new) u vt s)
 
-  numbers-moved : (old : List Float) (new : List Expr) → result (movedWalk p old new u vt s) ≡ result (movedWalk p old (nums (values new)) u vt s)
+  numbers-moved : (old : List Float) (new : List Expr) → result (over.movedWalk b p old new u vt s) ≡ result (over.movedWalk b p old (nums (values new)) u vt s)
   numbers-moved old new = moved-law old new ∙ sym (moved-law old (nums (values new)) ∙ rw (values-nums (values new)))
 
   pub harden-law : (norm : Float) (e : List Float) → finite (p .«tensile_strength») ≡ true
-      → let grown = add (s .scalars .«plastic_hardening») (mul (p .«softening_rate») norm) in
-      result (hardenWalk p (num norm) e u vt s) ≡ cond (isNumber grown) (result (expsWalk e u vt (num (minOf grown (p .«tensile_strength»))) s)) (refused 3)
-  unfolding hardenWalk
-  harden-law norm e h = grows-law p (s .scalars .«plastic_hardening») norm (λ g. expsWalk e u vt g s) h
+      → let grown = add (b .scalars s .«plastic_hardening») (mul (p .«softening_rate») norm) in
+      result (over.hardenWalk b p (num norm) e u vt s) ≡ cond (isNumber grown) (result (over.expsWalk b e u vt (num (minOf grown (p .«tensile_strength»))) s)) (refused 3)
+  unfolding over.hardenWalk
+  harden-law norm e h = grows-law p (b .scalars s .«plastic_hardening») norm (λ g. over.expsWalk b e u vt g s) h
 
-  -- ---- the projection is followed by its branch
-  way-law : (w : Way) (old : List Float) (new : List Expr) → updatedOf s (result (wayWalk p w old new u vt s)) ≡ followedOf (branchOf w) p old (values new) u vt s
-  unfolding wayWalk
+  -- ---- the projection is followed by its branch, as the code hands it on
+  numbers-way : (w : Way) (old : List Float) (new : List Expr) → result (over.wayWalk b p w old new u vt s) ≡ result (over.wayWalk b p w old (nums (values new)) u vt s)
+  unfolding over.wayWalk
+  numbers-way (none-moves x y) old new = refl
+  numbers-way (one-moves x y) old new = numbers-moved old new
+  numbers-way (two-move x y) old new = numbers-moved old new
+  numbers-way (all-move x y) old new = numbers-moved old new
+
+  module _ (old : List Float) (followed : Ended Moved → R)
+      (goes : (w : Way) (new : List Expr) → updatedOf b s (result (over.wayWalk b p w old (nums (values new)) u vt s)) ≡ followed (given (record { way = w; strains = new })))
+      (stops : (n : ℕ) → b .handed s (outcome.Refused n) ≡ followed (refused n)) where
+    follows : (x : Ended Moved) → updatedOf b s (andThen x (λ q. result (over.wayWalk b p (q .way) old (q .strains) u vt s))) ≡ followed x
+    follows (given q) = ap (updatedOf b s) (numbers-way (q .way) old (q .strains)) ∙ goes (q .way) (q .strains)
+    follows (refused n) = stops n
+
+    pub strained-over : (project : RankinePlasticity → List Float → Expr → Walk Moved) → let soft = value (softStrength p (b .scalars s .«plastic_hardening»)) in isNumber soft ≡ true
+        → updatedOf b s (result (over.strainedWalk b project p old u vt s)) ≡ followed (result (project p old (num soft)))
+    unfolding over.strainedWalk
+    strained-over project h =
+        let w = project p old (num (value (softStrength p (b .scalars s .«plastic_hardening»)))) in
+        simp h (ap (updatedOf b s) (result-then w (λ q. over.wayWalk b p (q .way) old (q .strains) u vt s)) ∙ follows (result w))
+
+-- ---- three axes: the branch
+module _ (p : RankinePlasticity) (u vt : List (List Float)) (s : State) where
+  way-law : (w : Way) (old new : List Float) → update.updatedOf s (result (wayWalk p w old (nums new) u vt s)) ≡ followedOf (branchOf w) p old new u vt s
+  unfolding over.wayWalk
   way-law (none-moves x y) old new = refl
-  way-law (one-moves x y) old new = ap (updatedOf s) (numbers-moved old new)
-  way-law (two-move x y) old new = ap (updatedOf s) (numbers-moved old new)
-  way-law (all-move x y) old new = ap (updatedOf s) (numbers-moved old new)
-
-  follows : (old : List Float) (x : Ended Moved)
-      → updatedOf s (andThen x (λ q. result (wayWalk p (q .way) old (q .strains) u vt s))) ≡ followedOf (movedOf x .branch) p old (movedOf x .strains) u vt s
-  follows old (given q) = way-law (q .way) old (q .strains)
-  follows old (refused n) = refl
+  way-law (one-moves x y) old new = refl
+  way-law (two-move x y) old new = refl
+  way-law (all-move x y) old new = refl
 
   pub strained-law : (e : List Float) → let soft = value (softStrength p (s .scalars .«plastic_hardening»)) in isNumber soft ≡ true
-      → updatedOf s (result (strainedWalk p e u vt s)) ≡ followedOf (projectedOf p e soft .branch) p e (projectedOf p e soft .strains) u vt s
-  unfolding strainedWalk
+      → update.updatedOf s (result (strainedWalk p e u vt s)) ≡ followedOf (projectedOf p e soft .branch) p e (projectedOf p e soft .strains) u vt s
   strained-law e h =
-      let w = projectWalk p e (num (value (softStrength p (s .scalars .«plastic_hardening»)))) in
-      simp h (ap (updatedOf s) (result-then w (λ q. wayWalk p (q .way) e (q .strains) u vt s)) ∙ follows e (result w))
+      strained-over inThree p u vt s e (λ x. followedOf (movedOf x .branch) p e (movedOf x .strains) u vt s) (λ w new. way-law w e (values new)) (λ n. refl) projectWalk h
 
 -- ---- three axes: a function of the three entries, by their indexes, at once
 pub asks-law : {A : Type 0} (n : ℕ) (f : Function) (l : List Float) (k : List Float → Walk A) (t : Triple) → length l ≡ 3 → answersOf f l ≡ t
@@ -199,15 +220,8 @@ pub asks-law : {A : Type 0} (n : ℕ) (f : Function) (l : List Float) (k : List 
 asks-law n f l k t = asks-by asked refused (λ v k. refl) (λ m k. refl) (λ v. result (asks n f v k)) (λ v. result (k v)) f l t (λ x y z. refl)
 
 -- ---- the results as the code tests them
-stores : (s new : State) (h : Float) (b : Bool) → updatedOf s (cond b (given (stored new h)) (refused 3)) ≡ cond b (record { state = new; outcome = Stored h }) (law.refused 3 s)
-stores s new h true = refl
-stores s new h false = refl
-
 pub store-law : (u : List (List Float)) (sigma : List Float) (vt : List (List Float)) (h : Expr) (s : State)
-    → updatedOf s (result (storeWalk u sigma vt h s))
+    → update.updatedOf s (result (storeWalk u sigma vt h s))
     ≡ cond ((matFinite (recomposeOf u sigma vt) && rowFinite sigma) && finite (value h))
     (record { state = stateOf (recomposeOf u sigma vt) sigma (value h) s; outcome = Stored (value h) }) (law.refused 3 s)
-unfolding storeWalk
-store-law u sigma vt h s =
-    let f = recomposeOf u sigma vt in
-    simp (value-entry, values-nums) (stores s (stateOf f sigma (value h) s) (value h) ((matFinite f && rowFinite sigma) && finite (value h)))
+store-law u sigma vt h s = body.store-law inThree 10 u sigma vt (h ∷ []) (hardenedOf (value h) (s .scalars)) (value h) s

@@ -17,26 +17,29 @@ use Rattle.walk.specs.Exact.{Met, path, final, first, Refusal, answer, exactly,
 use Rattle.walk.specs.Reason.{final-then, last-then, Told, branch-told, Branchless, quiet, branchless-asks}
 use Rattle.walk.specs.Numbers.{Stops, Clear, first-stops, first-clear, refused-when, accepted-when}
 use Rattle.walk.specs.Answers.{stops-positive}
-use Rattle.walk.specs.Update.{Change, refusalOf, numberOf}
+use Rattle.walk.specs.Body as body
+use Rattle.walk.specs.Update.{inThree, Change, refusalOf, numberOf}
 use Rattle.plasticity_rankine.specs.declared.RankineArguments.{RankineArguments}
 use Rattle.plasticity_rankine.specs.declared.RankinePlasticity.{RankinePlasticity}
 use Rattle.plasticity_rankine.specs.declared.Sorted.{Sorted}
+use Rattle.plasticity_rankine.specs.Law.{lawOf}
 use Rattle.plasticity_rankine.specs.Sorting.{orderOf, arrangeOf}
 use Rattle.plasticity_rankine.specs.Projection.{firstSide, secondSide, thirdSide, backOne, backTwo, backAll, Way, none-moves, one-moves, two-move, all-move, Moved, ends, thirdWalk, secondWalk, firstWalk, projectWalk, projectCall, argumentsCall, vectorOf, projectOf, argumentsProject}
-use Rattle.plasticity_rankine.specs.Rankine.{storeWalk, expsWalk, hardenWalk, movedWalk, wayWalk, softStrength, strainedWalk, runWalk, rankineWalk, argumentsWalk, rankineUpdate, argumentsUpdate}
+use Rattle.plasticity_rankine.specs.Over as over
+use Rattle.plasticity_rankine.specs.Rankine.{storeWalk, movedWalk, wayWalk, softStrength, strainedWalk, runWalk, rankineWalk, argumentsWalk, rankineUpdate, argumentsUpdate}
 
 -- ---- the refusal
 pub rankine-refused : (p : RankinePlasticity) (u vt : List (List Float)) (s : State) (n : ℕ) → (rankineUpdate p u vt s .outcome ≡ Refused n) ↔ Stops n (path (rankineWalk p u vt s))
-rankine-refused p u vt s n = refused-when s (rankineWalk p u vt s) n
+rankine-refused p u vt s n = refused-when inThree s (rankineWalk p u vt s) n
 
 pub rankine-accepted : (p : RankinePlasticity) (u vt : List (List Float)) (s : State) → (refusalOf (rankineUpdate p u vt s .outcome) ≡ none) ↔ Clear (path (rankineWalk p u vt s))
-rankine-accepted p u vt s = accepted-when s (rankineWalk p u vt s)
+rankine-accepted p u vt s = accepted-when inThree s (rankineWalk p u vt s)
 
 pub arguments-refused : (a : RankineArguments) (u vt : List (List Float)) (s : State) (n : ℕ) → (argumentsUpdate a u vt s .outcome ≡ Refused n) ↔ Stops n (path (argumentsWalk a u vt s))
-arguments-refused a u vt s n = refused-when s (argumentsWalk a u vt s) n
+arguments-refused a u vt s n = refused-when inThree s (argumentsWalk a u vt s) n
 
 pub arguments-accepted : (a : RankineArguments) (u vt : List (List Float)) (s : State) → (refusalOf (argumentsUpdate a u vt s .outcome) ≡ none) ↔ Clear (path (argumentsWalk a u vt s))
-arguments-accepted a u vt s = accepted-when s (argumentsWalk a u vt s)
+arguments-accepted a u vt s = accepted-when inThree s (argumentsWalk a u vt s)
 
 -- of a call that answers a vector, 0 where it refuses nothing
 abbrev codeOf : Option ℕ → ℕ
@@ -141,11 +144,11 @@ module _ (p : RankinePlasticity) (k : List ℕ) (e : List Float) (r : Sorted) (s
 -- no test counts after the projection
 module _ (p : RankinePlasticity) (old : List Float) (new : List Expr) (u vt : List (List Float)) (s : State) where
   moved-branchless : Branchless (movedWalk p old new u vt s)
-  unfolding movedWalk hardenWalk expsWalk storeWalk
+  unfolding over.movedWalk over.hardenWalk over.expsWalk body.storeWalk
   moved-branchless = λ norm l h. branchless-asks 9 exp (values new) (λ sigma. storeWalk u sigma vt h s) (λ vs. tt)
 
   way-branchless : (w : Way) → Branchless (wayWalk p w old new u vt s)
-  unfolding wayWalk
+  unfolding over.wayWalk
   way-branchless (none-moves x y) = tt
   way-branchless (one-moves x y) = moved-branchless
   way-branchless (two-move x y) = moved-branchless
@@ -156,7 +159,7 @@ asks-last : {A : Type 0} (n : ℕ) (f : Function) (l : List Float) (k : List Flo
 asks-last n f [] k o = refl
 asks-last n f (x ∷ l) k o = asks-last n f l (λ vs. k (at f x ∷ vs)) o
 
-asks-final : {A : Type 0} (n : ℕ) (f : Function) (l : List Float) (k : List Float → Walk A) → final (asks n f l k) ≡ final (k (map (at f) l))
+pub asks-final : {A : Type 0} (n : ℕ) (f : Function) (l : List Float) (k : List Float → Walk A) → final (asks n f l k) ≡ final (k (map (at f) l))
 asks-final n f [] k = refl
 asks-final n f (x ∷ l) k = asks-final n f l (λ vs. k (at f x ∷ vs))
 
@@ -168,12 +171,12 @@ module _ (p : RankinePlasticity) (u vt : List (List Float)) (s : State) where
   abbrev pub projection : Walk Moved
   projection = projectWalk p strains (num (value (softStrength p (s .scalars .«plastic_hardening»))))
 
-  abbrev W : Moved → Walk Change
+  abbrev pub W : Moved → Walk Change
   W q = wayWalk p (q .way) strains (q .strains) u vt s
 
   -- the last test and its numbers are the branch's, and that branch gives the stored record
   pub rankine-reason : (last (path (rankineWalk p u vt s)) ≡ some (reasonOf (final projection .way))) × (final (rankineWalk p u vt s) ≡ final (W (final projection)))
-  unfolding rankineWalk runWalk strainedWalk
+  unfolding over.rankineWalk over.runWalk over.strainedWalk
   rankine-reason =
       let q = final projection in (
         asks-last 2 ln (s .sigma) (λ e. strainedWalk p e u vt s) none ∙ last-then projection W none
@@ -181,3 +184,9 @@ module _ (p : RankinePlasticity) (u vt : List (List Float)) (s : State) where
             ∙ first-told p (orderOf strains) strains (arrangeOf (orderOf strains) strains) (num (value (softStrength p (s .scalars .«plastic_hardening»)))) none,
         asks-final 2 ln (s .sigma) (λ e. strainedWalk p e u vt s) ∙ final-then projection W,
       )
+
+-- of the arguments
+pub arguments-reason : (a : RankineArguments) (u vt : List (List Float)) (s : State) → let q = final (projection (lawOf a) u vt s) in
+    (last (path (argumentsWalk a u vt s)) ≡ some (reasonOf (q .way))) × (final (argumentsWalk a u vt s) ≡ final (W (lawOf a) u vt s q))
+unfolding over.argumentsWalk over.rankineWalk
+arguments-reason a u vt s = rankine-reason (lawOf a) u vt s

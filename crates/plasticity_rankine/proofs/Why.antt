@@ -10,8 +10,7 @@ use Rattle.numbers.specs.Floats.{finite, isNumber, minOf}
 use Rattle.answers.specs.declared.Answer.the-variants as answers
 use Rattle.answers.specs.declared.Triple.{Triple}
 use Rattle.tensor.specs.Axes.{pairwise}
-use Rattle.tensor.specs.Matrix.{add, mul, rowSubOf, recomposeOf}
-use Rattle.tensor.specs.Finite.{rowFinite, matFinite}
+use Rattle.tensor.specs.Matrix.{add, mul, rowSubOf}
 use Rattle.physics.specs.Norm.{normOf}
 use Rattle.plasticity.specs.State.{inputsFinite}
 use Rattle.plasticity.specs.declared.State.{State}
@@ -19,7 +18,7 @@ use Rattle.walk.specs.Expr.{Expr, num, _-_, value, values, nums}
 use Rattle.walk.specs.Walk.{Function, Walk, asks, _then_, Ended, given, refused, result}
 use Rattle.walk.specs.Three.{answersOf, byThree, asks-by}
 use Rattle.walk.specs.Number.{finite-number}
-use Rattle.walk.specs.Matrix.{sum, value-dots, value-entry, values-nums}
+use Rattle.walk.specs.Matrix.{sum, value-dots, values-nums}
 use Rattle.reason.specs.declared.Reason.{Reason}
 use Rattle.reason.specs.declared.Reason.the-variants as reason
 use Rattle.reason.specs.Reason.{untold}
@@ -30,7 +29,8 @@ use Rattle.plasticity_rankine.specs.declared.Sorted.{Sorted}
 use Rattle.plasticity_rankine.specs.Law.{lawOf, parametersOf, argumentsFloats, elasticFinite, moduli}
 use Rattle.plasticity_rankine.specs.Sorting.{orderOf, arrangeOf}
 use Rattle.plasticity_rankine.specs.Projection.{firstSide, secondSide, thirdSide, Way, none-moves, one-moves, two-move, all-move, Moved, thirdWalk, secondWalk, firstWalk, projectWalk, branchOf, movedOf, projectedOf}
-use Rattle.plasticity_rankine.specs.Rankine.{storeWalk, expsWalk, hardenWalk, movedWalk, wayWalk, softStrength, strainedWalk, runWalk, rankineWalk, argumentsWalk}
+use Rattle.plasticity_rankine.specs.Over as over
+use Rattle.plasticity_rankine.specs.Rankine.{expsWalk, hardenWalk, movedWalk, wayWalk, softStrength, strainedWalk, runWalk, rankineWalk, argumentsWalk}
 use Rattle.plasticity_rankine.specs.Reason.{unmetOf, refusedAt, followedReason}
 use Rattle.plasticity_rankine.proofs.Laws.{inputs-law, change-law}
 
@@ -43,23 +43,17 @@ twice false n x m i w z = refl
 
 pub arguments-why : (a : RankineArguments) (u vt : List (List Float)) (s : State)
     → why untold (argumentsWalk a u vt s) ≡ cond (elasticFinite a) (why untold (rankineWalk (lawOf a) u vt s)) (reason.Refused 1 0)
-unfolding argumentsWalk rankineWalk
+unfolding over.argumentsWalk over.rankineWalk
 arguments-why a u vt s =
     rw (inputs-law (argumentsFloats a) u vt s, inputs-law (parametersOf (lawOf a)) u vt s)
     (twice (finite (a .«young_modulus»)) (finite (a .«poisson_ratio»)) (finite (a .«tensile_strength»)) (finite (a .«softening_rate»)) (inputsFinite u vt s)
     (why untold (moduli (lawOf a) (runWalk (lawOf a) (s .sigma) u vt s))) (reason.Refused 1 0))
 
--- ---- the results
-pub store-why : (r : Reason) (u : List (List Float)) (sigma : List Float) (vt : List (List Float)) (h : Float) (s : State)
-    → why r (storeWalk u sigma vt (num h) s) ≡ cond (matFinite (recomposeOf u sigma vt) && rowFinite sigma && finite h) r (reason.Refused 3 10)
-unfolding storeWalk
-store-why r u sigma vt h s = simp (value-entry, values-nums)
-
 -- ---- strains that moved
 module _ (r : Reason) (p : RankinePlasticity) (u vt : List (List Float)) (s : State) where
   pub moved-why : (old : List Float) (new : List Expr)
       → why r (movedWalk p old new u vt s) ≡ askedAt 7 (normOf (rowSubOf old (values new))) (λ norm. why r (hardenWalk p (num norm) (values new) u vt s))
-  unfolding movedWalk
+  unfolding over.movedWalk
   moved-why old new =
       let change = pairwise _-_ (nums old) new in
       rw (value-dots change change, change-law old new)
@@ -74,7 +68,7 @@ module _ (r : Reason) (p : RankinePlasticity) (u vt : List (List Float)) (s : St
   pub harden-why : (norm : Float) (e : List Float) → finite (p .«tensile_strength») ≡ true
       → let grown = add (s .scalars .«plastic_hardening») (mul (p .«softening_rate») norm) in
       why r (hardenWalk p (num norm) e u vt s) ≡ cond (isNumber grown) (why r (expsWalk e u vt (num (minOf grown (p .«tensile_strength»))) s)) (reason.Refused 3 8)
-  unfolding hardenWalk
+  unfolding over.hardenWalk
   harden-why norm e h =
       let grown = add (s .scalars .«plastic_hardening») (mul (p .«softening_rate») norm) in
       let strength = p .«tensile_strength» in
@@ -118,7 +112,7 @@ first-why p k e r s h =
 -- ---- the projection is followed by its branch
 module _ (p : RankinePlasticity) (u vt : List (List Float)) (s : State) where
   way-why : (w : Way) (old : List Float) (new : List Expr) → why (wayReason w) (wayWalk p w old new u vt s) ≡ followedReason (branchOf w) p old (values new) u vt s
-  unfolding wayWalk
+  unfolding over.wayWalk
   way-why (none-moves x y) old new = refl
   way-why (one-moves x y) old new = numbers-moved (reason.Tested 5 true x y) p u vt s old new
   way-why (two-move x y) old new = numbers-moved (reason.Tested 6 true x y) p u vt s old new
@@ -132,7 +126,7 @@ module _ (p : RankinePlasticity) (u vt : List (List Float)) (s : State) where
 
   pub strained-why : (e : List Float) → let soft = value (softStrength p (s .scalars .«plastic_hardening»)) in isNumber soft ≡ true
       → why untold (strainedWalk p e u vt s) ≡ followedReason (projectedOf p e soft .branch) p e (projectedOf p e soft .strains) u vt s
-  unfolding strainedWalk
+  unfolding over.strainedWalk
   strained-why e h =
       let soft = value (softStrength p (s .scalars .«plastic_hardening»)) in
       let w = projectWalk p e (num soft) in

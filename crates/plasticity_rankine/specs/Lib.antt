@@ -1,5 +1,6 @@
 pub mod Law
 pub mod Sorting
 pub mod Projection
+pub mod Over
 pub mod Rankine
 pub mod Reason

@@ -53,6 +53,13 @@ pub data Way : Type 0 where
   two-move : Float → Float → Way
   all-move : Float → Float → Way
 
+-- the branch's number (docs/STEPS.md): how many strains move
+abbrev pub wayNumber : Way → ℕ
+wayNumber (none-moves x y) = 0
+wayNumber (one-moves x y) = 1
+wayNumber (two-move x y) = 2
+wayNumber (all-move x y) = 3
+
 pub record Moved : Type 0 where
   pub way : Way
   pub strains : List Expr

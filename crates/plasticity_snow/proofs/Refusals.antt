@@ -1,4 +1,5 @@
--- RULES, section 6, of Snow, read off its walk: 1 of an input, 2 and 3 of the exponential's argument, 3 of the results, and nothing else.
+-- RULES, section 6, of Snow over any number of axes, read off its walk: 1 of an input, 2, 10 and 3 of the exponential's argument, 3 of the
+-- results, and nothing else.
 use mathlib.Core.Bool.{Bool, true, false, cond}
 use mathlib.Core.List.{List, [], _∷_, _++_}
 use mathlib.Core.Logic.{_↔_}
@@ -11,61 +12,64 @@ use Rattle.exponential.specs.Worked.{expOf}
 use Rattle.tensor.specs.Axes.{allOf}
 use Rattle.tensor.specs.Matrix.{sub, mul, div, productOf}
 use Rattle.plasticity.specs.declared.Outcome.the-variants.{Refused}
-use Rattle.plasticity.specs.declared.State.{State}
 use Rattle.walk.specs.Expr.{Expr, num, _-_, _*_, value, nums}
 use Rattle.walk.specs.Matrix.{value-product}
 use Rattle.walk.specs.Walk.{Walk, exp, inputs, Ended, refused, result}
 use Rattle.walk.specs.Exact.{Met, input, argument, result-of, path}
-use Rattle.walk.specs.Update.{Change, updatedOf, recomposed, refusalOf}
+use Rattle.walk.specs.Body.{Body, Change, refusalOf, updatedOf, storeWalk}
 use Rattle.walk.specs.Numbers.{Stops, Clear, refused-when, accepted-when}
 use Rattle.plasticity_snow.specs.declared.SnowPlasticity.{SnowPlasticity}
-use Rattle.plasticity_snow.specs.Snow.{one, clampedOf, determinant, floats, storeWalk, hardenWalk, runWalk, snowWalk, snowUpdate}
+use Rattle.plasticity_snow.specs.Snow.{one, clampedOf, determinant, floats, hardenWalk, runWalk, snowWalk, snowOver}
 use Rattle.plasticity_snow.proofs.Laws.{inputs-law, run-law}
 
-same : (b : Bool) (x y : Ended Change) → (b ≡ true → x ≡ y) → cond b x (refused 1) ≡ cond b y (refused 1)
+same : {A : Type 0} (c : Bool) (x y : Ended A) → (c ≡ true → x ≡ y) → cond c x (refused 1) ≡ cond c y (refused 1)
 same true x y h = h refl
 same false x y h = refl
 
-module _ (p : SnowPlasticity) (u vt : List (List Float)) (s : State) where
+module _ {S R : Type 0} (b : Body S R) (p : SnowPlasticity) (u vt : List (List Float)) (s : S) where
   abbrev new : List Float
-  new = clampedOf p (s .sigma)
+  new = clampedOf p (b .sigma s)
+
+  abbrev worked : Expr
+  worked = determinant (b .scalars s .«plastic_determinant») (b .sigma s) new
 
   abbrev pub exponent : Expr
-  exponent = num (p .«hardening_coeff») * (num one - determinant (s .scalars .«plastic_determinant») (s .sigma) new)
+  exponent = num (p .«hardening_coeff») * (num one - worked)
 
   -- the clamp's steps meet no NaN and stand in no refusal
   abbrev pub snowPath : List Met
   snowPath =
-      input (floats p u vt s)
+      input (floats b p u vt s)
       ∷ argument 3 exp exponent
-      ∷ result-of 4 (recomposed u new vt ++ nums new ∷ (determinant (s .scalars .«plastic_determinant») (s .sigma) new ∷ num (expOf (value exponent)) ∷ []) ∷ [])
+      ∷ result-of 4 (b .formulas u new vt ++ nums new ∷ (worked ∷ num (expOf (value exponent)) ∷ []) ∷ [])
       ∷ []
 
-  abbrev unclamped : Walk Change
-  unclamped = inputs (floats p u vt s) (hardenWalk p new u vt s)
+  abbrev unclamped : Walk (Change S)
+  unclamped = inputs (floats b p u vt s) (hardenWalk b p new u vt s)
 
   its-path : path unclamped ≡ snowPath
   unfolding hardenWalk storeWalk
   its-path = refl
 
-  answers : snowUpdate p u vt s ≡ updatedOf s (result unclamped)
+  answers : snowOver b p u vt s ≡ updatedOf b s (result unclamped)
   unfolding snowWalk
   answers =
-      ap (updatedOf s) (same (allOf finite (floats p u vt s)) (result (runWalk p u vt s)) (result (hardenWalk p new u vt s)) (λ h. run-law p u vt s (sym (inputs-law p u vt s) ∙ h)))
+      ap (updatedOf b s)
+      (same (allOf finite (floats b p u vt s)) (result (runWalk b p u vt s)) (result (hardenWalk b p new u vt s)) (λ h. run-law b p u vt s (sym (inputs-law b p u vt s) ∙ h)))
 
   -- "When, and only then"
-  pub snow-refused : (n : ℕ) → (snowUpdate p u vt s .outcome ≡ Refused n) ↔ Stops n snowPath
+  pub snow-refused : (n : ℕ) → (b .outcomeIn (snowOver b p u vt s) ≡ Refused n) ↔ Stops n snowPath
   snow-refused n = (
-    λ e. subst (Stops n) its-path (refused-when s unclamped n .0 (sym (ap (λ v. v .outcome) answers) ∙ e)),
-    λ q. ap (λ v. v .outcome) answers ∙ refused-when s unclamped n .1 (subst (Stops n) (sym its-path) q),
+    λ e. subst (Stops n) its-path (refused-when b s unclamped n .0 (sym (ap (b .outcomeIn) answers) ∙ e)),
+    λ q. ap (b .outcomeIn) answers ∙ refused-when b s unclamped n .1 (subst (Stops n) (sym its-path) q),
   )
 
-  pub snow-accepted : (refusalOf (snowUpdate p u vt s .outcome) ≡ none) ↔ Clear snowPath
+  pub snow-accepted : (refusalOf (b .outcomeIn (snowOver b p u vt s)) ≡ none) ↔ Clear snowPath
   snow-accepted = (
-    λ e. subst Clear its-path (accepted-when s unclamped .0 (sym (ap (λ v. refusalOf (v .outcome)) answers) ∙ e)),
-    λ q. ap (λ v. refusalOf (v .outcome)) answers ∙ accepted-when s unclamped .1 (subst Clear (sym its-path) q),
+    λ e. subst Clear its-path (accepted-when b s unclamped .0 (sym (ap (λ v. refusalOf (b .outcomeIn v)) answers) ∙ e)),
+    λ q. ap (λ v. refusalOf (b .outcomeIn v)) answers ∙ accepted-when b s unclamped .1 (subst Clear (sym its-path) q),
   )
 
   -- as the code works it
-  pub exponent-worked : value exponent ≡ mul (p .«hardening_coeff») (sub one (mul (s .scalars .«plastic_determinant») (div (productOf (s .sigma)) (productOf new))))
-  exponent-worked = rw (value-product (s .sigma), value-product new)
+  pub exponent-worked : value exponent ≡ mul (p .«hardening_coeff») (sub one (mul (b .scalars s .«plastic_determinant») (div (productOf (b .sigma s)) (productOf new))))
+  exponent-worked = rw (value-product (b .sigma s), value-product new)

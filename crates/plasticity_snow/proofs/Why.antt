@@ -1,26 +1,25 @@
 -- The reason (ticket 8) as the steps tell it and as the code hands it on; and bounds by computation.
-use mathlib.Core.Bool.{true, cond, _&&_}
+use mathlib.Core.Bool.{true, _&&_}
 use mathlib.Core.List.{List, [], _∷_}
-use mathlib.Core.Path.{_≡_, refl, sym, _∙_}
+use mathlib.Core.Path.{_≡_, refl, _∙_}
 use lib.Ieee as Ieee
 use lib.Ieee.{Float, binary64, ofBits}
 use Rattle.numbers.specs.Floats.{finite, isNumber, maxOf}
-use Rattle.tensor.specs.Matrix.{add, sub, recomposeOf}
-use Rattle.tensor.specs.Finite.{rowFinite, matFinite, rowsFinite}
-use Rattle.plasticity.specs.State.{inputsFinite, stateFinite, scalarsFinite}
+use Rattle.tensor.specs.Matrix.{add, sub}
+use Rattle.plasticity.specs.State.{inputsFinite}
 use Rattle.plasticity.specs.declared.State.{State}
 use Rattle.walk.specs.Expr.{Expr, num, _+_, _-_, value}
 use Rattle.walk.specs.Walk.{Walk, least}
 use Rattle.walk.specs.Reason.{Branchless}
-use Rattle.walk.specs.Number.{finite-number, max-number, add-number, sub-number}
-use Rattle.walk.specs.Every.{and-left, and-right, every, all-every}
-use Rattle.walk.specs.Matrix.{value-entry, values-nums}
+use Rattle.walk.specs.Number.{finite-number, max-number}
+use Rattle.walk.specs.Every.{and-left, and-right, every}
+use Rattle.walk.specs.Body.{storeWalk}
+use Rattle.walk.specs.Update.{inThree}
 use Rattle.reason.specs.declared.Bound.the-variants.{Neither, Lower, Upper}
 use Rattle.reason.specs.declared.Reason.{Reason}
-use Rattle.reason.specs.declared.Reason.the-variants as reason
 use Rattle.reason.specs.Why.{why, most-why, least-why}
 use Rattle.plasticity_snow.specs.declared.SnowPlasticity.{SnowPlasticity}
-use Rattle.plasticity_snow.specs.Snow.{one, defaults, parametersFinite, clampOf, clampedOf, clamps, storeWalk, hardenWalk, runWalk, snowWalk}
+use Rattle.plasticity_snow.specs.Snow.{one, defaults, parametersFinite, clampOf, clampedOf, clamps, hardenWalk, runWalk, snowWalk}
 use Rattle.plasticity_snow.specs.Reason.{boundOf}
 use Rattle.plasticity_snow.proofs.Laws.{bounds-numbers, sigma-finite}
 
@@ -38,26 +37,20 @@ module _ {A : Type 0} (r : Reason) (p : SnowPlasticity) (low : isNumber (sub one
       ∙ clamps-why l (λ vs. k (clampOf p x ∷ vs)) (and-right (finite x) (every finite l) h)
 
 pub run-why : (r : Reason) (p : SnowPlasticity) (u vt : List (List Float)) (s : State) → parametersFinite p && inputsFinite u vt s ≡ true
-    → why r (runWalk p u vt s) ≡ why r (hardenWalk p (clampedOf p (s .sigma)) u vt s)
+    → why r (runWalk inThree p u vt s) ≡ why r (hardenWalk inThree p (clampedOf p (s .sigma)) u vt s)
 unfolding runWalk
 run-why r p u vt s h =
-    let q = bounds-numbers p u vt s h in
-    clamps-why r p (q .0) (q .1) (s .sigma) (λ new. hardenWalk p new u vt s) (sigma-finite p u vt s h)
-
-pub store-why : (r : Reason) (u : List (List Float)) (sigma : List Float) (vt : List (List Float)) (d h : Expr) (s : State)
-    → why r (storeWalk u sigma vt d h s)
-    ≡ cond (matFinite (recomposeOf u sigma vt) && rowFinite sigma && (finite (value d) && finite (value h))) r (reason.Refused 3 4)
-unfolding storeWalk
-store-why r u sigma vt d h s = simp (value-entry, values-nums)
+    let q = bounds-numbers inThree p u vt s h in
+    clamps-why r p (q .0) (q .1) (s .sigma) (λ new. hardenWalk inThree p new u vt s) (sigma-finite inThree p u vt s h)
 
 -- no test of section 5 stands in the walk
 clamps-branchless : {A : Type 0} (p : SnowPlasticity) (l : List Float) (k : List Float → Walk A) → ((vs : List Float) → Branchless (k vs)) → Branchless (clamps p l k)
 clamps-branchless p [] k h = h []
 clamps-branchless p (x ∷ l) k h = λ y z. clamps-branchless p l (λ vs. k (value z ∷ vs)) (λ vs. h (value z ∷ vs))
 
-pub snow-branchless : (p : SnowPlasticity) (u vt : List (List Float)) (s : State) → Branchless (snowWalk p u vt s)
+pub snow-branchless : (p : SnowPlasticity) (u vt : List (List Float)) (s : State) → Branchless (snowWalk inThree p u vt s)
 unfolding snowWalk runWalk hardenWalk storeWalk
-snow-branchless p u vt s = clamps-branchless p (s .sigma) (λ new. hardenWalk p new u vt s) (λ new h. tt)
+snow-branchless p u vt s = clamps-branchless p (s .sigma) (λ new. hardenWalk inThree p new u vt s) (λ new h. tt)
 
 -- ---- by computation
 abbrev of : Float → Float → SnowPlasticity

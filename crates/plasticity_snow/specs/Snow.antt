@@ -5,13 +5,15 @@ use lib.Ieee.{Float, binary64, ofBits}
 pub use Rattle.numbers.specs.Constants.{one}
 use Rattle.numbers.specs.Floats.{finite, maxOf, minOf}
 use Rattle.tensor.specs.Axes.{allOf}
-use Rattle.tensor.specs.Matrix.{add, sub, recomposeOf, rowsOf}
+use Rattle.tensor.specs.Matrix.{add, sub}
+use Rattle.plasticity.specs.declared.Scalars.{Scalars}
 use Rattle.plasticity.specs.declared.State.{State}
 use Rattle.plasticity.specs.declared.Updated.{Updated}
-use Rattle.walk.specs.Expr.{Expr, num, _+_, _-_, _*_, _/_, value, nums}
-use Rattle.walk.specs.Walk.{Walk, exp, inputs, ask, most, least, results, end, result}
+use Rattle.walk.specs.Expr.{Expr, num, _+_, _-_, _*_, _/_, value}
+use Rattle.walk.specs.Walk.{Walk, exp, inputs, ask, most, least, result}
 use Rattle.walk.specs.Matrix.{product}
-use Rattle.walk.specs.Update.{Change, stored, updatedOf, recomposed, floatsOf}
+use Rattle.walk.specs.Body.{Body, Change, updatedOf, floatsOf, storeWalk}
+use Rattle.walk.specs.Update.{inThree}
 use Rattle.plasticity_snow.specs.declared.SnowPlasticity.{SnowPlasticity}
 
 -- defaults 0.025, 0.0045, 10
@@ -48,43 +50,40 @@ clamps p (x ∷ l) k =
 abbrev pub determinant : Float → List Float → List Float → Expr
 determinant d old new = num d * (product old / product new)
 
--- F, sigma, the plastic determinant and the elastic hardening are new
-abbrev pub stateOf : List (List Float) → List Float → Float → Float → State → State
-stateOf f sigma d h s =
+-- the plastic determinant and the elastic hardening are new
+abbrev pub scalarsOf : Float → Float → Scalars → Scalars
+scalarsOf d h x =
     record {
-      f = rowsOf f;
-      sigma = sigma;
-      scalars = record {
-        phase = s .scalars .phase;
-        «plastic_determinant» = d;
-        «plastic_hardening» = s .scalars .«plastic_hardening»;
-        «elastic_hardening» = h;
-        «log_gain» = s .scalars .«log_gain»;
-        alpha = s .scalars .alpha;
-      };
+      phase = x .phase;
+      «plastic_determinant» = d;
+      «plastic_hardening» = x .«plastic_hardening»;
+      «elastic_hardening» = h;
+      «log_gain» = x .«log_gain»;
+      alpha = x .alpha;
     }
 
--- stored with the elastic hardening as the amount, where all results are finite
-unfoldable pub storeWalk : List (List Float) → List Float → List (List Float) → Expr → Expr → State → Walk Change
-storeWalk u sigma vt d h s =
-    results 4 (recomposed u sigma vt ++ nums sigma ∷ (d ∷ h ∷ []) ∷ [])
-    (end (stored (stateOf (recomposeOf u sigma vt) sigma (value d) (value h) s) (value h)))
+-- ---- the law, over however many axes
+module _ {S R : Type 0} (b : Body S R) (p : SnowPlasticity) where
+  -- elastic hardening becomes exp (coefficient * (1 - plastic determinant)), and is the amount; stored where all results are finite
+  unfoldable pub hardenWalk : List Float → List (List Float) → List (List Float) → S → Walk (Change S)
+  hardenWalk new u vt s =
+      let d = determinant (b .scalars s .«plastic_determinant») (b .sigma s) new in
+      ask 3 exp (num (p .«hardening_coeff») * (num one - d)) (λ h.
+      storeWalk b 4 u new vt (d ∷ h ∷ []) (scalarsOf (value d) (value h) (b .scalars s)) (value h))
 
--- elastic hardening becomes exp (coefficient * (1 - plastic determinant))
-unfoldable pub hardenWalk : SnowPlasticity → List Float → List (List Float) → List (List Float) → State → Walk Change
-hardenWalk p new u vt s =
-    let d = determinant (s .scalars .«plastic_determinant») (s .sigma) new in
-    ask 3 exp (num (p .«hardening_coeff») * (num one - d)) (λ h. storeWalk u new vt d h s)
+  unfoldable pub runWalk : List (List Float) → List (List Float) → S → Walk (Change S)
+  runWalk u vt s = clamps p (b .sigma s) (λ new. hardenWalk new u vt s)
 
-unfoldable pub runWalk : SnowPlasticity → List (List Float) → List (List Float) → State → Walk Change
-runWalk p u vt s = clamps p (s .sigma) (λ new. hardenWalk p new u vt s)
+  -- parameters first
+  unfoldable pub floats : List (List Float) → List (List Float) → S → List Float
+  floats u vt s = parametersOf p ++ floatsOf b u vt s
 
--- parameters first
-unfoldable pub floats : SnowPlasticity → List (List Float) → List (List Float) → State → List Float
-floats p u vt s = parametersOf p ++ floatsOf u vt s
+  unfoldable pub snowWalk : List (List Float) → List (List Float) → S → Walk (Change S)
+  snowWalk u vt s = inputs (floats u vt s) (runWalk u vt s)
 
-unfoldable pub snowWalk : SnowPlasticity → List (List Float) → List (List Float) → State → Walk Change
-snowWalk p u vt s = inputs (floats p u vt s) (runWalk p u vt s)
+  abbrev pub snowOver : List (List Float) → List (List Float) → S → R
+  snowOver u vt s = updatedOf b s (result (snowWalk u vt s))
 
+-- three axes
 abbrev pub snowUpdate : SnowPlasticity → List (List Float) → List (List Float) → State → Updated
-snowUpdate p u vt s = updatedOf s (result (snowWalk p u vt s))
+snowUpdate p u vt s = snowOver inThree p u vt s

@@ -14,8 +14,9 @@ ghost use Rattle.tensor.specs.Matrix.{add, sub, mul, div, productOf};
 ghost use Rattle.plasticity.specs.State.{inputsFinite};
 ghost use Rattle.walk.specs.Expr.{num};
 ghost use Rattle.walk.specs.Walk.{result};
-ghost use Rattle.walk.specs.Update.{updatedOf};
-ghost use Rattle.plasticity_snow.specs.Snow.{one, defaults, clampOf, clampedOf, parametersFinite, stateOf, storeWalk, runWalk, snowUpdate};
+ghost use Rattle.walk.specs.Body.{keptOf};
+ghost use Rattle.walk.specs.Update.{inThree, stateOf, updatedOf};
+ghost use Rattle.plasticity_snow.specs.Snow.{one, defaults, clampOf, clampedOf, parametersFinite, scalarsOf, runWalk, snowUpdate};
 
 pub struct SnowPlasticity {
     pub min_epsilon: f64,
@@ -100,7 +101,7 @@ impl SnowPlasticity {
     // one in the determinant is in what the exponential is given.
     fn run(self, u: [[f64; 3]; 3], vt: [[f64; 3]; 3], s: State) -> Updated
         requires { ⌜ parametersFinite self && inputsFinite u vt s ≡ true ⌝ }
-        ensures { λ r. ⌜ r ≡ updatedOf s (result (runWalk self u vt s)) ⌝ }
+        ensures { λ r. ⌜ r ≡ updatedOf s (result (runWalk inThree self u vt s)) ⌝ }
     {
         let sigma = s.sigma;
         let new = self.clamped(sigma);
@@ -164,7 +165,7 @@ fn results_finite(f: [[f64; 3]; 3], sigma: [f64; 3], d: f64, hardening: f64) -> 
 }
 
 fn state_of(f: [[f64; 3]; 3], sigma: [f64; 3], d: f64, hardening: f64, s: State) -> State
-    ensures { λ r. ⌜ r ≡ stateOf f sigma d hardening s ⌝ }
+    ensures { λ r. ⌜ r ≡ stateOf f sigma (scalarsOf d hardening (s .scalars)) ⌝ }
 {
     State {
         f: tensor::to_rows(f),
@@ -189,7 +190,7 @@ fn store(
     hardening: f64,
     s: State,
 ) -> Updated
-    ensures { λ r. ⌜ r ≡ updatedOf s (result (storeWalk u sigma vt (num d) (num hardening) s)) ⌝ }
+    ensures { λ r. ⌜ r ≡ keptOf inThree u sigma vt (finite d && finite hardening) (scalarsOf d hardening (s .scalars)) hardening s ⌝ }
 {
     let f = tensor::recompose(u, sigma, vt);
     if results_finite(f, sigma, d, hardening) {

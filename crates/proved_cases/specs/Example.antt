@@ -7,10 +7,10 @@ use Rattle.exponential.specs.Worked.{expOf, nearestOf, restOf, seriesOf, scaleB
 use Rattle.tensor.specs.Matrix.{one, sumOf, dotOf, scaledRowOf}
 use Rattle.plasticity.specs.declared.Outcome.the-variants.{Stored}
 use Rattle.walk.specs.Matrix.{total, product, entry}
-use Rattle.walk.specs.Update.{floatsOf}
-use Rattle.plasticity_snow.specs.Snow.{defaults, snowUpdate, snowWalk, floats, runWalk, hardenWalk, storeWalk}
+use Rattle.plasticity_snow.specs.Snow.{defaults, snowUpdate, snowWalk, floats, runWalk, hardenWalk}
+use Rattle.walk.specs.Body as body
 use Rattle.proved_cases.specs.Table.{identity, rested}
 
 pub example : snowUpdate defaults identity identity rested .outcome ≡ Stored one
-unfolding snowWalk floats floatsOf runWalk hardenWalk storeWalk total product entry sumOf dotOf scaledRowOf expOf nearestOf restOf seriesOf scaleBits timesOf finite isNumber ofBits toBits Ieee.add Ieee.sub Ieee.mul Ieee.div Ieee.neg Ieee.le Ieee.lt Ieee.eq
+unfolding snowWalk floats body.floatsOf runWalk hardenWalk body.storeWalk total product entry sumOf dotOf scaledRowOf expOf nearestOf restOf seriesOf scaleBits timesOf finite isNumber ofBits toBits Ieee.add Ieee.sub Ieee.mul Ieee.div Ieee.neg Ieee.le Ieee.lt Ieee.eq
 example = refl

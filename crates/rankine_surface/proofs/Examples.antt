@@ -16,12 +16,12 @@ use Rattle.exponential.specs.Worked as exp
 use Rattle.physics.specs.Physics.{lambdaOf, shearModulusOf}
 use Rattle.tensor.specs.Matrix.{one, sumOf, dotOf, scaledRowOf}
 use Rattle.walk.specs.Matrix as formula
-use Rattle.walk.specs.Update as walk
 use Rattle.plasticity_rankine.specs.declared.RankineArguments.{RankineArguments}
 use Rattle.plasticity_rankine.specs.Sorting.{orderOf}
 use Rattle.plasticity_rankine.specs.Law.{argumentsOf, lawOf}
 use Rattle.plasticity_rankine.specs.Projection.{thirdWalk, secondWalk, firstWalk}
-use Rattle.plasticity_rankine.specs.Rankine.{storeWalk, expsWalk, hardenWalk, movedWalk, wayWalk, strainedWalk, runWalk, floats, argumentsWalk}
+use Rattle.walk.specs.Body as body
+use Rattle.plasticity_rankine.specs.Over as over
 use Rattle.record.specs.Layout.{bare, determinantAt, determinantRight}
 use Rattle.model.specs.declared.Model.the-variants.{Rankine}
 use Rattle.particles.specs.Plain.{updatedAt, lawAt, recordLaw}
@@ -65,7 +65,7 @@ abbrev Taken : ℕ → Type 0
 Taken x = Premises arguments (of x) (recordLaw (Rankine arguments) (of x) .outcome)
 
 taken : Taken two × Taken unit × T (not (firstTestAt arguments (of two))) × T (firstTestAt arguments (of unit))
-unfolding recordLaw lawAt updatedAt determinantRight determinantAt argumentsWalk floats walk.floatsOf runWalk strainedWalk firstWalk secondWalk thirdWalk wayWalk movedWalk hardenWalk expsWalk storeWalk logsOf formula.total formula.sum formula.entry orderOf lambdaOf shearModulusOf ln.lnOf ln.exponentOf ln.fractionOf ln.partOf exp.expOf exp.nearestOf exp.restOf exp.seriesOf exp.scaleBits exp.timesOf sqrtOf floorRoot rootIn mag val L fits finite isNumber ofBits toBits round size Ieee.add Ieee.sub Ieee.mul Ieee.div Ieee.neg Ieee.le Ieee.lt Ieee.eq sumOf dotOf scaledRowOf
+unfolding recordLaw lawAt updatedAt determinantRight determinantAt over.argumentsWalk over.floats body.floatsOf over.runWalk over.strainedWalk firstWalk secondWalk thirdWalk over.wayWalk over.movedWalk over.hardenWalk over.expsWalk body.storeWalk logsOf formula.total formula.sum formula.entry orderOf lambdaOf shearModulusOf ln.lnOf ln.exponentOf ln.fractionOf ln.partOf exp.expOf exp.nearestOf exp.restOf exp.seriesOf exp.scaleBits exp.timesOf sqrtOf floorRoot rootIn mag val L fits finite isNumber ofBits toBits round size Ieee.add Ieee.sub Ieee.mul Ieee.div Ieee.neg Ieee.le Ieee.lt Ieee.eq sumOf dotOf scaledRowOf
 taken =
     let g : Ranges (lawOf arguments) (softenedAt arguments (of two)) = record { mu-low = lit≤ tt; mu-high = lit≤ tt; la-low = lit≤ tt; la-high = lit≤ tt; s-size = lit≤ tt } in (
       record { accepted = tt; ranges = g; s-finite = tt; strains = (lit≤ tt, (lit≤ tt, (lit≤ tt, tt))); strength = tt },

@@ -5,6 +5,7 @@ pub mod Indexed
 pub mod Strains
 pub mod Hardening
 pub mod Archive
+pub mod Over
 pub mod Update
 pub mod Places
 pub mod Passes

@@ -8,7 +8,7 @@ use lib.Dec.{T, ltb, ltb→lt, nltb→le}
 use lib.ListN.{length, take, getD, length-take, length-drop, List·getD-append}
 use lib.Seq.{drop-at, take-all, getD-append-add}
 use Rattle.record.specs.Layout.{floats}
-use Rattle.particles.specs.Pass.{Worked, codeOf, valueOf, recordAt, worked, answers, wellSized}
+use Rattle.particles.specs.Pass.{Worked, codeOf, valueOf, recordAt, worked, answers, wellSized, workedOver, answersOver}
 use Rattle.particles.proofs.PassLaws.{Keeps, worked-length, answers-length}
 use Rattle.sheet_run.proofs.Parts.{record-front}
 use Rattle.rankine_surface.specs.Record.{Found, foundOf, InPass, passFound}
@@ -34,11 +34,11 @@ module _ (law : List ℕ → Worked) (k : Keeps law) (l : List ℕ) where
   record-long i h = simp (length-take, length-drop) (omega arith)
 
   worked-at : (n i : ℕ) → n * floats ≤ length l → i < n → recordAt (worked law l n) i ≡ law (recordAt l i) .after
-  unfolding worked
+  unfolding workedOver
   worked-at zero i h j = absurd (omega arith)
   worked-at (suc n) i h j =
       let s = law (recordAt l n) .after in
-      let e : length (worked law l n) ≡ n * floats = worked-length law k l n (omega arith) in
+      let e : length (worked law l n) ≡ n * floats = worked-length floats law k l n (omega arith) in
       split i n j
       (λ m. record-front (worked law l n) s i (omega arith) ∙ worked-at n i (omega arith) m)
       (λ m. subst (λ (x : ℕ). recordAt (worked law l n ++ s) x ≡ law (recordAt l x) .after) (sym m)
@@ -51,12 +51,12 @@ module _ (law : List ℕ → Worked) (k : Keeps law) (l : List ℕ) where
   v i = valueOf (law (recordAt l i) .outcome)
 
   answers-at : (n i : ℕ) → i < n → (getD (answers law l n) (i * 2) 0 ≡ o i) × (getD (answers law l n) (i * 2 + 1) 0 ≡ v i)
-  unfolding answers
+  unfolding answersOver
   answers-at zero i j = absurd (omega arith)
   answers-at (suc n) i j =
       let q = answers law l n in
       let s = o n ∷ v n ∷ [] in
-      let e : length q ≡ n * 2 = answers-length law l n in
+      let e : length q ≡ n * 2 = answers-length floats law l n in
       split i n j
       (λ m. let a = answers-at n i m in
       (List·getD-append q s 0 (i * 2) (omega arith) ∙ a .0, List·getD-append q s 0 (i * 2 + 1) (omega arith) ∙ a .1))

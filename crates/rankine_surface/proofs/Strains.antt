@@ -18,11 +18,8 @@ use Rattle.logarithm.specs.Worked as logarithm
 use Rattle.logarithm.proofs.Laws.{ln-near}
 use Rattle.exponential.specs.Worked as exponential
 use Rattle.plasticity.specs.declared.State.{State}
-use Rattle.walk.specs.Expr.{Expr}
 use Rattle.walk.specs.Walk.{Function, exp, ln, lowOf, highOf, at, answerOf, Walk, asks, end, Ended, given, refused, asked, result}
 use Rattle.walk.specs.Exact.{andThen}
-use Rattle.plasticity_rankine.specs.declared.RankinePlasticity.{RankinePlasticity}
-use Rattle.plasticity_rankine.specs.Rankine.{storeWalk, expsWalk, strainedWalk, runWalk}
 use Rattle.rankine_surface.specs.Axes.{Each}
 use Rattle.rankine_surface.specs.Surface.{numbersOf, logsOf, expsOf, logStrains, Small, Strain, F64}
 
@@ -115,16 +112,6 @@ logs-follow g sigma = follows 2 ln g sigma (λ vs. vs)
 pub exps-follow : {A : Type 0} (g : List Float → Walk A) (e : List Float) → result (asks 9 exp e g) ≡ andThen (expsOf e) (λ sigma. result (g sigma))
 unfolding expsOf
 exps-follow g e = follows 9 exp g e (λ vs. vs)
-
-pub logs-then : (law : RankinePlasticity) (sigma : List Float) (u vt : List (List Float)) (st : State)
-    → result (runWalk law sigma u vt st) ≡ andThen (logsOf sigma) (λ e. result (strainedWalk law e u vt st))
-unfolding runWalk
-logs-then law sigma u vt st = logs-follow (λ e. strainedWalk law e u vt st) sigma
-
-pub exps-then : (e : List Float) (u vt : List (List Float)) (h : Expr) (st : State)
-    → result (expsWalk e u vt h st) ≡ andThen (expsOf e) (λ sigma. result (storeWalk u sigma vt h st))
-unfolding expsWalk
-exps-then e u vt h st = exps-follow (λ sigma. storeWalk u sigma vt h st) e
 
 -- ---- a function whose range takes each entry answers each
 a-number : (l x : Float) → T (le l x) → isNumber x ≡ true

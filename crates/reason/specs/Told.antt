@@ -15,7 +15,8 @@ use Rattle.walk.specs.Exact as walk
 use Rattle.walk.specs.Exact.{Met, Refusal, path, final, first, last, answer, exactly}
 use Rattle.walk.specs.Numbers.{Stops, first-stops}
 use Rattle.walk.specs.Answers.{stops-positive}
-use Rattle.walk.specs.Update.{Change, updatedOf, refusalOf, numberOf, refused-exactly}
+use Rattle.walk.specs.Body.{refused-exactly}
+use Rattle.walk.specs.Update.{Change, updatedOf, refusalOf, numberOf, inThree}
 use Rattle.reason.specs.declared.Reason.{Reason}
 use Rattle.reason.specs.declared.Reason.the-variants.{Tested, Zeros, Flagged, Clamped, Refused}
 use Rattle.reason.specs.Reason.{comparedAs, lastOr, refusedOr, reasonFrom, untold, lastAs, reasonOf}
@@ -65,7 +66,7 @@ module _ (d : Reason) (h : reasonNumber d ≡ 0) where
   module _ (s : State) (w : Walk Change) where
     pub number-told : reasonNumber (reasonFrom d w) ≡ outcomeNumber (updatedOf s (result w) .outcome)
     unfolding reasonFrom
-    number-told = told (first (path w)) (last (path w)) ∙ sym (coded (updatedOf s (result w) .outcome) ∙ ap codeOf (refused-exactly s w))
+    number-told = told (first (path w)) (last (path w)) ∙ sym (coded (updatedOf s (result w) .outcome) ∙ ap codeOf (refused-exactly inThree s w))
 
     passes : reasonNumber (reasonFrom d w) ≡ 0 → first (path w) ≡ none
     unfolding reasonFrom

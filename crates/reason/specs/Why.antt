@@ -1,5 +1,5 @@
 -- The reason worked step by step, as the code works it: r is the last test's so far. It is what is read off the path.
-use mathlib.Core.Bool.{Bool, true, false, cond}
+use mathlib.Core.Bool.{Bool, true, false, cond, _&&_}
 use mathlib.Core.List.{List, map}
 use mathlib.Core.Option.{Option, some, none}
 use mathlib.Core.Path.{_≡_, refl, ap, _∙_}
@@ -11,11 +11,14 @@ use Rattle.answers.specs.declared.Answer.{Answer}
 use Rattle.answers.specs.declared.Answer.the-variants as answers
 use Rattle.numbers.specs.Floats.{finite, isNumber, maxOf, minOf}
 use Rattle.tensor.specs.Axes.{allOf}
+use Rattle.tensor.specs.Finite.{rowFinite, matFinite}
+use Rattle.plasticity.specs.declared.Scalars.{Scalars}
 use Rattle.walk.specs.Expr.{Expr, num, value, values, whole-tells}
 use Rattle.walk.specs.Walk.{Function, lowOf, highOf, at, Test, holds, compared, Walk, inputs, ask, works, either, branch, split, most, least, results, end, _then_, Ended, given, refused, asked, answerOf, numbers, tellable, picked, result}
 use Rattle.walk.specs.Number.{picked-number}
 use Rattle.walk.specs.Exact as walk
 use Rattle.walk.specs.Exact.{Met, Refusal, path, first, stop, placeOf, lastFrom, all-clean, told, picked-clean, rows-clean}
+use Rattle.walk.specs.Body.{Body, storeWalk, results-finite}
 use Rattle.walk.specs.Update.{Change}
 use Rattle.reason.specs.declared.Reason.{Reason}
 use Rattle.reason.specs.declared.Reason.the-variants.{Refused}
@@ -165,3 +168,9 @@ module _ {A : Type 0} (r : Reason) where
 
   pub least-why : (n : ℕ) (a b : Expr) (k : Expr → Walk A) → isNumber (value a) ≡ true → isNumber (value b) ≡ true → why r (least n a b k) ≡ why r (k (num (minOf (value a) (value b))))
   least-why n a b k h i = simp (h, i, picked-number (Ieee.lt (value a) (value b)) (value a) (value b) h i)
+
+-- ---- the results of a law, over any number of axes
+pub store-why : {S R : Type 0} (b : Body S R) (r : Reason) (n : ℕ) (u : List (List Float)) (sigma : List Float) (vt : List (List Float)) (named : List Expr) (x : Scalars) (amount : Float)
+    → why r (storeWalk b n u sigma vt named x amount) ≡ cond ((matFinite (b .recomposed u sigma vt) && rowFinite sigma) && allOf finite (values named)) r (Refused 3 n)
+unfolding storeWalk
+store-why b r n u sigma vt named x amount = ap (λ c. cond c r (Refused 3 n)) (results-finite b u sigma vt named)

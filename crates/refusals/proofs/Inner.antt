@@ -19,6 +19,10 @@ use Rattle.plasticity_nacc.specs.declared.NaccPlasticity.{NaccPlasticity}
 use Rattle.plasticity_nacc.specs.declared.Trial.{Trial}
 use Rattle.plasticity_nacc.specs.Axes.{Axes, two-axes, three-axes, dimOf}
 use Rattle.plasticity_nacc.specs.Nacc as nacc
+use Rattle.plasticity_rankine.specs.Over as rankine-over
+use Rattle.plasticity_drucker_prager.specs.Over as drucker-over
+use Rattle.walk.specs.Body as body
+use Rattle.walk.specs.Update.{inThree}
 use Rattle.elasticity_corotated_linear.specs.declared.CorotatedLinearElasticity.{CorotatedLinearElasticity}
 use Rattle.elasticity_corotated_linear.specs.Principal.{principalWalk}
 use Rattle.model.specs.declared.Model.{Model}
@@ -32,21 +36,21 @@ module _ {A : Type 0} where
 
 module _ (u vt : List (List Float)) (s : State) where
   -- ---- Snow
-  harden : (p : SnowPlasticity) (new : List Float) → Inner (snow.hardenWalk p new u vt s)
-  unfolding snow.hardenWalk snow.storeWalk
+  harden : (p : SnowPlasticity) (new : List Float) → Inner (snow.hardenWalk inThree p new u vt s)
+  unfolding snow.hardenWalk body.storeWalk
   harden p new = λ h. tt
 
-  snow-inner : (p : SnowPlasticity) → Inner (snow.runWalk p u vt s)
+  snow-inner : (p : SnowPlasticity) → Inner (snow.runWalk inThree p u vt s)
   unfolding snow.runWalk
-  snow-inner p = inner-clamps p (s .sigma) (λ new. snow.hardenWalk p new u vt s) (harden p)
+  snow-inner p = inner-clamps p (s .sigma) (λ new. snow.hardenWalk inThree p new u vt s) (harden p)
 
   -- ---- Rankine
   rankine-moved : (p : RankinePlasticity) (old : List Float) (new : List Expr) → Inner (rankine.movedWalk p old new u vt s)
-  unfolding rankine.movedWalk rankine.hardenWalk rankine.expsWalk rankine.storeWalk
+  unfolding rankine-over.movedWalk rankine-over.hardenWalk rankine-over.expsWalk body.storeWalk
   rankine-moved p old new = λ norm l h. inner-asks 9 _ (values new) _ (λ sigma. tt)
 
   rankine-way : (p : RankinePlasticity) (w : rankine-projection.Way) (old : List Float) (new : List Expr) → Inner (rankine.wayWalk p w old new u vt s)
-  unfolding rankine.wayWalk
+  unfolding rankine-over.wayWalk
   rankine-way p (rankine-projection.none-moves x y) old new = tt
   rankine-way p (rankine-projection.one-moves x y) old new = rankine-moved p old new
   rankine-way p (rankine-projection.two-move x y) old new = rankine-moved p old new
@@ -58,11 +62,11 @@ rankine-project p e soft = (tt, (tt, (tt, tt)))
 
 module _ (u vt : List (List Float)) (s : State) where
   rankine-strained : (p : RankinePlasticity) (e : List Float) → Inner (rankine.strainedWalk p e u vt s)
-  unfolding rankine.strainedWalk
+  unfolding rankine-over.strainedWalk
   rankine-strained p e = λ l. inner-then (rankine-projection.projectWalk p e _) _ (rankine-project p e _) (λ q. rankine-way u vt s p (q .way) e (q .strains))
 
   pub rankine-inner : (p : RankinePlasticity) → Inner (rankine.runWalk p (s .sigma) u vt s)
-  unfolding rankine.runWalk
+  unfolding rankine-over.runWalk
   rankine-inner p = inner-asks 2 _ (s .sigma) _ (rankine-strained p)
 
 -- ---- Drucker-Prager
@@ -94,18 +98,18 @@ module _ (p : DruckerPragerPlasticity) where
 
   module _ (u vt : List (List Float)) (s : State) where
     drucker-moved : (sigma : List Float) (dq : Float) → Inner (drucker-prager.movedWalk p sigma dq u vt s)
-    unfolding drucker-prager.movedWalk drucker-prager.storeWalk
+    unfolding drucker-over.movedWalk body.storeWalk
     drucker-moved sigma dq = λ a b c x y. tt
 
     drucker-way : (w : drucker-projection.Way) (sigma : List Float) (dq : Float) → Inner (drucker-prager.wayWalk p w sigma dq u vt s)
-    unfolding drucker-prager.wayWalk
+    unfolding drucker-over.wayWalk
     drucker-way (drucker-projection.isotropic x) sigma dq = drucker-moved sigma dq
     drucker-way (drucker-projection.expanding x) sigma dq = drucker-moved sigma dq
     drucker-way (drucker-projection.inside x) sigma dq = tt
     drucker-way (drucker-projection.surface x norm) sigma dq = drucker-moved sigma dq
 
     drucker-inner : Inner (drucker-prager.runWalk p u vt s)
-    unfolding drucker-prager.runWalk
+    unfolding drucker-over.runWalk
     drucker-inner =
         let q = s .scalars .«plastic_hardening» in (
           tt,

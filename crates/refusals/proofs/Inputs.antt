@@ -9,10 +9,10 @@ use native.Mathlib.Omega.{arith}
 use lib.Ieee.{Float}
 use Rattle.numbers.specs.Floats.{finite}
 use Rattle.tensor.specs.Axes.{allOf}
-use Rattle.walk.specs.Update.{floatsOf}
 use Rattle.record.specs.Layout.{floats, floatAt}
 use Rattle.refusals.specs.Refusals.{NotFinite, SomeNotFinite, recordFloats, RecordNotFinite}
 use Rattle.refusals.proofs.Numbers.{not-finite}
+use Rattle.walk.specs.Body as body
 
 pub no-both : (b : Bool) → b ≡ true → b ≡ false → ⊥
 no-both b t f = true≢false (sym t ∙ f)
@@ -55,7 +55,7 @@ module _ (f : ℕ → Float) where
 
 module _ (r : List ℕ) where
   all-listed : recordFloats r ≡ listed (floatAt r) 0 floats
-  unfolding floatsOf listed
+  unfolding body.floatsOf listed
   all-listed = refl
 
   pub places : SomeNotFinite (recordFloats r) ↔ RecordNotFinite r

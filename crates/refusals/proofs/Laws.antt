@@ -23,7 +23,7 @@ use Rattle.walk.specs.Expr.{num}
 use Rattle.walk.specs.Numbers.{as-outcome}
 use Rattle.walk.specs.Walk.{Walk, inputs, end, _then_, Ended, given, refused, result}
 use Rattle.walk.specs.Exact.{path}
-use Rattle.walk.specs.Update.{floatsOf, refusalOf}
+use Rattle.walk.specs.Update.{inThree, floatsOf, refusalOf}
 use Rattle.walk.specs.Answers.{refusalIn}
 use Rattle.plasticity_rankine.specs.declared.Made as rankine-made-type
 use Rattle.plasticity_rankine.specs.declared.Made.the-variants as rankine-made
@@ -44,6 +44,7 @@ use Rattle.plasticity_nacc.specs.declared.NaccArguments.{NaccArguments}
 use Rattle.plasticity_nacc.specs.declared.NaccPlasticity.{NaccPlasticity}
 use Rattle.plasticity_nacc.specs.Law as nacc-law
 use Rattle.plasticity_nacc.specs.Nacc as nacc
+use Rattle.plasticity_rankine.specs.Over as rankine-over
 use Rattle.failure_maximum_stress.specs.declared.Made as limits-made-type
 use Rattle.failure_maximum_stress.specs.declared.Made.the-variants as limits-made
 use Rattle.failure_maximum_stress.specs.Failure.{limitsOf}
@@ -237,9 +238,9 @@ module _ (u vt : List (List Float)) (s : State) where
   updates m = outcome-numbers s (modelUpdate m u vt s .outcome) (parametersOf m ++ floatsOf u vt s) (stepsOf m u vt s) (steps-inner m u vt s) (ap (λ v. v .outcome) (walked m u vt s))
 
   rankine-updates : (p : RankinePlasticity) → Refuses (rankine.rankineUpdate p u vt s .outcome) (path (rankine.rankineWalk p u vt s))
-  unfolding rankine.rankineWalk
+  unfolding rankine-over.rankineWalk
   rankine-updates p =
-      outcome-numbers s (rankine.rankineUpdate p u vt s .outcome) (rankine.floats (rankine-law.parametersOf p) u vt s) (rankine-law.moduli p (rankine.runWalk p (s .sigma) u vt s))
+      outcome-numbers s (rankine.rankineUpdate p u vt s .outcome) (rankine-over.floats inThree (rankine-law.parametersOf p) u vt s) (rankine-law.moduli p (rankine.runWalk p (s .sigma) u vt s))
       (rankine-inner u vt s p) refl
 
   nacc-updates : (p : NaccPlasticity) → Refuses (nacc.naccUpdate p u vt s .outcome) (path (nacc.naccWalk p u vt s))

@@ -15,7 +15,7 @@ use Rattle.particles.specs.declared.list.Counts.{Counts}
 use Rattle.particles.specs.declared.list.Passed.the-variants as pass
 use Rattle.particles.specs.declared.failure.FailureCounts.{FailureCounts}
 use Rattle.particles.specs.declared.failure.PassedWithFailure.the-variants as failure-pass
-use Rattle.particles.specs.Pass.{Worked, codeOf, valueOf, recordAt, answers, wellSized, passAnswers}
+use Rattle.particles.specs.Pass.{Worked, codeOf, valueOf, recordAt, answers, wellSized, passAnswers, answersOver}
 use Rattle.particles.proofs.PassLaws.{answers-length}
 use Rattle.walk.specs.Exact.{Met}
 use Rattle.sheet_run.proofs.Parts.{taken, sized, quotient, well}
@@ -63,11 +63,11 @@ module _ (law : List ℕ → Worked) (l : List ℕ) where
   at i = law (recordAt l i) .outcome
 
   answer : (k i : ℕ) → i < k → (getD (answers law l k) (i * 2) 0 ≡ codeOf (at i)) × (getD (answers law l k) (i * 2 + 1) 0 ≡ valueOf (at i))
-  unfolding answers
+  unfolding answersOver
   answer zero i h = absurd (omega arith)
   answer (suc k) i h =
       let q = answers law l k in
-      let n = answers-length law l k in
+      let n = answers-length floats law l k in
       let p = codeOf (at k) ∷ valueOf (at k) ∷ [] in
       ⊎-elim
       (λ e.

@@ -21,7 +21,7 @@ use Rattle.plasticity.specs.declared.State.{State}
 use Rattle.walk.specs.Expr.{num, value}
 use Rattle.walk.specs.Walk.{Function, lowOf, highOf, at, Walk, inputs, ask, results, end, _then_, given}
 use Rattle.walk.specs.Exact.{Met, input, argument, worked, tested, result-of, path}
-use Rattle.walk.specs.Update.{Change, untouched, stored, updatedOf, floatsOf}
+use Rattle.walk.specs.Update.{inThree, Change, untouched, stored, updatedOf, floatsOf}
 use Rattle.walk.specs.Numbers as walk
 use Rattle.walk.specs.Numbers.{Stops, Comes, Clear}
 use Rattle.record.specs.Layout.{floats, placeDeterminant, floatAt, uAt, vtAt, stateAt, determinantRight}
@@ -102,7 +102,7 @@ parametersOf (Nacc a) = nacc-law.argumentsFloats a
 
 -- "1 is tested first, then the moduli by 3, then the steps"
 abbrev pub stepsOf : Model → List (List Float) → List (List Float) → State → Walk Change
-stepsOf (Snow p) u vt s = snow.runWalk p u vt s
+stepsOf (Snow p) u vt s = snow.runWalk inThree p u vt s
 stepsOf (Rankine a) u vt s = rankine-law.moduli (rankine-law.lawOf a) (rankine.runWalk (rankine-law.lawOf a) (s .sigma) u vt s)
 stepsOf (DruckerPrager p) u vt s = drucker-prager.runWalk p u vt s
 stepsOf (Nacc a) u vt s = nacc.moduli (nacc-law.lawOf a) (nacc.runWalk (nacc-law.lawOf a) u vt s)

@@ -55,7 +55,7 @@ ran-length s xs out e =
     let p = passRecords (lawOf h) a b in
     let m : length p ≡ k * floats =
     ap length (ran.taken (wellSized a b) (worked (lawOf h) a k) a (well a b (h .count) q))
-    ∙ worked-length (lawOf h) (record-keeps _) a k (omega arith) in
+    ∙ worked-length floats (lawOf h) (record-keeps _) a k (omega arith) in
     let d = quotient a b (h .count) (q .0) in
     let f = read-fits s (length xs) (n .1) in
     let r = room-length s xs in

@@ -12,7 +12,7 @@ use borrow.Author.Tests.{eq-eqb}
 use Rattle.plasticity.specs.declared.Updated.{Updated}
 use Rattle.record.specs.Layout.{floats, determinantRight}
 use Rattle.model.specs.declared.Model.{Model}
-use Rattle.particles.specs.Pass.{Worked, recordAt, worked, wellSized, passRecords}
+use Rattle.particles.specs.Pass.{Worked, recordAt, worked, wellSized, passRecords, workedOver}
 use Rattle.particles.specs.Plain.{updatedAt, kept, recordLaw}
 use Rattle.particles.proofs.PassLaws.{record-keeps, worked-length}
 use Rattle.particles.proofs.Written.{kept-right}
@@ -53,7 +53,7 @@ module _ (model : ℕ) (p v w : List ℕ) (n : length v ≡ length w) where
 
 -- ---- a pass, record by record, leaves determinants right
 worked-each : (law : List ℕ → Worked) (l : List ℕ) (n : ℕ) → worked law l n ≡ each (λ r. law r .after) floats n l
-unfolding worked each
+unfolding workedOver each
 worked-each law l zero = refl
 worked-each law l (suc n) = ap (λ (t : List ℕ). t ++ law (recordAt l n) .after) (worked-each law l n)
 
@@ -123,7 +123,7 @@ module _ (s xs out : List ℕ) (b : Below 256 s) (e : ranOf s xs out .refusal �
       let q = parts s xs out (n .0) (n .1) in
       let p : passRecords (lawOf g) a o ≡ worked (lawOf g) a (g .count) =
       ran.taken (wellSized a o) (worked (lawOf g) a (length a / floats)) a (well a o (g .count) q) ∙ ap (worked (lawOf g) a) (quotient a o (g .count) (q .0)) in
-      let m : length (passRecords (lawOf g) a o) ≡ g .count * floats = ap length p ∙ worked-length (lawOf g) (record-keeps _) a (g .count) (omega (arith, q .0)) in
+      let m : length (passRecords (lawOf g) a o) ≡ g .count * floats = ap length p ∙ worked-length floats (lawOf g) (record-keeps _) a (g .count) (omega (arith, q .0)) in
       rw (n .0, eq-eqb (g .refusal) 0 (n .1)) (take-at (passRecords (lawOf g) a o) (drop (g .count * floats) (roomOf s xs)) (g .count * floats) m)
       ∙ p ∙ ap (λ (l : List ℕ). worked (lawOf g) l (g .count)) (records-read s xs (n .1))
 

@@ -113,7 +113,7 @@ module _ (s xs out : List ℕ) (w : wellSized xs out ≡ true) (e : readOf s (le
       let k = length a / floats in
       let m : length p ≡ k * floats =
       ap length (taken (wellSized a b) (worked (lawOf h) a k) a (well a b (h .count) parts))
-      ∙ worked-length (lawOf h) (record-keeps _) a k (omega arith) in
+      ∙ worked-length floats (lawOf h) (record-keeps _) a k (omega arith) in
       let q = quotient a b (h .count) (parts .0) in
       ap (λ (t : List ℕ). recordAt t i) (opened (frontRecords h (roomOf s xs) out) (roomOf s xs) xs)
       ∙ record-front p (drop (h .count * floats) (roomOf s xs)) i (omega arith)
@@ -124,7 +124,7 @@ module _ (s xs out : List ℕ) (w : wellSized xs out ≡ true) (e : readOf s (le
       let p = passAnswers (lawOf h) a b in
       let k = length a / floats in
       let m : length p ≡ k * 2 =
-      ap length (taken (wellSized a b) (answers (lawOf h) a k) b (well a b (h .count) parts)) ∙ answers-length (lawOf h) a k in
+      ap length (taken (wellSized a b) (answers (lawOf h) a k) b (well a b (h .count) parts)) ∙ answers-length floats (lawOf h) a k in
       let q = quotient a b (h .count) (parts .0) in
       ap (λ (t : List ℕ). getD t j 0) (opened (frontAnswers h (roomOf s xs) out) out out)
       ∙ List·getD-append p (drop (h .count * 2) out) 0 j (omega arith)

@@ -5,7 +5,8 @@ use mathlib.Core.List.{List, _++_}
 use Prim.Native.Nat.{ℕ, _/_, _<_}
 use native.Mathlib.Omega.{arith}
 use lib.Dec.{eqb}
-use lib.ListN.{length, set}
+use lib.ListN.{length, set, take, drop}
+use lib.Seq.{take-at}
 use Rattle.answers.specs.Refusals.{wrongLength, outOfRange, tallyFull}
 use Rattle.record.specs.Layout.{floats}
 use Rattle.particles.specs.Pass.{Worked, worked, answers, wellSized}
@@ -13,8 +14,8 @@ use Rattle.tallies.specs.declared.tally.Tally.{Tally}
 use Rattle.tallies.specs.Zones.{zonesFit, moveFits}
 use Rattle.tallies.specs.Tallies.{byZone, recount, recounted, clearedAt, talliedIn, clearRefusal, clearTallies, moveRefusal, moveTallies, passZonesFit, passRoom, passRefusal, passGoes, recordsAfter, answersAfter, passTallies}
 use Rattle.tallies.specs.Words.{wordsIn}
-use Rattle.tallies.proofs.ByZone.{by-by}
-use Rattle.tallies.proofs.WordLaws.{words-same, room-same, begins-by}
+use Rattle.tallies.proofs.ByZone.{length-by, by-by}
+use Rattle.tallies.proofs.WordLaws.{words-same, room-same, begins, begins-by}
 
 module _ (n : ℕ) (ts us : List Tally) (e : length ts ≡ n) (ws : List ℕ) where
   words-by : (f : ℕ → Tally → Tally) → wordsIn (byZone f 0 (ts ++ us)) n ≡ wordsIn (byZone f 0 ts) n
@@ -26,9 +27,18 @@ module _ (n : ℕ) (ts us : List Tally) (e : length ts ≡ n) (ws : List ℕ) wh
   done-or f true = words-by f
   done-or f false = refl
 
-  pub clear-lent : (particles : ℕ) (zones : List ℕ)
-      → cond (eqb (clearRefusal particles zones n) 0) (wordsIn (clearTallies particles zones n (ts ++ us)) n) ws ≡ cond (zonesFit particles zones n) (wordsIn (clearTallies particles zones n ts) n) ws
-  clear-lent particles zones = done-or (clearedAt zones) (zonesFit particles zones n)
+  -- only the first n of the array were lent
+  pub clear-array-lent : (particles : ℕ) (zones : List ℕ)
+      → cond (eqb (clearRefusal particles zones n) 0) (wordsIn (clearTallies particles zones n (take n (ts ++ us)) ++ drop n (ts ++ us)) n) ws ≡ cond (zonesFit particles zones n) (wordsIn (clearTallies particles zones n ts) n) ws
+  clear-array-lent particles zones =
+      ap (λ (l : List Tally). cond (eqb (clearRefusal particles zones n) 0) (wordsIn (clearTallies particles zones n l ++ drop n (ts ++ us)) n) ws) (take-at ts us n e) ∙ go (zonesFit particles zones n)
+    where
+      go : (b : Bool)
+          → cond (eqb (cond b 0 outOfRange) 0) (wordsIn (cond b (byZone (clearedAt zones) 0 ts) ts ++ drop n (ts ++ us)) n) ws ≡ cond b (wordsIn (cond b (byZone (clearedAt zones) 0 ts) ts) n) ws
+      go true =
+          words-same (byZone (clearedAt zones) 0 ts ++ drop n (ts ++ us)) (byZone (clearedAt zones) 0 ts) n
+          (λ z h. begins (byZone (clearedAt zones) 0 ts) (drop n (ts ++ us)) z (omega (arith, h, e, length-by (clearedAt zones) ts)))
+      go false = refl
 
   pub move-lent : (particles p z : ℕ) (zones : List ℕ)
       → cond (eqb (moveRefusal particles p z zones n) 0) (wordsIn (moveTallies particles p z zones n (ts ++ us)) n) ws ≡ cond (moveFits particles p z zones n) (wordsIn (moveTallies particles p z zones n ts) n) ws

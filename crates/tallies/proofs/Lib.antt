@@ -1,10 +1,16 @@
 pub mod Again
 pub mod ByZone
 pub mod Counting
+pub mod Cut
 pub mod Exactly
+pub mod HostSequence
 pub mod LentLaws
 pub mod Local
+pub mod PassPlan
 pub mod Passing
 pub mod Sequence
+pub mod Settling
+pub mod Telling
 pub mod WordLaws
+pub mod WordsBack
 pub mod ZoneLaws

@@ -1,20 +1,23 @@
 -- A pass over lent tallies, record by record: what is so at the head of a turn, what the turn asks of the step, and what stands after the last. Assumes nothing.
 use mathlib.Core.Path.{_≡_, refl, ap, _∙_}
-use mathlib.Core.Bool.{true}
+use mathlib.Core.Bool.{Bool, true}
 use mathlib.Core.List.{List, _++_}
-use Prim.Native.Nat.{ℕ, _+_, _*_, _≤_, _<_, _^_, zero-le}
+use Prim.Native.Nat.{ℕ, _+_, _*_, _≤_, _<_, zero-le}
 use native.Mathlib.Numerals.{add-one-le}
 use native.Mathlib.Omega.{arith}
 use lib.ListN.{length, getD, set, drop}
+use Rattle.plasticity.specs.declared.Outcome.{Outcome}
+use Rattle.plasticity.specs.declared.Outcome.the-variants.{Untouched, Stored, Refused}
 use Rattle.record.specs.Layout.{floats}
 use Rattle.particles.specs.declared.step.Step.{Step}
 use Rattle.particles.specs.Step.{stepLaw}
-use Rattle.particles.specs.Pass.{Worked, recordAt, replaced, answered, worked, answers}
+use Rattle.particles.specs.Pass.{Worked, recordAt, replaced, answered, worked, answers, workedOver, answersOver}
 use Rattle.particles.proofs.JudgedLaws.{step-keeps}
 use Rattle.particles.proofs.PassLaws.{worked-step, answers-step, records-length, record-same, answers-long, all-done}
 use Rattle.tallies.specs.declared.tally.Tally.{Tally}
+use Rattle.tallies.specs.declared.tally.Told.{Told}
 use Rattle.tallies.specs.Zones.{belowIn}
-use Rattle.tallies.specs.Tallies.{none, tallied, byZone, recount, recounted, talliedIn, roomIn}
+use Rattle.tallies.specs.Tallies.{none, tallied, toldOf, grown, Small, byZone, recount, recounted, talliedIn, roomIn}
 use Rattle.tallies.proofs.ByZone.{get-by, length-by, is-by, set-by}
 use Rattle.tallies.proofs.ZoneLaws.{Within, below-at, listed-grows, tallied-here, tallied-other, tallied-within, room-at, room-of}
 
@@ -24,9 +27,6 @@ Ready xs out zones ts n =
     (length xs ≡ length zones * floats) × (length out ≡ length zones * 2) × (n ≤ length ts) × (belowIn n zones (length zones) ≡ true) × (roomIn (recounted zones ts) n ≡ true)
 
 -- a tally with room stays far below what a word holds
-abbrev pub Small : Tally → Type 0
-Small t = (t .untouched < 2 ^ 63) × (t .stored < 2 ^ 63) × (t .refused < 2 ^ 63) × (t .failed < 2 ^ 63)
-
 small : (law : List ℕ → Worked) (xs zones : List ℕ) (ts : List Tally) (n i z : ℕ) → i ≤ length zones → z < n → z < length ts → roomIn (recounted zones ts) n ≡ true
     → Small (getD (byZone (talliedIn law xs zones i) 0 ts) z none)
 small law xs zones ts n i z h l k e =
@@ -48,10 +48,10 @@ pub record State (s : Step) (xs₀ out₀ zones : List ℕ) (ts₀ : List Tally)
   pub records : xs ≡ worked (stepLaw s) xs₀ i ++ drop (i * floats) xs₀
   pub answered-so : out ≡ answers (stepLaw s) xs₀ i ++ drop (i * 2) out₀
 
--- what the step ensures of record i, in t
-abbrev pub Stepped : Step → ℕ → List ℕ → List ℕ → Tally → Tally → List ℕ → List ℕ → Type 0
-Stepped s i xs out t r xs′ out′ =
-    (r ≡ tallied t (stepLaw s (recordAt xs i) .outcome) (stepLaw s (recordAt xs i) .failed)) × (xs′ ≡ replaced xs i (stepLaw s (recordAt xs i) .after)) × (out′ ≡ answered out i (stepLaw s (recordAt xs i) .outcome))
+-- what the step ensures of record i
+abbrev pub Stepped : Step → ℕ → List ℕ → List ℕ → Told → List ℕ → List ℕ → Type 0
+Stepped s i xs out d xs′ out′ =
+    (d ≡ toldOf (stepLaw s (recordAt xs i) .outcome) (stepLaw s (recordAt xs i) .failed)) × (xs′ ≡ replaced xs i (stepLaw s (recordAt xs i) .after)) × (out′ ≡ answered out i (stepLaw s (recordAt xs i) .outcome))
 
 -- and what the pass ensures
 abbrev pub Passed : Step → List ℕ → List ℕ → List Tally → List Tally → List ℕ → List ℕ → Type 0
@@ -64,17 +64,23 @@ unfolding talliedIn
 none-counted law xs zones ts = is-by (talliedIn law xs zones 0) ts ts refl (λ z l. refl)
 
 pub none-worked : (law : List ℕ → Worked) (xs : List ℕ) → xs ≡ worked law xs 0 ++ drop (0 * floats) xs
-unfolding worked
+unfolding workedOver
 none-worked law xs = refl
 
 pub none-answered : (law : List ℕ → Worked) (xs out : List ℕ) → out ≡ answers law xs 0 ++ drop (0 * 2) out
-unfolding answers
+unfolding answersOver
 none-answered law xs out = refl
 
 -- of an array's tallies
 pub ready-of : (xs out zones : List ℕ) (ts : List Tally) (n : ℕ) → length ts ≡ 256
     → (length xs ≡ length zones * floats) × (length out ≡ length zones * 2) × (n ≤ 256) × (belowIn n zones (length zones) ≡ true) × (roomIn (recounted zones ts) n ≡ true) → Ready xs out zones ts n
 ready-of xs out zones ts n e q = (q .0, q .1, omega (arith, e, q .2), q .3, q .4)
+
+-- what the step tells grows as a pass counts
+pub grown-tallied : (t : Tally) (o : Outcome) (f : Bool) → grown t (toldOf o f) ≡ tallied t o f
+grown-tallied t Untouched f = refl
+grown-tallied t (Stored a) f = refl
+grown-tallied t (Refused n) f = refl
 
 module _ (s : Step) (xs₀ out₀ zones : List ℕ) (ts₀ : List Tally) where
   abbrev pub start : State s xs₀ out₀ zones ts₀
@@ -91,10 +97,10 @@ module _ (s : Step) (xs₀ out₀ zones : List ℕ) (ts₀ : List Tally) where
     told = getD (st .ts) zone none
 
     pub xs-long : length (st .xs) ≡ length xs₀
-    xs-long = let h = st .upto in records-length law (step-keeps s) xs₀ (st .i) (st .xs) (st .records) (omega (arith, h, ready .0))
+    xs-long = let h = st .upto in records-length floats law (step-keeps s) xs₀ (st .i) (st .xs) (st .records) (omega (arith, h, ready .0))
 
     pub out-long : length (st .out) ≡ length out₀
-    out-long = let h = st .upto in answers-long law xs₀ out₀ (st .i) (st .out) (st .answered-so) (omega (arith, h, ready .1))
+    out-long = let h = st .upto in answers-long floats law xs₀ out₀ (st .i) (st .out) (st .answered-so) (omega (arith, h, ready .1))
 
     pub ts-long : length (st .ts) ≡ length ts₀
     ts-long = ap length (st .counted) ∙ length-by (talliedIn law xs₀ zones (st .i)) ts₀
@@ -109,32 +115,34 @@ module _ (s : Step) (xs₀ out₀ zones : List ℕ) (ts₀ : List Tally) where
       pub inside : zone < length (st .ts)
       inside = omega (arith, inside₀, ts-long)
 
-      pub asks : (st .i * floats + floats ≤ length (st .xs)) × (st .i * 2 + 2 ≤ length (st .out)) × (told .untouched < 2 ^ 63) × (told .stored < 2 ^ 63) × (told .refused < 2 ^ 63) × (told .failed < 2 ^ 63)
-      asks =
-          let q : Small told = rw (st .counted) (small law xs₀ zones ts₀ n (st .i) zone (st .upto) zone-below inside₀ (ready .4)) in
-          (omega (arith, within, xs-long, ready .0), omega (arith, within, out-long, ready .1), q .0, q .1, q .2, q .3)
+      -- of the step, and of the store
+      pub asks : (st .i * floats + floats ≤ length (st .xs)) × (st .i * 2 + 2 ≤ length (st .out))
+      asks = (omega (arith, within, xs-long, ready .0), omega (arith, within, out-long, ready .1))
 
-      module _ (r : Tally) (xs out : List ℕ) (e : Stepped s (st .i) (st .xs) (st .out) told r xs out) where
+      pub asks-too : (zone < length (st .ts)) × Small told
+      asks-too = (inside, rw (st .counted) (small law xs₀ zones ts₀ n (st .i) zone (st .upto) zone-below inside₀ (ready .4)))
+
+      module _ (d : Told) (xs out : List ℕ) (ts : List Tally) (e : Stepped s (st .i) (st .xs) (st .out) d xs out) (w : ts ≡ set (st .ts) zone (grown told d)) where
         same : recordAt (st .xs) (st .i) ≡ recordAt xs₀ (st .i)
-        same = let h = st .upto in record-same law (step-keeps s) xs₀ (st .i) (st .xs) (st .records) (omega (arith, h, ready .0))
+        same = let h = st .upto in record-same floats law (step-keeps s) xs₀ (st .i) (st .xs) (st .records) (omega (arith, h, ready .0))
 
-        pub next-counted : set (st .ts) zone r ≡ byZone (talliedIn law xs₀ zones (st .i + 1)) 0 ts₀
+        pub next-counted : ts ≡ byZone (talliedIn law xs₀ zones (st .i + 1)) 0 ts₀
         next-counted =
             let f = ap (λ (l : List ℕ). law l .outcome) same in
             let g = ap (λ (l : List ℕ). law l .failed) same in
             let old = ap (λ (us : List Tally). getD us zone none) (st .counted) ∙ get-by (talliedIn law xs₀ zones (st .i)) ts₀ zone inside₀ in
-            set-by (talliedIn law xs₀ zones (st .i)) (talliedIn law xs₀ zones (st .i + 1)) (st .ts) ts₀ zone r inside₀ (st .counted)
-            (e .0 ∙ tallied-here law xs₀ zones (st .i) zone (getD ts₀ zone none) told (law (recordAt (st .xs) (st .i)) .outcome) (law (recordAt (st .xs) (st .i)) .failed) refl old f g)
+            w ∙ set-by (talliedIn law xs₀ zones (st .i)) (talliedIn law xs₀ zones (st .i + 1)) (st .ts) ts₀ zone (grown told d) inside₀ (st .counted)
+            (ap (grown told) (e .0) ∙ grown-tallied told (law (recordAt (st .xs) (st .i)) .outcome) (law (recordAt (st .xs) (st .i)) .failed) ∙ tallied-here law xs₀ zones (st .i) zone (getD ts₀ zone none) told (law (recordAt (st .xs) (st .i)) .outcome) (law (recordAt (st .xs) (st .i)) .failed) refl old f g)
             (λ y b d. tallied-other law xs₀ zones (st .i) y (getD ts₀ y none) d)
 
         pub next-records : xs ≡ worked law xs₀ (st .i + 1) ++ drop ((st .i + 1) * floats) xs₀
-        next-records = e .1 ∙ worked-step law (step-keeps s) xs₀ (st .i) (omega (arith, within, ready .0)) (st .xs) (st .records)
+        next-records = e .1 ∙ worked-step floats law (step-keeps s) xs₀ (st .i) (omega (arith, within, ready .0)) (st .xs) (st .records)
 
         pub next-answered : out ≡ answers law xs₀ (st .i + 1) ++ drop ((st .i + 1) * 2) out₀
-        next-answered = e .2 ∙ answers-step law xs₀ (st .i) out₀ (omega (arith, within, ready .1)) (st .out) (st .answered-so) (law (recordAt (st .xs) (st .i)) .outcome) (ap (λ (l : List ℕ). law l .outcome) same)
+        next-answered = e .2 ∙ answers-step floats law xs₀ (st .i) out₀ (omega (arith, within, ready .1)) (st .out) (st .answered-so) (law (recordAt (st .xs) (st .i)) .outcome) (ap (λ (l : List ℕ). law l .outcome) same)
 
         abbrev pub next : State s xs₀ out₀ zones ts₀
-        next = record { i = st .i + 1; xs = xs; out = out; ts = set (st .ts) zone r; upto = add-one-le within; counted = next-counted; records = next-records; answered-so = next-answered }
+        next = record { i = st .i + 1; xs = xs; out = out; ts = ts; upto = add-one-le within; counted = next-counted; records = next-records; answered-so = next-answered }
 
     pub over : length zones ≤ st .i → Passed s xs₀ zones ts₀ (st .ts) (st .xs) (st .out)
     over h =

@@ -16,11 +16,11 @@ use Rattle.plasticity.specs.declared.Outcome.the-variants.{Untouched, Stored, R
 use Rattle.record.specs.Layout.{floats}
 use Rattle.particles.specs.Pass.{Worked, recordAt, countedIf, wellSized}
 use Rattle.tallies.specs.declared.tally.Tally.{Tally}
-use Rattle.tallies.specs.Zones.{listedIn, belowIn, zonesFit}
+use Rattle.tallies.specs.Zones.{listedIn, belowIn, zonesFit, moveFits}
 use Rattle.tallies.specs.Tallies.{none, tallied, talliedIn, fits, lastTally, hasRoom, roomIn}
 
 -- i of the first k stands below n, or is k itself
-last-or : (i k : ℕ) → i < suc k → (i < k) ⊎ (i ≡ k)
+pub last-or : (i k : ℕ) → i < suc k → (i < k) ⊎ (i ≡ k)
 last-or i k h = go (ltb i k) refl
   where
     go : (b : Bool) → ltb i k ≡ b → (i < k) ⊎ (i ≡ k)
@@ -173,6 +173,23 @@ below-set n zones p z h l e = below-all n (set zones p z) (length (set zones p z
     go : (i : ℕ) → i < length zones → (b : Bool) → eqb i p ≡ b → getD (set zones p z) i 0 < n
     go i k true q = rw (eqb-true i p q, getD-set-same zones p z 0 h) l
     go i k false q = rw (getD-set-other zones p i z 0 (eqb-false i p q)) (below-at n zones (length zones) i e k)
+
+-- the particle has a zone, and every zone afterwards a place in the array
+module _ (particles p z : ℕ) (zones : List ℕ) (n : ℕ) (e : moveFits particles p z zones n ≡ true) where
+  pub listed-there : p < length zones
+  listed-there =
+      let a = and-both (zonesFit particles zones n) (ltb p particles && ltb z n) e in
+      let b = and-both (ltb p particles) (ltb z n) (a .1) in
+      let h = ltb-true p particles (b .0) in
+      let q = fits-of particles zones n (a .0) .each in
+      omega (arith, h, q)
+
+  pub below-after : belowIn 256 (set zones p z) (length (set zones p z)) ≡ true
+  below-after =
+      let a = and-both (zonesFit particles zones n) (ltb p particles && ltb z n) e in
+      let b = and-both (ltb p particles) (ltb z n) (a .1) in
+      let f = fits-of particles zones n (a .0) in
+      below-wider n 256 (set zones p z) (length (set zones p z)) (f .most) (below-set n zones p z listed-there (ltb-true _ _ (b .1)) (f .below))
 
 -- of a pass: as many zones as records
 pub record Sized (xs out zones : List ℕ) : Type 0 where

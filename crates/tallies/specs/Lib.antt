@@ -1,4 +1,6 @@
 pub mod Exactly
+pub mod HostSequence
+pub mod Plans
 pub mod Sequence
 pub mod Tallies
 pub mod Words

@@ -1,15 +1,16 @@
 -- Tallies by zone (RULES, section 7): what a clear, a pass and a move make of them, over any number of tallies.
-use mathlib.Core.Bool.{Bool, true, cond, _&&_}
+use mathlib.Core.Bool.{Bool, true, cond, not, _&&_}
 use mathlib.Core.List.{List, [], _∷_}
-use Prim.Native.Nat.{ℕ, zero, suc, _+_, _/_}
+use Prim.Native.Nat.{ℕ, zero, suc, _+_, _/_, _<_, _^_}
 use lib.Dec.{eqb, leb}
 use lib.ListN.{length, getD, set, replicate}
 use Rattle.answers.specs.Refusals.{wrongLength, outOfRange, tallyFull}
 use Rattle.plasticity.specs.declared.Outcome.{Outcome}
 use Rattle.record.specs.Layout.{floats}
-use Rattle.particles.specs.Pass.{Worked, recordAt, worked, answers, counted, wellSized}
+use Rattle.particles.specs.Pass.{Worked, recordAt, codeOf, countedIf, worked, answers, counted, wellSized}
 use Rattle.particles.specs.declared.failure.FailureCounts.{FailureCounts}
 use Rattle.tallies.specs.declared.tally.Tally.{Tally}
+use Rattle.tallies.specs.declared.tally.Told.{Told}
 use Rattle.tallies.specs.Zones.{mostZones, listed, zonesFit, moveFits}
 
 abbrev pub none : Tally
@@ -33,6 +34,22 @@ withSoFar c t = record { particles = t .particles; untouched = c .untouched; sto
 -- one outcome more, counted as a pass counts it
 abbrev pub tallied : Tally → Outcome → Bool → Tally
 tallied t o f = withSoFar (counted (soFar t) o f) t
+
+-- what an outcome adds to, as the step by value tells it: one of the first three so-far numbers by RULES' number of the outcome, and the fourth besides where the record failed
+abbrev pub toldOf : Outcome → Bool → Told
+toldOf o f = record { which = codeOf o; failed = f }
+
+-- one field of one tally grows, and failed besides
+abbrev pub grownBy : Tally → Bool → Bool → Bool → Tally
+grownBy t isUntouched isStored f =
+    record { particles = t .particles; untouched = countedIf (t .untouched) isUntouched; stored = countedIf (t .stored) (not isUntouched && isStored); refused = countedIf (t .refused) (not isUntouched && not isStored); failed = countedIf (t .failed) f }
+
+abbrev pub grown : Tally → Told → Tally
+grown t d = grownBy t (eqb (d .which) 0) (eqb (d .which) 1) (d .failed)
+
+-- so-far numbers far below what a word holds
+abbrev pub Small : Tally → Type 0
+Small t = (t .untouched < 2 ^ 63) × (t .stored < 2 ^ 63) × (t .refused < 2 ^ 63) × (t .failed < 2 ^ 63)
 
 -- each tally by the number of its zone, from z up
 unfoldable pub byZone : (ℕ → Tally → Tally) → ℕ → List Tally → List Tally

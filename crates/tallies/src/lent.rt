@@ -1,4 +1,5 @@
 // The calls on tallies that are lent as words. What is refused leaves every lent list.
+use crate::array;
 use crate::held;
 use crate::held::Held;
 use crate::tally::ZONES;
@@ -39,7 +40,7 @@ fn clear_words(particles: usize, zones: &[u64], tallies: &mut [u64], n: usize) -
     ensures { λ r. ⌜ now (tallies .exit) ≡ cond (zonesFit particles (now (zones .entry)) n) (wordsIn (clearTallies particles (now (zones .entry)) n (talliesIn (now (tallies .entry)) n)) n) (now (tallies .entry)) ⌝ }
 {
     let ts = words::read_tallies(&tallies[..], n);
-    let r = held::clear_held(particles, zones, ts, n);
+    let r = array::clear_array(particles, zones, ts, n);
     put_done(r, tallies, n)
 }
 

@@ -1,16 +1,25 @@
 // Tallies lent as a slice: each particle listed, and each record's outcome, changes the tally of its zone.
+use crate::plan;
+use crate::plan::Plan;
 use crate::tally;
 use crate::tally::Tally;
+use crate::tally::Told;
+use elasticity_corotated_linear::CorotatedLinearElasticity;
+use failure_maximum_stress::MaximumStressFailure;
+use model::Model;
 use particles::Step;
 ghost use mathlib.Core.Path.{_≡_};
 ghost use mathlib.Core.Bool.{true};
-ghost use Prim.Native.Nat.{_+_, _*_, _≤_, _<_, _^_};
-ghost use lib.ListN.{length};
+ghost use Prim.Native.Nat.{_+_, _*_, _≤_, _<_};
+ghost use lib.ListN.{length, getD, set};
 ghost use Rattle.record.specs.Layout.{floats};
 ghost use Rattle.particles.specs.Pass.{recordAt, replaced, answered, worked, answers};
+ghost use Rattle.particles.specs.Judged.{failureLaw};
+ghost use Rattle.particles.specs.Plain.{recordLaw};
 ghost use Rattle.particles.specs.Step.{stepLaw};
 ghost use Rattle.tallies.specs.Zones.{belowIn};
-ghost use Rattle.tallies.specs.Tallies.{noParticles, tallied, byZone, recounted, talliedIn, roomIn};
+ghost use Rattle.tallies.specs.Tallies.{none, noParticles, toldOf, grown, Small, byZone, recounted, talliedIn, roomIn, clearRefusal, clearTallies, moveRefusal, moveZones, moveTallies, passRefusal, recordsAfter, answersAfter, passTallies};
+ghost use Rattle.tallies.specs.Plans.{planned, roomBy};
 
 // No particles in any zone.
 fn emptied(ts: [Tally; 256]) -> [Tally; 256]
@@ -49,14 +58,33 @@ pub fn recount(ts: [Tally; 256], zones: &[u64]) -> [Tally; 256]
     r
 }
 
-// Record i is worked, and its outcome is one more in t.
-fn tally_record(s: Step, xs: &mut [u64], out: &mut [u64], i: usize, t: Tally) -> Tally
-    requires { ⌜ (i * floats + floats ≤ length (now xs)) × (i * 2 + 2 ≤ length (now out)) × (t .untouched < 2 ^ 63) × (t .stored < 2 ^ 63) × (t .refused < 2 ^ 63) × (t .failed < 2 ^ 63) ⌝ }
-    ensures { λ r. ⌜ (r ≡ tallied t (stepLaw s (recordAt (now (xs .entry)) i) .outcome) (stepLaw s (recordAt (now (xs .entry)) i) .failed)) × (now (xs .exit) ≡ replaced (now (xs .entry)) i (stepLaw s (recordAt (now (xs .entry)) i) .after)) × (now (out .exit) ≡ answered (now (out .entry)) i (stepLaw s (recordAt (now (xs .entry)) i) .outcome)) ⌝ }
+// Record i is worked, and what its outcome adds to is told.
+fn tell_record(s: Step, xs: &mut [u64], out: &mut [u64], i: usize) -> Told
+    requires { ⌜ (i * floats + floats ≤ length (now xs)) × (i * 2 + 2 ≤ length (now out)) ⌝ }
+    ensures { λ d. ⌜ (d ≡ toldOf (stepLaw s (recordAt (now (xs .entry)) i) .outcome) (stepLaw s (recordAt (now (xs .entry)) i) .failed)) × (now (xs .exit) ≡ replaced (now (xs .entry)) i (stepLaw s (recordAt (now (xs .entry)) i) .after)) × (now (out .exit) ≡ answered (now (out .entry)) i (stepLaw s (recordAt (now (xs .entry)) i) .outcome)) ⌝ }
 {
     let d = particles::one(s, xs, out, i);
     let o = d.outcome;
-    tally::tally_one(t, o, d.failed)
+    tally::tell(o, d.failed)
+}
+
+// One more in the field that the step told, of one tally; and one more failed where it told so.
+fn count_told(ts: &mut [Tally], z: usize, d: Told)
+    requires { ⌜ (z < length (now ts)) × Small (getD (now ts) z none) ⌝ }
+    ensures { λ _. ⌜ now (ts .exit) ≡ set (now (ts .entry)) z (grown (getD (now (ts .entry)) z none) d) ⌝ }
+{
+    if d.failed {
+        ts[z].failed = ts[z].failed + 1;
+    }
+    if d.which == 0 {
+        ts[z].untouched = ts[z].untouched + 1;
+        return;
+    }
+    if d.which == 1 {
+        ts[z].stored = ts[z].stored + 1;
+        return;
+    }
+    ts[z].refused = ts[z].refused + 1;
 }
 
 // Every record by its index, whatever the ones before it gave, and its outcome in the tally of its zone.
@@ -67,7 +95,8 @@ fn pass_all(s: Step, xs: &mut [u64], out: &mut [u64], zones: &[u64], ts: &mut [T
     let mut i = 0;
     while i < zones.len() {
         let z = zones[i] as usize;
-        ts[z] = tally_record(s, xs, out, i, ts[z]);
+        let d = tell_record(s, xs, out, i);
+        count_told(ts, z, d);
         i = i + 1;
     }
 }
@@ -87,4 +116,83 @@ pub fn pass_array(
     let mut r = ts;
     pass_all(s, xs, out, zones, &mut r, n);
     r
+}
+
+// Each tally as the plan has it, by the step by value; and whether all have room for the particles counted.
+fn settle(ts: &mut [Tally], p: Plan) -> bool
+    ensures { λ r. ⌜ (r ≡ roomBy p (now (ts .entry)) (length (now (ts .entry)))) × (now (ts .exit) ≡ byZone (planned p) 0 (now (ts .entry))) ⌝ }
+{
+    let mut ok = true;
+    let mut z = 0;
+    while z < ts.len() {
+        let t = ts[z];
+        ok = plan::room_too(ok, t, p, z);
+        ts[z] = plan::settled(t, p, z);
+        z = z + 1;
+    }
+    ok
+}
+
+// The lent tallies cleared, and particles now counted: 0, or 12 and nothing changed.
+pub fn clear_slice(particles: usize, zones: &[u64], ts: &mut [Tally]) -> u8
+    ensures { λ r. ⌜ (r ≡ clearRefusal particles (now (zones .entry)) (length (now (ts .entry)))) × (now (ts .exit) ≡ clearTallies particles (now (zones .entry)) (length (now (ts .entry))) (now (ts .entry))) ⌝ }
+{
+    let p = plan::to_clear(particles, zones, ts.len());
+    settle(ts, p);
+    p.refusal
+}
+
+// A pass by a step over the lent tallies: 8, 12 and 13 before any record, and nothing changed then.
+pub fn pass_slice_by(
+    s: Step,
+    xs: &mut [u64],
+    out: &mut [u64],
+    zones: &[u64],
+    ts: &mut [Tally],
+) -> u8
+    ensures { λ r. ⌜ (r ≡ passRefusal (now (xs .entry)) (now (out .entry)) (now (zones .entry)) (length (now (ts .entry))) (now (ts .entry))) × (now (xs .exit) ≡ recordsAfter (stepLaw s) (now (xs .entry)) (now (out .entry)) (now (zones .entry)) (length (now (ts .entry))) (now (ts .entry))) × (now (out .exit) ≡ answersAfter (stepLaw s) (now (xs .entry)) (now (out .entry)) (now (zones .entry)) (length (now (ts .entry))) (now (ts .entry))) × (now (ts .exit) ≡ passTallies (stepLaw s) (now (xs .entry)) (now (out .entry)) (now (zones .entry)) (length (now (ts .entry))) (now (ts .entry))) ⌝ }
+{
+    let p = plan::to_pass(xs.len(), out.len(), zones, ts.len());
+    let ok = settle(ts, p);
+    let q = plan::to_count(p, ok);
+    settle(ts, q);
+    let code = q.refusal;
+    if code == 0 {
+        pass_all(s, xs, out, zones, ts, ts.len());
+        return code;
+    }
+    code
+}
+
+// Particle p goes to zone z, and particles now are counted afresh: 0, or 12 and nothing changed.
+pub fn move_slice(particles: usize, p: usize, z: usize, zones: &mut [u64], ts: &mut [Tally]) -> u8
+    ensures { λ r. ⌜ (r ≡ moveRefusal particles p z (now (zones .entry)) (length (now (ts .entry)))) × (now (zones .exit) ≡ moveZones particles p z (now (zones .entry)) (length (now (ts .entry)))) × (now (ts .exit) ≡ moveTallies particles p z (now (zones .entry)) (length (now (ts .entry))) (now (ts .entry))) ⌝ }
+{
+    let q = plan::to_move(particles, p, z, zones, ts.len());
+    settle(ts, q);
+    q.refusal
+}
+
+// The pass by the model's law.
+pub fn pass_slice(m: Model, xs: &mut [u64], out: &mut [u64], zones: &[u64], ts: &mut [Tally]) -> u8
+    ensures { λ r. ⌜ (r ≡ passRefusal (now (xs .entry)) (now (out .entry)) (now (zones .entry)) (length (now (ts .entry))) (now (ts .entry))) × (now (xs .exit) ≡ recordsAfter (recordLaw m) (now (xs .entry)) (now (out .entry)) (now (zones .entry)) (length (now (ts .entry))) (now (ts .entry))) × (now (out .exit) ≡ answersAfter (recordLaw m) (now (xs .entry)) (now (out .entry)) (now (zones .entry)) (length (now (ts .entry))) (now (ts .entry))) × (now (ts .exit) ≡ passTallies (recordLaw m) (now (xs .entry)) (now (out .entry)) (now (zones .entry)) (length (now (ts .entry))) (now (ts .entry))) ⌝ }
+{
+    let s = plan::plain(m);
+    pass_slice_by(s, xs, out, zones, ts)
+}
+
+// The pass with failure, by limits and corotated law.
+pub fn pass_slice_with_failure(
+    m: Model,
+    l: MaximumStressFailure,
+    e: CorotatedLinearElasticity,
+    xs: &mut [u64],
+    out: &mut [u64],
+    zones: &[u64],
+    ts: &mut [Tally],
+) -> u8
+    ensures { λ r. ⌜ (r ≡ passRefusal (now (xs .entry)) (now (out .entry)) (now (zones .entry)) (length (now (ts .entry))) (now (ts .entry))) × (now (xs .exit) ≡ recordsAfter (failureLaw m l e) (now (xs .entry)) (now (out .entry)) (now (zones .entry)) (length (now (ts .entry))) (now (ts .entry))) × (now (out .exit) ≡ answersAfter (failureLaw m l e) (now (xs .entry)) (now (out .entry)) (now (zones .entry)) (length (now (ts .entry))) (now (ts .entry))) × (now (ts .exit) ≡ passTallies (failureLaw m l e) (now (xs .entry)) (now (out .entry)) (now (zones .entry)) (length (now (ts .entry))) (now (ts .entry))) ⌝ }
+{
+    let s = plan::judged(m, l, e);
+    pass_slice_by(s, xs, out, zones, ts)
 }

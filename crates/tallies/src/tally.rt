@@ -1,9 +1,7 @@
 // One zone's tally, by value.
 use plasticity::Outcome;
 ghost use mathlib.Core.Path.{_≡_};
-ghost use Prim.Native.Nat.{_<_, _^_};
-ghost use Rattle.particles.specs.Pass.{countedIf};
-ghost use Rattle.tallies.specs.Tallies.{spare, withParticles, tallied, fits, hasRoom};
+ghost use Rattle.tallies.specs.Tallies.{none, spare, withParticles, toldOf, fits, hasRoom};
 
 // The most zones, and the last number that a tally may reach.
 pub const ZONES: usize = 256;
@@ -17,6 +15,18 @@ pub struct Tally {
     pub stored: u64,
     pub refused: u64,
     pub failed: u64,
+}
+
+pub fn empty() -> Tally
+    ensures { λ r. ⌜ r ≡ none ⌝ }
+{
+    Tally {
+        particles: 0,
+        untouched: 0,
+        stored: 0,
+        refused: 0,
+        failed: 0,
+    }
 }
 
 pub fn no_tallies() -> [Tally; 256]
@@ -45,42 +55,22 @@ pub fn with_particles(t: Tally, n: u64) -> Tally
     }
 }
 
-fn count_if(n: u64, yes: bool) -> u64
-    requires { ⌜ n < 2 ^ 63 ⌝ }
-    ensures { λ r. ⌜ r ≡ countedIf n yes ⌝ }
-{
-    if yes { n + 1 } else { n }
+// Which numbers so far an outcome adds to: 0 untouched, 1 stored, 2 refused; and whether failed besides.
+pub struct Told {
+    pub which: u64,
+    pub failed: bool,
 }
 
-// One outcome more.
-pub fn tally_one(t: Tally, o: Outcome, failed: bool) -> Tally
-    requires { ⌜ (t .untouched < 2 ^ 63) × (t .stored < 2 ^ 63) × (t .refused < 2 ^ 63) × (t .failed < 2 ^ 63) ⌝ }
-    ensures { λ r. ⌜ r ≡ tallied t o failed ⌝ }
+// The step by value: what one outcome changes.
+pub fn tell(o: Outcome, failed: bool) -> Told
+    ensures { λ r. ⌜ r ≡ toldOf o failed ⌝ }
 {
-    let n = count_if(t.failed, failed);
-    match o {
-        Outcome::Untouched => Tally {
-            particles: t.particles,
-            untouched: t.untouched + 1,
-            stored: t.stored,
-            refused: t.refused,
-            failed: n,
-        },
-        Outcome::Stored(_) => Tally {
-            particles: t.particles,
-            untouched: t.untouched,
-            stored: t.stored + 1,
-            refused: t.refused,
-            failed: n,
-        },
-        Outcome::Refused(_) => Tally {
-            particles: t.particles,
-            untouched: t.untouched,
-            stored: t.stored,
-            refused: t.refused + 1,
-            failed: n,
-        },
-    }
+    let which = match o {
+        Outcome::Untouched => 0,
+        Outcome::Stored(_) => 1,
+        Outcome::Refused(_) => 2,
+    };
+    Told { which, failed }
 }
 
 // Whether n and so many more reach no further than the last number.

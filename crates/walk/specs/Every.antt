@@ -22,7 +22,7 @@ and-true : (a : Bool) → a ≡ a && true
 and-true true = refl
 and-true false = refl
 
-and-assoc : (a b c : Bool) → a && b && c ≡ a && (b && c)
+pub and-assoc : (a b c : Bool) → a && b && c ≡ a && (b && c)
 and-assoc true b c = refl
 and-assoc false b c = refl
 

@@ -7,6 +7,8 @@ pub mod Every
 pub mod Steps
 pub mod Matrix
 pub mod Reason
+pub mod Axes
+pub mod Body
 pub mod Update
 pub mod Tensor
 pub mod Answers

@@ -17,11 +17,10 @@ use Rattle.answers.proofs.Sides.{Ends, sides}
 use Rattle.tensor.specs.Axes.{allOf}
 use Rattle.plasticity.specs.declared.Outcome.{Outcome}
 use Rattle.plasticity.specs.declared.Outcome.the-variants as outcome
-use Rattle.plasticity.specs.declared.State.{State}
 use Rattle.walk.specs.Expr.{Expr, value, clean, whole-tells}
 use Rattle.walk.specs.Walk.{Function, exp, ln, sin, root, sinh, third, two-thirds, minus-third, minus-two-thirds, lowOf, highOf, compared, Walk, result}
 use Rattle.walk.specs.Exact.{Met, input, argument, worked, tested, result-of, path, first, allClean, Refusal}
-use Rattle.walk.specs.Update.{Change, updatedOf, refusalOf, numberOf, refused-exactly}
+use Rattle.walk.specs.Body.{Body, Change, outcomeOf, refusalOf, numberOf, refused-exactly}
 
 -- no input, modulus or result that isn't finite, and no NaN
 abbrev pub sound : Met → Bool
@@ -257,15 +256,15 @@ as-outcome outcome.Untouched n e = absurd (nothing n e)
 as-outcome (outcome.Stored a) n e = absurd (nothing n e)
 as-outcome (outcome.Refused m) n e = ap outcome.Refused (differ e)
 
-module _ (s : State) (w : Walk Change) where
-  pub refused-when : (n : ℕ) → (updatedOf s (result w) .outcome ≡ outcome.Refused n) ↔ Stops n (path w)
+module _ {S R : Type 0} (b : Body S R) (s : S) (w : Walk (Change S)) where
+  pub refused-when : (n : ℕ) → (outcomeOf b s (result w) ≡ outcome.Refused n) ↔ Stops n (path w)
   refused-when n = (
-    λ e. first-stops (path w) n .0 (sym (refused-exactly s w) ∙ ap refusalOf e),
-    λ q. as-outcome (updatedOf s (result w) .outcome) n (refused-exactly s w ∙ first-stops (path w) n .1 q),
+    λ e. first-stops (path w) n .0 (sym (refused-exactly b s w) ∙ ap refusalOf e),
+    λ q. as-outcome (outcomeOf b s (result w)) n (refused-exactly b s w ∙ first-stops (path w) n .1 q),
   )
 
-  pub accepted-when : (refusalOf (updatedOf s (result w) .outcome) ≡ none) ↔ Clear (path w)
+  pub accepted-when : (refusalOf (outcomeOf b s (result w)) ≡ none) ↔ Clear (path w)
   accepted-when = (
-    λ e. first-clear (path w) .0 (sym (refused-exactly s w) ∙ e),
-    λ q. refused-exactly s w ∙ first-clear (path w) .1 q,
+    λ e. first-clear (path w) .0 (sym (refused-exactly b s w) ∙ e),
+    λ q. refused-exactly b s w ∙ first-clear (path w) .1 q,
   )

@@ -1,9 +1,10 @@
--- `flat_snow::run` answers `updatedOf s (result (runWalk law u vt s))`.
+-- `flat_snow::run` answers `updatedOf s (result (runWalk inTwo law u vt s))`.
 use borrow.Author.Needs.{needs}
 use Rattle.walk.specs.Matrix.{value-product}
-use Rattle.flat.specs.Update.{store-law}
-use Rattle.flat_snow.specs.Snow.{hardenWalk}
-use Rattle.flat_snow.proofs.Laws.{run-law}
+use Rattle.walk.specs.Body.{store-law}
+use Rattle.plasticity_snow.specs.Snow.{hardenWalk}
+use Rattle.plasticity_snow.proofs.Laws.{run-law}
+use Rattle.flat.specs.Update.{inTwo}
 use Rattle.flat_snow.proofs.run.Statement.{statement}
 use Rattle.flat_snow.proofs.run.Tie as tie
 
@@ -17,9 +18,9 @@ returns c =
     let c9 = c8 .before in
     let c11 = c9 .before .before in
     let a = c11 .args in
-    let law = run-law (a .law) (a .u) (a .vt) (a .s) (c11 .pre) in
+    let law = run-law inTwo (a .law) (a .u) (a .vt) (a .s) (c11 .pre) in
     let t0 = simp (c4 .exp-on-path .ensures, c7 .product2 .ensures, c8 .product .ensures, c9 .clamped .ensures) at (c2 .h .given .1) in
-    simp (c .store .ensures, c4 .exp-on-path .ensures, c7 .product2 .ensures, c8 .product .ensures, c9 .clamped .ensures, t0, law, value-product, store-law)
+    simp (c .store .ensures, c4 .exp-on-path .ensures, c7 .product2 .ensures, c8 .product .ensures, c9 .clamped .ensures, t0, law, value-product, store-law inTwo)
 
 returns-2 : tie.Need-returns-2
 unfolding hardenWalk
@@ -31,9 +32,9 @@ returns-2 c =
     let c9 = c8 .before in
     let c11 = c9 .before .before in
     let a = c11 .args in
-    let law = run-law (a .law) (a .u) (a .vt) (a .s) (c11 .pre) in
+    let law = run-law inTwo (a .law) (a .u) (a .vt) (a .s) (c11 .pre) in
     let t0 = simp (c4 .exp-on-path .ensures, c7 .product2 .ensures, c8 .product .ensures, c9 .clamped .ensures) at (c2 .n .given .1) in
-    simp (c .refuse .ensures, c4 .exp-on-path .ensures, c7 .product2 .ensures, c8 .product .ensures, c9 .clamped .ensures, t0, law, value-product, store-law)
+    simp (c .refuse .ensures, c4 .exp-on-path .ensures, c7 .product2 .ensures, c8 .product .ensures, c9 .clamped .ensures, t0, law, value-product, store-law inTwo)
 
 pub run-spec : {M : Type 1} → statement M
 run-spec =

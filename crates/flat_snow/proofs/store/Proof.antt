@@ -1,4 +1,4 @@
--- `flat_snow::store` answers `keptOf u sigma vt (finite d && finite hardening) (scalarsOf d hardening s) hardening s`.
+-- `flat_snow::store` answers `keptOf u sigma vt (finite d && finite hardening) (scalarsOf d hardening (s .scalars)) hardening s`.
 use borrow.Author.Needs.{needs}
 use Rattle.flat_snow.proofs.store.Statement.{statement}
 use Rattle.flat_snow.proofs.store.Tie as tie

@@ -1,7 +1,8 @@
 -- `flat_snow::update_particle` answers `flatSnow law u vt s`.
 use borrow.Author.Needs.{needs}
-use Rattle.flat_snow.specs.Snow.{snowWalk}
-use Rattle.flat_snow.proofs.Laws.{inputs-law}
+use Rattle.plasticity_snow.specs.Snow.{snowWalk}
+use Rattle.plasticity_snow.proofs.Laws.{inputs-law}
+use Rattle.flat.specs.Update.{inTwo}
 use Rattle.flat_snow.proofs.update_particle.Statement.{statement}
 use Rattle.flat_snow.proofs.update_particle.Tie as tie
 
@@ -13,13 +14,13 @@ returns : tie.Need-returns
 unfolding snowWalk
 returns c =
     let t0 = simp (c .before .before .inputs-finite .ensures, c .before .before .before .parameters-finite .ensures) at (c .before .if1 .taken) in
-    simp (c .run .ensures, c .before .before .inputs-finite .ensures, c .before .before .before .parameters-finite .ensures, t0, inputs-law)
+    simp (c .run .ensures, c .before .before .inputs-finite .ensures, c .before .before .before .parameters-finite .ensures, t0, inputs-law inTwo)
 
 returns-2 : tie.Need-returns-2
 unfolding snowWalk
 returns-2 c =
     let t0 = simp (c .before .before .inputs-finite .ensures, c .before .before .before .parameters-finite .ensures) at (c .before .if1 .left) in
-    simp (c .refuse .ensures, c .before .before .inputs-finite .ensures, c .before .before .before .parameters-finite .ensures, t0, inputs-law)
+    simp (c .refuse .ensures, c .before .before .inputs-finite .ensures, c .before .before .before .parameters-finite .ensures, t0, inputs-law inTwo)
 
 pub update-particle-spec : {M : Type 1} → statement M
 update-particle-spec =

@@ -1,4 +1,4 @@
--- `plasticity_snow::state_of` answers `stateOf f sigma d hardening s`.
+-- `plasticity_snow::state_of` answers `stateOf f sigma (scalarsOf d hardening (s .scalars))`.
 use borrow.Author.Needs.{needs}
 use Rattle.plasticity_snow.proofs.state_of.Statement.{statement}
 use Rattle.plasticity_snow.proofs.state_of.Tie as tie

@@ -1,7 +1,8 @@
 -- `flat::matrix::recompose` answers `recomposeOver 2 u sigma vt`.
 use borrow.Author.Needs.{needs}
 use mathlib.Core.List.{[]}
-use Rattle.flat.specs.Axes.{recomposeOver, of-two}
+use Rattle.walk.specs.Axes.{recomposeOver}
+use Rattle.flat.specs.Axes.{of-two}
 use Rattle.flat.proofs.matrix.recompose.Statement.{statement}
 use Rattle.flat.proofs.matrix.recompose.Tie as tie
 

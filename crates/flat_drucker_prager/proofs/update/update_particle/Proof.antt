@@ -1,12 +1,12 @@
 -- `flat_drucker_prager::update::update_particle` answers `druckerUpdate p u vt s`.
 use borrow.Author.Needs.{needs}
 use Rattle.flat_drucker_prager.proofs.Laws.{inputs-law}
-use Rattle.flat_drucker_prager.specs.DruckerPrager.{druckerWalk}
+use Rattle.plasticity_drucker_prager.specs.Over as over
 use Rattle.flat_drucker_prager.proofs.update.update_particle.Statement.{statement}
 use Rattle.flat_drucker_prager.proofs.update.update_particle.Tie as tie
 
 returns : tie.Need-returns
-unfolding druckerWalk
+unfolding over.druckerWalk
 returns c =
     let c1 = c .before in
     let c2 = c1 .before in
@@ -15,7 +15,7 @@ returns c =
     simp (c .run .ensures, t0, inputs-law)
 
 returns-2 : tie.Need-returns-2
-unfolding druckerWalk
+unfolding over.druckerWalk
 returns-2 c =
     let c1 = c .before in
     let c2 = c1 .before in

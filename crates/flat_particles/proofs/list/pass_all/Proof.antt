@@ -7,15 +7,15 @@ use Prim.Native.Nat.{ℕ, _≤_, _<_, _*_, _-_}
 use lib.ListN.{drop}
 use Rattle.flat_particles.specs.Layout.{floats}
 use Rattle.flat_particles.specs.Law.{flatLaw}
-use Rattle.flat_particles.specs.Pass.{workedOver, answersOver, countsOver}
-use Rattle.particles.proofs.PassLaws.{all-done}
-use Rattle.flat_particles.proofs.PassLaws.{flat-keeps, worked-step, answers-step, counts-step, counts-most, records-length, record-same, answers-long}
+use Rattle.flat_particles.specs.Pass.{threeOf, workedOver, answersOver, countsOver}
+use Rattle.particles.proofs.PassLaws.{worked-step, answers-step, counts-most, records-length, record-same, answers-long, all-done}
+use Rattle.flat_particles.proofs.PassLaws.{flat-keeps, counts-step}
 use Rattle.flat_particles.proofs.list.pass_all.Statement.{statement}
 use Rattle.flat_particles.proofs.list.pass_all.Tie as tie
 
 abbrev Inv-loop : tie.InvT-loop
 Inv-loop m xs₀ out₀ n c₀ i₀ xs out c i =
-    (i ≤ n) × (c ≡ countsOver floats (flatLaw m) xs₀ i) × (xs ≡ workedOver floats (flatLaw m) xs₀ i ++ drop (i * floats) xs₀) × (out ≡ answersOver floats (flatLaw m) xs₀ i ++ drop (i * 2) out₀)
+    (i ≤ n) × (c ≡ threeOf (countsOver floats (flatLaw m) xs₀ i)) × (xs ≡ workedOver floats (flatLaw m) xs₀ i ++ drop (i * floats) xs₀) × (out ≡ answersOver floats (flatLaw m) xs₀ i ++ drop (i * 2) out₀)
 
 abbrev μ-loop : tie.MeasureT-loop
 μ-loop m xs₀ out₀ n c₀ i₀ xs out c i = n - i

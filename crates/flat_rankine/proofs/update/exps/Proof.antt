@@ -2,14 +2,15 @@
 use borrow.Author.Needs.{needs}
 use mathlib.Core.Path.{_≡_, _∙_}
 use lib.ListN.{length}
-use Rattle.flat.specs.Update.{store-law}
-use Rattle.flat_rankine.specs.Rankine.{expsWalk}
+use Rattle.walk.specs.Body.{store-law}
+use Rattle.plasticity_rankine.specs.Over as over
+use Rattle.flat.specs.Update.{inTwo}
 use Rattle.flat_rankine.proofs.Laws.{exps-whole}
 use Rattle.flat_rankine.proofs.update.exps.Statement.{statement}
 use Rattle.flat_rankine.proofs.update.exps.Tie as tie
 
 returns : tie.Need-returns
-unfolding expsWalk
+unfolding over.expsWalk
 returns c =
     let c1 = c .before in
     let c2 = c1 .before in
@@ -23,10 +24,10 @@ returns c =
     let whole = exps-whole (a .t1) (a .u) (a .vt) (a .h) (a .s) axes in
     let t0 = simp (c10 .exp-on-path .ensures) at (c8 .x .given .1) in
     let t1 = simp (c6 .exp-on-path2 .ensures) at (c4 .y .given .1) in
-    (simp (c .stored .ensures, c1 .is-finite .ensures, c2 .hardened .ensures, t0, t1, store-law)) ∙ whole
+    (simp (c .stored .ensures, c1 .is-finite .ensures, c2 .hardened .ensures, t0, t1, store-law inTwo)) ∙ whole
 
 returns-2 : tie.Need-returns-2
-unfolding expsWalk
+unfolding over.expsWalk
 returns-2 c =
     let c2 = c .before .before in
     let c4 = c2 .before .before in
@@ -41,7 +42,7 @@ returns-2 c =
     (simp (c .refuse .ensures, t0, t1)) ∙ whole
 
 returns-3 : tie.Need-returns-3
-unfolding expsWalk
+unfolding over.expsWalk
 returns-3 c =
     let c2 = c .before .before in
     let c4 = c2 .before .before in

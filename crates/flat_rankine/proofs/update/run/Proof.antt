@@ -5,7 +5,7 @@ use lib.ListN.{length}
 use Rattle.numbers.specs.Floats.{finite}
 use Rattle.walk.specs.Every.{and-left, and-right}
 use Rattle.plasticity_rankine.proofs.Laws.{soft-of}
-use Rattle.flat_rankine.specs.Rankine.{runWalk}
+use Rattle.plasticity_rankine.specs.Over as over
 use Rattle.flat_rankine.proofs.Laws.{strained-law, run-whole}
 use Rattle.flat_rankine.proofs.update.run.Statement.{statement}
 use Rattle.flat_rankine.proofs.update.run.Tie as tie
@@ -25,7 +25,7 @@ followed-requires c κs =
     and-left (finite (a .p .«tensile_strength»)) (finite (a .s .scalars .«plastic_hardening»)) (start .pre)
 
 returns : tie.Need-returns
-unfolding runWalk
+unfolding over.runWalk
 returns c =
     let start = c .before .before .before .before .before .before .before .before .before .before .before in
     let axes : length (start .args .t2) ≡ 2 = search needs in
@@ -45,7 +45,7 @@ returns c =
     (simp (c .followed .ensures, c1 .projected .ensures, c2 .soft-strength .ensures, t0, t1, soft, strained-law)) ∙ whole
 
 returns-2 : tie.Need-returns-2
-unfolding runWalk
+unfolding over.runWalk
 returns-2 c =
     let start = c .before .before .before .before .before .before .before .before .before in
     let axes : length (start .args .t2) ≡ 2 = search needs in
@@ -60,7 +60,7 @@ returns-2 c =
     (simp (c .refuse .ensures, t0, t1)) ∙ whole
 
 returns-3 : tie.Need-returns-3
-unfolding runWalk
+unfolding over.runWalk
 returns-3 c =
     let start = c .before .before .before .before .before in
     let axes : length (start .args .t2) ≡ 2 = search needs in

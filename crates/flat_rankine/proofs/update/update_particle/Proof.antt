@@ -1,8 +1,7 @@
 -- The inputs, the moduli, and then the steps.
 use borrow.Author.Needs.{needs}
-use Rattle.flat.specs.Update.{inputs-finite}
-use Rattle.flat_rankine.specs.Rankine.{argumentsWalk}
-use Rattle.flat_rankine.proofs.Laws.{hardening-finite}
+use Rattle.plasticity_rankine.specs.Over as over
+use Rattle.flat_rankine.proofs.Laws.{inputs-law, hardening-finite}
 use Rattle.flat_rankine.proofs.update.update_particle.Statement.{statement}
 use Rattle.flat_rankine.proofs.update.update_particle.Tie as tie
 
@@ -17,7 +16,7 @@ run-requires c κs =
     simp (c3 .law .ensures) (hardening-finite (a .law) (a .u) (a .vt) (a .s) t)
 
 returns : tie.Need-returns
-unfolding argumentsWalk
+unfolding over.argumentsWalk
 returns c =
     let c2 = c .before .before in
     let c3 = c2 .before in
@@ -27,10 +26,10 @@ returns c =
     let c7 = c6 .before in
     let t0 = simp (c6 .inputs-finite .ensures, c7 .parameters-finite .ensures) at (c5 .if1 .taken) in
     let t1 = simp (c3 .moduli-finite .ensures, c4 .law .ensures) at (c2 .if2 .taken) in
-    simp (c .run .ensures, c4 .law .ensures, t0, t1, inputs-finite)
+    simp (c .run .ensures, c4 .law .ensures, t0, t1, inputs-law)
 
 returns-2 : tie.Need-returns-2
-unfolding argumentsWalk
+unfolding over.argumentsWalk
 returns-2 c =
     let c1 = c .before in
     let c2 = c1 .before in
@@ -40,16 +39,16 @@ returns-2 c =
     let c6 = c5 .before in
     let t0 = simp (c5 .inputs-finite .ensures, c6 .parameters-finite .ensures) at (c4 .if1 .taken) in
     let t1 = simp (c2 .moduli-finite .ensures, c3 .law .ensures) at (c1 .if2 .left) in
-    simp (c .refuse .ensures, t0, t1, inputs-finite)
+    simp (c .refuse .ensures, t0, t1, inputs-law)
 
 returns-3 : tie.Need-returns-3
-unfolding argumentsWalk
+unfolding over.argumentsWalk
 returns-3 c =
     let c1 = c .before in
     let c2 = c1 .before in
     let c3 = c2 .before in
     let t0 = simp (c2 .inputs-finite .ensures, c3 .parameters-finite .ensures) at (c1 .if1 .left) in
-    simp (c .refuse2 .ensures, t0, inputs-finite)
+    simp (c .refuse2 .ensures, t0, inputs-law)
 
 pub update-particle-spec : {M : Type 1} → statement M
 update-particle-spec =

@@ -6,7 +6,7 @@ use Prim.Native.Nat.{_≤_, _<_, _*_, _-_}
 use lib.ListN.{drop}
 use borrow.Author.Needs.{needs}
 use Rattle.record.specs.Layout.{floats}
-use Rattle.particles.specs.Pass.{worked}
+use Rattle.particles.specs.Pass.{worked, workedOver}
 use Rattle.particles.specs.Fill.{fillLaw}
 use Rattle.particles.proofs.PassLaws.{fill-keeps, worked-step, records-length, all-done}
 use Rattle.particles.proofs.fill.all.Statement.{statement}
@@ -19,7 +19,7 @@ abbrev μ-loop : tie.MeasureT-loop
 μ-loop xs₀ n i₀ xs i = n - i
 
 loop-holds : tie.Need-loop-holds Inv-loop μ-loop
-unfolding worked
+unfolding workedOver
 loop-holds c = (search needs, refl)
 
 one-requires : tie.Need-one-requires Inv-loop μ-loop
@@ -28,7 +28,7 @@ one-requires c κs =
     let t : l .i < _ = c .before .loop-test .taken in
     let s = c .before .before .before .before in
     let q = s .pre in
-    let e = records-length fillLaw fill-keeps (s .args .xs .now) (l .i) (l .xs) (l .inv .1) (omega arith) in
+    let e = records-length floats fillLaw fill-keeps (s .args .xs .now) (l .i) (l .xs) (l .inv .1) (omega arith) in
     omega arith
 
 add-i : tie.Need-add-i Inv-loop μ-loop
@@ -43,14 +43,14 @@ loop-again c =
     let t = c .before .before .before .before .loop-test .taken in
     let s = c .before .before .before .before .before .before .before in
     let q = s .pre in
-    (omega arith, c .before .before .one .ensures ∙ worked-step fillLaw fill-keeps (s .args .xs .now) (l .i) (omega arith) (l .xs) (l .inv .1))
+    (omega arith, c .before .before .one .ensures ∙ worked-step floats fillLaw fill-keeps (s .args .xs .now) (l .i) (omega arith) (l .xs) (l .inv .1))
 
 same-length : tie.Need-same-length Inv-loop μ-loop
 same-length c =
     let l = c .before .loop in
     let s = c .before .before .before in
     let q = s .pre in
-    records-length fillLaw fill-keeps (s .args .xs .now) (l .i) (l .xs) (l .inv .1) (omega arith)
+    records-length floats fillLaw fill-keeps (s .args .xs .now) (l .i) (l .xs) (l .inv .1) (omega arith)
 
 returns : tie.Need-returns Inv-loop μ-loop
 returns c =

@@ -7,7 +7,7 @@ use Prim.Native.Nat.{ℕ, _≤_, _<_, _*_, _-_}
 use lib.ListN.{drop}
 use Rattle.record.specs.Layout.{floats}
 use Rattle.particles.specs.Step.{howLaw, takenLaw}
-use Rattle.particles.specs.Pass.{worked, answers, counts}
+use Rattle.particles.specs.Pass.{worked, answers, counts, workedOver, answersOver, countsOver}
 use Rattle.particles.proofs.ReadiedLaws.{taken-keeps}
 use Rattle.particles.proofs.PassLaws.{worked-step, answers-step, counts-step, counts-most, records-length, record-same, answers-long, all-done}
 use Rattle.particles.proofs.list.pass_all.Statement.{statement}
@@ -21,7 +21,7 @@ abbrev μ-loop : tie.MeasureT-loop
 μ-loop xs₀ out₀ n c₀ how q j i₀ xs out c i = n - i
 
 loop-holds : tie.Need-loop-holds Inv-loop μ-loop
-unfolding worked answers counts
+unfolding workedOver answersOver countsOver
 loop-holds c = (search needs, refl, refl, refl)
 
 one-ready-requires : tie.Need-one-ready-requires Inv-loop μ-loop
@@ -30,15 +30,15 @@ one-ready-requires c κs =
     let a = c .before .before .before .before .before .before .args in
     let t : l .i < a .n = c .before .before .loop-test .taken in
     let q = c .before .before .before .before .before .before .pre in
-    let e = records-length (takenLaw (a .t)) (taken-keeps (a .t)) (a .xs .now) (l .i) (l .xs) (l .inv .2) (omega arith) in
-    let f = answers-long (takenLaw (a .t)) (a .xs .now) (a .out .now) (l .i) (l .out) (l .inv .3) (omega arith) in
+    let e = records-length floats (takenLaw (a .t)) (taken-keeps (a .t)) (a .xs .now) (l .i) (l .xs) (l .inv .2) (omega arith) in
+    let f = answers-long floats (takenLaw (a .t)) (a .xs .now) (a .out .now) (l .i) (l .out) (l .inv .3) (omega arith) in
     (omega arith, omega arith, q .2)
 
 count-one-requires : tie.Need-count-one-requires Inv-loop μ-loop
 count-one-requires c κs =
     let l = c .before .before .before .before .before .before .before .before .loop in
     let s = c .before .before .before .before .before .before .before .before .before .before .before in
-    let m = counts-most (takenLaw (s .args .t)) (s .args .xs .now) (l .i) in
+    let m = counts-most floats (takenLaw (s .args .t)) (s .args .xs .now) (l .i) in
     let t = c .before .before .before .before .before .before .before .loop-test .taken in
     let g = s .good in
     let q = s .pre in
@@ -60,13 +60,13 @@ loop-again c =
     let law = takenLaw (s .args .t) in
     let keeps = taken-keeps (s .args .t) in
     let xs = s .args .xs .now in
-    let same = record-same law keeps xs (l .i) (l .xs) (l .inv .2) (omega arith) in
+    let same = record-same floats law keeps xs (l .i) (l .xs) (l .inv .2) (omega arith) in
     let f = o .ensures .0 ∙ ap (λ (r : List ℕ). law r .outcome) same in
     let g = o .ensures .1 .0 ∙ ap (λ (r : List ℕ). law r .failed) same in (
       omega arith,
-      c .count-one .ensures ∙ counts-step law xs (l .i) (l .c) (o .result .outcome) (o .result .failed) (l .inv .1) f g,
-      o .ensures .1 .1 .0 ∙ worked-step law keeps xs (l .i) (omega arith) (l .xs) (l .inv .2),
-      o .ensures .1 .1 .1 ∙ answers-step law xs (l .i) (s .args .out .now) (omega arith) (l .out) (l .inv .3) (o .result .outcome) f,
+      c .count-one .ensures ∙ counts-step floats law xs (l .i) (l .c) (o .result .outcome) (o .result .failed) (l .inv .1) f g,
+      o .ensures .1 .1 .0 ∙ worked-step floats law keeps xs (l .i) (omega arith) (l .xs) (l .inv .2),
+      o .ensures .1 .1 .1 ∙ answers-step floats law xs (l .i) (s .args .out .now) (omega arith) (l .out) (l .inv .3) (o .result .outcome) f,
     )
 
 same-length : tie.Need-same-length Inv-loop μ-loop
@@ -74,14 +74,14 @@ same-length c =
     let l = c .before .loop in
     let a = c .before .before .before .before .args in
     let q = c .before .before .before .before .pre in
-    records-length (takenLaw (a .t)) (taken-keeps (a .t)) (a .xs .now) (l .i) (l .xs) (l .inv .2) (omega arith)
+    records-length floats (takenLaw (a .t)) (taken-keeps (a .t)) (a .xs .now) (l .i) (l .xs) (l .inv .2) (omega arith)
 
 same-length-2 : tie.Need-same-length-2 Inv-loop μ-loop
 same-length-2 c =
     let l = c .before .loop in
     let a = c .before .before .before .before .args in
     let q = c .before .before .before .before .pre in
-    answers-long (takenLaw (a .t)) (a .xs .now) (a .out .now) (l .i) (l .out) (l .inv .3) (omega arith)
+    answers-long floats (takenLaw (a .t)) (a .xs .now) (a .out .now) (l .i) (l .out) (l .inv .3) (omega arith)
 
 returns : tie.Need-returns Inv-loop μ-loop
 returns c =

@@ -1,12 +1,12 @@
 -- `plasticity_drucker_prager::DruckerPragerPlasticity::update_ready` answers `druckerUpdate self u vt s`.
 use borrow.Author.Needs.{needs}
 use Rattle.plasticity_drucker_prager.proofs.Laws.{inputs-law}
-use Rattle.plasticity_drucker_prager.specs.DruckerPrager.{druckerWalk}
+use Rattle.plasticity_drucker_prager.specs.Over as over
 use Rattle.plasticity_drucker_prager.proofs.DruckerPragerPlasticity.update_ready.Statement.{statement}
 use Rattle.plasticity_drucker_prager.proofs.DruckerPragerPlasticity.update_ready.Tie as tie
 
 returns : tie.Need-returns
-unfolding druckerWalk
+unfolding over.druckerWalk
 returns c =
     let q = c .before .pre in
     simp (c .run .ensures, inputs-law, q)

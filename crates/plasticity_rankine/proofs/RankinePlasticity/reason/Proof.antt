@@ -2,6 +2,7 @@
 use borrow.Author.Needs.{needs}
 use mathlib.Core.Path.{_≡_, _∙_}
 use Rattle.reason.specs.Why.{why-of}
+use Rattle.plasticity_rankine.specs.Over as over
 use Rattle.plasticity_rankine.specs.Rankine.{rankineWalk}
 use Rattle.plasticity_rankine.proofs.Laws.{inputs-law}
 use Rattle.plasticity_rankine.proofs.RankinePlasticity.reason.Statement.{statement}
@@ -15,7 +16,7 @@ run-reason-requires c κs =
     simp (c4 .inputs-finite .ensures, c5 .parameters-finite .ensures) at (c3 .if1 .taken)
 
 returns : tie.Need-returns
-unfolding rankineWalk
+unfolding over.rankineWalk
 returns c =
     let c2 = c .before .before in
     let c3 = c2 .before in
@@ -29,7 +30,7 @@ returns c =
     (simp (c .run-reason .ensures, c3 .moduli-finite .ensures, c5 .inputs-finite .ensures, c6 .parameters-finite .ensures, t0, t1, inputs-law)) ∙ why-of (rankineWalk (a .self) (a .u) (a .vt) (a .s))
 
 returns-2 : tie.Need-returns-2
-unfolding rankineWalk
+unfolding over.rankineWalk
 returns-2 c =
     let c1 = c .before in
     let c2 = c1 .before in
@@ -42,7 +43,7 @@ returns-2 c =
     (simp (c1 .moduli-finite .ensures, c3 .inputs-finite .ensures, c4 .parameters-finite .ensures, t0, t1, inputs-law)) ∙ why-of (rankineWalk (a .self) (a .u) (a .vt) (a .s))
 
 returns-3 : tie.Need-returns-3
-unfolding rankineWalk
+unfolding over.rankineWalk
 returns-3 c =
     let c1 = c .before in
     let c2 = c1 .before in

@@ -4,7 +4,8 @@ use mathlib.Core.Path.{_≡_, sym, ap, _∙_}
 use lib.ListN.{length}
 use Rattle.walk.specs.Walk.{ln}
 use Rattle.walk.specs.Update.{updatedOf}
-use Rattle.plasticity_rankine.specs.Rankine.{strainedWalk, runWalk}
+use Rattle.plasticity_rankine.specs.Over as over
+use Rattle.plasticity_rankine.specs.Rankine.{strainedWalk}
 use Rattle.plasticity_rankine.proofs.Laws.{strength-finite, soft-number, strained-law, asks-law}
 use Rattle.plasticity_rankine.proofs.RankinePlasticity.run.Statement.{statement}
 use Rattle.plasticity_rankine.proofs.RankinePlasticity.run.Tie as tie
@@ -22,7 +23,7 @@ followed-requires c κs =
     strength-finite (a .self) (a .u) (a .vt) (a .s) (start .pre)
 
 returns : tie.Need-returns
-unfolding runWalk
+unfolding over.runWalk
 returns c =
     let start = c .before .before .before .before .before .before .before in
     let axes : length (start .args .t2) ≡ 3 = search needs in
@@ -36,7 +37,7 @@ returns c =
     ∙ ap (updatedOf (a .s)) (asks-law 2 ln (a .t2) (λ e. strainedWalk (a .self) e (a .u) (a .vt) (a .s)) _ axes (sym (c6 .logs-on-path .ensures) ∙ c4 .x .given .1))
 
 returns-2 : tie.Need-returns-2
-unfolding runWalk
+unfolding over.runWalk
 returns-2 c =
     let c2 = c .before .before in
     let c4 = c2 .before .before in

@@ -4,7 +4,8 @@ use mathlib.Core.Path.{_≡_, sym, _∙_}
 use lib.ListN.{length}
 use Rattle.walk.specs.Walk.{ln}
 use Rattle.reason.specs.Reason.{untold}
-use Rattle.plasticity_rankine.specs.Rankine.{strainedWalk, runWalk}
+use Rattle.plasticity_rankine.specs.Over as over
+use Rattle.plasticity_rankine.specs.Rankine.{strainedWalk}
 use Rattle.plasticity_rankine.proofs.Laws.{strength-finite, soft-number}
 use Rattle.plasticity_rankine.proofs.Why.{strained-why, asks-why}
 use Rattle.plasticity_rankine.proofs.RankinePlasticity.run_reason.Statement.{statement}
@@ -23,7 +24,7 @@ followed-reason-requires c κs =
     strength-finite (a .self) (a .u) (a .vt) (a .s) (start .pre)
 
 returns : tie.Need-returns
-unfolding runWalk
+unfolding over.runWalk
 returns c =
     let start = c .before .before .before .before .before .before .before in
     let axes : length (start .args .t2) ≡ 3 = search needs in
@@ -37,7 +38,7 @@ returns c =
     ∙ asks-why untold 2 ln (a .t2) (λ e. strainedWalk (a .self) e (a .u) (a .vt) (a .s)) _ axes (sym (c6 .logs-on-path .ensures) ∙ c4 .x .given .1)
 
 returns-2 : tie.Need-returns-2
-unfolding runWalk
+unfolding over.runWalk
 returns-2 c =
     let c3 = c .before .before .before in
     let start = c3 .before in

@@ -1,6 +1,6 @@
 -- The inputs, the moduli, and then the steps.
 use borrow.Author.Needs.{needs}
-use Rattle.plasticity_rankine.specs.Rankine.{rankineWalk}
+use Rattle.plasticity_rankine.specs.Over as over
 use Rattle.plasticity_rankine.proofs.Laws.{inputs-law}
 use Rattle.plasticity_rankine.proofs.RankinePlasticity.update_particle.Statement.{statement}
 use Rattle.plasticity_rankine.proofs.RankinePlasticity.update_particle.Tie as tie
@@ -13,7 +13,7 @@ run-requires c κs =
     simp (c4 .inputs-finite .ensures, c5 .parameters-finite .ensures) at (c3 .if1 .taken)
 
 returns : tie.Need-returns
-unfolding rankineWalk
+unfolding over.rankineWalk
 returns c =
     let c2 = c .before .before in
     let c3 = c2 .before in
@@ -25,7 +25,7 @@ returns c =
     simp (c .run .ensures, t0, t1, inputs-law)
 
 returns-2 : tie.Need-returns-2
-unfolding rankineWalk
+unfolding over.rankineWalk
 returns-2 c =
     let c1 = c .before in
     let c2 = c1 .before in
@@ -37,7 +37,7 @@ returns-2 c =
     simp (c .refuse .ensures, t0, t1, inputs-law)
 
 returns-3 : tie.Need-returns-3
-unfolding rankineWalk
+unfolding over.rankineWalk
 returns-3 c =
     let c1 = c .before in
     let c2 = c1 .before in

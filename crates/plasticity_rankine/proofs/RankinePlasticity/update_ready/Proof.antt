@@ -1,5 +1,5 @@
 -- Inputs and moduli are finite: the steps are left.
-use Rattle.plasticity_rankine.specs.Rankine.{rankineWalk}
+use Rattle.plasticity_rankine.specs.Over as over
 use Rattle.plasticity_rankine.proofs.Laws.{inputs-law}
 use Rattle.plasticity_rankine.proofs.RankinePlasticity.update_ready.Statement.{statement}
 use Rattle.plasticity_rankine.proofs.RankinePlasticity.update_ready.Tie as tie
@@ -8,7 +8,7 @@ run-requires : tie.Need-run-requires
 run-requires c κs = c .before .pre .0
 
 returns : tie.Need-returns
-unfolding rankineWalk
+unfolding over.rankineWalk
 returns c =
     let q = c .before .before .pre in
     simp (c .run .ensures, inputs-law, q .0, q .1)

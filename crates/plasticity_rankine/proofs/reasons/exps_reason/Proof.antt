@@ -1,16 +1,19 @@
 -- The exponentials are asked in index order.
 use borrow.Author.Needs.{needs}
+use Rattle.walk.specs.Update.{inThree}
+use Rattle.reason.specs.Why.{store-why}
 use mathlib.Core.Path.{_≡_, sym, _∙_}
 use lib.ListN.{length}
 use Rattle.walk.specs.Expr.{num}
 use Rattle.walk.specs.Walk.{exp}
-use Rattle.plasticity_rankine.specs.Rankine.{storeWalk, expsWalk}
-use Rattle.plasticity_rankine.proofs.Why.{store-why, asks-why}
+use Rattle.plasticity_rankine.specs.Over as over
+use Rattle.plasticity_rankine.specs.Rankine.{storeWalk}
+use Rattle.plasticity_rankine.proofs.Why.{asks-why}
 use Rattle.plasticity_rankine.proofs.reasons.exps_reason.Statement.{statement}
 use Rattle.plasticity_rankine.proofs.reasons.exps_reason.Tie as tie
 
 returns : tie.Need-returns
-unfolding expsWalk
+unfolding over.expsWalk
 returns c =
     let c2 = c .before .before in
     let c4 = c2 .before .before in
@@ -19,10 +22,10 @@ returns c =
     let axes : length (start .args .t1) ≡ 3 = search needs in
     let a = start .args in
     let t = simp (c .before .results-finite .ensures, c2 .recompose .ensures) at (c .if1 .taken) in
-    (simp (store-why, t)) ∙ asks-why (a .told) 9 exp (a .t1) (λ sigma. storeWalk (a .u) sigma (a .vt) (num (a .h)) (a .s)) _ axes (sym (c6 .exps-on-path .ensures) ∙ c4 .x .given .1)
+    (simp (store-why inThree, t)) ∙ asks-why (a .told) 9 exp (a .t1) (λ sigma. storeWalk (a .u) sigma (a .vt) (num (a .h)) (a .s)) _ axes (sym (c6 .exps-on-path .ensures) ∙ c4 .x .given .1)
 
 returns-2 : tie.Need-returns-2
-unfolding expsWalk
+unfolding over.expsWalk
 returns-2 c =
     let c2 = c .before .before in
     let c4 = c2 .before .before in
@@ -31,10 +34,10 @@ returns-2 c =
     let axes : length (start .args .t1) ≡ 3 = search needs in
     let a = start .args in
     let t = simp (c .before .results-finite .ensures, c2 .recompose .ensures) at (c .if1 .left) in
-    (simp (store-why, t)) ∙ asks-why (a .told) 9 exp (a .t1) (λ sigma. storeWalk (a .u) sigma (a .vt) (num (a .h)) (a .s)) _ axes (sym (c6 .exps-on-path .ensures) ∙ c4 .x .given .1)
+    (simp (store-why inThree, t)) ∙ asks-why (a .told) 9 exp (a .t1) (λ sigma. storeWalk (a .u) sigma (a .vt) (num (a .h)) (a .s)) _ axes (sym (c6 .exps-on-path .ensures) ∙ c4 .x .given .1)
 
 returns-3 : tie.Need-returns-3
-unfolding expsWalk
+unfolding over.expsWalk
 returns-3 c =
     let c3 = c .before .before .before in
     let start = c3 .before in

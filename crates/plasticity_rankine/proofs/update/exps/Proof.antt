@@ -5,13 +5,14 @@ use lib.ListN.{length}
 use Rattle.walk.specs.Expr.{num}
 use Rattle.walk.specs.Walk.{exp}
 use Rattle.walk.specs.Update.{updatedOf}
-use Rattle.plasticity_rankine.specs.Rankine.{storeWalk, expsWalk}
+use Rattle.plasticity_rankine.specs.Over as over
+use Rattle.plasticity_rankine.specs.Rankine.{storeWalk}
 use Rattle.plasticity_rankine.proofs.Laws.{asks-law}
 use Rattle.plasticity_rankine.proofs.update.exps.Statement.{statement}
 use Rattle.plasticity_rankine.proofs.update.exps.Tie as tie
 
 returns : tie.Need-returns
-unfolding expsWalk
+unfolding over.expsWalk
 returns c =
     let c2 = c .before .before in
     let c4 = c2 .before .before in
@@ -21,7 +22,7 @@ returns c =
     c .store .ensures ∙ ap (updatedOf (a .s)) (asks-law 9 exp (a .t1) (λ sigma. storeWalk (a .u) sigma (a .vt) (num (a .h)) (a .s)) _ axes (sym (c4 .exps-on-path .ensures) ∙ c2 .x .given .1))
 
 returns-2 : tie.Need-returns-2
-unfolding expsWalk
+unfolding over.expsWalk
 returns-2 c =
     let c2 = c .before .before in
     let c4 = c2 .before .before in

@@ -1,5 +1,6 @@
 -- The inputs, and then the steps: what is read off the path.
 use borrow.Author.Needs.{needs}
+use Rattle.walk.specs.Update.{inThree}
 use mathlib.Core.Path.{_≡_, _∙_}
 use Rattle.reason.specs.Why.{why-exactly}
 use Rattle.plasticity_snow.specs.Snow.{snowWalk}
@@ -25,7 +26,7 @@ returns c =
     let t0 = simp (c4 .inputs-finite .ensures, c5 .parameters-finite .ensures) at (c3 .if1 .taken) in
     let c6 = c5 .before in
     let a = c6 .args in
-    (simp (c .run-reason .ensures, c1 .bounds .ensures, c4 .inputs-finite .ensures, c5 .parameters-finite .ensures, t0, inputs-law)) ∙ why-exactly (boundsOf (a .self) (a .s .sigma)) (snowWalk (a .self) (a .u) (a .vt) (a .s))
+    (simp (c .run-reason .ensures, c1 .bounds .ensures, c4 .inputs-finite .ensures, c5 .parameters-finite .ensures, t0, inputs-law inThree)) ∙ why-exactly (boundsOf (a .self) (a .s .sigma)) (snowWalk inThree (a .self) (a .u) (a .vt) (a .s))
 
 returns-2 : tie.Need-returns-2
 unfolding snowWalk
@@ -35,7 +36,7 @@ returns-2 c =
     let t0 = simp (c1 .inputs-finite .ensures, c2 .parameters-finite .ensures) at (c .if1 .left) in
     let c3 = c2 .before in
     let a = c3 .args in
-    (simp (c1 .inputs-finite .ensures, c2 .parameters-finite .ensures, t0, inputs-law)) ∙ why-exactly (boundsOf (a .self) (a .s .sigma)) (snowWalk (a .self) (a .u) (a .vt) (a .s))
+    (simp (c1 .inputs-finite .ensures, c2 .parameters-finite .ensures, t0, inputs-law inThree)) ∙ why-exactly (boundsOf (a .self) (a .s .sigma)) (snowWalk inThree (a .self) (a .u) (a .vt) (a .s))
 
 pub reason-spec : {M : Type 1} → statement M
 reason-spec =

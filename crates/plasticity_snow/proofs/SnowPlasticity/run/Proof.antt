@@ -1,8 +1,10 @@
--- `plasticity_snow::SnowPlasticity::run` answers `updatedOf s (result (runWalk self u vt s))`.
+-- `plasticity_snow::SnowPlasticity::run` answers `updatedOf s (result (runWalk inThree self u vt s))`.
 use borrow.Author.Needs.{needs}
+use Rattle.walk.specs.Body.{store-law}
+use Rattle.walk.specs.Update.{inThree}
 use Rattle.walk.specs.Matrix.{value-product}
 use Rattle.plasticity_snow.specs.Snow.{hardenWalk}
-use Rattle.plasticity_snow.proofs.Laws.{bounds-numbers, run-law, store-law}
+use Rattle.plasticity_snow.proofs.Laws.{bounds-numbers, run-law}
 use Rattle.plasticity_snow.proofs.SnowPlasticity.run.Statement.{statement}
 use Rattle.plasticity_snow.proofs.SnowPlasticity.run.Tie as tie
 
@@ -10,7 +12,7 @@ clamped-requires : tie.Need-clamped-requires
 clamped-requires c κs =
     let c1 = c .before in
     let a = c1 .args in
-    bounds-numbers (a .self) (a .u) (a .vt) (a .s) (c1 .pre)
+    bounds-numbers inThree (a .self) (a .u) (a .vt) (a .s) (c1 .pre)
 
 returns : tie.Need-returns
 unfolding hardenWalk
@@ -23,7 +25,7 @@ returns c =
     let c9 = c7 .before .before in
     let t0 = simp (c4 .exp-on-path .ensures, c5 .exponent .ensures, c6 .determinant .ensures, c7 .clamped .ensures) at (c2 .h .given .1) in
     let a = c9 .args in
-    simp (c .store .ensures, c4 .exp-on-path .ensures, c5 .exponent .ensures, c6 .determinant .ensures, c7 .clamped .ensures, t0, run-law (a .self) (a .u) (a .vt) (a .s) (c9 .pre), value-product, store-law)
+    simp (c .store .ensures, c4 .exp-on-path .ensures, c5 .exponent .ensures, c6 .determinant .ensures, c7 .clamped .ensures, t0, run-law inThree (a .self) (a .u) (a .vt) (a .s) (c9 .pre), value-product, store-law inThree)
 
 returns-2 : tie.Need-returns-2
 unfolding hardenWalk
@@ -36,7 +38,7 @@ returns-2 c =
     let c9 = c7 .before .before in
     let t0 = simp (c4 .exp-on-path .ensures, c5 .exponent .ensures, c6 .determinant .ensures, c7 .clamped .ensures) at (c2 .n .given .1) in
     let a = c9 .args in
-    simp (c .refuse .ensures, c4 .exp-on-path .ensures, c5 .exponent .ensures, c6 .determinant .ensures, c7 .clamped .ensures, t0, run-law (a .self) (a .u) (a .vt) (a .s) (c9 .pre), value-product, store-law)
+    simp (c .refuse .ensures, c4 .exp-on-path .ensures, c5 .exponent .ensures, c6 .determinant .ensures, c7 .clamped .ensures, t0, run-law inThree (a .self) (a .u) (a .vt) (a .s) (c9 .pre), value-product, store-law inThree)
 
 pub run-spec : {M : Type 1} → statement M
 run-spec =

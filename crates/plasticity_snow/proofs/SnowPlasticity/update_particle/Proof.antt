@@ -1,5 +1,6 @@
 -- `plasticity_snow::SnowPlasticity::update_particle` answers `snowUpdate self u vt s`.
 use borrow.Author.Needs.{needs}
+use Rattle.walk.specs.Update.{inThree}
 use Rattle.plasticity_snow.specs.Snow.{snowWalk}
 use Rattle.plasticity_snow.proofs.Laws.{inputs-law}
 use Rattle.plasticity_snow.proofs.SnowPlasticity.update_particle.Statement.{statement}
@@ -16,7 +17,7 @@ returns c =
     let c2 = c1 .before in
     let c3 = c2 .before in
     let t0 = simp (c2 .inputs-finite .ensures, c3 .parameters-finite .ensures) at (c1 .if1 .taken) in
-    simp (c .run .ensures, c2 .inputs-finite .ensures, c3 .parameters-finite .ensures, t0, inputs-law)
+    simp (c .run .ensures, c2 .inputs-finite .ensures, c3 .parameters-finite .ensures, t0, inputs-law inThree)
 
 returns-2 : tie.Need-returns-2
 unfolding snowWalk
@@ -25,7 +26,7 @@ returns-2 c =
     let c2 = c1 .before in
     let c3 = c2 .before in
     let t0 = simp (c2 .inputs-finite .ensures, c3 .parameters-finite .ensures) at (c1 .if1 .left) in
-    simp (c .refuse .ensures, c2 .inputs-finite .ensures, c3 .parameters-finite .ensures, t0, inputs-law)
+    simp (c .refuse .ensures, c2 .inputs-finite .ensures, c3 .parameters-finite .ensures, t0, inputs-law inThree)
 
 pub update-particle-spec : {M : Type 1} → statement M
 update-particle-spec =

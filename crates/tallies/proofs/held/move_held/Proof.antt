@@ -1,35 +1,10 @@
 -- `tallies::held::move_held` meets its contract: by what is in range.
 use mathlib.Core.Path.{_≡_, sym, ap, _∙_}
-use mathlib.Core.Bool.{true, _&&_}
-use mathlib.Core.List.{List}
-use Prim.Native.Nat.{ℕ, _<_, _≤_}
 use native.Mathlib.Omega.{arith}
-use lib.Dec.{ltb}
-use lib.ListN.{length, set}
-use borrow.Author.Tests.{ltb-true}
 use borrow.Author.Needs.{needs}
-use Rattle.numbers.proofs.Laws.{and-both}
-use Rattle.tallies.specs.Zones.{belowIn, zonesFit, moveFits}
-use Rattle.tallies.proofs.ZoneLaws.{fits-of, below-wider, below-set}
+use Rattle.tallies.proofs.ZoneLaws.{listed-there, below-after}
 use Rattle.tallies.proofs.held.move_held.Statement.{statement}
 use Rattle.tallies.proofs.held.move_held.Tie as tie
-
--- the particle has a zone, and every zone afterwards a place in the array
-module _ (particles p z : ℕ) (zones : List ℕ) (n : ℕ) (e : moveFits particles p z zones n ≡ true) where
-  listed-there : p < length zones
-  listed-there =
-      let a = and-both (zonesFit particles zones n) (ltb p particles && ltb z n) e in
-      let b = and-both (ltb p particles) (ltb z n) (a .1) in
-      let h = ltb-true p particles (b .0) in
-      let q = fits-of particles zones n (a .0) .each in
-      omega (arith, h, q)
-
-  below-after : belowIn 256 (set zones p z) (length (set zones p z)) ≡ true
-  below-after =
-      let a = and-both (zonesFit particles zones n) (ltb p particles && ltb z n) e in
-      let b = and-both (ltb p particles) (ltb z n) (a .1) in
-      let f = fits-of particles zones n (a .0) in
-      below-wider n 256 (set zones p z) (length (set zones p z)) (f .most) (below-set n zones p z listed-there (ltb-true _ _ (b .1)) (f .below))
 
 mul-zones : tie.Need-mul-zones
 mul-zones c =
