@@ -123,15 +123,15 @@ class Command(InFolder):
         def short(bits):
             x = struct.unpack("<d", struct.pack("<Q", bits))[0]
             return "%s (%016x)" % ("nan" if x != x else "%.3g" % x, bits)
-        line = "%d let go: with one strain returned the next stress %s was within the softened strength %s; one strain was returned\n"
+        line = "%d yielded, test 5: were the largest strain brought down to the next, the largest stress %s would be within the softened strength %s; one strain is returned\n"
         given, want = ("particles %d\n%send\n" % (len(pairs), "".join(line % (k, spell(a), spell(b)) for k, (a, b) in enumerate(pairs)))
                        for spell in ("{:016x}".format, short))
         self.ended(self.slope("--why", self.sheet, answer=given), 0, want)
-        zeros = "particles 1\n0 let go: no shape is left in its strains, %s%s %s are zero; sigma are all ones\nend\n"
+        zeros = "particles 1\n0 yielded, test 8: no shape is left in its strains, %s%s %s are zero; sigma are all ones\nend\n"
         self.ended(self.slope("--why", self.sheet, answer=zeros % ("0" * 16, " 8" + "0" * 15, "0" * 16)), 0, zeros % ("0 (%s)" % ("0" * 16), " -0 (8%s)" % ("0" * 15), "0 (%s)" % ("0" * 16)))
 
     def test_why_leaves_other_lines_alone(self):
-        answer = "particles 2\n0 clamped, sigma by its bound: neither lower upper\n1 refused 1 at step 0, float 20\nend\n"
+        answer = "particles 2\n0 clamped, sigma by its bound: neither lower upper\n1 refused 1 at step 0: float 20, of sigma\nend\n"
         self.ended(self.slope("--why", self.sheet, answer=answer), 3, answer)
         self.ended(self.slope("--why", "--explain", self.sheet, answer=answer), 3, answer, "particle 1 is refused by 1: ")
         self.ended(self.slope("--why", self.sheet, answer="sheet refused 4\n"), 3, "sheet refused 4\n")
@@ -141,9 +141,9 @@ class Command(InFolder):
         for words, handed in (("--why", "--why"), ("--why=7", "--why 7"), ("--why=0", "--why 0"), ("--why=0070", "--why 70"), ("--why=000", "--why 0")):
             ran = self.run_command(SLOPE, words, self.sheet, PASOLETU_SLOPE=program)
             self.assertEqual(ran.stdout.decode(), "particles 9\n%s said\nend\n" % handed)
-        line = "particles 9\n7 stayed: left alone by its flag; untouched\nend\n"
+        line = "particles 9\n7 stayed, test 1: the law acts on failed particles only; untouched\nend\n"
         self.assertEqual(self.ended(self.slope("--why=7", self.sheet, answer=line), 0, line).stderr, b"")
-        self.ended(self.slope("--why=9", self.sheet, answer="particles 9\nend\n"), 2, "particles 9\nend\n", "%s has no particle 9: it has 9, counted from 0" % self.sheet)
+        self.ended(self.slope("--why=9", self.sheet, answer="particles 9\nno particle 9\nend\n"), 2, "particles 9\nno particle 9\nend\n", "%s has no particle 9: it has 9, counted from 0" % self.sheet)
         self.assertEqual(self.ended(self.slope("--why=9", self.sheet, answer="sheet refused 4\n"), 3).stderr, b"")
         for words in ("--why=", "--why=x", "--why=-1"):
             self.ended(self.slope(words, self.sheet), 2, "", "--why=N needs a particle's number")
@@ -255,7 +255,7 @@ class Proved(InFolder):
 
     def test_why(self):
         """Of each sample, a line a particle that says what its answer does; that of one particle alone is the same line."""
-        outcomes = {"stayed:": "untouched", "let": "stored", "clamped,": "stored", "refused": "refused"}
+        outcomes = {"stayed,": "untouched", "yielded,": "stored", "clamped,": "stored", "inside": "stored", "refused": "refused"}
         for path in sorted((TOP / "samples").glob("*.sheet")):
             answers, told = (self.run_command(SLOPE, *words, path, PASOLETU_SLOPE=proved_program()) for words in ((), ("--why",)))
             self.assertEqual((answers.returncode, b""), (told.returncode, told.stderr), path.name)

@@ -455,9 +455,14 @@ def write():
         (HERE / "data" / ("%02d" % k)).write_bytes(b)
 
 
+def parts():
+    """What the gate expects of each sheet, by its heading: `-- 00` an answer, `-- 00 why` the reasons."""
+    return dict(part.split("\n", 1) for part in ("\n" + (HERE / "stdout").read_text()).split("\n-- ")[1:])
+
+
 def printed():
-    """The lines that are expected in the gate."""
-    return (HERE / "stdout").read_text().splitlines()
+    """The lines of the answers that are expected in the gate."""
+    return [line for name, text in parts().items() if not name.endswith(" why") for line in ["-- " + name, *text.splitlines()]]
 
 
 def printed_by(program):

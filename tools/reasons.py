@@ -3,11 +3,13 @@
 
   tools/reasons.py X.sheet...              prints the lines of `slope --why` as the second implementation works them, the numbers as decimals
   tools/reasons.py check [--program PROGRAM] [X.sheet...]
-                                           reads crates/why's sheet and compares with its expected output: tests, branches, steps and places exactly, the
-                                           numbers within 2^-30 of themselves and of 1; and the sheets (default: samples/ and those of slope_cases) with
-                                           what the proved program prints with --why, where --program or PASOLETU_SLOPE names it
+                                           reads the sheets of crates/why and crates/slope_cases and compares with their expected output: tests, branches,
+                                           steps with the words of docs/STEPS.md and places exactly, the numbers within 2^-30 of themselves and of 1; and
+                                           the sheets (default: samples/ and those of slope_cases) with what the proved program prints with --why, where
+                                           --program or PASOLETU_SLOPE names it
 """
 import argparse
+import functools
 import math
 import os
 import pathlib
@@ -15,6 +17,7 @@ import re
 import struct
 import subprocess
 import sys
+import tomllib
 
 sys.path.insert(0, str(pathlib.Path(__file__).resolve().parent))
 import cases  # noqa: E402
@@ -220,22 +223,23 @@ def nacc(p, r):
 
 LAWS = [snow, rankine, drucker_prager, nacc]
 
-# What the program prints of a test: the words before the first number, between the two, after the second.
-WITHIN = " was within the softened strength "
+# What the program prints of a test, after "stayed, test N" or "yielded, test N": the words before the first number, between the two, after the second.
+WITHIN, OVER = " would be within the softened strength ", " would be over the softened strength "
+LEAST = ": were all strains brought down to the least, the stress "
 WORDS = {
-    (1, 4, True): (" stayed: the largest stress ", WITHIN, "; untouched"),
-    (1, 5, True): (" let go: with one strain returned the next stress ", WITHIN, "; one strain was returned"),
-    (1, 6, True): (" let go: with two strains returned the last stress ", WITHIN, "; two strains were returned"),
-    (1, 6, False): (" let go: with two strains returned the last stress ", " was over the softened strength ", "; all three strains were returned"),
-    (2, 1, True): (" stayed: the law acts on failed particles only; untouched",),
-    (2, 8, True): (" let go: no shape is left in its strains, ", " ", " ", " are zero; sigma are all ones"),
-    (2, 9, True): (" let go: it came apart, ", " was below the sum of its strains ", "; sigma are all ones"),
-    (2, 13, True): (" stayed: its distance past the cone ", " was at most ", "; untouched"),
-    (2, 13, False): (" let go: its distance past the cone ", " was over ", "; returned to the cone"),
-    (3, 7, True): (" let go: the largest pressure ", " was below its pressure ", "; returned to the upper tip"),
-    (3, 8, True): (" let go: its pressure ", " was below the lowest ", "; returned to the lower tip"),
-    (3, 9, True): (" stayed: its distance past the ellipse ", " was below ", "; untouched"),
-    (3, 9, False): (" let go: its distance past the ellipse ", " was at least ", "; returned to the ellipse"),
+    (1, 4, True): (": the largest stress ", " is within the softened strength ", "; untouched"),
+    (1, 5, True): (": were the largest strain brought down to the next, the largest stress ", WITHIN, "; one strain is returned"),
+    (1, 6, True): (LEAST, WITHIN, "; two strains are returned"),
+    (1, 6, False): (LEAST, OVER, "; all three strains are returned"),
+    (2, 1, True): (": the law acts on failed particles only; untouched",),
+    (2, 8, True): (": no shape is left in its strains, ", " ", " ", " are zero; sigma are all ones"),
+    (2, 9, True): (": it came apart, ", " is below the sum of its strains ", "; sigma are all ones"),
+    (2, 13, True): (": its distance past the cone ", " is at most ", "; untouched"),
+    (2, 13, False): (": its distance past the cone ", " is over ", "; returned to the cone"),
+    (3, 7, True): (": the largest pressure ", " is below its pressure ", "; returned to the upper tip"),
+    (3, 8, True): (": its pressure ", " is below the lowest ", "; returned to the lower tip"),
+    (3, 9, True): (": its distance past the ellipse ", " is below ", "; untouched"),
+    (3, 9, False): (": its distance past the ellipse ", " is at least ", "; returned to the ellipse"),
 }
 # The branch of section 5, 0 untouched.
 BRANCHES = {(1, 4, True): 0, (1, 5, True): 1, (1, 6, True): 2, (1, 6, False): 3, (2, 1, True): 0, (2, 8, True): 1, (2, 9, True): 1, (2, 13, True): 0,
@@ -265,17 +269,40 @@ def branch(model, p, r):
     return 1 if test == "bounds" else BRANCHES[test]
 
 
+@functools.lru_cache
+def steps():
+    """What is done at each step of each law, as the tables of docs/STEPS.md have it."""
+    parts = re.split("^## ", (shell.TOP / "docs" / "STEPS.md").read_text(), flags=re.M)[1:]
+    rows = {part.split("\n")[0]: {int(n): words.replace("`", "") for n, words in re.findall(r"^\| (\d+) \| ([^|]+?) \|", part, re.M)} for part in parts}
+    return [{**rows["The record's own"], **rows[law]} for law in ("Snow", "Rankine", "Drucker-Prager", "NACC")]
+
+
+@functools.lru_cache
+def calls():
+    return tomllib.loads((shell.TOP / "calls.toml").read_text())
+
+
+def name_of(model, whose, place):
+    """The name of a float: a parameter's as calls.toml has it, a record's by its part."""
+    if whose == "parameter":
+        return calls()["model"][model % len(LAWS)]["parameters"][place]["name"]
+    parts = ["of F"] * 9 + ["of U"] * 9 + ["of sigma"] * 3 + ["of V^T"] * 9
+    return [*parts, "phase", "plastic determinant", "plastic hardening", "elastic hardening", "log gain", "alpha", "the stored determinant"][place]
+
+
 def line(k, model, p, r):
     """The words of record k's line, one more than the numbers that stand between them, and the numbers."""
     try:
         test, compared = reason(model, p, r)
     except Stopped as e:
         number, step, *place = e.args
-        return ["%d refused %d at step %d%s" % (k, number, step, ", %s %d" % tuple(place) if place else "")], []
+        told = "%s %d, %s" % (*place, name_of(model, *place)) if place else steps()[model % len(LAWS)][step]
+        return ["%d refused %d at step %d: %s" % (k, number, step, told)], []
     if test == "bounds":
-        return ["%d clamped, sigma by its bound: %s" % (k, " ".join(compared))], []
+        told = "inside its bounds" if set(compared) == {"neither"} else "clamped, sigma by its bound: " + " ".join(compared)
+        return ["%d %s" % (k, told)], []
     first, *rest = WORDS[test]
-    return [str(k) + first, *rest], compared
+    return ["%d %s, test %d%s" % (k, "yielded" if BRANCHES[test] else "stayed", test[1], first), *rest], compared
 
 
 def lines(data):
@@ -311,6 +338,8 @@ def compare(data, answer, name):
 def check(args):
     here = shell.TOP / "crates" / "why"
     counts = [compare((here / "stdin").read_bytes(), (here / "stdout").read_text(), "crates/why")]
+    told = cases.parts()
+    counts += [compare(s.read_bytes(), told.get(s.name + " why", "").rstrip("\n") + "\n", "crates/slope_cases " + s.name) for s in cases.SHEETS]
     program = args.program or os.environ.get("PASOLETU_SLOPE")
     if program:
         sheets = [pathlib.Path(s) for s in args.sheets] or sorted((shell.TOP / "samples").glob("*.sheet")) + cases.SHEETS

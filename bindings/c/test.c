@@ -900,7 +900,7 @@ static void refusal_texts(void)
     CHECK(strncmp(pasoletu_refusal_text(99), "no refusal of this library", 26) == 0);
 }
 
-/* The phone's question: how many let go in zone 7? */
+/* The phone's question: how many failed in zone 7? */
 static void tallies(void)
 {
     enum { ZONES = 8, LISTED = 3, FIELDS = 5 };

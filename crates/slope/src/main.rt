@@ -7,7 +7,12 @@ use lines::Input;
 fn asks_why() -> bool {
     let mut word = [0u8; 5];
     let n = os::arg(1, &mut word);
-    (n == 5) & (word[2] == b'w')
+    (n == 5)
+        & (word[0] == b'-')
+        & (word[1] == b'-')
+        & (word[2] == b'w')
+        & (word[3] == b'h')
+        & (word[4] == b'y')
 }
 
 fn answer(room: &[u8], n: usize) -> bool {

@@ -1,4 +1,5 @@
 // What is printed of the reasons of a sheet's records (ticket 8): the count, a line a record or that of one record, and "end"; or the refusal alone.
+mod steps;
 mod words;
 
 use record_why::Cause;
@@ -15,11 +16,26 @@ const ALL: usize = 1000;
 
 const NONE: usize = 1001;
 
+fn print_parameter(law: u64, i: usize) -> bool {
+    if !print_number(b" refused 1 at step 0: parameter ", i as u64) {
+        return false;
+    }
+    steps::print_parameter(law, i)
+}
+
+fn print_float(i: usize) -> bool {
+    if !print_number(b" refused 1 at step 0: float ", i as u64) {
+        return false;
+    }
+    steps::print_float(i)
+}
+
 fn print_why(model: u64, w: Cause) -> bool {
+    let law = model % model::LAWS;
     match w {
-        Cause::Told(q) => words::print_reason(model % model::LAWS, q),
-        Cause::Parameter(i) => print_number(b" refused 1 at step 0, parameter ", i as u64),
-        Cause::Record(i) => print_number(b" refused 1 at step 0, float ", i as u64),
+        Cause::Told(q) => words::print_reason(law, q),
+        Cause::Parameter(i) => print_parameter(law, i),
+        Cause::Record(i) => print_float(i),
         Cause::Refused(n) => print_number(b" refused ", n as u64),
     }
 }
@@ -58,6 +74,20 @@ fn print_lines(n: usize, model: u64, parameters: &[u64], records: &[u64], only: 
     true
 }
 
+// That there is no such record, where one was asked for that isn't among the first n.
+fn print_missing(n: usize, only: usize) -> bool {
+    if (only == ALL) | (only < n) {
+        return true;
+    }
+    if only == NONE {
+        return print(b"no such particle\n");
+    }
+    if !print_number(b"no particle ", only as u64) {
+        return false;
+    }
+    print(b"\n")
+}
+
 fn print_refused(refusal: u8) -> bool {
     if !print_number(b"sheet refused ", refusal as u64) {
         return false;
@@ -82,6 +112,9 @@ fn print_read(h: Header, records: &[u64], only: usize) -> bool {
         return false;
     }
     if !print_records(h, &bits, model::parameters_of(h.model), records, only) {
+        return false;
+    }
+    if !print_missing(h.count, only) {
         return false;
     }
     print(b"end\n")

@@ -32,38 +32,37 @@ fn print_two(before: &[u8], a: f64, between: &[u8], b: f64, after: &[u8]) -> boo
 }
 
 fn rankine(test: u8, held: bool, a: f64, s: f64) -> bool {
-    let within = b" was within the softened strength ";
     if test == 4 {
         print_two(
-            b" stayed: the largest stress ",
+            b": the largest stress ",
             a,
-            within,
+            b" is within the softened strength ",
             s,
             b"; untouched",
         )
     } else if test == 5 {
         print_two(
-            b" let go: with one strain returned the next stress ",
+            b": were the largest strain brought down to the next, the largest stress ",
             a,
-            within,
+            b" would be within the softened strength ",
             s,
-            b"; one strain was returned",
+            b"; one strain is returned",
         )
     } else if held {
         print_two(
-            b" let go: with two strains returned the last stress ",
+            b": were all strains brought down to the least, the stress ",
             a,
-            within,
+            b" would be within the softened strength ",
             s,
-            b"; two strains were returned",
+            b"; two strains are returned",
         )
     } else {
         print_two(
-            b" let go: with two strains returned the last stress ",
+            b": were all strains brought down to the least, the stress ",
             a,
-            b" was over the softened strength ",
+            b" would be over the softened strength ",
             s,
-            b"; all three strains were returned",
+            b"; all three strains are returned",
         )
     }
 }
@@ -71,25 +70,25 @@ fn rankine(test: u8, held: bool, a: f64, s: f64) -> bool {
 fn drucker_prager(test: u8, held: bool, a: f64, b: f64) -> bool {
     if test == 9 {
         print_two(
-            b" let go: it came apart, ",
+            b": it came apart, ",
             a,
-            b" was below the sum of its strains ",
+            b" is below the sum of its strains ",
             b,
             b"; sigma are all ones",
         )
     } else if held {
         print_two(
-            b" stayed: its distance past the cone ",
+            b": its distance past the cone ",
             a,
-            b" was at most ",
+            b" is at most ",
             b,
             b"; untouched",
         )
     } else {
         print_two(
-            b" let go: its distance past the cone ",
+            b": its distance past the cone ",
             a,
-            b" was over ",
+            b" is over ",
             b,
             b"; returned to the cone",
         )
@@ -99,40 +98,53 @@ fn drucker_prager(test: u8, held: bool, a: f64, b: f64) -> bool {
 fn nacc(test: u8, held: bool, a: f64, b: f64) -> bool {
     if test == 7 {
         print_two(
-            b" let go: the largest pressure ",
+            b": the largest pressure ",
             a,
-            b" was below its pressure ",
+            b" is below its pressure ",
             b,
             b"; returned to the upper tip",
         )
     } else if test == 8 {
         print_two(
-            b" let go: its pressure ",
+            b": its pressure ",
             a,
-            b" was below the lowest ",
+            b" is below the lowest ",
             b,
             b"; returned to the lower tip",
         )
     } else if held {
         print_two(
-            b" stayed: its distance past the ellipse ",
+            b": its distance past the ellipse ",
             a,
-            b" was below ",
+            b" is below ",
             b,
             b"; untouched",
         )
     } else {
         print_two(
-            b" let go: its distance past the ellipse ",
+            b": its distance past the ellipse ",
             a,
-            b" was at least ",
+            b" is at least ",
             b,
             b"; returned to the ellipse",
         )
     }
 }
 
+// Whether a test that held left the record as it was: of each law the one that ends in branch 0.
+fn leaves(law: u64, test: u8, held: bool) -> bool {
+    held & ((law == 1) & (test == 4) | (law == 2) & (test == 13) | (law == 3) & (test == 9))
+}
+
 fn tested(law: u64, test: u8, held: bool, a: f64, b: f64) -> bool {
+    let words = if leaves(law, test, held) {
+        print_number(b" stayed, test ", test as u64)
+    } else {
+        print_number(b" yielded, test ", test as u64)
+    };
+    if !words {
+        return false;
+    }
     if law == 1 {
         rankine(test, held, a, b)
     } else if law == 2 {
@@ -142,20 +154,24 @@ fn tested(law: u64, test: u8, held: bool, a: f64, b: f64) -> bool {
     }
 }
 
-fn zeros(a: f64, b: f64, c: f64) -> bool {
-    if !print_two(
-        b" let go: no shape is left in its strains, ",
-        a,
-        b" ",
-        b,
-        b"",
-    ) {
+fn zeros(test: u8, a: f64, b: f64, c: f64) -> bool {
+    if !print_number(b" yielded, test ", test as u64) {
+        return false;
+    }
+    if !print_two(b": no shape is left in its strains, ", a, b" ", b, b"") {
         return false;
     }
     if !print_float(b" ", c) {
         return false;
     }
     print(b" are zero; sigma are all ones")
+}
+
+fn flagged(test: u8) -> bool {
+    if !print_number(b" stayed, test ", test as u64) {
+        return false;
+    }
+    print(b": the law acts on failed particles only; untouched")
 }
 
 fn bound(b: Bound) -> bool {
@@ -166,7 +182,18 @@ fn bound(b: Bound) -> bool {
     }
 }
 
+fn is_neither(b: Bound) -> bool {
+    match b {
+        Bound::Neither => true,
+        Bound::Lower => false,
+        Bound::Upper => false,
+    }
+}
+
 fn clamped(x: Bound, y: Bound, z: Bound) -> bool {
+    if is_neither(x) & is_neither(y) & is_neither(z) {
+        return print(b" inside its bounds");
+    }
     if !print(b" clamped, sigma by its bound:") {
         return false;
     }
@@ -179,21 +206,22 @@ fn clamped(x: Bound, y: Bound, z: Bound) -> bool {
     bound(z)
 }
 
-fn refused(n: u8, step: u8) -> bool {
+fn refused(law: u64, n: u8, step: u8) -> bool {
     if !print_number(b" refused ", n as u64) {
         return false;
     }
-    print_number(b" at step ", step as u64)
+    if !print_number(b" at step ", step as u64) {
+        return false;
+    }
+    crate::steps::print_step(law, step)
 }
 
 pub fn print_reason(law: u64, q: Reason) -> bool {
     match q {
         Reason::Tested(t, h, a, b) => tested(law, t, h, a, b),
-        Reason::Zeros(_, _, a, b, c) => zeros(a, b, c),
-        Reason::Flagged(_, _) => print(
-            b" stayed: the law acts on failed particles only; untouched",
-        ),
+        Reason::Zeros(t, _, a, b, c) => zeros(t, a, b, c),
+        Reason::Flagged(t, _) => flagged(t),
         Reason::Clamped(x, y, z) => clamped(x, y, z),
-        Reason::Refused(n, k) => refused(n, k),
+        Reason::Refused(n, k) => refused(law, n, k),
     }
 }
