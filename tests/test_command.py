@@ -410,6 +410,43 @@ class Built(InFolder):
         self.slope()
         self.assertEqual(len(self.asked()), 3)
 
+    def test_the_sources_are_read_once_a_change(self):
+        """Also where a change keeps size and time of writing."""
+        script(self.folder / "kit" / "sha256sum", "#!/bin/sh\n[ $# -eq 0 ] || echo read >>'%s'\nexec %s \"$@\"\n" % (self.folder / "read", shutil.which("sha256sum")))
+
+        def reads():
+            path = self.folder / "read"
+            count = path.read_text().count("read") if path.exists() else 0
+            path.unlink(missing_ok=True)
+            return count
+        self.slope()
+        self.assertGreater(reads(), 0)
+        self.slope()  # the first after the build may read once more: what was written in the same tick of the clock is not taken for known
+        reads()
+        self.ended(self.slope(), 3, "sheet refused 4\n")
+        self.assertEqual(reads(), 0)
+        source = self.top / "crates" / "slope" / "src" / "lib.rt"
+        times = source.stat()
+        source.write_text(source.read_text().replace("refused 4", "refused 5"))
+        os.utime(source, ns=(times.st_atime_ns, times.st_mtime_ns))
+        self.ended(self.slope(), 3, "sheet refused 5\n")
+        self.assertGreater(reads(), 0)
+        (self.top / "crates" / "numbers" / "src" / "more.rt").write_text("")
+        self.slope()
+        self.assertEqual((reads() > 0, len(self.asked())), (True, 3))
+
+    def test_an_installation_has_its_own_parts(self):
+        (self.top / "crates.txt").unlink()
+        share = self.folder / "prefix" / "share" / "pasoletu" / "tools"
+        share.mkdir(parents=True)
+        shutil.copy(TOP / "tools" / "built", share)
+        for part in ("program", "archive", "library"):
+            self.ended(self.run_command(share / "built", "--prove", part), 1, "", "the %s is not installed" % part)
+        for part, name in (("program", "libexec/pasoletu/slope"), ("archive", "lib/libpasoletu.a"), ("library", "lib/libpasoletu.so")):
+            script(self.folder / "prefix" / name, "")
+            self.ended(self.run_command(share / "built", part), 0, "%s\n" % (self.folder / "prefix" / name).resolve())
+        self.assertEqual(self.asked(), [])
+
     def test_what_does_not_go_in_is_left_alone(self):
         self.slope()
         (self.top / "crates" / "other" / "src" / "lib.rt").write_text("")
