@@ -404,9 +404,8 @@ def csv_record(names, row, where, shape):
 # ---- sheets
 
 
-def turned(r):
-    """In words what a record's sigma of 0 or below say of it, or nothing."""
-    sigma = r[18:21]
+def turned(sigma):
+    """In words what sigma of 0 or below say of a particle, or nothing."""
     if not any(x <= 0.0 for x in sigma):
         return ""
     return "%s: sigma %s" % ("turned inside out" if min(sigma) < 0.0 else "pressed flat", " ".join("%g" % x for x in sorted(sigma) if x <= 0.0))
@@ -415,8 +414,9 @@ def turned(r):
 def upright(records, where):
     """The records, as long as none is turned inside out."""
     for k, r in enumerate(records):
-        if turned(r):
-            raise Wrong("%s, particle %d: it is %s, and Snow works such a particle without a word: correct it, or add --inside-out to send it as it is" % (where, k, turned(r)))
+        words = turned(r[18:21])
+        if words:
+            raise Wrong("%s, particle %d: it is %s, and Snow works such a particle without a word: correct it, or add --inside-out to send it as it is" % (where, k, words))
         yield r
 
 

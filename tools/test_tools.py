@@ -480,10 +480,14 @@ class Drawn(InFolder):
 
     def crosses(self, root):
         """How many particles are marked as refused, less the mark in the legend."""
-        return sum(e.get("stroke") == draw.REFUSED for e in root.iter("{http://www.w3.org/2000/svg}line")) // 2 - 1
+        marks = sum(e.get("stroke") == draw.REFUSED for e in root.iter("{http://www.w3.org/2000/svg}line")) // 2
+        return marks - self.said(root).count(self.LEGEND[2])
 
     def rings(self, root):
-        return sum(e.get("stroke") in (draw.GREY, draw.STORED) for e in root.iter("{http://www.w3.org/2000/svg}circle")) - 3  # in the legend
+        marks = sum(e.get("stroke") in (draw.GREY, draw.STORED) for e in root.iter("{http://www.w3.org/2000/svg}circle"))
+        return marks - self.said(root).count(self.LEGEND[0]) - 2 * self.said(root).count(self.LEGEND[1])  # in the legend
+
+    LEGEND = "untouched", "stored: before, after", "refused (index beside it)", "failed"
 
 
 class Pictures(Drawn):
@@ -547,12 +551,51 @@ class Pictures(Drawn):
             codes = [q.code for q in particles]
             status, _, root = self.drawn(path)
             grey = [e for e in root.iter("{http://www.w3.org/2000/svg}circle") if e.get("fill") == draw.GREY]
-            self.assertEqual(len(grey), codes.count(0) + 1, path.name)  # one in the legend
+            self.assertEqual(len(grey), codes.count(0) + (0 in codes), path.name)  # one in the legend
             self.assertEqual("refused by" in self.told(root), 2 in codes)
             if 2 in codes and len(codes) > 4:
                 self.assertIn("particle 12: phase is nan", self.told(root))
                 number, side = (10, "above") if path.stem == "snow_slope" else (2, "below")
                 self.assertRegex(self.told(root), "refused by %d: a function would get an argument %s its range .* particle 27" % (number, side))
+
+    def test_the_legend_names_what_is_drawn(self):
+        for path in SAMPLES:
+            plane = draw.PLANES[sheet.load(path.read_bytes(), path)[0]](sheet.load(path.read_bytes(), path)[2])
+            particles = draw.by_second(path.read_bytes(), None)
+            drawn = {q.code for q in particles if q.places(plane)[0]}
+            said = self.said(self.drawn(path)[2])
+            self.assertEqual([words in said for words in self.LEGEND], [0 in drawn, 1 in drawn, 2 in drawn, False], path.name)
+            for k, words in enumerate(plane.branches):
+                self.assertEqual("%s: %s" % ("ABC"[k], words) in said, "ABC"[k] in said, (path.name, words))
+        out_of_sight = draw.Canvas((0.0, 1.0, 0.0, 1.0))
+        self.assertEqual([draw.in_sight(out_of_sight, line) for line in ([(-1.0, -1.0), (2.0, 2.0)], [(-1.0, 3.0), (3.0, 3.0)])], [True, False])
+
+    def test_letters_do_not_pile_up(self):
+        """200 particles that one branch returned to nearly one place, and as many of another beside them."""
+        near = [cases.record((1.2 + 0.001 * (k % 14), 1.0, 1.0 - 0.001 * (k // 14))) for k in range(100)]
+        wide = [cases.record((1.3, 1.3, 1.0 - 0.002 * k)) for k in range(100)]
+        root = self.drawn_of(near + wide, [1e5, 0.3, 500.0, 2.0], 1)
+        letters = [e for e in root.iter("{http://www.w3.org/2000/svg}text") if e.text in ("A", "B", "C")]
+        self.assertGreater(len(letters), 1)
+        places = [(e.text, float(e.get("x")), float(e.get("y"))) for e in letters]
+        for k, (a, x, y) in enumerate(places):
+            for b, u, v in places[:k]:
+                self.assertGreater(math.hypot(x - u, y - v), 12.0, "two letters on each other")
+                self.assertTrue(a != b or math.hypot(x - u, y - v) > draw.LETTERS_APART - 36, "two like letters beside each other")
+        self.assertLess(len(letters), 40)
+
+    def test_what_is_turned_inside_out_is_told(self):
+        sigmas = (1.0, 1.0, 1.0), (-0.9, 1.0, 1.0), (0.0, 1.0, 1.0), (-0.9, 1.0, 1.0)
+        told = self.told(self.drawn_of([cases.record(sigma) for sigma in sigmas]))
+        self.assertIn("particles 1, 3: stored, but turned inside out: sigma -0.9", told)
+        self.assertIn("particle 2: stored, but pressed flat: sigma 0", told)
+        self.assertNotIn("inside out", self.told(self.drawn_of([cases.record((-0.9, 1.0, 1.0))], [1e5, 0.3, 500.0, 2.0], 1)), "it is refused by 2")
+
+    def test_sigma_out_of_range_are_told(self):
+        few = self.told(self.drawn_of([cases.record(), cases.record((1e-30, 1.0, 2.0))], [1e5, 0.3, 500.0, 2.0], 1))
+        self.assertIn("particle 1: sigma 1e-30 1 2", few)
+        many = self.told(self.drawn_of([cases.record((1e-30 * (k + 1), 1.0, 2.0)) for k in range(9)], [1e5, 0.3, 500.0, 2.0], 1))
+        self.assertIn("particles 0-8: sigma from 1e-30 to 2", many)
 
     def test_a_wrong_determinant_is_told(self):
         root = self.drawn(HERE.parent / "samples" / "zero_signs.sheet")[2]
