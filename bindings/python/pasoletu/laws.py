@@ -278,10 +278,10 @@ class NeoHookeanElasticity(Law):
         as in the stress. From determinant 1 up the two are the same."""
         told = "NeoHookeanElasticity.elastic_energy_density"
         given = self._arguments(phase, hardening, deformation_gradient)
-        if not one_split:
+        if one_split is False:
             return one("neo_hookean_elastic_energy_density", told, **given)
         # The flag stands after the law.
-        given = {"law": given.pop("law"), "one_split": float(one_split), **given}
+        given = {"law": given.pop("law"), "one_split": one_split, **given}
         return one("neo_hookean_elastic_energy_density_in", told, **given)
 
     def pos_energy(self, phase: float, hardening: float, deformation_gradient: Matrix) -> float:
@@ -299,11 +299,11 @@ class NeoHookeanElasticity(Law):
         return _judged("neo_hookean_stress_and_verdict", self, limits, particle)
 
     def elastic_energy_density_of(self, particle: Particle, *, one_split: bool = False) -> float:
-        if not one_split:
+        if one_split is False:
             return _one_of("record_neo_hookean_elastic_energy_density", "elastic_energy_density_of", self, particle)
         told = "NeoHookeanElasticity.elastic_energy_density_of"
         call = "record_neo_hookean_elastic_energy_density_in"
-        return one(call, told, law=self, one_split=float(one_split), particle=_particle(told, particle))
+        return one(call, told, law=self, one_split=one_split, particle=_particle(told, particle))
 
     def pos_energy_of(self, particle: Particle) -> float:
         return _one_of("record_neo_hookean_pos_energy", "pos_energy_of", self, particle)
