@@ -90,6 +90,7 @@ class Particle:
 
     @property
     def determinant(self) -> float:
+        """That of F, in every bit; worked by the library where F was set."""
         if self._determinant is None:
             self.fill_determinant()
         return self._determinant  # type: ignore[return-value]
