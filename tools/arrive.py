@@ -54,7 +54,7 @@ class Telling:
         self.opened, self.told, self.status = False, 0, ALL_WELL
 
     def also(self, text):
-        print("arrive.py: " + text, file=sys.stderr, flush=True)
+        print(shell.named("arrive.py: ") + text, file=sys.stderr, flush=True)
 
     def refused(self, who, number):
         self.status = SOME_REFUSED
@@ -109,18 +109,18 @@ def work(args):
 
 
 def main(argv=None):
-    about = argparse.ArgumentParser(description=__doc__, formatter_class=argparse.RawDescriptionHelpFormatter, usage=argparse.SUPPRESS)
+    about = argparse.ArgumentParser(description=shell.named(__doc__), formatter_class=argparse.RawDescriptionHelpFormatter, usage=argparse.SUPPRESS)
     about.add_argument("name", nargs="?", default="-", metavar="SHEET")
     about.add_argument("--explain", action="store_true")
     about.add_argument("--quiet", action="store_true")
     args = about.parse_args(argv)
     if args.name != "-" and (os.path.isdir(args.name) or not os.access(args.name, os.R_OK)):
-        print("arrive.py: %s is not a file that can be read (a directory, or not there)" % args.name, file=sys.stderr)
+        print(shell.named("arrive.py: ") + "%s is not a file that can be read (a directory, or not there)" % args.name, file=sys.stderr)
         return NO_SHEET
     try:
         return shell.run("arrive.py", work, args)
     except shell.NoLibrary as e:
-        print("arrive.py: %s" % e, file=sys.stderr)
+        print(shell.named("arrive.py: %s" % e), file=sys.stderr)
         return 1
 
 

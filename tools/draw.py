@@ -840,7 +840,7 @@ def draw(args):
     model, _, p, _ = sheet.load(data, args.sheet)
     particles, who, warnings = worked(data, failure, args.second)
     if warnings and not args.second:
-        print("draw.py: %s" % warnings[0], file=sys.stderr)
+        print(shell.named("draw.py: %s" % warnings[0]), file=sys.stderr)
     plane = PLANES[model](p)
     caption = caption_of(plane, model, failure)
     lines, where = answers(args, data)
@@ -865,7 +865,7 @@ def strict(text):
 
 
 def main(argv=None):
-    about = argparse.ArgumentParser(description=__doc__, formatter_class=argparse.RawDescriptionHelpFormatter, usage=argparse.SUPPRESS)
+    about = argparse.ArgumentParser(description=shell.named(__doc__), formatter_class=argparse.RawDescriptionHelpFormatter, usage=argparse.SUPPRESS)
     about.add_argument("sheet", metavar="X.sheet|LIST|-")
     about.add_argument("svg", metavar="OUT.svg|-")
     about.add_argument("--flat", action="store_true", help="draw a list of flat records")

@@ -150,13 +150,13 @@ def say_once(words):
 def decompose(f, where="F"):
     """U, sigma, V^T with U sigma V^T = F; the identity and ones where F has a NaN or an infinity, by which the law refuses the particle."""
     if not all(map(math.isfinite, f)):
-        sys.stderr.write("sheet.py: %s: F has a NaN or an infinity, so it has no factors: it goes out as it is, with sigma 1, and its law refuses it by 1\n" % where)
+        sys.stderr.write(shell.named("sheet.py: ") + "%s: F has a NaN or an infinity, so it has no factors: it goes out as it is, with sigma 1, and its law refuses it by 1\n" % where)
         return IDENTITY, [1.0] * 3, IDENTITY
     package, missing = library()
     if package:
         return own(package, f, where)
     factors = numpys(f, where)
-    say_once("sheet.py: the factors of F are numpy's, unchecked, and not the library's: %s\n" % missing)
+    say_once(shell.named("sheet.py: ") + "the factors of F are numpy's, unchecked, and not the library's: %s\n" % missing)
     return factors
 
 
@@ -592,8 +592,8 @@ def show(args):
 
 
 def main(argv=None):
-    about = argparse.ArgumentParser(description=__doc__, formatter_class=argparse.RawDescriptionHelpFormatter, usage=argparse.SUPPRESS)
-    commands = about.add_subparsers(dest="command", required=True, metavar="make | print", prog="tools/sheet.py")
+    about = argparse.ArgumentParser(description=shell.named(__doc__), formatter_class=argparse.RawDescriptionHelpFormatter, usage=argparse.SUPPRESS)
+    commands = about.add_subparsers(dest="command", required=True, metavar="make | print", prog=shell.named("tools/sheet.py"))
     m = commands.add_parser("make", help="a sheet from a CSV or a JSON")
     m.add_argument("table", metavar="IN.csv|IN.json|-")
     m.add_argument("sheet", metavar="OUT.sheet|-")
