@@ -227,6 +227,18 @@ endif()
         self.ended(self.install(TOP, "--lib", ARCHIVE), 1, "", "PREFIX is this repository")
 
 
+class Bindings(InFolder):
+    def test_what_is_not_here_is_left_out_and_not_failed(self):
+        """Told before anything is tested, each with its packages."""
+        full = any(subprocess.run([name, "-c", "import numpy, distributed"], capture_output=True).returncode == 0 for name in ("python3", "/usr/bin/python3") if shutil.which(name))
+        wanted = [] if list(pathlib.Path("/usr/share/cargo/registry").glob("rayon-[0-9]*")) else ["bindings/test: rayon is left out: it is not here; on Debian: apt-get install -y librust-rayon-dev"]
+        wanted += [] if full else ["bindings/test: numpy and Dask are left out: they are not here; on Debian: apt-get install -y python3-numpy python3-distributed"]
+        ran = self.ended(self.run_command(TOP / "bindings" / "test", "--needs"), 0)
+        self.assertEqual(ran.stdout.decode().splitlines(), wanted)
+        text = (TOP / "bindings" / "test").read_text()
+        self.assertNotIn("missing rayon", text)
+
+
 class Pages(InFolder):
     @unittest.skipUnless(shutil.which("man"), "there is no man")
     def test_the_page_has_no_fault(self):
