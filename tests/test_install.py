@@ -7,6 +7,7 @@ import os
 import pathlib
 import shutil
 import subprocess
+import tomllib
 import unittest
 
 from test_command import ANSWER, TOP, InFolder, script
@@ -247,9 +248,15 @@ class Pages(InFolder):
 
     def test_the_page_and_the_help_have_the_same_options(self):
         page = (TOP / "man" / "slope.1").read_text().replace("\\-", "-")
-        for option in ("--explain", "-o", "-h", "--help", "-V", "--version"):
+        for option in ("--explain", "--why", "-o", "-h", "--help", "-V", "--version"):
             self.assertIn(option, page)
             self.assertIn(option.encode(), self.run_command(TOP / "bin" / "slope", "-h").stdout)
+
+    def test_the_page_has_the_numbers(self):
+        page = (TOP / "man" / "slope.1").read_text().replace("\\-", "-")
+        for refusal in tomllib.loads((TOP / "calls.toml").read_text())["refusal"]:
+            if refusal["number"] in (1, 2, 3, 4, 5, 6, 7, 10, 11):  # those of sheets and of their particles
+                self.assertIn(".B %(number)d\n%(what)s: %(remedy)s\n" % refusal, page)
 
     def test_completion(self):
         for name in ("a.sheet", "a.txt"):
