@@ -341,6 +341,12 @@ class Proved(InFolder):
             one = self.run_command(SLOPE, "--why=%d" % (len(told) - 3), path, PASOLETU_SLOPE=proved_program())
             self.assertEqual(one.stdout.decode().splitlines(), [told[0], told[-2], told[-1]], path.name)
 
+    def test_snow_works_what_is_turned_inside_out_and_it_is_told(self):
+        given = bytearray((TOP / "samples" / "snow.sheet").read_bytes())
+        given[-36 * 8 + 18 * 8:-36 * 8 + 19 * 8] = struct.pack("<d", -0.9)
+        ran = self.run_command(SLOPE, "--explain", sheet=bytes(given), PASOLETU_SLOPE=proved_program())
+        self.ended(ran, 0, "particles 1\n0 stored 41aaccad8523d10b\nend\n", "slope: standard input: particle 0 is stored, but turned inside out: sigma -0.9\n")
+
     def test_the_documents_example(self):
         sheet = TOP / "samples" / "snow.sheet"
         self.ended(self.run_command(SLOPE, sheet, PASOLETU_SLOPE=proved_program()), 0, ANSWER)
