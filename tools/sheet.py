@@ -346,6 +346,19 @@ def told_utf16(stream, where):
     return stream
 
 
+def with_cells(given, rows, where):
+    """The rows that have a cell. It is said once where an empty one stands between them, since the particles' numbers then part from the rows'."""
+    empty = None
+    for row in given:
+        if row and empty:
+            sys.stderr.write(shell.named("sheet.py: ") + "%s: row %d is empty and no particle: from there on a particle's number is another than its row tells\n" % (where, empty))
+            empty = 0
+        if row:
+            yield row
+        elif empty is None:
+            empty = rows.line_num
+
+
 def csv_records(stream, kept, where, shape=SOLID):
     csv.field_size_limit(LONGEST_FIELD)
     with io.TextIOWrapper(told_utf16(stream, where), encoding="utf-8-sig", newline="") as text:
@@ -354,7 +367,7 @@ def csv_records(stream, kept, where, shape=SOLID):
             top = next(rows, [])
             bare = shape is FLAT and len(top) == len(shape.places) and BITS_OR_DECIMAL.fullmatch(top[0].strip(" \t"))
             names = shape.places if bare else header(top, kept, "%s, row 1" % where, shape)
-            particles = filter(None, itertools.chain([top] if bare else [], rows))
+            particles = with_cells(itertools.chain([top] if bare else [], rows), rows, where)
             first = next(particles, None)
             if first is None:
                 raise Wrong("%s: the table is a row of column names alone: write a row below it for each particle" % where)

@@ -324,6 +324,11 @@ class Tables(InFolder):
         self.assertEqual(cases.read(b)[2][1][18:21], [-0.9, 1.0, 1.0])
         self.made("b.csv", columns % "nan,1,1", "--model", "snow")
 
+    def test_an_empty_row_between_particles_is_said(self):
+        for text, said in (("phase\n1\n\n\n0\n\n1\n", 1), ("phase\n1\n0\n\n\n", 0)):
+            status, _, err = quiet(sheet.main, "make", self.file("a.csv", text), self.folder / "rows.sheet", "--model", "snow")
+            self.assertEqual((status, err.count("a.csv: row 3 is empty and no particle"), err.count("\n")), (0, said, said), err)
+
     def test_f_that_is_no_number(self):
         """It goes out with the factors of the identity, its law refuses it alone, and it is said; no library is asked for it."""
         names = ",".join(sheet.COLUMNS["F"])

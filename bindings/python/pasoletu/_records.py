@@ -71,7 +71,9 @@ def _doubles(told: str, records: Any) -> memoryview:
         ) from None
     if view.format not in FORMATS:
         dtype = getattr(records, "dtype", None)
-        remedy = "records.astype(numpy.float64), or an array('d')" if getattr(dtype, "kind", "") in PLAIN else "an array('d') or a numpy array of float64, a record a row"
+        remedy = "an array('d') or a numpy array of float64, a record a row"
+        if getattr(dtype, "kind", "") in PLAIN:
+            remedy = "records.astype(numpy.float64), or an array('d')"
         raise TypeError("%s: records holds %s, not doubles: pass %s" % (told, dtype or "format %r" % view.format, remedy))
     return view
 

@@ -2,7 +2,6 @@
 from __future__ import annotations
 
 import ctypes
-import dataclasses
 from dataclasses import dataclass
 from fractions import Fraction
 from typing import Any, Iterable, Union
@@ -80,9 +79,8 @@ def _signed(word: int) -> int:
 
 def _words(given: Report) -> ctypes.Array[ctypes.c_uint64]:
     """Its entries: a whole number as its bits, in two's complement where it may be below 0."""
-    entries = (
-        whole("Report.joined", "%s.%s" % (column.name, entry.name), getattr(getattr(given, column.name), entry.name), signed=entry.name in SIGNED)
-        for column in dataclasses.fields(given)
-        for entry in dataclasses.fields(Column)
-    )
+    entries = []
+    for column, held in vars(given).items():
+        for entry, value in vars(held).items():
+            entries.append(whole("Report.joined", "%s.%s" % (column, entry), value, signed=entry in SIGNED))
     return (ctypes.c_uint64 * REPORT)(*entries)
