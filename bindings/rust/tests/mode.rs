@@ -1,8 +1,8 @@
 //! A floating-point mode other than IEEE's default is seen, and every call on a list panics in it with nothing written.
 #![cfg(any(target_arch = "x86_64", target_arch = "aarch64"))]
 use pasoletu::{
-    fill_determinants, flat_pass_into, float_mode, pass, pass_into, read_sheet, report, write_sheet, Answer, Arrival, FlatParticle,
-    Particle, SnowPlasticity,
+    fill_determinants, flat_pass_into, float_mode, pass, pass_into, read_sheet, report, write_sheet, Answer, Arrival,
+    FlatParticle, Particle, SnowPlasticity,
 };
 use std::arch::asm;
 use std::panic::{catch_unwind, AssertUnwindSafe};
