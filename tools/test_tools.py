@@ -1209,6 +1209,19 @@ class Arriving(InFolder):
             out, err = tool.communicate()
         self.assertEqual((out.count(b"\n"), out.splitlines()[-1], tool.returncode), (5, b"sheet refused 4", 3))
 
+    def test_what_is_turned_inside_out_is_told(self):
+        """Of a short sheet and of one whose count has two bytes, with determinants or without."""
+        for count in (3, 150):
+            for model in (0, 4):
+                records = [cases.record() for _ in range(count)]
+                records[1], records[count - 1] = cases.record((1.0, -0.9, 1.0)), cases.record((0.0, 1.0, 1.0))
+                path = self.folder / "in.sheet"
+                path.write_bytes(cases.sheet(records, model=model))
+                done = ran("arrive.py", "--quiet", "--explain", path, timeout=120)
+                self.assertEqual((done.returncode, done.stderr.decode().splitlines()), (0, [
+                    "arrive.py: %s: particle 1 is stored, but turned inside out: sigma -0.9" % path,
+                    "arrive.py: %s: particle %d is stored, but pressed flat: sigma 0" % (path, count - 1)]))
+
     def test_explained_and_no_sheet(self):
         told = ran("arrive.py", "--quiet", "--explain", self.SHEET).stderr.decode()
         self.assertIn("refused by 1: an input is NaN or infinite", told)
