@@ -10,11 +10,12 @@
 #                 With either, nothing is proved: a part that is neither named nor built yet is left out
 # --uninstall     removes what was installed below PREFIX, and nothing else
 #
-# Below PREFIX stand then bin/slope with its man page and completion, include/pasoletu.h, lib/libpasoletu.{a,so} with the files for
-# pkg-config and CMake, the Python package in lib/python3/dist-packages, and share/doc/pasoletu with the licence.
+# Below PREFIX stand then bin/slope and the tools for people, bin/slope-{arrive,draw,night,report,sheet}, with their man pages and
+# completions, include/pasoletu.h, lib/libpasoletu.{a,so} with the files for pkg-config and CMake, the Python package in
+# lib/python3/dist-packages, and share/doc/pasoletu with guide and licence. The tools need python3 3.11 or later. PREFIX may be moved.
 set -eu
 
-usage() { sed -n '2,15s/^# \{0,1\}//p' "$0"; }
+usage() { sed -n '2,16s/^# \{0,1\}//p' "$0"; }
 stop() { echo "install.sh: $1" >&2; exit 1; }
 misspelled() { echo "install.sh: $1; './install.sh --help' tells how to use it" >&2; exit 2; }
 
@@ -53,10 +54,13 @@ cannot="cannot be written: name a folder of your own, as ./install.sh \$HOME/pas
 
 if [ $uninstall = yes ]; then
     [ -f "$root/$list" ] || stop "there is no installation below $root ($root/$list is not there)"
-    grep -v '/$' "$root/$list" | while IFS= read -r name; do rm -f "$root/$name"; done
+    grep -v '/$' "$root/$list" | while IFS= read -r name; do
+        rm -f "$root/$name"
+        case $name in *.py) compiled=${name##*/} && rm -f "$root/${name%/*}/__pycache__/${compiled%.py}".*.pyc ;; esac # Python's own
+    done
     folders=$(grep '/$' "$root/$list" | LC_ALL=C sort -r)
     rm -f "$root/$list"
-    for name in $folders; do rmdir "$root/$name" 2>/dev/null || true; done
+    for name in $folders; do rmdir "$root/${name}__pycache__" "$root/$name" 2>/dev/null || rmdir "$root/$name" 2>/dev/null || true; done
     echo "install.sh: removed what was installed below $root"
     exit 0
 fi
@@ -101,7 +105,8 @@ put() {
 }
 # link TO NAME
 link() {
-    ln -sf "$1" "$root/$2"
+    folder "${2%/*}"
+    ln -sfn "$1" "$root/$2" 2>/dev/null || stop "$root/$2 $cannot"
     echo "$2" >>"$work/list"
 }
 # fill FILE: the template with its places filled
@@ -121,8 +126,27 @@ library() {
     put_filled pasoletu.pc.in lib/pkgconfig/pasoletu.pc
     put_filled pasoletu-config.cmake.in lib/cmake/pasoletu/pasoletu-config.cmake
     put_filled pasoletu-config-version.cmake.in lib/cmake/pasoletu/pasoletu-config-version.cmake
+}
+# The Python package, and the tools as they stand in the repository: what they look for below it is below share/pasoletu, by links.
+tools() {
     for file in "$top"/bindings/python/pasoletu/*.py "$top"/bindings/python/pasoletu/py.typed; do
         put 644 "$file" "lib/python3/dist-packages/pasoletu/${file##*/}"
+    done
+    for file in VERSION calls.toml; do put 644 "$top/$file" "share/pasoletu/$file"; done
+    "$top/bin/slope" --version | sed -n 's/.*(commit \(.*\))/\1/p' >"$work/COMMIT"
+    put 644 "$work/COMMIT" share/pasoletu/COMMIT
+    for file in "$top"/tools/night* "$top"/tools/built; do put 755 "$file" "share/pasoletu/tools/${file##*/}"; done
+    for tool in arrive draw report sheet; do put 755 "$top/tools/$tool.py" "share/pasoletu/tools/$tool.py"; done
+    for file in cases.py reasons.py shell.py making/rows.py; do put 644 "$top/tools/$file" "share/pasoletu/tools/$file"; done
+    link ../../../../lib/python3/dist-packages/pasoletu share/pasoletu/bindings/python/pasoletu
+    link ../../../bin/slope share/pasoletu/bin/slope
+    put 644 "$top/packaging/slope-tools.bash-completion" share/bash-completion/completions/slope-sheet
+    for tool in arrive draw night report sheet; do
+        file=$tool.py
+        [ $tool != night ] || file=night
+        link "../share/pasoletu/tools/$file" "bin/slope-$tool"
+        [ $tool = sheet ] || link slope-sheet "share/bash-completion/completions/slope-$tool"
+        if python3 "$top/tools/making/page.py" "$top/tools/$file" "slope-$tool" >"$work/page" 2>/dev/null; then put 644 "$work/page" "share/man/man1/slope-$tool.1"; fi
     done
 }
 command_slope() {
@@ -130,17 +154,15 @@ command_slope() {
     put 755 "$top/bin/slope" bin/slope
     put 644 "$top/man/slope.1" share/man/man1/slope.1
     put 644 "$top/packaging/slope.bash-completion" share/bash-completion/completions/slope
-    "$top/bin/slope" --version | sed -n 's/.*(commit \(.*\))/\1/p' >"$work/COMMIT"
-    put 644 "$work/COMMIT" share/pasoletu/COMMIT
-    put 644 "$top/VERSION" share/pasoletu/VERSION
-    put 644 "$top/calls.toml" share/pasoletu/calls.toml
 }
 
 # What an earlier installation listed stays listed: its folders are ours still, and its files are gone with the next --uninstall.
 [ ! -f "$root/$list" ] || cp "$root/$list" "$work/list"
 [ -z "$archive" ] || library
 [ -z "$program" ] || command_slope
+tools
 for licence in LICENSE NOTICE; do put 644 "$top/$licence" "share/doc/pasoletu/$licence"; done
+for page in GUIDE RULES STEPS; do put 644 "$top/docs/$page.md" "share/doc/pasoletu/$page.md"; done
 folder "${list%/*}"
 LC_ALL=C sort -u "$work/list" >"$work/sorted"
 install -m 644 "$work/sorted" "$root/$list"
@@ -151,10 +173,12 @@ if [ -n "$program" ]; then
 else
     echo "  the command was LEFT OUT: name the program by --program FILE, or run ./install.sh without --lib"
 fi
+echo "  the tools:    slope-sheet, slope-night, slope-draw, slope-report, slope-arrive (each has --help and a man page)"
 if [ -n "$archive" ]; then
     cat <<END
   for C:        cc program.c -I$prefix/include $prefix/lib/libpasoletu.a
-                or pkg-config pasoletu (PKG_CONFIG_PATH=$prefix/lib/pkgconfig), or CMake's find_package(pasoletu)
+                or pkg-config pasoletu (PKG_CONFIG_PATH=$prefix/lib/pkgconfig),
+                or CMake's find_package(pasoletu) (CMAKE_PREFIX_PATH=$prefix)
   for Rust:     export PASOLETU_LIB_DIR=$prefix/lib
   for Python:   export PYTHONPATH=$prefix/lib/python3/dist-packages
 END

@@ -22,6 +22,10 @@
  * by row: m[3 * row + column]. (nalgebra, Eigen and Fortran keep columns together by default: transpose on the way.)
  * Flags are the doubles 0.0 and 1.0, told by their bits: -0.0 is refused by 6.
  *
+ * The mode. The proofs speak of IEEE 754's default: rounding to nearest, no flushing of small numbers to zero. A host
+ * that is built with -ffast-math, or sets another mode, gets other bits: a right record may be refused by 11, an
+ * exponential be off by 14 units. The library does not look; pasoletu_float_mode does, and says what is wrong.
+ *
  * Records. A record is PASOLETU_FLOATS doubles, the last of them the determinant of its F: whoever writes F fills it in
  * (pasoletu_fill_determinants), and every call that writes F writes it too. Another one is refused by 11.
  *
@@ -208,6 +212,12 @@ static inline const char *pasoletu_refusal_text(uint64_t refusal)
 #define PASOLETU_PARTS_COMPLETE 0          /* in it: how many particles are complete and worked */
 #define PASOLETU_PARTS_COUNT 1             /* how many the sheet says it has; 0 before that is known */
 
+/* The calling thread's floating-point mode (float_mode): what of it is not IEEE 754's default, by which all is
+ * proved. */
+#define PASOLETU_MODE_ROUNDING 1   /* results are not rounded to nearest */
+#define PASOLETU_MODE_FLUSHED 2    /* a result below the smallest normal number becomes 0 (flush-to-zero) */
+#define PASOLETU_MODE_DENORMALS 4  /* an input below it is read as 0 (denormals-are-zero) */
+
 /* Flat records (section 7): 20 doubles a particle, without a determinant. */
 #define PASOLETU_FLAT_FLOATS 20  /* a flat record */
 #define PASOLETU_FLAT_F 0        /* deformation gradient, two rows of two */
@@ -242,6 +252,53 @@ static inline const char *pasoletu_refusal_text(uint64_t refusal)
 #define PASOLETU_REASON_HELD 6     /* whether it held */
 #define PASOLETU_REASON_BRANCH 7   /* the branch; 0 is untouched */
 #define PASOLETU_REASON_NUMBERS 8  /* 3: bits of the numbers compared; of Snow the bounds, 0 neither, 1 lower, 2 upper */
+
+/* The floating-point mode of the thread that calls, as arithmetic shows it: 0, or a sum of PASOLETU_MODE_ numbers. */
+static inline int pasoletu_float_mode_tried(void)
+{
+    /* 1/4 and 3/4 of the last place of 1; the smallest normal number; 2^52 */
+    volatile double one = 1.0, low = 1.0 / 18014398509481984.0, high = 3.0 / 18014398509481984.0;
+    volatile double least = 2.2250738585072014e-308, half = 0.5, large = 4503599627370496.0, tiny, result;
+    double held;
+    uint64_t bits = 1;
+    int wrong = 0;
+    result = one + low;
+    if (result != 1.0)
+        wrong |= PASOLETU_MODE_ROUNDING;
+    result = one + high;
+    if (result == 1.0)
+        wrong |= PASOLETU_MODE_ROUNDING;
+    memcpy(&held, &bits, sizeof held);
+    tiny = held;
+    result = tiny * large;
+    if (result == 0.0)
+        wrong |= PASOLETU_MODE_DENORMALS;
+    result = least * half;
+    held = result;
+    memcpy(&bits, &held, sizeof bits);
+    if (bits == 0)
+        wrong |= PASOLETU_MODE_FLUSHED;
+    return wrong;
+}
+
+/* The same from the processor's control word where that can be read. A host that is built with -ffast-math, or that sets
+ * the mode itself, asks once a thread before the first call; a mode that is set is the thread's own. */
+static inline int pasoletu_float_mode(void)
+{
+#if defined(__x86_64__) && defined(__GNUC__)
+    uint32_t word = 0; /* MXCSR */
+    __asm__ __volatile__("stmxcsr %0" : "=m"(word));
+    return ((word & 0x6000u) != 0 ? PASOLETU_MODE_ROUNDING : 0) | ((word & 0x8000u) != 0 ? PASOLETU_MODE_FLUSHED : 0) |
+           ((word & 0x0040u) != 0 ? PASOLETU_MODE_DENORMALS : 0);
+#elif defined(__aarch64__) && defined(__GNUC__)
+    uint64_t word = 0; /* FPCR: its bit FZ is for results and inputs */
+    __asm__ __volatile__("mrs %0, fpcr" : "=r"(word));
+    return ((word & 0xc00000u) != 0 ? PASOLETU_MODE_ROUNDING : 0) | ((word & 0x1000000u) != 0 ? PASOLETU_MODE_FLUSHED : 0) |
+           ((word & 0x1000001u) != 0 ? PASOLETU_MODE_DENORMALS : 0);
+#else
+    return pasoletu_float_mode_tried();
+#endif
+}
 
 /* ---- Elementary functions (section 3) ---------------------------------------------------------------------------- */
 /* Each writes one double. The answer lies within the distance told of the exact value.

@@ -84,6 +84,10 @@ class Command(InFolder):
     def test_no_such_sheet(self):
         self.ended(self.slope(self.folder / "none.sheet"), 2, "", "none.sheet is not a file")
         self.ended(self.slope(self.folder), 2, "", "directory")
+        self.ended(self.slope("--why", "5", self.sheet), 2, None, "5 is not a file that can be read (a directory, or not there); of particle 5 alone: --why=5\n")
+
+    def test_standard_input_holds_one_sheet(self):
+        self.ended(self.slope("-", "-"), 2, "", "standard input is named twice")
 
     def test_standard_input(self):
         self.ended(self.slope(), 0, ANSWER)
@@ -110,6 +114,41 @@ class Command(InFolder):
             if refusal["number"] <= 8:  # no sheet is refused by a later one
                 ran = self.slope("--explain", self.sheet, answer="sheet refused %d\n" % refusal["number"])
                 self.ended(ran, 3, says="slope: %s: the sheet is %s" % (self.sheet, words))
+
+    def explained(self, answer):
+        """What --explain says of the particles, behind the command's and the sheet's name."""
+        ran = self.ended(self.slope("--explain", self.sheet, answer=answer), 3, answer)
+        return [line.removeprefix("slope: %s: " % self.sheet) for line in ran.stderr.decode().splitlines()]
+
+    def test_explain_tells_a_number_once(self):
+        rows = {row["number"]: row for row in tomllib.loads((TOP / "calls.toml").read_text())["refusal"]}
+
+        def line(who, number, remedy=None):
+            return "%s refused by %d: %s: %s" % (who, number, rows[number]["what"], remedy or rows[number]["remedy"])
+        all_of = "particles 200\n" + "".join("%d refused %%d\n" % k for k in range(200)) + "end\n"
+        self.assertEqual(self.explained(all_of % ((3,) * 200)), [line("particles 0 to 199 (every one) are", 3, "look at the law's parameters")])
+        self.assertEqual(self.explained(all_of % ((11,) * 200)), [line("particles 0 to 199 (every one) are", 11)])
+        some = "particles 9\n0 refused 10\n1 untouched\n2 refused 1\n3 refused 1\n4 refused 1\n5 stored 3ff0000000000000\n6 refused 1\n7 refused 2\n8 refused 1\nend\n"
+        self.assertEqual(self.explained(some), [line("particles 2 to 4, 6, 8 are", 1), line("particle 7 is", 2), line("particle 0 is", 10)])
+        self.assertEqual(self.explained("particles 1\n0 refused 3\nend\n"), [line("particle 0 is", 3)])
+
+    def test_explain_names_what_is_turned_inside_out(self):
+        """A worked particle that came with a sigma of 0 or below; with determinants or without, and not one that is refused."""
+        sigmas = [(1.0, 1.0, 1.0), (-0.9, 1.0, 1.0), (0.0, 1.0, -0.0), (-1.0, 0.5, -0.25), (-2.0, 1.0, 1.0), (0.0, -3.0, 1.0)]
+        answer = "particles 6\n0 untouched\n1 stored 3ff0000000000000\n2 stored 3ff0000000000000\n3 untouched\n4 refused 2\n5 stored 3ff0000000000000\nend\n"
+        for model, floats in ((0, 36), (4, 37)):
+            records = b"".join(struct.pack("<%dd" % floats, *[-7.0] * 18, *sigma, *[-7.0] * (floats - 21)) for sigma in sigmas)
+            self.sheet.write_bytes(bytes([model]) + struct.pack("<3d", 0.025, 0.0045, 10.0) + bytes([6]) + records)
+            self.assertEqual(self.explained(answer)[1:], [
+                "particle 1 is stored, but turned inside out: sigma -0.9", "particle 2 is stored, but pressed flat: sigma 0 -0",
+                "particle 3 is untouched, but turned inside out: sigma -1 -0.25", "particle 5 is stored, but turned inside out: sigma -3 0"])
+
+    def test_explain_ends_where_the_sheet_does_not(self):
+        """No more is read than what makes a sheet too long."""
+        program = script(self.folder / "program", "#!/bin/sh\necho \"sheet refused 7\"\nwc -c >'%s'\n" % (self.folder / "read"))
+        self.sheet.write_bytes(bytes(300000))
+        self.ended(self.run_command(SLOPE, "--explain", self.sheet, PASOLETU_SLOPE=program), 3, "sheet refused 7\n", "the sheet is refused by 7")
+        self.assertEqual((self.folder / "read").read_text(), "59268\n")
 
     def test_nothing_is_said_without_explain(self):
         self.assertEqual(self.slope(self.sheet, answer="sheet refused 4\n").stderr, b"")
@@ -195,8 +234,41 @@ class Command(InFolder):
         self.assertEqual(((self.folder / "new.sheet").read_bytes(), self.left()), (b"old", ["new.sheet"]))
         self.ended(self.writes("-o", "none/new.sheet", self.sheet), 1, ANSWER, "none/new.sheet was not written")
 
+    def test_only_a_plain_file_is_written(self):
+        """A folder and a pipe stay what they are, and nothing is worked for them; so does a device, which no test risks."""
+        (self.folder / "folder").mkdir()
+        os.mkfifo(self.folder / "pipe")
+        os.symlink("pipe", self.folder / "link")
+        os.symlink("loop", self.folder / "loop")
+        before = self.left()
+        for name in ("folder", "pipe", "link"):
+            self.ended(self.writes("-o", name, self.sheet), 2, "", "-o %s: this is a folder, a device or a pipe" % name)
+        self.ended(self.writes("-o", "loop", self.sheet), 2, "", "this link leads nowhere")
+        self.assertEqual((self.left(), list((self.folder / "folder").iterdir())), (before, []))
+        self.assertTrue((self.folder / "pipe").is_fifo() and (self.folder / "link").is_symlink())
+
+    def test_mode_and_link_stay(self):
+        new, link, dangling = self.folder / "new.sheet", self.folder / "link", self.folder / "dangling"
+        new.write_bytes(b"old")
+        new.chmod(0o600)
+        link.symlink_to("new.sheet")
+        dangling.symlink_to("later.sheet")
+        for name in ("new.sheet", "link", "dangling"):
+            self.ended(self.writes("-o", name, self.sheet), 0, ANSWER)
+        self.assertEqual((new.read_bytes(), new.stat().st_mode & 0o777, os.readlink(link)), (b"\7", 0o600, "new.sheet"))
+        self.assertEqual((os.readlink(dangling), (self.folder / "later.sheet").read_bytes()), ("later.sheet", b"\7"))
+        self.assertEqual(self.left(), ["dangling", "later.sheet", "link", "new.sheet"])
+
+    def test_the_new_sheet_is_on_the_disk_before_its_name_stands(self):
+        """Held by the order in which the command asks for it."""
+        for name in ("sync", "mv"):
+            script(self.folder / "kit" / name, "#!/bin/sh\necho %s >>'%s'\nexec %s \"$@\"\n" % (name, self.folder / "kit" / "asked", shutil.which(name)))
+        self.environment["PATH"] = "%s:%s" % (self.folder / "kit", self.environment["PATH"])
+        self.ended(self.writes("-o", "new.sheet", self.sheet), 0, ANSWER)
+        self.assertEqual((self.folder / "kit" / "asked").read_text(), "sync\nmv\n")
+
     def test_o_is_for_one_sheet_and_needs_a_name(self):
-        for words in (("-o", "new.sheet", self.sheet, self.sheet), (self.sheet, "-o"), ("-o", "-", self.sheet)):
+        for words in (("-o", "new.sheet", self.sheet, self.sheet), (self.sheet, "-o"), ("-o", "-", self.sheet), ("-o", "", self.sheet), ("-o=new.sheet", self.sheet)):
             self.ended(self.writes(*words), 2, "", "slope: -o ")
         self.assertEqual(self.left(), [])
 
@@ -269,6 +341,12 @@ class Proved(InFolder):
             one = self.run_command(SLOPE, "--why=%d" % (len(told) - 3), path, PASOLETU_SLOPE=proved_program())
             self.assertEqual(one.stdout.decode().splitlines(), [told[0], told[-2], told[-1]], path.name)
 
+    def test_snow_works_what_is_turned_inside_out_and_it_is_told(self):
+        given = bytearray((TOP / "samples" / "snow.sheet").read_bytes())
+        given[-36 * 8 + 18 * 8:-36 * 8 + 19 * 8] = struct.pack("<d", -0.9)
+        ran = self.run_command(SLOPE, "--explain", sheet=bytes(given), PASOLETU_SLOPE=proved_program())
+        self.ended(ran, 0, "particles 1\n0 stored 41aaccad8523d10b\nend\n", "slope: standard input: particle 0 is stored, but turned inside out: sigma -0.9\n")
+
     def test_the_documents_example(self):
         sheet = TOP / "samples" / "snow.sheet"
         self.ended(self.run_command(SLOPE, sheet, PASOLETU_SLOPE=proved_program()), 0, ANSWER)
@@ -337,6 +415,43 @@ class Built(InFolder):
         (self.top / "crates" / "numbers" / "proofs" / "a.antt").write_text("")
         self.slope()
         self.assertEqual(len(self.asked()), 3)
+
+    def test_the_sources_are_read_once_a_change(self):
+        """Also where a change keeps size and time of writing."""
+        script(self.folder / "kit" / "sha256sum", "#!/bin/sh\n[ $# -eq 0 ] || echo read >>'%s'\nexec %s \"$@\"\n" % (self.folder / "read", shutil.which("sha256sum")))
+
+        def reads():
+            path = self.folder / "read"
+            count = path.read_text().count("read") if path.exists() else 0
+            path.unlink(missing_ok=True)
+            return count
+        self.slope()
+        self.assertGreater(reads(), 0)
+        self.slope()  # the first after the build may read once more: what was written in the same tick of the clock is not taken for known
+        reads()
+        self.ended(self.slope(), 3, "sheet refused 4\n")
+        self.assertEqual(reads(), 0)
+        source = self.top / "crates" / "slope" / "src" / "lib.rt"
+        times = source.stat()
+        source.write_text(source.read_text().replace("refused 4", "refused 5"))
+        os.utime(source, ns=(times.st_atime_ns, times.st_mtime_ns))
+        self.ended(self.slope(), 3, "sheet refused 5\n")
+        self.assertGreater(reads(), 0)
+        (self.top / "crates" / "numbers" / "src" / "more.rt").write_text("")
+        self.slope()
+        self.assertEqual((reads() > 0, len(self.asked())), (True, 3))
+
+    def test_an_installation_has_its_own_parts(self):
+        (self.top / "crates.txt").unlink()
+        share = self.folder / "prefix" / "share" / "pasoletu" / "tools"
+        share.mkdir(parents=True)
+        shutil.copy(TOP / "tools" / "built", share)
+        for part in ("program", "archive", "library"):
+            self.ended(self.run_command(share / "built", "--prove", part), 1, "", "the %s is not installed" % part)
+        for part, name in (("program", "libexec/pasoletu/slope"), ("archive", "lib/libpasoletu.a"), ("library", "lib/libpasoletu.so")):
+            script(self.folder / "prefix" / name, "")
+            self.ended(self.run_command(share / "built", part), 0, "%s\n" % (self.folder / "prefix" / name).resolve())
+        self.assertEqual(self.asked(), [])
 
     def test_what_does_not_go_in_is_left_alone(self):
         self.slope()

@@ -9,7 +9,7 @@ Of a sheet that is not refused it prints the lines that `slope` prints. Where a 
 and `sheet refused N` comes in place of `end`. A fault is told, and the reading ended, as soon as it is there; that bytes are missing only when
 the line is closed. Progress, a line for each part that completed a particle, goes to standard error.
 
---explain   says each refusal in words, on standard error
+--explain   says each refusal in words, on standard error, and which worked particles came pressed flat or turned inside out
 --quiet     no progress
 
 The numbers are those of the proved library: the file that PASOLETU_LIB names, else the one that the Python package finds.
@@ -18,13 +18,16 @@ Exit status: 0 all well; 3 the sheet or a particle was refused; 1 something is w
 import argparse
 import os
 import pathlib
+import struct
 import sys
 
 sys.path.insert(0, str(pathlib.Path(__file__).resolve().parent))
+import sheet  # noqa: E402
 import shell  # noqa: E402
 from night_page import TABLE  # noqa: E402
 
 ALL_WELL, NO_SHEET, SOME_REFUSED = 0, 2, 3
+SIGMA = 18  # its place in a record
 PART = 4096  # bytes that are taken at once, where so many have come
 
 
@@ -52,15 +55,25 @@ class Telling:
     def __init__(self, arrival, name, explain, quiet):
         self.arrival, self.name, self.explain, self.quiet = arrival, name, explain, quiet
         self.opened, self.told, self.status = False, 0, ALL_WELL
+        self.bytes = bytearray()  # as they came
 
     def also(self, text):
-        print("arrive.py: " + text, file=sys.stderr, flush=True)
+        print(shell.named("arrive.py: ") + text, file=sys.stderr, flush=True)
 
     def refused(self, who, number):
         self.status = SOME_REFUSED
         if self.explain:
             row = TABLE.REFUSALS[number]
             self.also("%s: %s refused by %d: %s: %s" % (self.name, who, number, row.what, row.remedy))
+
+    def worked(self, k, outcome):
+        """Says so where the particle came with a sigma of 0 or below."""
+        ran = self.arrival.ran
+        first = 1 + 8 * len(ran.model.names()) + (1 if self.arrival.count < 128 else 2)
+        at = first + 8 * ((TABLE.FLOATS if ran.determinants else TABLE.SHEET_FLOATS) * k + SIGMA)
+        words = sheet.turned(struct.unpack_from("<3d", self.bytes, at))
+        if words:
+            self.also("%s: particle %d is %s, but %s" % (self.name, k, outcome, words))
 
     def come(self):
         """The lines of what is new."""
@@ -77,6 +90,8 @@ class Telling:
         for k in range(self.told, complete):
             if answers[k][0] == TABLE.REFUSED:
                 self.refused("particle %d is" % k, answers[k][1])
+            elif self.explain:
+                self.worked(k, "stored" if answers[k][0] == TABLE.STORED else "untouched")
         self.told = complete
         if not self.quiet:
             self.also("%s: %d of %d" % (self.name, complete, count))
@@ -98,6 +113,7 @@ def work(args):
         telling = Telling(arrival, name, args.explain, args.quiet)
         try:
             for part in parts(stream):
+                telling.bytes += part
                 arrival.feed(part)
                 telling.come()
             arrival.finish()
@@ -109,18 +125,18 @@ def work(args):
 
 
 def main(argv=None):
-    about = argparse.ArgumentParser(description=__doc__, formatter_class=argparse.RawDescriptionHelpFormatter, usage=argparse.SUPPRESS)
+    about = argparse.ArgumentParser(description=shell.named(__doc__), formatter_class=argparse.RawDescriptionHelpFormatter, usage=argparse.SUPPRESS)
     about.add_argument("name", nargs="?", default="-", metavar="SHEET")
     about.add_argument("--explain", action="store_true")
     about.add_argument("--quiet", action="store_true")
     args = about.parse_args(argv)
     if args.name != "-" and (os.path.isdir(args.name) or not os.access(args.name, os.R_OK)):
-        print("arrive.py: %s is not a file that can be read (a directory, or not there)" % args.name, file=sys.stderr)
+        print(shell.named("arrive.py: ") + "%s is not a file that can be read (a directory, or not there)" % args.name, file=sys.stderr)
         return NO_SHEET
     try:
         return shell.run("arrive.py", work, args)
     except shell.NoLibrary as e:
-        print("arrive.py: %s" % e, file=sys.stderr)
+        print(shell.named("arrive.py: %s" % e), file=sys.stderr)
         return 1
 
 

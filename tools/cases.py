@@ -18,7 +18,7 @@ sys.path.insert(0, str(pathlib.Path(__file__).resolve().parent))
 import shell  # noqa: E402
 
 HERE = shell.TOP / "crates" / "slope_cases"
-SHEETS = sorted((HERE / "data").iterdir())
+SHEETS = sorted((HERE / "data").glob("*"))  # none where the tools are installed
 I = [1.0, 0, 0, 0, 1.0, 0, 0, 0, 1.0]
 NAN, INF = float("nan"), float("inf")
 SNOW = [0.025, 0.0045, 10.0]

@@ -12,9 +12,9 @@ tests that it is:
   Rankine         sum and largest of the log strains, with the tensile cut-off
   Drucker-Prager  sum of the strains and norm of their deviatoric part, with the cone
   NACC            pressure p and shear q, with the ellipse
-A letter beside a stored particle says which branch of its law it took. Where the surface moves with a particle's hardening, some of the surfaces are drawn and the legend says for which. A particle that is refused
+A letter beside a stored particle says which branch of its law it took; of several with one letter that lie close together, the first has it. Where the surface moves with a particle's hardening, some of the surfaces are drawn and the legend says for which. A particle that is refused
 by 1, since a float of it or of the law is no number or infinite, has no place in a plane: it is listed, as every refused one, with its
-number and why.
+number and why. One that is worked although a sigma of it came as 0 or below is listed too, as pressed flat or turned inside out.
 
 The records after the run are those of the proved library: the file that PASOLETU_LIB names, else the one that the Python package finds
 (./install.sh PREFIX makes it). Where there is none, or with --second, they are worked by the second implementation in tools/cases.py, and the
@@ -54,7 +54,9 @@ LEFT, TOP, WIDE, HIGH = 92, 74, 600, 500
 BESIDE = LEFT + WIDE + 26  # where the legend begins
 PICTURE = 1000
 MOST_SURFACES = 4
-NOT_FINITE, WRONG_DETERMINANT = 1, 11
+LETTERS_APART = 45  # of like letters, in the picture's units
+MOST_TOLD = 6  # particles of a refusal that are told one by one
+NOT_FINITE, WRONG_DETERMINANT, OUT_OF_RANGE = 1, 11, (2, 10)
 SOME_REFUSED = 3  # the command's status where a particle was refused
 PROVED, SECOND = "the proved library", "the second implementation in tools/cases.py"
 
@@ -448,7 +450,7 @@ def tick_text(x, step):
 
 class Canvas:
     def __init__(self, box):
-        self.box, self.out, self.labels = box, [], []
+        self.box, self.out, self.labels, self.letters = box, [], [], {}
 
     def at(self, x, y):
         x0, x1, y0, y1 = self.box
@@ -481,8 +483,14 @@ class Canvas:
     def square(self, x, y, colour, size=8.0):
         self.add('<rect x="%.1f" y="%.1f" width="%.1f" height="%.1f" fill="none" stroke="%s" stroke-width="1.6"/>', x - size, y - size, 2 * size, 2 * size, colour)
 
+    def letter(self, x, y, letter, colour):
+        """A letter beside a point, unless the same one stands near it already."""
+        near = self.letters.setdefault(letter, [])
+        if all(math.hypot(x - a, y - b) > LETTERS_APART for a, b in near) and self.label(x, y, letter, colour):
+            near.append((x, y))
+
     def label(self, x, y, words, colour):
-        """A label beside a point, where it meets no other and stays in the plot; else none, for the list at the right has it."""
+        """A label beside a point, where it meets no other and stays in the plot; else none, for the list at the right has it. Whether it stands."""
         w = 6.5 * len(words)
         for dx, dy in ((9, 4), (-9 - w, 4), (-w / 2, -10), (-w / 2, 19), (9, -8), (9, 16), (-9 - w, -8), (-9 - w, 16)):
             b = (x + dx, y + dy - 10, x + dx + w, y + dy + 2)
@@ -491,7 +499,8 @@ class Canvas:
             if all(b[2] < o[0] or o[2] < b[0] or b[3] < o[1] or o[3] < b[1] for o in self.labels):
                 self.labels.append(b)
                 self.text(x + dx, y + dy, words, 11, colour)
-                return
+                return True
+        return False
 
 
 def axes(c, plane):
@@ -538,7 +547,7 @@ def held(c, x, y):
 
 
 def particles_drawn(c, plane, particles):
-    """Draws those that have a place; how many of them lie outside the picture."""
+    """Draws those that have a place, which it gives; and how many of them lie outside the picture."""
     outside = 0
     spots = []
     for k, q in enumerate(particles):
@@ -568,18 +577,25 @@ def particles_drawn(c, plane, particles):
             c.label(*a, "%d" % k, REFUSED)
     for k, q, a, b in spots:
         if q.code == 1 and b and q.branch and plane.branches:
-            c.label(*b, "ABC"[q.branch - 1], STORED)
+            c.letter(*b, "ABC"[q.branch - 1], STORED)
     if particles and not spots:
         c.text(LEFT + WIDE / 2, TOP + HIGH / 2, "No particle of this %s has a place in the plane." % plane.of, 14, REFUSED, "middle")
-    return outside
+    return [q for _, q, _, _ in spots], outside
 
 
 DASHES = ["", "8 4", "3 3", "10 3 2 3"]
 
 
-def legend(c, plane, found, shown, failure):
-    """What the marks mean; the height at which it ends."""
+def in_sight(c, points):
+    """Whether a line through the points comes into the picture."""
+    between = ((p, q, k / 32.0) for p, q in zip(points, points[1:]) for k in range(33))
+    return any(c.inside(p[0] + (q[0] - p[0]) * t, p[1] + (q[1] - p[1]) * t) for p, q, t in between)
+
+
+def legend(c, plane, found, shown, spots):
+    """What the marks mean, of those that are drawn; the height at which it ends."""
     x, y = BESIDE, TOP + 8
+    codes = {q.code for q in spots}
 
     def entry(draw, words, colour=INK):
         nonlocal y
@@ -588,27 +604,34 @@ def legend(c, plane, found, shown, failure):
         y += 21
 
     for k, dash in zip(shown, DASHES):
+        if not in_sight(c, plane.surface(k, c.box)):
+            continue
         words = "yield surface" + (", %s = %.4g" % (plane.key_name, k) if plane.key_name else "")
         entry(lambda x, y: c.line(x - 9, y, x + 11, y, SURFACE, 2.0, ' stroke-dasharray="%s"' % dash if dash else ""), words)
     if len(found) > len(shown):
         c.text(x + 30, y, "(%d of %d different ones)" % (len(shown), len(found)), 11, GREY)
         y += 19
-    if plane.limit()[1]:
-        entry(lambda x, y: c.line(x - 9, y, x + 11, y, GREY, 1.0, ' stroke-dasharray="1 3"'), plane.limit()[1])
+    edge, name = plane.limit()
+    if name and in_sight(c, [(x, edge(x)) for x in c.box[:2]]):
+        entry(lambda x, y: c.line(x - 9, y, x + 11, y, GREY, 1.0, ' stroke-dasharray="1 3"'), name)
     y += 6
-    entry(lambda x, y: c.ring(x, y, 4.2, GREY, GREY), "untouched")
+    if 0 in codes:
+        entry(lambda x, y: c.ring(x, y, 4.2, GREY, GREY), "untouched")
 
     def moved(x, y):
         c.line(x - 9, y, x + 9, y, STORED, 0.9)
         c.ring(x - 9, y, 4.2, STORED, "white")
         c.ring(x + 9, y, 2.6, STORED, STORED, 0.5)
-    entry(moved, "stored: before, after")
+    if 1 in codes:
+        entry(moved, "stored: before, after")
     for letter, words in zip("ABC", plane.branches):
-        c.text(x + 30, y, "%s: %s" % (letter, words), 11, STORED)
-        y += 16
-    y += 5 if plane.branches else 0
-    entry(lambda x, y: c.cross(x, y, REFUSED), "refused (index beside it)")
-    if failure:
+        if c.letters.get(letter):
+            c.text(x + 30, y, "%s: %s" % (letter, words), 11, STORED)
+            y += 16
+    y += 5 if c.letters else 0
+    if 2 in codes:
+        entry(lambda x, y: c.cross(x, y, REFUSED), "refused (index beside it)")
+    if any(q.failed for q in spots):
         entry(lambda x, y: c.square(x, y, FAILED), "failed")
     return y
 
@@ -634,6 +657,8 @@ def why(plane, model, q):
     """What of its inputs a refused particle is refused for, where that can be named."""
     if q.value == WRONG_DETERMINANT:
         return "determinant is %r, that of F %r" % (q.before[cases.BARE], cases.determinant(q.before[:9]))
+    if q.value in OUT_OF_RANGE:
+        return "sigma " + " ".join("%g" % x for x in plane.sigma(q.before))
     if q.value != NOT_FINITE:
         return ""
     return not_finite(["parameter " + name for name in sheet.PARAMETERS[model]], plane.p) or not_finite(plane.places, q.before)
@@ -647,13 +672,31 @@ def refusals(plane, model, particles):
             groups.setdefault(q.value, {}).setdefault(why(plane, model, q), []).append(k)
     for number, reasons in sorted(groups.items()):
         yield "refused by %d: %s%s" % (number, sheet.REFUSALS.get(number, "unknown"), "; no place in the plane" if number == NOT_FINITE else "")
+        if number in OUT_OF_RANGE and len(reasons) > MOST_TOLD:
+            who = sorted(k for those in reasons.values() for k in those)
+            sigma = [x for k in who for x in plane.sigma(particles[k].before)]
+            reasons = {"sigma from %g to %g" % (min(sigma), max(sigma)): who}
         for reason, who in reasons.items():
-            yield "particle%s %s%s" % ("" if len(who) == 1 else "s", ranges(who), ": " + reason if reason else "")
+            yield whose(who, reason)
+
+
+def whose(who, words):
+    return "particle%s %s%s" % ("" if len(who) == 1 else "s", ranges(who), ": " + words if words else "")
+
+
+def inside_out(plane, particles):
+    """The particles that were worked although a sigma came as 0 or below, by what is to be said of them."""
+    groups = {}
+    for k, q in enumerate(particles):
+        words = sheet.turned(plane.sigma(q.before)) if q.code != 2 else ""
+        if words:
+            groups.setdefault("%s, but %s" % ("stored" if q.code == 1 else "untouched", words), []).append(k)
+    return [whose(who, words) for words, who in groups.items()]
 
 
 def listed(c, plane, model, particles, y):
     """Writes which particles are refused, and which others have no place, from the height y on; the height at which it ends."""
-    lines = [(line, REFUSED) for line in refusals(plane, model, particles)]
+    lines = [(line, REFUSED) for line in [*refusals(plane, model, particles), *inside_out(plane, particles)]]
     nowhere = [k for k, q in enumerate(particles) if not q.places(plane)[0] and not q.not_finite()]
     if nowhere:
         lines.append(("also without a place: " + ranges(nowhere), GREY))
@@ -703,10 +746,10 @@ def picture(name, plane, model, particles, failure, caption, warnings):
     c = Canvas(box_of(plane, taken, shown))
     axes(c, plane)
     surfaces_drawn(c, plane, shown)
-    outside = particles_drawn(c, plane, particles)
+    spots, outside = particles_drawn(c, plane, particles)
     if outside:
         caption = caption + ["%d particles lie outside the picture and are drawn at its edge." % outside]
-    y = listed(c, plane, model, particles, legend(c, plane, found, shown, failure))
+    y = listed(c, plane, model, particles, legend(c, plane, found, shown, spots))
     c.text(LEFT, 30, plane.title, 20, INK, extra=' font-weight="bold"')
     c.text(LEFT, 54, head_of(name, particles, failure), 14)
     low, width = TOP + HIGH + 70, 132 if y < TOP + HIGH + 60 else 90
@@ -797,7 +840,7 @@ def draw(args):
     model, _, p, _ = sheet.load(data, args.sheet)
     particles, who, warnings = worked(data, failure, args.second)
     if warnings and not args.second:
-        print("draw.py: %s" % warnings[0], file=sys.stderr)
+        print(shell.named("draw.py: %s" % warnings[0]), file=sys.stderr)
     plane = PLANES[model](p)
     caption = caption_of(plane, model, failure)
     lines, where = answers(args, data)
@@ -822,7 +865,7 @@ def strict(text):
 
 
 def main(argv=None):
-    about = argparse.ArgumentParser(description=__doc__, formatter_class=argparse.RawDescriptionHelpFormatter, usage=argparse.SUPPRESS)
+    about = argparse.ArgumentParser(description=shell.named(__doc__), formatter_class=argparse.RawDescriptionHelpFormatter, usage=argparse.SUPPRESS)
     about.add_argument("sheet", metavar="X.sheet|LIST|-")
     about.add_argument("svg", metavar="OUT.svg|-")
     about.add_argument("--flat", action="store_true", help="draw a list of flat records")

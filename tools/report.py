@@ -235,7 +235,7 @@ def morning(args):
 
 
 def main(argv=None):
-    about = argparse.ArgumentParser(description=__doc__, formatter_class=argparse.RawDescriptionHelpFormatter, usage=argparse.SUPPRESS)
+    about = argparse.ArgumentParser(description=shell.named(__doc__), formatter_class=argparse.RawDescriptionHelpFormatter, usage=argparse.SUPPRESS)
     about.add_argument("names", nargs="+", metavar="FOLDER_OR_SHEET")
     about.add_argument("--updated", action="store_true")
     about.add_argument("--second", action="store_true")

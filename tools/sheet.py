@@ -1,13 +1,14 @@
 #!/usr/bin/env python3
 """Makes sheets of particles from a table, and prints a sheet.
 
-  tools/sheet.py make IN.csv OUT.sheet --model MODEL [--determinants] [--parameters NAME=VALUE ..] [--split]
-  tools/sheet.py make IN.json OUT.sheet [--split]
+  tools/sheet.py make IN.csv OUT.sheet --model MODEL [--determinants] [--parameters NAME=VALUE ..] [--split] [--inside-out] [--replace]
+  tools/sheet.py make IN.json OUT.sheet [--split] [--inside-out] [--replace]
   tools/sheet.py print X.sheet [--json]
 
 A name may be `-`: standard input, which is read as a CSV where --model is given and else as a JSON, or standard output.
 A sheet takes 200 particles. --split makes as many sheets as the table needs, OUT-00001.sheet, OUT-00002.sheet and so on: particle K of
 sheet N is particle 200 (N - 1) + K of the table, counted from 0.
+OUT must not be IN. Where it is there it must be a sheet, which is replaced; --replace takes any other file's place too.
 
 MODEL is snow, rankine, drucker_prager or nacc. Its parameters, in the sheet's order:
   snow            min_epsilon (0.025) max_epsilon (0.0045) hardening_coeff (10)
@@ -27,7 +28,8 @@ A particle has
   sigma           in a CSV sigma1 sigma2 sigma3; in a JSON three numbers
   phase (1)  plastic_determinant (1)  plastic_hardening (1)  elastic_hardening (1)  log_gain (0)  alpha (0)
   determinant     in a sheet that keeps it: that of F where it is left out; another than that is refused by the law (11)
-Names are taken exactly as they stand here. An empty cell or a missing name takes the number in brackets. Of the matrices there may be given
+Names are taken exactly as they stand here. An empty cell or a missing name takes the number in brackets; an empty row is no particle. Of the
+matrices there may be given
   F alone                  U, sigma and V^T are the library's factors of it, checked exactly (docs/FACTORS.md); where the library isn't
                            at hand they are numpy's (Debian: python3-numpy), and standard error says so
   sigma alone              U and V^T are the identity, F is diagonal
@@ -35,9 +37,12 @@ Names are taken exactly as they stand here. An empty cell or a missing name take
   all four                 taken as they are, bit for bit
   none                     the identity
 A number is spelled as 1.25 or 1e-3, or by its bits, as 0x7ff8000000000000; nan, inf and -inf are taken too (the law refuses such a particle
-by 1). `print --json` writes what `make` turns into the same bytes again.
+by 1). An F alone that has one goes out with sigma 1 and the identity for U and V^T, and standard error says which.
+A sigma of 0 or below is a particle pressed flat or turned inside out. Snow works it all the same, so it is refused here; --inside-out takes it.
+`print --json` writes what `make` (with --inside-out and all) turns into the same bytes again.
 """
 import argparse
+import codecs
 import csv
 import functools
 import glob
@@ -45,6 +50,7 @@ import io
 import itertools
 import json
 import math
+import os
 import pathlib
 import re
 import struct
@@ -142,14 +148,15 @@ def say_once(words):
 
 
 def decompose(f, where="F"):
-    """U, sigma, V^T with U sigma V^T = F."""
+    """U, sigma, V^T with U sigma V^T = F; the identity and ones where F has a NaN or an infinity, by which the law refuses the particle."""
     if not all(map(math.isfinite, f)):
-        raise Wrong("%s: F has a NaN or an infinity, so it has no factors: give U, sigma and V^T too" % where)
+        sys.stderr.write(shell.named("sheet.py: ") + "%s: F has a NaN or an infinity, so it has no factors: it goes out as it is, with sigma 1, and its law refuses it by 1\n" % where)
+        return IDENTITY, [1.0] * 3, IDENTITY
     package, missing = library()
     if package:
         return own(package, f, where)
     factors = numpys(f, where)
-    say_once("sheet.py: the factors of F are numpy's, unchecked, and not the library's: %s\n" % missing)
+    say_once(shell.named("sheet.py: ") + "the factors of F are numpy's, unchecked, and not the library's: %s\n" % missing)
     return factors
 
 
@@ -332,15 +339,35 @@ def from_csv(stream, model, kept, given, where, shape=SOLID):
     return model, kept, parameters(model, given, "--parameters"), csv_records(stream, kept, where, shape)
 
 
+def told_utf16(stream, where):
+    """The stream, unless it begins as a spreadsheet's UTF-16 does."""
+    if isinstance(stream, io.BufferedReader) and stream.peek(2)[:2] in (codecs.BOM_UTF16_LE, codecs.BOM_UTF16_BE):
+        raise Wrong("%s: this is text in UTF-16: save it as UTF-8" % where)
+    return stream
+
+
+def with_cells(given, rows, where):
+    """The rows that have a cell. It is said once where an empty one stands between them, since the particles' numbers then part from the rows'."""
+    empty = None
+    for row in given:
+        if row and empty:
+            sys.stderr.write(shell.named("sheet.py: ") + "%s: row %d is empty and no particle: from there on a particle's number is another than its row tells\n" % (where, empty))
+            empty = 0
+        if row:
+            yield row
+        elif empty is None:
+            empty = rows.line_num
+
+
 def csv_records(stream, kept, where, shape=SOLID):
     csv.field_size_limit(LONGEST_FIELD)
-    with io.TextIOWrapper(stream, encoding="utf-8-sig", newline="") as text:
+    with io.TextIOWrapper(told_utf16(stream, where), encoding="utf-8-sig", newline="") as text:
         rows = csv.reader(text, strict=True)
         try:
             top = next(rows, [])
             bare = shape is FLAT and len(top) == len(shape.places) and BITS_OR_DECIMAL.fullmatch(top[0].strip(" \t"))
             names = shape.places if bare else header(top, kept, "%s, row 1" % where, shape)
-            particles = filter(None, itertools.chain([top] if bare else [], rows))
+            particles = with_cells(itertools.chain([top] if bare else [], rows), rows, where)
             first = next(particles, None)
             if first is None:
                 raise Wrong("%s: the table is a row of column names alone: write a row below it for each particle" % where)
@@ -357,12 +384,15 @@ def header(names, kept, where, shape):
         raise Wrong("%s: it is empty, and should name the columns" % where)
     if len(names) == 1 and ";" in names[0]:
         raise Wrong("%s: the columns are parted by semicolons: part them by commas, and write decimals with a point" % where)
+    if len(names) == 1 and "\t" in names[0].strip():
+        raise Wrong("%s: the columns are parted by tabs: part them by commas" % where)
     for k, name in enumerate(names):
         if name == DETERMINANT and shape is SOLID and not kept:
             raise Wrong("%s, column %d: this sheet keeps no determinants: add --determinants" % (where, k + 1))
         if name not in shape.places and not (kept and name == DETERMINANT):
-            raise Wrong("%s, column %d: unknown column %s: columns are, letter by letter, %s, %s"
-                        % (where, k + 1, shown(name), ", ".join("%s .. %s" % (places[0], places[-1]) for places in shape.columns.values()), ", ".join(SCALARS)))
+            near = ": take the space away" if name.strip() in shape.places else ""
+            raise Wrong("%s, column %d: unknown column %s%s: columns are, letter by letter, %s, %s"
+                        % (where, k + 1, shown(name), near, ", ".join("%s .. %s" % (places[0], places[-1]) for places in shape.columns.values()), ", ".join(SCALARS)))
         if name in names[:k]:
             raise Wrong("%s, column %d: column %s stands there twice" % (where, k + 1, shown(name)))
     return names
@@ -385,6 +415,22 @@ def csv_record(names, row, where, shape):
 
 
 # ---- sheets
+
+
+def turned(sigma):
+    """In words what sigma of 0 or below say of a particle, or nothing."""
+    if not any(x <= 0.0 for x in sigma):
+        return ""
+    return "%s: sigma %s" % ("turned inside out" if min(sigma) < 0.0 else "pressed flat", " ".join("%g" % x for x in sorted(sigma) if x <= 0.0))
+
+
+def upright(records, where):
+    """The records, as long as none is turned inside out."""
+    for k, r in enumerate(records):
+        words = turned(r[18:21])
+        if words:
+            raise Wrong("%s, particle %d: it is %s, and Snow works such a particle without a word: correct it, or add --inside-out to send it as it is" % (where, k, words))
+        yield r
 
 
 def chunks(records, split, where):
@@ -489,9 +535,30 @@ def pairs(given):
 
 def make(args):
     where = shell.called(args.table, "standard input")
+    check_place(args)
     with shell.reading(args.table) as stream:
-        told = from_table(stream, args.table, args.model, args.determinants, pairs(args.parameters), where)
-        (make_several if args.split else make_one)(*told, args.sheet, where)
+        *law, records = from_table(stream, args.table, args.model, args.determinants, pairs(args.parameters), where)
+        (make_several if args.split else make_one)(*law, records if args.inside_out else upright(records, where), args.sheet, where)
+
+
+def check_place(args):
+    """Nothing that is no sheet is lost by writing the new one."""
+    place = pathlib.Path(args.sheet)
+    if args.sheet == "-" or not place.is_file():
+        return
+    if args.table != "-" and os.path.exists(args.table) and place.samefile(args.table):
+        raise Wrong("%s: the sheet would take the place of its own table: give it another name" % args.sheet)
+    if not args.replace and not is_sheet(place):
+        raise Wrong("%s is there and is no sheet: give another name, or add --replace to write over it" % args.sheet)
+
+
+def is_sheet(place):
+    """Whether a file is one, or holds nothing."""
+    data = read(str(place))
+    try:
+        return not data or cases.read(data) is not None
+    except cases.Refused:
+        return False
 
 
 def text_of(stream, where):
@@ -501,11 +568,15 @@ def text_of(stream, where):
         raise Wrong("%s: this is no text in UTF-8 (byte %d)" % (where, e.start))
 
 
+def particles(count):
+    return "%d particle%s" % (count, "" if count == 1 else "s")
+
+
 def make_one(model, kept, values, records, name, where):
     [chunk] = chunks(records, False, where)
     b = written(model, kept, values, chunk, where)
     shell.write(name, b)
-    told = "%s: %s, %d particles, %d bytes\n" % (shell.called(name, "standard output"), model, len(chunk), len(b))
+    told = "%s: %s, %s, %d bytes\n" % (shell.called(name, "standard output"), model, particles(len(chunk)), len(b))
     if name == "-":
         sys.stderr.write(told)
     else:
@@ -525,7 +596,7 @@ def make_several(model, kept, values, records, name, where):
             last = path.with_name("%s-%05d%s" % (path.stem, n, path.suffix))
             files.add(last, written(model, kept, values, chunk, where))
             count += len(chunk)
-    shell.say("%s is the last of %d sheets: %s, %d particles\n" % (last, n, model, count))
+    shell.say("%s is the last of %d sheet%s: %s, %s\n" % (last, n, "" if n == 1 else "s", model, particles(count)))
 
 
 def show(args):
@@ -534,8 +605,8 @@ def show(args):
 
 
 def main(argv=None):
-    about = argparse.ArgumentParser(description=__doc__, formatter_class=argparse.RawDescriptionHelpFormatter, usage=argparse.SUPPRESS)
-    commands = about.add_subparsers(dest="command", required=True, metavar="make | print", prog="tools/sheet.py")
+    about = argparse.ArgumentParser(description=shell.named(__doc__), formatter_class=argparse.RawDescriptionHelpFormatter, usage=argparse.SUPPRESS)
+    commands = about.add_subparsers(dest="command", required=True, metavar="make | print", prog=shell.named("tools/sheet.py"))
     m = commands.add_parser("make", help="a sheet from a CSV or a JSON")
     m.add_argument("table", metavar="IN.csv|IN.json|-")
     m.add_argument("sheet", metavar="OUT.sheet|-")
@@ -543,6 +614,8 @@ def main(argv=None):
     m.add_argument("--determinants", action="store_true", help="keep each particle's determinant in the sheet")
     m.add_argument("--parameters", nargs="*", default=[], metavar="NAME=VALUE")
     m.add_argument("--split", action="store_true", help="make several sheets of at most %d particles" % MOST)
+    m.add_argument("--inside-out", action="store_true", help="take a sigma of 0 or below")
+    m.add_argument("--replace", action="store_true", help="write over OUT.sheet also where it is no sheet")
     m.set_defaults(work=make)
     p = commands.add_parser("print", help="a sheet, readable")
     p.add_argument("sheet", metavar="X.sheet|-")

@@ -3,10 +3,23 @@ written whole or not at all."""
 import contextlib
 import os
 import pathlib
+import re
 import subprocess
 import sys
 
 TOP = pathlib.Path(__file__).resolve().parent.parent
+INSTALLED = not (TOP / "crates.txt").is_file()  # below a PREFIX, where TOP is share/pasoletu
+TOOL = re.compile(r"(?:tools/)?\b(arrive|draw|report|sheet)\.py\b|tools/(night)\b")
+
+
+def renamed(words):
+    """The tools by the names that install.sh gives them: tools/sheet.py is the command slope-sheet, bin/slope is slope."""
+    return TOOL.sub(lambda found: "slope-" + (found[1] or found[2]), words).replace("bin/slope", "slope")
+
+
+def named(words):
+    """Words as they fit the place where the tools stand."""
+    return renamed(words) if INSTALLED else words
 
 
 class Wrong(Exception):
@@ -133,7 +146,7 @@ def run(tool, work, *arguments):
     try:
         return work(*arguments) or 0
     except Wrong as e:
-        print("%s: %s" % (tool, e), file=sys.stderr)
+        print(named("%s: %s" % (tool, e)), file=sys.stderr)
     except KeyboardInterrupt:
-        print("%s: ended" % tool, file=sys.stderr)
+        print(named("%s: ended" % tool), file=sys.stderr)
     return 1

@@ -116,7 +116,7 @@ class Tables(InFolder):
             if readable(path):
                 status, text, err = quiet(sheet.main, "print", path, "--json")
                 self.assertEqual((status, err), (0, ""))
-                self.assertEqual(self.made("a.json", text), path.read_bytes(), path.name)
+                self.assertEqual(self.made("a.json", text, "--inside-out"), path.read_bytes(), path.name)
                 told = json.loads(text)
                 seen.add((told["model"], told.get("determinants", False)))
         self.assertEqual(seen, {(model, kept) for model in sheet.MODELS for kept in (False, True)})
@@ -250,11 +250,11 @@ class Tables(InFolder):
         self.refused("particle 1, sigma: 2 numbers, not 3", "a.json", good % '{"sigma": [1, 1]}')
         self.refused("particle 1, phase: 'x' is no number", "a.json", good % '{"phase": "x"}')
         self.refused("particle 1: of the matrices only F, sigma", "a.json", good % '{"F": [1,0,0,0,1,0,0,0,1], "sigma": [1, 1, 1]}')
-        self.refused("particle 1: F has a NaN", "a.json", good % '{"F": [NaN,0,0,0,1,0,0,0,1]}')
         self.refused("rankine needs tensile_strength", "a.csv", "phase\n1\n", "--model", "rankine", "--parameters", "young_modulus=1", "poisson_ratio=0", "softening_rate=1")
         self.refused("has no parameter 'young'", "a.csv", "phase\n1\n", "--model", "rankine", "--parameters", "young=1")
         self.refused("min_epsilon stands there twice", "a.csv", "phase\n1\n", "--model", "snow", "--parameters", "min_epsilon=1", "min_epsilon=2")
         self.refused("parted by semicolons", "a.csv", "phase;alpha\n1;0\n", "--model", "snow")
+        self.refused("parted by tabs: part them by commas", "a.csv", "phase\talpha\n1\t0\n", "--model", "snow")
         self.refused("row 3: 1 cells under 2 columns", "a.csv", "phase,alpha\n1,0\n1\n", "--model", "snow")
         self.refused("row 2: sigma has 1 of its 3 entries: sigma2, sigma3", "a.csv", "sigma1\n1\n", "--model", "snow")
         self.refused("row 3: every cell is empty", "a.csv", "phase,alpha\n1,0\n,\n", "--model", "snow")
@@ -265,6 +265,7 @@ class Tables(InFolder):
     def test_columns_are_named_exactly(self):
         for name in ("-sigma1", "sigma2 (%)", "sigma1 [%]", " sigma1", "Sigma1", "sigma_1", "log gain", "Vt11", "F44", ""):
             self.refused("row 1, column 2: unknown column %r" % name, "a.csv", "phase,%s\n1,1\n" % name, "--model", "snow")
+        self.refused("unknown column ' sigma1': take the space away: ", "a.csv", "phase, sigma1\n1,1\n", "--model", "snow")
         self.refused("row 1, column 2: column 'phase' stands there twice", "a.csv", "phase,phase\n1,1\n", "--model", "snow")
 
     def test_names_are_exact(self):
@@ -308,6 +309,41 @@ class Tables(InFolder):
         for options in (("a.csv", "b.sheet", "--model", "snow"), ("a.json", "b.sheet")):
             self.one_sentence(ran("sheet.py", "make", *options, cwd=self.folder), "no text in UTF-8")
 
+    def test_a_spreadsheets_utf_16(self):
+        for coding in ("utf-16-le", "utf-16-be"):
+            (self.folder / "a.csv").write_bytes("\ufeffphase\n1\n".encode(coding))
+            self.one_sentence(ran("sheet.py", "make", "a.csv", "b.sheet", "--model", "snow", cwd=self.folder), "a.csv: this is text in UTF-16: save it as UTF-8")
+
+    def test_what_is_turned_inside_out(self):
+        """Refused, of every law and however sigma came to be, unless told."""
+        columns = "sigma1,sigma2,sigma3\n1,1,1\n%s\n"
+        for row, words in (("-0.9,1,1", "turned inside out: sigma -0.9"), ("0,1,1", "pressed flat: sigma 0"), ("1,-0,-2", "turned inside out: sigma -2 -0")):
+            for options in (("--model", "snow"), ("--model", "snow", "--split"), ("--model", "nacc", "--parameters", "young_modulus=1", "poisson_ratio=0", "cohesion=0", "hardening_enabled=1", "hardening_factor=1", "m=1")):
+                self.refused("particle 1: it is %s, and Snow works such" % words, "a.csv", columns % row, *options)
+        b = self.made("a.csv", columns % "-0.9,1,1", "--model", "snow", "--inside-out")
+        self.assertEqual(cases.read(b)[2][1][18:21], [-0.9, 1.0, 1.0])
+        self.made("b.csv", columns % "nan,1,1", "--model", "snow")
+
+    def test_an_empty_row_between_particles_is_said(self):
+        for text, said in (("phase\n1\n\n\n0\n\n1\n", 1), ("phase\n1\n0\n\n\n", 0)):
+            status, _, err = quiet(sheet.main, "make", self.file("a.csv", text), self.folder / "rows.sheet", "--model", "snow")
+            self.assertEqual((status, err.count("a.csv: row 3 is empty and no particle"), err.count("\n")), (0, said, said), err)
+
+    def test_f_that_is_no_number(self):
+        """It goes out with the factors of the identity, its law refuses it alone, and it is said; no library is asked for it."""
+        names = ",".join(sheet.COLUMNS["F"])
+        for given, place in (("1,nan,0,0,1,0,0,0,1", 1), ("1,0,0,0,1,0,0,0,-inf", 8)):
+            with unittest.mock.patch.object(sheet, "library", lambda: (None, "none")):
+                status, _, err = quiet(sheet.main, "make", self.file("a.csv", "%s\n%s\n" % (names, given)), self.folder / "nan.sheet", "--model", "snow")
+            self.assertEqual((status, err.count("\n")), (0, 1), err)
+            self.assertIn("a.csv, row 2: F has a NaN or an infinity", err)
+            [r] = cases.read((self.folder / "nan.sheet").read_bytes())[2]
+            self.assertEqual((r[9:18], r[18:21], r[21:30], math.isfinite(r[place])), (cases.I, [1.0] * 3, cases.I, False))
+            self.assertEqual([k for k in range(36) if not math.isfinite(r[k])], [place])
+            with self.assertRaises(cases.Refused) as refused:
+                cases.worked(0, cases.SNOW, r)
+            self.assertEqual(refused.exception.args[0], 1)
+
     def test_a_refused_sheet_is_told(self):
         for path in SHEETS:
             want = LINES.split("-- %s\n" % path.name)[1].split("\n")[0]
@@ -338,6 +374,22 @@ class Sheets(InFolder):
 
     def test_the_most_is_taken(self):
         self.assertEqual(len(cases.read(self.made("a.csv", "phase\n" + "1\n" * 200, "--model", "snow"))[2]), 200)
+
+    def test_a_table_is_not_written_over(self):
+        """Neither the sheet's own table, by whatever name, nor another file that is no sheet; unless told, and the own table not even then."""
+        text = "phase\n1\n"
+        same, other, empty = self.file("same.csv", text), self.file("other.txt", "notes"), self.file("empty", "")
+        (self.folder / "link.csv").symlink_to("same.csv")
+        for options in ((), ("--replace",)):
+            for out in ("same.csv", "link.csv"):
+                self.one_sentence(ran("sheet.py", "make", "same.csv", out, "--model", "snow", *options, cwd=self.folder), "would take the place of its own table")
+        self.one_sentence(ran("sheet.py", "make", "same.csv", "other.txt", "--model", "snow", cwd=self.folder), "other.txt is there and is no sheet")
+        self.assertEqual((same.read_text(), other.read_text()), (text, "notes"))
+        for out, options in ((other, ("--replace",)), (empty, ()), (empty, ())):
+            made = ran("sheet.py", "make", "same.csv", out, "--model", "snow", *options, cwd=self.folder)
+            self.assertEqual((made.returncode, made.stderr), (0, b""))
+            self.assertEqual(made.stdout.decode(), "%s: snow, 1 particle, %d bytes\n" % (out, out.stat().st_size))
+            self.assertEqual(cases.read(out.read_bytes())[2], [cases.record()])
 
     def test_split(self):
         status, out, err = quiet(sheet.main, "make", self.file("a.csv", self.ROWS), self.folder / "n.sheet", "--model", "snow", "--split")
@@ -390,10 +442,10 @@ class Sheets(InFolder):
         want = SAMPLES[0].read_bytes()
         how = {"cwd": self.folder}
         text = ran("sheet.py", "print", "-", "--json", input=want, **how).stdout
-        self.assertEqual(ran("sheet.py", "make", "-", "-", input=text, **how).stdout, want)
+        self.assertEqual(ran("sheet.py", "make", "-", "-", "--inside-out", input=text, **how).stdout, want)
         made = ran("sheet.py", "make", "-", "-", "--model", "snow", input=b"phase\n1\n", **how)
         self.assertEqual(made.stdout, (HERE.parent / "samples" / "snow.sheet").read_bytes())
-        self.assertEqual(made.stderr, b"standard output: snow, 1 particles, 314 bytes\n")
+        self.assertEqual(made.stderr, b"standard output: snow, 1 particle, 314 bytes\n")
         self.one_sentence(ran("sheet.py", "make", "-", "-", "--model", "snow", "--split", input=b"phase\n1\n", **how), "- is one output")
         self.one_sentence(ran("sheet.py", "make", "-", "-", "--model", "snow", input=b"phase\n1_0\n", **how), "standard input, row 2, column 1 (phase)")
         self.assertEqual(list(self.folder.iterdir()), [], "no file is called -")
@@ -433,10 +485,14 @@ class Drawn(InFolder):
 
     def crosses(self, root):
         """How many particles are marked as refused, less the mark in the legend."""
-        return sum(e.get("stroke") == draw.REFUSED for e in root.iter("{http://www.w3.org/2000/svg}line")) // 2 - 1
+        marks = sum(e.get("stroke") == draw.REFUSED for e in root.iter("{http://www.w3.org/2000/svg}line")) // 2
+        return marks - self.said(root).count(self.LEGEND[2])
 
     def rings(self, root):
-        return sum(e.get("stroke") in (draw.GREY, draw.STORED) for e in root.iter("{http://www.w3.org/2000/svg}circle")) - 3  # in the legend
+        marks = sum(e.get("stroke") in (draw.GREY, draw.STORED) for e in root.iter("{http://www.w3.org/2000/svg}circle"))
+        return marks - self.said(root).count(self.LEGEND[0]) - 2 * self.said(root).count(self.LEGEND[1])  # in the legend
+
+    LEGEND = "untouched", "stored: before, after", "refused (index beside it)", "failed"
 
 
 class Pictures(Drawn):
@@ -500,12 +556,51 @@ class Pictures(Drawn):
             codes = [q.code for q in particles]
             status, _, root = self.drawn(path)
             grey = [e for e in root.iter("{http://www.w3.org/2000/svg}circle") if e.get("fill") == draw.GREY]
-            self.assertEqual(len(grey), codes.count(0) + 1, path.name)  # one in the legend
+            self.assertEqual(len(grey), codes.count(0) + (0 in codes), path.name)  # one in the legend
             self.assertEqual("refused by" in self.told(root), 2 in codes)
             if 2 in codes and len(codes) > 4:
                 self.assertIn("particle 12: phase is nan", self.told(root))
                 number, side = (10, "above") if path.stem == "snow_slope" else (2, "below")
                 self.assertRegex(self.told(root), "refused by %d: a function would get an argument %s its range .* particle 27" % (number, side))
+
+    def test_the_legend_names_what_is_drawn(self):
+        for path in SAMPLES:
+            plane = draw.PLANES[sheet.load(path.read_bytes(), path)[0]](sheet.load(path.read_bytes(), path)[2])
+            particles = draw.by_second(path.read_bytes(), None)
+            drawn = {q.code for q in particles if q.places(plane)[0]}
+            said = self.said(self.drawn(path)[2])
+            self.assertEqual([words in said for words in self.LEGEND], [0 in drawn, 1 in drawn, 2 in drawn, False], path.name)
+            for k, words in enumerate(plane.branches):
+                self.assertEqual("%s: %s" % ("ABC"[k], words) in said, "ABC"[k] in said, (path.name, words))
+        out_of_sight = draw.Canvas((0.0, 1.0, 0.0, 1.0))
+        self.assertEqual([draw.in_sight(out_of_sight, line) for line in ([(-1.0, -1.0), (2.0, 2.0)], [(-1.0, 3.0), (3.0, 3.0)])], [True, False])
+
+    def test_letters_do_not_pile_up(self):
+        """200 particles that one branch returned to nearly one place, and as many of another beside them."""
+        near = [cases.record((1.2 + 0.001 * (k % 14), 1.0, 1.0 - 0.001 * (k // 14))) for k in range(100)]
+        wide = [cases.record((1.3, 1.3, 1.0 - 0.002 * k)) for k in range(100)]
+        root = self.drawn_of(near + wide, [1e5, 0.3, 500.0, 2.0], 1)
+        letters = [e for e in root.iter("{http://www.w3.org/2000/svg}text") if e.text in ("A", "B", "C")]
+        self.assertGreater(len(letters), 1)
+        places = [(e.text, float(e.get("x")), float(e.get("y"))) for e in letters]
+        for k, (a, x, y) in enumerate(places):
+            for b, u, v in places[:k]:
+                self.assertGreater(math.hypot(x - u, y - v), 12.0, "two letters on each other")
+                self.assertTrue(a != b or math.hypot(x - u, y - v) > draw.LETTERS_APART - 36, "two like letters beside each other")
+        self.assertLess(len(letters), 40)
+
+    def test_what_is_turned_inside_out_is_told(self):
+        sigmas = (1.0, 1.0, 1.0), (-0.9, 1.0, 1.0), (0.0, 1.0, 1.0), (-0.9, 1.0, 1.0)
+        told = self.told(self.drawn_of([cases.record(sigma) for sigma in sigmas]))
+        self.assertIn("particles 1, 3: stored, but turned inside out: sigma -0.9", told)
+        self.assertIn("particle 2: stored, but pressed flat: sigma 0", told)
+        self.assertNotIn("inside out", self.told(self.drawn_of([cases.record((-0.9, 1.0, 1.0))], [1e5, 0.3, 500.0, 2.0], 1)), "it is refused by 2")
+
+    def test_sigma_out_of_range_are_told(self):
+        few = self.told(self.drawn_of([cases.record(), cases.record((1e-30, 1.0, 2.0))], [1e5, 0.3, 500.0, 2.0], 1))
+        self.assertIn("particle 1: sigma 1e-30 1 2", few)
+        many = self.told(self.drawn_of([cases.record((1e-30 * (k + 1), 1.0, 2.0)) for k in range(9)], [1e5, 0.3, 500.0, 2.0], 1))
+        self.assertIn("particles 0-8: sigma from 1e-30 to 2", many)
 
     def test_a_wrong_determinant_is_told(self):
         root = self.drawn(HERE.parent / "samples" / "zero_signs.sheet")[2]
@@ -1113,6 +1208,19 @@ class Arriving(InFolder):
                     end.write(bytes([b]))
             out, err = tool.communicate()
         self.assertEqual((out.count(b"\n"), out.splitlines()[-1], tool.returncode), (5, b"sheet refused 4", 3))
+
+    def test_what_is_turned_inside_out_is_told(self):
+        """Of a short sheet and of one whose count has two bytes, with determinants or without."""
+        for count in (3, 150):
+            for model in (0, 4):
+                records = [cases.record() for _ in range(count)]
+                records[1], records[count - 1] = cases.record((1.0, -0.9, 1.0)), cases.record((0.0, 1.0, 1.0))
+                path = self.folder / "in.sheet"
+                path.write_bytes(cases.sheet(records, model=model))
+                done = ran("arrive.py", "--quiet", "--explain", path, timeout=120)
+                self.assertEqual((done.returncode, done.stderr.decode().splitlines()), (0, [
+                    "arrive.py: %s: particle 1 is stored, but turned inside out: sigma -0.9" % path,
+                    "arrive.py: %s: particle %d is stored, but pressed flat: sigma 0" % (path, count - 1)]))
 
     def test_explained_and_no_sheet(self):
         told = ran("arrive.py", "--quiet", "--explain", self.SHEET).stderr.decode()

@@ -1066,9 +1066,57 @@ static void slices(void)
     CHECK(pasoletu_flat_update(PASOLETU_SNOW, SNOW, 3, was + PASOLETU_FLAT_FLOATS, PASOLETU_FLAT_FLOATS, a, 2) == 1);
 }
 
+/* A mode that is set is seen, in the control word and by arithmetic, and nothing else is. */
+static void seen(int wanted)
+{
+    int told = pasoletu_float_mode(), tried = pasoletu_float_mode_tried();
+    CHECK(told == wanted);
+    CHECK(tried == wanted);
+}
+
+#if defined(__x86_64__)
+static void set_mode(uint32_t bits)
+{
+    uint32_t word = 0x1f80u | bits; /* the default: all exceptions masked */
+    __asm__ __volatile__("ldmxcsr %0" : : "m"(word));
+}
+static const uint32_t ROUNDED[] = {0x2000u, 0x4000u, 0x6000u}, FLUSHES = 0x8000u, DENORMALS = 0x0040u;
+#elif defined(__aarch64__)
+static void set_mode(uint32_t bits)
+{
+    uint64_t word = bits;
+    __asm__ __volatile__("msr fpcr, %0" : : "r"(word));
+}
+static const uint32_t ROUNDED[] = {0x400000u, 0x800000u, 0xc00000u}, FLUSHES = 0x1000000u, DENORMALS = 0x1000000u;
+#endif
+
+static void float_mode(void)
+{
+    seen(0);
+#if defined(__x86_64__) || defined(__aarch64__)
+    int flushed = FLUSHES == DENORMALS ? PASOLETU_MODE_FLUSHED | PASOLETU_MODE_DENORMALS : PASOLETU_MODE_FLUSHED;
+    int denormals = FLUSHES == DENORMALS ? flushed : PASOLETU_MODE_DENORMALS;
+    for (int k = 0; k < 3; k++) {
+        set_mode(ROUNDED[k]);
+        seen(PASOLETU_MODE_ROUNDING);
+        set_mode(ROUNDED[k] | FLUSHES);
+        seen(PASOLETU_MODE_ROUNDING | flushed);
+    }
+    set_mode(FLUSHES);
+    seen(flushed);
+    set_mode(DENORMALS);
+    seen(denormals);
+    set_mode(FLUSHES | DENORMALS);
+    seen(PASOLETU_MODE_FLUSHED | PASOLETU_MODE_DENORMALS);
+    set_mode(0);
+#endif
+    seen(0);
+}
+
 int main(void)
 {
     version();
+    float_mode();
     refusal_texts();
     elementary();
     physics();

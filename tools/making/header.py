@@ -116,6 +116,55 @@ def constants(group):
     yield from defines((f"PASOLETU_{c.name}", repr(c.value), c.meaning) for c in group.rows)
 
 
+FLOAT_MODE = """\
+/* The floating-point mode of the thread that calls, as arithmetic shows it: 0, or a sum of PASOLETU_MODE_ numbers. */
+static inline int pasoletu_float_mode_tried(void)
+{
+    /* 1/4 and 3/4 of the last place of 1; the smallest normal number; 2^52 */
+    volatile double one = 1.0, low = 1.0 / 18014398509481984.0, high = 3.0 / 18014398509481984.0;
+    volatile double least = 2.2250738585072014e-308, half = 0.5, large = 4503599627370496.0, tiny, result;
+    double held;
+    uint64_t bits = 1;
+    int wrong = 0;
+    result = one + low;
+    if (result != 1.0)
+        wrong |= PASOLETU_MODE_ROUNDING;
+    result = one + high;
+    if (result == 1.0)
+        wrong |= PASOLETU_MODE_ROUNDING;
+    memcpy(&held, &bits, sizeof held);
+    tiny = held;
+    result = tiny * large;
+    if (result == 0.0)
+        wrong |= PASOLETU_MODE_DENORMALS;
+    result = least * half;
+    held = result;
+    memcpy(&bits, &held, sizeof bits);
+    if (bits == 0)
+        wrong |= PASOLETU_MODE_FLUSHED;
+    return wrong;
+}
+
+/* The same from the processor's control word where that can be read. A host that is built with -ffast-math, or that sets
+ * the mode itself, asks once a thread before the first call; a mode that is set is the thread's own. */
+static inline int pasoletu_float_mode(void)
+{
+#if defined(__x86_64__) && defined(__GNUC__)
+    uint32_t word = 0; /* MXCSR */
+    __asm__ __volatile__("stmxcsr %0" : "=m"(word));
+    return ((word & 0x6000u) != 0 ? PASOLETU_MODE_ROUNDING : 0) | ((word & 0x8000u) != 0 ? PASOLETU_MODE_FLUSHED : 0) |
+           ((word & 0x0040u) != 0 ? PASOLETU_MODE_DENORMALS : 0);
+#elif defined(__aarch64__) && defined(__GNUC__)
+    uint64_t word = 0; /* FPCR: its bit FZ is for results and inputs */
+    __asm__ __volatile__("mrs %0, fpcr" : "=r"(word));
+    return ((word & 0xc00000u) != 0 ? PASOLETU_MODE_ROUNDING : 0) | ((word & 0x1000000u) != 0 ? PASOLETU_MODE_FLUSHED : 0) |
+           ((word & 0x1000001u) != 0 ? PASOLETU_MODE_DENORMALS : 0);
+#else
+    return pasoletu_float_mode_tried();
+#endif
+}"""
+
+
 def declared(a):
     if not a.is_list:
         return [f"{TYPES[a.kind]} {a.name}"]
@@ -145,7 +194,7 @@ def section(s):
 def region(table):
     """The lines between the marks."""
     parts = [version(table), refusals(table), models(table), record(table)]
-    parts += [constants(group) for group in table.constants] + [section(s) for s in table.sections]
+    parts += [constants(group) for group in table.constants] + [[FLOAT_MODE]] + [section(s) for s in table.sections]
     return "\n\n".join("\n".join(part) for part in parts)
 
 

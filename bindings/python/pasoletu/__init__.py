@@ -14,6 +14,7 @@ installed in; else the system's libpasoletu.so.1. NoLibrary says how to get it w
 """
 from . import elementary, raw, refusal, utils
 from ._find import NoLibrary
+from ._mode import float_mode
 from ._table import FLOATS, MODELS, SHEET_MOST
 from ._table import VERSION as __version__
 from .arrival import Arrival
@@ -92,6 +93,7 @@ __all__ = [
     "factor_records",
     "fill_determinants",
     "flat_pass",
+    "float_mode",
     "law",
     "pass_particles",
     "pass_records",

@@ -4,6 +4,7 @@ from __future__ import annotations
 import ctypes
 import dataclasses
 import math
+import operator
 from typing import TYPE_CHECKING, Any, Iterable, List, Optional, Sequence, Union
 
 from .refusal import LENGTH, Refused
@@ -35,6 +36,31 @@ def number(told: str, name: str, value: Any) -> float:
         return ctypes.c_double(value).value
     except TypeError:
         raise TypeError("%s: %s is %r and must be a number" % (told, name, value)) from None
+    except OverflowError:
+        raise OverflowError("%s: %s is larger than every double" % (told, name)) from None
+
+
+def whole(told: str, name: str, value: Any, bits: int = 64, signed: bool = False) -> int:
+    """A whole number that fits into so many bits, which ctypes would cut to them. OverflowError for any other."""
+    try:
+        held = operator.index(value)
+    except TypeError:
+        raise TypeError("%s: %s is %r and must be a whole number" % (told, name, value)) from None
+    least, most = (-(1 << bits - 1), (1 << bits - 1) - 1) if signed else (0, (1 << bits) - 1)
+    if not least <= held <= most:
+        raise OverflowError("%s: %s is %d and must lie between %d and %d" % (told, name, held, least, most))
+    return held
+
+
+def numbers(told: str, name: str, values: Any, count: int) -> list[float]:
+    """So many numbers; refused by 8 where there are more or fewer."""
+    try:
+        held = list(values)
+    except TypeError:
+        raise TypeError("%s: %s is %r and must be %d numbers" % (told, name, values, count)) from None
+    if len(held) != count:
+        raise Refused(LENGTH, told, place="%s, which has %d entries and not %d" % (name, len(held), count))
+    return [number(told, "%s[%d]" % (name, k), x) for k, x in enumerate(held)]
 
 
 def doubles(told: str, name: str, values: Iterable[Any]) -> ctypes.Array[ctypes.c_double]:
@@ -44,6 +70,8 @@ def doubles(told: str, name: str, values: Iterable[Any]) -> ctypes.Array[ctypes.
         return (ctypes.c_double * len(held))(*held)
     except TypeError:
         raise TypeError("%s: %s is %r and must be a list of numbers" % (told, name, values)) from None
+    except OverflowError:
+        raise OverflowError("%s: %s has a number that is larger than every double" % (told, name)) from None
 
 
 def entries(told: str, name: str, matrix: Any) -> list[float]:

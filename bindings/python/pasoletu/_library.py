@@ -5,8 +5,13 @@ import ctypes
 import functools
 from typing import Any, Callable, Iterator, NamedTuple
 
+from ._arguments import whole
 from ._find import NoLibrary, opened
-from ._table import ARGTYPES, KINDS
+from ._mode import LISTS, held
+from ._table import ARGTYPES, CALLS, KINDS
+
+
+BITS = {"u32": 32, "u64": 64}
 
 
 class Library(NamedTuple):
@@ -36,16 +41,22 @@ def _declared(file: str, shared: ctypes.CDLL, name: str) -> Callable[..., int]:
 
 
 def ask(name: str, *arguments: Any) -> int:
-    """Calls pasoletu_NAME with numbers and ctypes arrays: 0, or the refusal's number."""
-    return library().functions[name](*_spread(arguments))
+    """Calls pasoletu_NAME with numbers and ctypes arrays: 0, or the refusal's number. A call on a list asks for the floating-point mode
+    first. OverflowError for a whole number that has not the argument's bits."""
+    function = library().functions[name]
+    if name in LISTS:
+        held(name)
+    return function(*_spread(name, arguments))
 
 
-def _spread(arguments: tuple[Any, ...]) -> Iterator[Any]:
+def _spread(name: str, arguments: tuple[Any, ...]) -> Iterator[Any]:
     """A list is two arguments: where it is, and how many entries it has."""
-    for argument in arguments:
+    for takes, argument in zip(CALLS[name], arguments):
         if isinstance(argument, ctypes.Array):
             yield ctypes.addressof(argument)
             yield len(argument)
+        elif takes.kind in BITS:
+            yield whole("pasoletu_" + name, takes.name, argument, BITS[takes.kind])
         else:
             yield argument
 

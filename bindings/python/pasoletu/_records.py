@@ -15,6 +15,7 @@ if TYPE_CHECKING:
 
 Records = Union["numpy.ndarray[Any, Any]", "array.array[float]", memoryview, "ctypes.Array[ctypes.c_double]"]
 FORMATS = ("d", "@d", "=d", "<d" if sys.byteorder == "little" else ">d")
+PLAIN = ("f", "i", "u", "b", "c", "O")  # numpy's kinds of single values
 BYTES = ctypes.sizeof(ctypes.c_double)
 ADVICE = ": pass numpy.ascontiguousarray(%s), and take the result from that copy"
 
@@ -55,6 +56,12 @@ def widened(told: str, records: Any) -> ctypes.Array[ctypes.c_double]:
 
 
 def _doubles(told: str, records: Any) -> memoryview:
+    if any(kind.__name__ == "MaskedArray" for kind in type(records).__mro__):
+        raise TypeError(
+            "%s: records is a masked array, and the masked rows would be worked as well: pass records.data to work them, or "
+            "records.compressed() where whole rows are masked"
+            % told
+        )
     try:
         view = memoryview(records)
     except (TypeError, ValueError, BufferError):
@@ -63,10 +70,11 @@ def _doubles(told: str, records: Any) -> memoryview:
             % (told, type(records).__name__)
         ) from None
     if view.format not in FORMATS:
-        held = getattr(records, "dtype", None) or "format %r" % view.format
-        raise TypeError(
-            "%s: records holds %s, not doubles: pass records.astype(numpy.float64), or an array('d')" % (told, held)
-        )
+        dtype = getattr(records, "dtype", None)
+        remedy = "an array('d') or a numpy array of float64, a record a row"
+        if getattr(dtype, "kind", "") in PLAIN:
+            remedy = "records.astype(numpy.float64), or an array('d')"
+        raise TypeError("%s: records holds %s, not doubles: pass %s" % (told, dtype or "format %r" % view.format, remedy))
     return view
 
 

@@ -233,6 +233,10 @@ PARTS_STATE_PARAMETERS = 7  # 8: bits of the parameters, 0 past the model's last
 PARTS_PROGRESS = 2  # entries of a call's progress
 PARTS_COMPLETE = 0  # in it: how many particles are complete and worked
 PARTS_COUNT = 1  # how many the sheet says it has; 0 before that is known
+# The calling thread's floating-point mode (float_mode): what of it is not IEEE 754's default, by which all is proved.
+MODE_ROUNDING = 1  # results are not rounded to nearest
+MODE_FLUSHED = 2  # a result below the smallest normal number becomes 0 (flush-to-zero)
+MODE_DENORMALS = 4  # an input below it is read as 0 (denormals-are-zero)
 # Flat records (section 7): 20 doubles a particle, without a determinant.
 FLAT_FLOATS = 20  # a flat record
 FLAT_F = 0  # deformation gradient, two rows of two

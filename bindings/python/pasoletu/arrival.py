@@ -51,6 +51,7 @@ class Arrival:
             raise Refused(status, told)
 
     def feed(self, data: bytes) -> int:
+        """The next bytes, of no length too: how many particles are complete."""
         return self._feed("Arrival.feed", data)
 
     def _feed(self, told: str, data: bytes) -> int:
@@ -58,6 +59,7 @@ class Arrival:
         return self.complete
 
     def finish(self) -> Ran:
+        """The sheet has ended: what `run` gives of the whole."""
         self._finish("Arrival.finish")
         ran = self.ran
         assert ran is not None
@@ -67,16 +69,19 @@ class Arrival:
         self._told(told, ask("end_parts", self._room, self._answers, self._state, self._progress))
 
     def write(self, data: bytes) -> int:
+        """`feed` under a file's name: how many bytes were taken, which is all."""
         self._feed("Arrival.write", data)
         return len(data)
 
     def close(self) -> None:
+        """`finish` under a file's name; a second one does nothing."""
         if not self.closed:
             self.closed = True
             self._finish("Arrival.close")
 
     @property
     def complete(self) -> int:
+        """How many particles are complete."""
         return self._progress[PARTS_COMPLETE]
 
     @property
@@ -85,10 +90,12 @@ class Arrival:
 
     @property
     def count(self) -> Optional[int]:
+        """How many particles the sheet says it has, None before that is known."""
         return self._progress[PARTS_COUNT] if self._known else None
 
     @property
     def model(self) -> Optional[Plasticity]:
+        """The law, None before it is known."""
         if not self._known:
             return None
         number = self._state[PARTS_STATE_MODEL] % WITH_DETERMINANT
@@ -97,6 +104,7 @@ class Arrival:
 
     @property
     def ran(self) -> Optional[Ran]:
+        """The complete particles, None before the law is known."""
         model, k = self.model, self.complete
         if model is None:
             return None

@@ -120,6 +120,7 @@ class SnowPlasticity(Plasticity):
 
     @classmethod
     def new(cls) -> SnowPlasticity:
+        """The law with the Rust's defaults."""
         return cls()
 
     def project_deformation_gradient(self, singular_values: Vector) -> list[float]:
@@ -261,6 +262,7 @@ class NeoHookeanElasticity(Law):
 
     @classmethod
     def new(cls, young_modulus: float, poisson_ratio: float) -> NeoHookeanElasticity:
+        """The law of these moduli. Refused by 1 for an argument and by 3 for a modulus that is not finite."""
         lam, mu = _moduli("NeoHookeanElasticity.new", utils.lame_lambda_mu, young_modulus, poisson_ratio)
         return cls(NEO_HOOKEAN_CFL_COEFF, lam, mu)
 
@@ -278,10 +280,10 @@ class NeoHookeanElasticity(Law):
         as in the stress. From determinant 1 up the two are the same."""
         told = "NeoHookeanElasticity.elastic_energy_density"
         given = self._arguments(phase, hardening, deformation_gradient)
-        if not one_split:
+        if one_split is False:
             return one("neo_hookean_elastic_energy_density", told, **given)
         # The flag stands after the law.
-        given = {"law": given.pop("law"), "one_split": float(one_split), **given}
+        given = {"law": given.pop("law"), "one_split": one_split, **given}
         return one("neo_hookean_elastic_energy_density_in", told, **given)
 
     def pos_energy(self, phase: float, hardening: float, deformation_gradient: Matrix) -> float:
@@ -290,6 +292,7 @@ class NeoHookeanElasticity(Law):
         return one("neo_hookean_pos_energy", "NeoHookeanElasticity.pos_energy", **given)
 
     def fpk_stress_of(self, particle: Particle) -> Rows:
+        """`fpk_stress` of a particle."""
         return _matrix_of("record_neo_hookean_fpk_stress", "fpk_stress_of", self, particle)
 
     def stress_and_verdict(self, limits: MaximumStressFailure, particle: Particle) -> StressVerdict:
@@ -299,13 +302,15 @@ class NeoHookeanElasticity(Law):
         return _judged("neo_hookean_stress_and_verdict", self, limits, particle)
 
     def elastic_energy_density_of(self, particle: Particle, *, one_split: bool = False) -> float:
-        if not one_split:
+        """`elastic_energy_density` of a particle."""
+        if one_split is False:
             return _one_of("record_neo_hookean_elastic_energy_density", "elastic_energy_density_of", self, particle)
         told = "NeoHookeanElasticity.elastic_energy_density_of"
         call = "record_neo_hookean_elastic_energy_density_in"
-        return one(call, told, law=self, one_split=float(one_split), particle=_particle(told, particle))
+        return one(call, told, law=self, one_split=one_split, particle=_particle(told, particle))
 
     def pos_energy_of(self, particle: Particle) -> float:
+        """`pos_energy` of a particle."""
         return _one_of("record_neo_hookean_pos_energy", "pos_energy_of", self, particle)
 
     def _arguments(self, phase: float, hardening: float, deformation_gradient: Matrix) -> dict[str, Any]:
@@ -313,6 +318,7 @@ class NeoHookeanElasticity(Law):
 
     @staticmethod
     def phase_coeff(phase: float) -> float:
+        """What the tensile part of a stress or an energy is multiplied by."""
         return one("phase_coeff", "NeoHookeanElasticity.phase_coeff", phase=phase)
 
 
@@ -329,6 +335,7 @@ class CorotatedLinearElasticity(Law):
 
     @classmethod
     def new(cls, young_modulus: float, poisson_ratio: float) -> CorotatedLinearElasticity:
+        """The law of these moduli. Refused by 1 for an argument and by 3 for a modulus that is not finite."""
         lam, mu = _moduli("CorotatedLinearElasticity.new", utils.lame_lambda_mu, young_modulus, poisson_ratio)
         return cls(True, COROTATED_CFL_COEFF, lam, mu)
 
@@ -346,9 +353,11 @@ class CorotatedLinearElasticity(Law):
         return _judged("corotated_stress_and_verdict", self, limits, particle)
 
     def elastic_energy_density_of(self, particle: Particle) -> float:
+        """`elastic_energy_density` of a particle."""
         return _one_of("record_corotated_elastic_energy_density", "elastic_energy_density_of", self, particle)
 
     def pos_energy_of(self, particle: Particle) -> float:
+        """`pos_energy` of a particle."""
         return _one_of("record_corotated_pos_energy", "pos_energy_of", self, particle)
 
     def pos_energy(self, deformation_gradient: Matrix, singular_values: Vector, hardening: float) -> float:
@@ -381,16 +390,19 @@ class MonaghanSphEos:
 
     @classmethod
     def new(cls, pressure0: float, gamma: int, viscosity: float) -> MonaghanSphEos:
+        """The equation with the Rust's default for the lowest pressure. Refused by 1 for an argument that is not finite."""
         _given("MonaghanSphEos.new", pressure0=pressure0, viscosity=viscosity)
         return cls(pressure0, gamma, viscosity)
 
     def pressure(self, mass: float, volume0: float, density: float) -> float:
+        """The pressure at a density."""
         given = {"mass": mass, "volume0": volume0, "density": density}
         return one("monaghan_pressure", "MonaghanSphEos.pressure", **vars(self), **given)
 
     def kirchhoff_stress(
         self, mass: float, volume0: float, density: float, deformation_gradient_det: float, velocity_gradient: Matrix
     ) -> Rows:
+        """The Kirchhoff stress: the pressure's and the viscous part."""
         return matrix(
             "monaghan_kirchhoff_stress",
             "MonaghanSphEos.kirchhoff_stress",
@@ -435,6 +447,7 @@ class MaximumStressFailure(Law):
 
     @classmethod
     def new(cls, max_principal_stress: float, max_shear_stress: float) -> MaximumStressFailure:
+        """The limits. Refused by 1 for one that is not finite."""
         made = cls(max_principal_stress, max_shear_stress)
         _given("MaximumStressFailure.new", **vars(made))
         return made

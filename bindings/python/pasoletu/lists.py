@@ -222,10 +222,12 @@ class Sheet:
 
     @property
     def records(self) -> Array:
+        """Its records, a record a row, where they stand: what is written there is the sheet's."""
         return table(self._room, FLOATS, "d")
 
     @functools.cached_property
     def particles(self) -> list[Particle]:
+        """Copies of its records as objects, made at the first asking."""
         return [Particle.from_floats(self._room[FLOATS * k:FLOATS * (k + 1)]) for k in range(len(self))]
 
     def __bytes__(self) -> bytes:

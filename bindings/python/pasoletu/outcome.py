@@ -37,6 +37,7 @@ _UNTOUCHED = Untouched()
 
 
 def as_float(bits: int) -> float:
+    """The float of these bits."""
     return float(struct.unpack("<d", struct.pack("<Q", bits))[0])
 
 
@@ -113,18 +114,22 @@ class Passed:
 
     @property
     def answers(self) -> Array:
+        """Two whole numbers a particle, as the library wrote them."""
         return table(self._answers, ANSWERS, "Q")
 
     @property
     def codes(self) -> Array:
+        """0 untouched, 1 stored, 2 refused, particle by particle."""
         return column(self._answers, ANSWERS, 0, "Q")
 
     @property
     def amounts(self) -> Array:
+        """What was stored, NaN where nothing was."""
         return self._beside(STORED, math.nan, "d")
 
     @property
     def refusals(self) -> Array:
+        """The refusals' numbers, 0 where none."""
         return self._beside(REFUSED, 0, "Q")
 
     def _beside(self, code: int, otherwise: float, typecode: str) -> Array:

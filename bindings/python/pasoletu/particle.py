@@ -3,7 +3,7 @@ from __future__ import annotations
 
 from typing import Any, Iterable, Optional
 
-from ._arguments import Rows, Vector, doubles, entries, first_not_finite, number, rows
+from ._arguments import Matrix, Rows, Vector, doubles, entries, first_not_finite, number, numbers, rows
 from ._library import ask
 from ._table import FLOATS, RECORD, SHEET_FLOATS
 from .refusal import LENGTH, NOT_FINITE, Refused
@@ -21,7 +21,15 @@ def _names(field: str, shape: tuple[int, ...]) -> list[str]:
 PLACES = tuple(name for part in RECORD for name in _names(part.field, part.shape))
 
 
+AT_REST: Any = object()  # what is not given
+
+
+def _given(value: Any, at_rest: Any) -> Any:
+    return at_rest if value is AT_REST else value
+
+
 def identity() -> Rows:
+    """The identity, of rows of its own."""
     return [[1.0, 0.0, 0.0], [0.0, 1.0, 0.0], [0.0, 0.0, 1.0]]
 
 
@@ -51,15 +59,29 @@ class Particle:
     nacc_alpha: float
     _determinant: Optional[float]
 
-    def __init__(self, **parts: Any) -> None:
-        self.deformation_gradient, self.u, self.v_t = identity(), identity(), identity()
-        self.singular_values = [1.0, 1.0, 1.0]
-        self.phase = self.plastic_deformation_gradient_det = self.plastic_hardening = self.elastic_hardening = 1.0
-        self.log_vol_gain = self.nacc_alpha = 0.0
-        self._determinant = 1.0
+    def __init__(
+        self,
+        *,
+        deformation_gradient: Matrix = AT_REST,
+        u: Matrix = AT_REST,
+        singular_values: Vector = AT_REST,
+        v_t: Matrix = AT_REST,
+        phase: float = 1.0,
+        plastic_deformation_gradient_det: float = 1.0,
+        plastic_hardening: float = 1.0,
+        elastic_hardening: float = 1.0,
+        log_vol_gain: float = 0.0,
+        nacc_alpha: float = 0.0,
+        determinant: float = AT_REST,
+    ) -> None:
+        self.deformation_gradient = _given(deformation_gradient, identity())
+        self.u, self.v_t = _given(u, identity()), _given(v_t, identity())
+        self.singular_values = _given(singular_values, [1.0, 1.0, 1.0])
+        self.phase, self.plastic_deformation_gradient_det = phase, plastic_deformation_gradient_det
+        self.plastic_hardening, self.elastic_hardening = plastic_hardening, elastic_hardening
+        self.log_vol_gain, self.nacc_alpha = log_vol_gain, nacc_alpha
         # the determinant last: F, where it is set, takes back the one that stood there
-        for name in sorted(parts, key=lambda name: name == "determinant"):
-            setattr(self, name, parts[name])
+        self._determinant = _given(determinant, 1.0 if deformation_gradient is AT_REST else None)
 
     def __setattr__(self, name: str, value: Any) -> None:
         object.__setattr__(self, name, value)
@@ -68,6 +90,7 @@ class Particle:
 
     @property
     def determinant(self) -> float:
+        """That of F, in every bit; worked by the library where F was set."""
         if self._determinant is None:
             self.fill_determinant()
         return self._determinant  # type: ignore[return-value]
@@ -104,7 +127,7 @@ class Particle:
     @classmethod
     def stretched(cls, sigma: Vector) -> Particle:
         """A whole particle stretched along the axes: F is diag(sigma), U and V^T the identity."""
-        a, b, c = sigma
+        a, b, c = numbers("Particle.stretched", "sigma", sigma, 3)
         return cls(deformation_gradient=[[a, 0.0, 0.0], [0.0, b, 0.0], [0.0, 0.0, c]], singular_values=[a, b, c])
 
     @classmethod

@@ -39,6 +39,7 @@ Reason = Union[Tested, Clamped, Stopped]
 
 
 def told(entries: list[int]) -> Reason:
+    """The reason that these entries spell."""
     kind, number, step, of, place, test, held, branch, *numbers = entries
     if kind == 4:
         return Stopped(number, step, ("parameter", "record")[of - 1], place) if of else Stopped(number, step)

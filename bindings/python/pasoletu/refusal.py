@@ -58,10 +58,12 @@ class Refused(Exception):
 
     @property
     def what(self) -> str:
+        """What the number means."""
         return REFUSALS[self.number].what
 
     @property
     def remedy(self) -> str:
+        """What to do about it."""
         return REFUSALS[self.number].remedy
 
     def __str__(self) -> str:

@@ -2,11 +2,11 @@
 from __future__ import annotations
 
 import ctypes
-import dataclasses
 from dataclasses import dataclass
 from fractions import Fraction
 from typing import Any, Iterable, Union
 
+from ._arguments import whole
 from ._library import ask, words
 from ._records import Records, copied
 from ._table import REPORT, REPORT_COLUMN
@@ -14,6 +14,7 @@ from .lists import _room
 from .particle import Particle
 from .refusal import Refused
 
+SIGNED = ("least", "greatest", "total")
 UNIT = Fraction(1, 2**30)  # what least, greatest and total are whole numbers of
 
 
@@ -77,5 +78,9 @@ def _signed(word: int) -> int:
 
 
 def _words(given: Report) -> ctypes.Array[ctypes.c_uint64]:
-    """Its entries: a whole number as its bits, modulo 2^64."""
-    return (ctypes.c_uint64 * REPORT)(*(entry for column in dataclasses.astuple(given) for entry in column))
+    """Its entries: a whole number as its bits, in two's complement where it may be below 0."""
+    entries = []
+    for column, held in vars(given).items():
+        for entry, value in vars(held).items():
+            entries.append(whole("Report.joined", "%s.%s" % (column, entry), value, signed=entry in SIGNED))
+    return (ctypes.c_uint64 * REPORT)(*entries)

@@ -4,12 +4,12 @@ from __future__ import annotations
 import itertools
 from typing import Any, Iterable, Optional, Union
 
-from ._arguments import doubles, first_not_finite, number
+from ._arguments import Matrix, Vector, doubles, first_not_finite, number, numbers
 from ._library import ask, words
 from ._table import ANSWERS, FLAT_FLOATS, FLAT_PHASE, SHEET_FLOATS
 from .laws import Plasticity
 from .outcome import Passed, Stored, Untouched, worked
-from .particle import PLACES
+from .particle import AT_REST, PLACES
 from .refusal import LENGTH, NOT_FINITE, Refused
 
 MATRICES = ("deformation_gradient", "u", "v_t")
@@ -40,19 +40,42 @@ class FlatParticle:
 
     __slots__ = ("deformation_gradient", "u", "singular_values", "v_t") + SCALARS
 
-    def __init__(self, **parts: Any) -> None:
-        for name in MATRICES:
-            setattr(self, name, [[1.0, 0.0], [0.0, 1.0]])
-        self.singular_values = [1.0, 1.0]
-        for name in SCALARS:
-            setattr(self, name, 0.0 if name in ("log_vol_gain", "nacc_alpha") else 1.0)
-        for name, value in parts.items():
-            setattr(self, name, value)
+    deformation_gradient: Any
+    u: Any
+    singular_values: Any
+    v_t: Any
+    phase: float
+    plastic_deformation_gradient_det: float
+    plastic_hardening: float
+    elastic_hardening: float
+    log_vol_gain: float
+    nacc_alpha: float
+
+    def __init__(
+        self,
+        *,
+        deformation_gradient: Matrix = AT_REST,
+        u: Matrix = AT_REST,
+        singular_values: Vector = AT_REST,
+        v_t: Matrix = AT_REST,
+        phase: float = 1.0,
+        plastic_deformation_gradient_det: float = 1.0,
+        plastic_hardening: float = 1.0,
+        elastic_hardening: float = 1.0,
+        log_vol_gain: float = 0.0,
+        nacc_alpha: float = 0.0,
+    ) -> None:
+        for name, value in zip(MATRICES, (deformation_gradient, u, v_t)):
+            setattr(self, name, [[1.0, 0.0], [0.0, 1.0]] if value is AT_REST else value)
+        self.singular_values = [1.0, 1.0] if singular_values is AT_REST else singular_values
+        self.phase, self.plastic_deformation_gradient_det = phase, plastic_deformation_gradient_det
+        self.plastic_hardening, self.elastic_hardening = plastic_hardening, elastic_hardening
+        self.log_vol_gain, self.nacc_alpha = log_vol_gain, nacc_alpha
 
     @classmethod
     def stretched(cls, sigma: Iterable[float]) -> FlatParticle:
         """A whole particle stretched along the axes: F is diag(sigma), U and V^T the identity."""
-        a, b = sigma
+        a, b = numbers("FlatParticle.stretched", "sigma", sigma, 2)
         return cls(deformation_gradient=[[a, 0.0], [0.0, b]], singular_values=[a, b])
 
     @classmethod
@@ -76,18 +99,22 @@ class FlatParticle:
 
     def floats(self) -> list[float]:
         """The 20 floats in the record's order."""
-        held: list[float] = []
-        for name in self.__slots__:
-            value = getattr(self, name)
-            if name in MATRICES:
-                held += [x for row in value for x in row]
-            elif name == "singular_values":
-                held += value
-            else:
-                held.append(value)
-        if len(held) != FLAT_FLOATS:
-            raise Refused(LENGTH, "FlatParticle.floats", place="the parts, which have %d floats and not %d" % (len(held), FLAT_FLOATS))
-        return held
+        return [x for name in self.__slots__ for x in self._part(name)]
+
+    def _part(self, name: str) -> list[float]:
+        """The floats of a part, each part with its own length."""
+        told, value = "FlatParticle.floats", getattr(self, name)
+        if name in SCALARS:
+            return [value]
+        if name == "singular_values":
+            return numbers(told, name, value, 2)
+        try:
+            held = [list(row) for row in value]
+        except TypeError:
+            raise TypeError("%s: %s is %r and must be two rows of two numbers" % (told, name, value)) from None
+        if [len(row) for row in held] != [2, 2]:
+            raise Refused(LENGTH, told, place="%s, which is not two rows of two" % name)
+        return held[0] + held[1]
 
     def update(self, model: Plasticity) -> Union[Untouched, Stored]:
         """The law on this particle in two axes, in place. A refused particle keeps every bit."""

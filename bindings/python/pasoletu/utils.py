@@ -18,18 +18,22 @@ def lame_lambda_mu(young_modulus: float, poisson_ratio: float) -> tuple[float, f
 
 
 def shear_modulus(young_modulus: float, poisson_ratio: float) -> float:
+    """mu of Young's modulus and Poisson's ratio."""
     return one("shear_modulus", "utils.shear_modulus", young_modulus=young_modulus, poisson_ratio=poisson_ratio)
 
 
 def bulk_modulus(young_modulus: float, poisson_ratio: float) -> float:
+    """kappa of Young's modulus and Poisson's ratio."""
     return one("bulk_modulus", "utils.bulk_modulus", young_modulus=young_modulus, poisson_ratio=poisson_ratio)
 
 
 def shear_modulus_from_lame(lam: float, mu: float) -> float:
+    """mu of the Lamé parameters."""
     return one("shear_modulus_from_lame", "utils.shear_modulus_from_lame", lam=lam, mu=mu)
 
 
 def bulk_modulus_from_lame(lam: float, mu: float) -> float:
+    """kappa of the Lamé parameters."""
     return one("bulk_modulus_from_lame", "utils.bulk_modulus_from_lame", lam=lam, mu=mu)
 
 
@@ -41,18 +45,22 @@ def solve_quadratic(a: float, b: float, c: float) -> tuple[float, float]:
 
 
 def spin_tensor(velocity_gradient: Matrix) -> Rows:
+    """The antisymmetric part of a velocity gradient."""
     return matrix("spin_tensor", "utils.spin_tensor", velocity_gradient=velocity_gradient)
 
 
 def strain_rate(velocity_gradient: Matrix) -> Rows:
+    """The symmetric part of a velocity gradient."""
     return matrix("strain_rate", "utils.strain_rate", velocity_gradient=velocity_gradient)
 
 
 def deviatoric_part(tensor: Matrix) -> Rows:
+    """A tensor less its spherical part."""
     return matrix("deviatoric_part", "utils.deviatoric_part", tensor=tensor)
 
 
 def spherical_part(tensor: Matrix) -> float:
+    """A third of a tensor's trace."""
     return one("spherical_part", "utils.spherical_part", tensor=tensor)
 
 

@@ -3,6 +3,7 @@ from __future__ import annotations
 
 from typing import Iterable, NamedTuple, Optional
 
+from ._arguments import whole
 from ._library import ask, words
 from ._records import Records, lent
 from ._table import ANSWERS, FLOATS
@@ -38,8 +39,8 @@ class Zones:
         held = list(zones)
         self._zones = words(len(held))
         for particle, zone in enumerate(held):
-            self._zones[particle] = zone
-        self._tallies = words(number * FIELDS)
+            self._zones[particle] = whole("Zones", "zones[%d]" % particle, zone)
+        self._tallies = words(whole("Zones", "number", number, 32) * FIELDS)
         self.clear()
 
     @property
@@ -59,7 +60,8 @@ class Zones:
 
     def move(self, particle: int, zone: int) -> None:
         """Moves one particle, counted from 0, to another zone. What happened to it before stays where it happened."""
-        self._done("move", ask("move_particle", len(self._zones), particle, zone, self._zones, self._tallies))
+        place = whole("Zones.move", "particle", particle), whole("Zones.move", "zone", zone)
+        self._done("move", ask("move_particle", len(self._zones), *place, self._zones, self._tallies))
 
     def pass_records(
         self,

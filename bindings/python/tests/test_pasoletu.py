@@ -388,7 +388,7 @@ class Refusals(Tests):
         self.refused(8, Particle.from_floats, [0.0] * 35)
         r = self.refused(8, SnowPlasticity().update_particle, Particle(singular_values=[1.0]))
         self.assertIn("singular_values", str(r))
-        self.assertRaises(AttributeError, Particle, sigma=[1.0] * 3)
+        self.assertRaises(TypeError, Particle, sigma=[1.0] * 3)
 
     def test_sheets(self):
         snow = [0.025, 0.0045, 10.0]

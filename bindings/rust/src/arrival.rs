@@ -1,5 +1,6 @@
 //! Sheets that come in parts, over a slow line (docs/RULES.md, section 7).
 use crate::lists::{floats_of, Answer, Counts, Pass};
+use crate::mode::held;
 use crate::table::{
     pasoletu_begin_parts, pasoletu_end_parts, pasoletu_part, ANSWERS, MOST_PARAMETERS, PARTS_COMPLETE, PARTS_COUNT,
     PARTS_PROGRESS, PARTS_STATE, PARTS_STATE_MODEL, PARTS_STATE_PARAMETERS, PARTS_STATE_WANTS, SHEET_MOST, WITH_DETERMINANT,
@@ -47,6 +48,7 @@ impl Arrival {
     /// The next bytes, as many as came, or none: how many particles are complete. Refused by 5, 6 and 7 as soon as the fault is there,
     /// by the same number after it, and by 15 after the end; the particles complete before a fault stand.
     pub fn feed(&mut self, bytes: &[u8]) -> Result<usize, Refusal> {
+        held("Arrival::feed");
         let (records, floats) = floats_of(&mut self.particles);
         let status = unsafe {
             let (state, progress) = (self.state.as_mut_ptr(), self.progress.as_mut_ptr());

@@ -44,6 +44,7 @@ mod failure;
 mod fluid;
 mod lists;
 pub mod math;
+mod mode;
 #[cfg(feature = "parallel")]
 pub mod parallel;
 mod particle;
@@ -71,6 +72,7 @@ pub use lists::{
     factor_list_into, fill_determinants, pass_factored_into, pass_factored_with_failure_into, pass_into, pass_with_failure_into,
     read_sheet_into, write_sheet_into, write_sheet_with_determinants_into, Answer, Counts, Header,
 };
+pub use mode::float_mode;
 pub use particle::Particle;
 pub use plasticity::{DruckerPragerPlasticity, Model, NaccPlasticity, Outcome, RankinePlasticity, SnowPlasticity};
 pub use refusal::Refusal;

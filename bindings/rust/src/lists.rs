@@ -1,4 +1,5 @@
 //! The passes, and the reading and writing of a sheet, in the caller's room (docs/RULES.md, section 7): nothing is allocated.
+use crate::mode::held;
 use crate::plasticity::Parameters;
 use crate::table::{
     pasoletu_factor_list, pasoletu_fill_determinants, pasoletu_pass, pasoletu_pass_factored, pasoletu_pass_factored_with_failure,
@@ -90,6 +91,7 @@ impl Pass {
 
     /// Works the particles in one thread. Refused by 8 where there is not an answer for each.
     pub fn run(&self, particles: &mut [Particle], answers: &mut [Answer]) -> Result<Counts, Refusal> {
+        held(self.call);
         let mut counts = [0u64; 4];
         let status = self.status(particles, answers, &mut counts);
         counted(status, counts, self.call)
@@ -187,6 +189,7 @@ pub fn factor_list_into(particles: &mut [Particle], answers: &mut [Answer]) -> R
 }
 
 pub(crate) fn factor_by(call: &'static str, particles: &mut [Particle], answers: &mut [Answer]) -> Result<Counts, Refusal> {
+    held(call);
     let mut counts = [0u64; 4];
     let (records, floats) = floats_of(particles);
     let (a, words) = (answers.as_mut_ptr().cast(), answers.len() * ANSWERS);
@@ -207,6 +210,7 @@ pub(crate) fn factor_by(call: &'static str, particles: &mut [Particle], answers:
 /// assert_eq!(pass(SnowPlasticity::new(), &mut particles).stored, 2);
 /// ```
 pub fn fill_determinants(particles: &mut [Particle]) {
+    held("fill_determinants");
     let (records, floats) = floats_of(particles);
     let status = unsafe { pasoletu_fill_determinants(records, floats) };
     assert!(status == 0, "fill_determinants answered {status}: crate and library are of different versions, build both anew");
@@ -226,6 +230,7 @@ pub struct Header {
 /// Reads a sheet into the first of the particles. [`SHEET_MOST`](crate::SHEET_MOST) are always enough room; the rest keeps its bits.
 /// Floats pass as bits: a NaN is read here and refused by the law. Refused by 4, 5, 6 and 7, and by 8 for too little room.
 pub fn read_sheet_into(bytes: &[u8], particles: &mut [Particle]) -> Result<Header, Refusal> {
+    held("read_sheet_into");
     let mut header = [0u64; HEADER];
     let (records, floats) = floats_of(particles);
     let status = unsafe { pasoletu_read_sheet(bytes.as_ptr(), bytes.len(), header.as_mut_ptr(), HEADER, records, floats) };

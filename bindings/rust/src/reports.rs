@@ -1,4 +1,5 @@
 //! The report over particles, and two reports put together (docs/RULES.md, section 7).
+use crate::mode::held;
 use crate::table::{pasoletu_join_reports, pasoletu_report, REPORT};
 use crate::{Particle, Refusal};
 
@@ -49,6 +50,7 @@ pub struct Report {
 /// # Ok::<(), pasoletu::Refusal>(())
 /// ```
 pub fn report(particles: &[Particle]) -> Result<Report, Refusal> {
+    held("report");
     let (records, floats) = (particles.as_ptr().cast(), particles.len() * Particle::FLOATS);
     written("report", |room| unsafe { pasoletu_report(records, floats, room, REPORT) })
 }

@@ -1,5 +1,6 @@
 //! Slices of a slope (docs/RULES.md, section 7): flat records, of two axes, by the four plastic laws. Nothing is allocated.
 use crate::lists::{counted, Answer};
+use crate::mode::held;
 use crate::table::{
     pasoletu_flat_pass, pasoletu_flat_update, ANSWERS, FLAT_FLOATS, FLAT_PHASE, FLAT_SIGMA, FLAT_U, FLAT_VT, PLACES,
     SHEET_FLOATS,
@@ -160,6 +161,7 @@ pub fn flat_pass_into(
     particles: &mut [FlatParticle],
     answers: &mut [Answer],
 ) -> Result<Counts, Refusal> {
+    held("flat_pass_into");
     let law = model.into().parameters();
     let mut counts = [0u64; 4];
     let status = unsafe {

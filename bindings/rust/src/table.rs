@@ -125,6 +125,10 @@ pub const PARTS_STATE_PARAMETERS: usize = 7;
 pub const PARTS_PROGRESS: usize = 2;
 pub const PARTS_COMPLETE: usize = 0;
 pub const PARTS_COUNT: usize = 1;
+// The calling thread's floating-point mode (float_mode): what of it is not IEEE 754's default, by which all is proved.
+pub const MODE_ROUNDING: usize = 1;
+pub const MODE_FLUSHED: usize = 2;
+pub const MODE_DENORMALS: usize = 4;
 // Flat records (section 7): 20 doubles a particle, without a determinant.
 pub const FLAT_FLOATS: usize = 20;
 pub const FLAT_F: usize = 0;

@@ -1,5 +1,6 @@
 //! Tallies by zone (docs/RULES.md, section 7), in the caller's room: nothing is allocated.
 use crate::lists::{floats_of, Answer, Judge};
+use crate::mode::held;
 use crate::plasticity::Parameters;
 use crate::table::{
     pasoletu_clear_tallies, pasoletu_move_particle, pasoletu_pass_by_zone, pasoletu_pass_with_failure_by_zone, ANSWERS,
@@ -113,6 +114,7 @@ impl<'a> Zones<'a> {
         particles: &mut [Particle],
         answers: &mut [Answer],
     ) -> Result<(), Refusal> {
+        held(call);
         let (model, p, n) = (law.model, law.values.as_ptr(), law.count);
         let (records, floats) = floats_of(particles);
         let (a, places) = (answers.as_mut_ptr().cast(), answers.len() * ANSWERS);
