@@ -59,7 +59,8 @@ class Sheet(NamedTuple):
 class Result(NamedTuple):
     """What a sheet came to. `answered`: there is a whole answer. `sheet_refused`: the number by which the whole sheet was refused.
     `refused`: which particles by each number. `why`: why there is no answer. `failed`: how many failed, where they were judged.
-    `columns`: its part of the report, as tools/report.py packs it."""
+    `columns`: its part of the report, as tools/report.py packs it. `turned`: particles that were worked although a sigma of theirs came as 0 or
+    below: their numbers and those sigmas."""
 
     sheet: Sheet
     answered: bool
@@ -71,6 +72,7 @@ class Result(NamedTuple):
     why: str = ""
     failed: int = 0
     columns: bytes = b""
+    turned: tuple = ()
 
     @property
     def refused_particles(self):
@@ -108,6 +110,22 @@ def result(sheet, answer):
     return Result(sheet, True, None, answer.count(b"\n") - 2, answer.count(b" untouched\n"), answer.count(b" stored "), dict(refused))
 
 
+SIGMA = next(part.at for part in TABLE.RECORD if part.field == "singular_values")
+
+
+def turned_in(records, floats, r):
+    """The worked particles that came turned inside out or pressed flat: Snow works them all the same."""
+    sigmas = [records[SIGMA + k::floats].tolist() for k in range(3)]
+    if all(min(column, default=1.0) > 0.0 for column in sigmas):
+        return ()
+    refused = {k for particles in r.refused.values() for k in particles}
+    return tuple((k, tuple(sorted(x for x in sigma if x <= 0.0))) for k, sigma in enumerate(zip(*sigmas)) if min(sigma) <= 0.0 and k not in refused)
+
+
+def turned_words(particle, sigmas):
+    return "particle %d is worked, but %s: sigma %s" % (particle, "turned inside out" if sigmas[0] < 0.0 else "pressed flat", " ".join("%g" % x for x in sigmas))
+
+
 def badness(result):
     """Worst first: no answer, the whole sheet refused, many particles refused, a larger part of them; then by name."""
     share = result.refused_particles / max(1, result.particles)
@@ -123,6 +141,7 @@ class Totals(NamedTuple):
     stored: int
     refused: collections.Counter
     sheets_with: collections.Counter  # sheets with particles refused by each number
+    turned: int  # particles that were worked although they came turned inside out
 
     def status(self):
         if self.unanswered:
@@ -146,7 +165,8 @@ def totals(results):
         refused.update({n: len(particles) for n, particles in r.refused.items()})
         sheets_with.update(r.refused.keys())
     return Totals(len(results), sum(not r.answered for r in results), collections.Counter(r.sheet_refused for r in results if r.sheet_refused),
-                  sum(r.particles for r in results), sum(r.untouched for r in results), sum(r.stored for r in results), refused, sheets_with)
+                  sum(r.particles for r in results), sum(r.untouched for r in results), sum(r.stored for r in results), refused, sheets_with,
+                  sum(len(r.turned) for r in results))
 
 
 def counted(n, what):
@@ -284,7 +304,8 @@ def verdict_line(kind, when, words):
 def verdict(t, passed):
     bad = [counted(n, what) + " " + told for n, what, told in (
         (t.unanswered, "sheet", "without an answer"), (sum(t.sheets_refused.values()), "sheet", "refused"), (sum(t.refused.values()), "particle", "refused")) if n]
-    over = ", %s passed over" % counted(len(passed), "file") if passed else ""
+    over = ", %s turned inside out" % counted(t.turned, "particle") if t.turned else ""
+    over += ", %s passed over" % counted(len(passed), "file") if passed else ""
     if not bad:
         return verdict_line("good", now(), "All well: nothing was refused" + over)
     return verdict_line("bad", now(), ", ".join(bad) + over)
@@ -295,6 +316,9 @@ def rest(t):
     worked = t.sheets - t.not_worked
     if t.unanswered:
         return "Not all of it is worked: run the night again before anything goes out."
+    if t.turned:
+        return "Look first at the %s that came turned inside out and %s worked all the same; then the rest may go out." % (
+            several(t.turned, "particle"), "was" if t.turned == 1 else "were")
     if not (t.refused or t.not_worked):
         return "All of it may go out."
     if t.particles == sum(t.refused.values()):
@@ -453,6 +477,7 @@ def page(results, out, report="", note=None, passed=(), missing=(), drawing=0):
         "<h2>What was refused, and why</h2>\n" + table("why", ["#number", "how many", "#in sheets", "why", "what to do"], told) if told else "",
         folders(results),
         rows.worst(bad) if bad else "",
+        named_list("turned", "Worked, but turned inside out or pressed flat", [(r.sheet.name, turned_words(*one)) for r in results for one in r.turned]),
         named_list("passed", "Passed over", passed),
         named_list("missing", "Sheets of the zones that never came", [(name, "zone %d" % zone) for zone, name in missing]),
         rows.well(good) if good else "",

@@ -78,6 +78,15 @@ def put_together(a, b):
     return Column(a.count + b.count, least, greatest, a.total + b.total, a.outside + b.outside, a.not_finite + b.not_finite)
 
 
+def records_of(data, count):
+    """The floats of a sheet of so many particles where they stand, and how many a particle has; nothing where it has other particles."""
+    parameters = len(TABLE.MODELS[data[0] % TABLE.WITH_DETERMINANT].parameters)
+    floats = TABLE.SHEET_FLOATS + (data[0] >= TABLE.WITH_DETERMINANT)
+    front = 1 + 8 * parameters + (1 if count < 128 else 2)
+    fits = len(data) == front + 8 * floats * count
+    return (memoryview(data)[front:].cast("d") if fits else None), floats
+
+
 class SheetRefused(Exception):
     """The number by which a whole sheet is refused."""
 
@@ -99,12 +108,9 @@ class Second:
 
     def of_worked(self, data, count):
         """The columns of a sheet of so many particles; nothing where it has others."""
-        parameters = len(TABLE.MODELS[data[0] % TABLE.WITH_DETERMINANT].parameters)
-        floats = TABLE.SHEET_FLOATS + (data[0] >= TABLE.WITH_DETERMINANT)
-        front = 1 + 8 * parameters + (1 if count < 128 else 2)
-        if len(data) != front + 8 * floats * count:
+        records, floats = records_of(data, count)
+        if records is None:
             return None
-        records = memoryview(data)[front:].cast("d")
         return tuple(column_of(records[PLACE[field]::floats].tolist()) for field in COLUMNS.values())
 
     def joined(self, a, b):
