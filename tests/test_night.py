@@ -724,7 +724,7 @@ class Page(Night):
         narrow = self.in_a_browser(self.out / "narrow.html")
         self.assertEqual((narrow["errors"], narrow["remedy"]), ([], True))
         self.assertLessEqual(narrow["wide"], 0, "at 420 pixels all stands within the screen")
-        self.assertEqual(narrow["worst"], report["worst"])
+        self.assertEqual([row[:5] for row in narrow["worst"]], [row[:5] for row in report["worst"]])
 
     def test_the_last_part_is_the_night_in_whole_numbers(self):
         self.ended(self.night("--pictures", "0"), 3)
