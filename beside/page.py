@@ -39,7 +39,7 @@ LIMITS = """
 
 
 def read(file):
-    rows, grown, hosts, night, load = {}, [], {}, None, "unknown"
+    rows, grown, hosts, night, load = {}, [], {}, {}, "unknown"
     for line in file.read_text().splitlines():
         words = line.split("\t")
         if words[0] == "load":
@@ -47,7 +47,7 @@ def read(file):
         elif words[0] == "hosts":
             hosts.setdefault((words[2], int(words[3])), {})[words[1]] = float(words[4])
         elif words[0] == "night":
-            night = (int(words[1]), float(words[2]), int(words[3]))
+            night.setdefault(int(words[2]), {})[words[1]] = tuple(map(float, words[3:]))
         elif words[0] == "grown":
             grown.append((words[1], int(words[2]), int(words[3]), float(words[4]), float(words[5])))
         else:
@@ -112,11 +112,25 @@ def by_hosts(hosts):
         yield [TITLES[law], f"{count:,}", *cells]
 
 
-def sheets_a_second(night):
-    if night is None:
-        return "Left out: GNU parallel is not there.\n"
-    count, seconds, processors = night
-    return f"{count:,} full sheets of 200 records by `tools/night` took {seconds:,.0f} seconds on {processors} processors: {count / seconds:,.0f} sheets a second.\n"
+NIGHT_WAYS = ["tools/night", "plain script", "copy"]
+
+
+def nights(night):
+    """A row a way: seconds, CPU seconds, the CPU of tools/night over it, and megabytes."""
+    for count, ways in sorted(night.items()):
+        for way in NIGHT_WAYS:
+            figures = ways.get(way)
+            ours = ways.get("tools/night")
+            yield [f"{count:,}", way, *(["left out"] * 4 if figures is None else
+                   [figure(figures[0], 1), figure(figures[1], 1), over(ours and ours[1], figures[1]), figure(figures[3])])]
+
+
+def nights_told(night):
+    if not night:
+        return "Left out: it was not timed.\n"
+    return table(["full sheets of 200 records", "by", "seconds", "CPU seconds", "CPU of tools/night over it", "MB of the largest process"], nights(night)) + (
+        "\nWithout pictures. The plain script (`beside/plain_night`) works the same sheets by the Python package and writes the same answer files, and no page, report or table (target: 3). "
+        "The copy reads and writes the sheets' bytes, on one processor. 10,000 sheets are to take at most 15 seconds on two processors.\n")
 
 
 def growth(grown):
@@ -187,7 +201,7 @@ def main():
     text += "\n## The same by the hosts' own ways, over all processors: million records a second\n"
     text += table(["", "records", *WAYS], by_hosts(hosts)) if hosts else "Left out: neither rayon nor numpy is there.\n"
     text += "\n## A night\n"
-    text += sheets_a_second(night)
+    text += nights_told(night)
     text += "\n## The library's code\n"
     text += f"{figure(code_bytes(work / 'libours.a'))} bytes (`size`); {BYTES_BEFORE:,} before the passes were made faster.\n"
     (DOCS / "SPEED.md").write_text(text + LIMITS)

@@ -7,27 +7,25 @@ Of plastic hardening, elastic hardening and plastic determinant it prints how ma
 how many lie not within 2^20 of zero, and how many are NaN or infinite. Each counted value is taken down, towards minus infinity, to the next
 whole multiple of 2^-30; least, greatest and total are told as whole numbers of 2^-30 and as the decimals that these are, exactly.
 
-A folder is every *.sheet below it, by name. A report takes 4096 particles: sheets that have more are told in parts, each of whole sheets in
-their order, and then all parts together. A sheet that is refused stands in no table and is named.
+A folder is every *.sheet below it, by name. A report takes 4096 particles: of sheets that have more all are told together, and then the parts, each
+of whole sheets in their order. A sheet that is refused stands in no table and is named.
 
 --updated   the records as their laws leave them, which the proved library alone works; without it as they stand in the sheets
---second    by Python's fractions, not by the proved library
+--second    by Python's whole numbers, not by the proved library
 
 The numbers are those of the proved library: the file that PASOLETU_LIB names, else the one that the Python package finds. Where there is
-none Python's fractions work them, to the same digits, and it is said on standard error.
+none Python's whole numbers work them, to the same digits, and it is said on standard error.
 Exit status: 0 all well; 3 a sheet was refused; 1 something is wrong; 2 there is no sheet, or the command was misspelled.
 """
 import argparse
-import dataclasses
 import math
 import os
 import pathlib
+import struct
 import sys
-from fractions import Fraction
 from typing import NamedTuple
 
 sys.path.insert(0, str(pathlib.Path(__file__).resolve().parent))
-import cases  # noqa: E402
 import shell  # noqa: E402
 from night_page import TABLE  # noqa: E402
 from shell import Wrong  # noqa: E402
@@ -66,10 +64,11 @@ EMPTY = Page(0, 0, (Column(),) * len(COLUMNS))
 
 
 def column_of(values):
-    finite = [Fraction(x) for x in values if math.isfinite(x)]
-    wholes = [math.floor(x * 2**UNIT) for x in finite if abs(x) <= BOUND]
+    """A float times 2^30 is that number exactly, as all that are counted lie within 2^20 of zero."""
+    wholes = [math.floor(x * 2.0**UNIT) for x in values if -BOUND <= x <= BOUND]
     ends = (min(wholes), max(wholes), sum(wholes)) if wholes else (0, 0, 0)
-    return Column(len(wholes), *ends, len(finite) - len(wholes), len(values) - len(finite))
+    finite = sum(map(math.isfinite, values))
+    return Column(len(wholes), *ends, finite - len(wholes), len(values) - finite)
 
 
 def put_together(a, b):
@@ -79,17 +78,43 @@ def put_together(a, b):
     return Column(a.count + b.count, least, greatest, a.total + b.total, a.outside + b.outside, a.not_finite + b.not_finite)
 
 
-class Second:
-    """Reports by Python's fractions."""
+def records_of(data, count):
+    """The floats of a sheet of so many particles where they stand, and how many a particle has; nothing where it has other particles."""
+    parameters = len(TABLE.MODELS[data[0] % TABLE.WITH_DETERMINANT].parameters)
+    floats = TABLE.SHEET_FLOATS + (data[0] >= TABLE.WITH_DETERMINANT)
+    front = 1 + 8 * parameters + (1 if count < 128 else 2)
+    fits = len(data) == front + 8 * floats * count
+    return (memoryview(data)[front:].cast("d") if fits else None), floats
 
-    def report(self, records):
-        return tuple(column_of([r[PLACE[field]] for r in records]) for field in COLUMNS.values())
+
+class SheetRefused(Exception):
+    """The number by which a whole sheet is refused."""
+
+
+class Second:
+    """Reports by Python's whole numbers."""
+
+    def of_sheet(self, data, updated=False):
+        """How many particles a sheet has, and its columns. Raises SheetRefused."""
+        import cases  # only here: it reads the gate's sheets
+
+        if updated:
+            raise Wrong("--updated: the records after the laws are those of the proved library, which is not here (./install.sh PREFIX makes it; PASOLETU_LIB names it)")
+        try:
+            count = len(cases.read(data)[2])
+        except cases.Refused as e:
+            raise SheetRefused(e.args[0]) from None
+        return count, self.of_worked(data, count)
+
+    def of_worked(self, data, count):
+        """The columns of a sheet of so many particles; nothing where it has others."""
+        records, floats = records_of(data, count)
+        if records is None:
+            return None
+        return tuple(column_of(records[PLACE[field]::floats].tolist()) for field in COLUMNS.values())
 
     def joined(self, a, b):
         return tuple(map(put_together, a, b))
-
-    def updated(self, data):
-        raise Wrong("--updated: the records after the laws are those of the proved library, which is not here (./install.sh PREFIX makes it; PASOLETU_LIB names it)")
 
 
 class Proved:
@@ -98,18 +123,27 @@ class Proved:
     def __init__(self, pasoletu):
         self.pasoletu = pasoletu
 
-    def report(self, records):
-        return self._columns(self.pasoletu.report([self.pasoletu.Particle.from_floats(r) for r in records]))
+    def of_sheet(self, data, updated=False):
+        try:
+            sheet = self.pasoletu.run(data) if updated else self.pasoletu.read_sheet(data)
+        except self.pasoletu.Refused as e:
+            raise SheetRefused(e.number) from None
+        return len(sheet), self._columns(self.pasoletu.report(sheet.records))
+
+    def of_worked(self, data, count):
+        try:
+            told, columns = self.of_sheet(data)
+        except SheetRefused:
+            return None
+        return columns if told == count else None
 
     def joined(self, a, b):
         one, other = (self.pasoletu.Report(*(self.pasoletu.Column(*c) for c in columns)) for columns in (a, b))
         return self._columns(one.joined(other))
 
-    def updated(self, data):
-        return [particle.floats() for particle in self.pasoletu.run(data).particles]
-
     def _columns(self, report):
-        return tuple(Column(*entries) for entries in dataclasses.astuple(report))
+        return tuple(Column(c.count, c.least, c.greatest, c.total, c.outside, c.not_finite)
+                     for c in (report.plastic_hardening, report.elastic_hardening, report.plastic_determinant))
 
 
 def worker(second):
@@ -122,35 +156,36 @@ def worker(second):
         if os.environ.get("PASOLETU_LIB"):
             raise
         why = "is for another processor" if e.other_processor else "is not here (./install.sh PREFIX makes it; PASOLETU_LIB names it)"
-        return Second(), "the proved library %s: the numbers are worked by Python's fractions" % why
+        return Second(), "the proved library %s: the numbers are worked by Python's whole numbers, to the same digits" % why
 
 
 # ---- sheets into pages
 
+PACKED = struct.Struct("<%dq" % (len(COLUMNS) * len(Column._fields)))
 
-def records_of(data, by, updated):
-    """The floats of a sheet's records. Raises cases.Refused where the sheet is refused."""
-    _, _, records = cases.read(data)
-    return by.updated(data) if updated else records
+
+def packed(columns):
+    """A sheet's columns as bytes: a night keeps them of every sheet."""
+    return PACKED.pack(*(entry for column in columns for entry in column))
+
+
+def unpacked(data):
+    entries, size = PACKED.unpack(data), len(Column._fields)
+    return tuple(Column(*entries[k:k + size]) for k in range(0, len(entries), size))
 
 
 def add(page, columns, particles, by):
     return Page(page.sheets + 1, page.particles + particles, by.joined(page.columns, columns))
 
 
-def pages_of(named, by, updated=False):
-    """The pages of (name, bytes) in their order, each of at most MOST particles, and the refused sheets: their names and numbers."""
-    pages, refused = [], []
-    for name, data in named:
-        try:
-            records = records_of(data, by, updated)
-        except cases.Refused as e:
-            refused.append((name, e.args[0]))
-            continue
-        if not pages or pages[-1].particles + len(records) > MOST:
+def pages_of(sheets, by):
+    """The pages of sheets in their order, each its particles and its columns; a page has at most MOST particles."""
+    pages = []
+    for particles, columns in sheets:
+        if not pages or pages[-1].particles + particles > MOST:
             pages.append(EMPTY)
-        pages[-1] = add(pages[-1], by.report(records), len(records), by)
-    return pages or [EMPTY], refused
+        pages[-1] = add(pages[-1], columns, particles, by)
+    return pages or [EMPTY]
 
 
 def whole(pages):
@@ -194,12 +229,14 @@ def text(page, title):
     return "\n".join(out) + "\n"
 
 
-def told(pages, refused):
-    """The whole table."""
+def refused_line(name, number):
+    return "%s: refused %d, in no table: %s\n" % (name, number, TABLE.REFUSALS[number].what)
+
+
+def told(pages, left_out):
+    """The whole table: all together, lines of what is in no table, then the parts."""
     parts = [text(page, "part %d of %d" % (k, len(pages))) for k, page in enumerate(pages, 1)] if len(pages) > 1 else []
-    parts.append(text(whole(pages), "the night in whole numbers"))
-    parts += ["%s: refused %d, in no table: %s\n" % (name, number, TABLE.REFUSALS[number].what) for name, number in refused]
-    return "\n".join(parts)
+    return "\n".join([text(whole(pages), "the night in whole numbers"), *left_out, *parts])
 
 
 # ---- the command
@@ -227,7 +264,16 @@ def read(path):
 
 def morning(args):
     by, note = worker(args.second)
-    pages, refused = pages_of(((str(path), read(path)) for path in files_of(args.names)), by, args.updated)
+    refused = []
+
+    def sheets():
+        for path in files_of(args.names):
+            try:
+                yield by.of_sheet(read(path), args.updated)
+            except SheetRefused as e:
+                refused.append(refused_line(path, e.args[0]))
+
+    pages = pages_of(sheets(), by)
     if note:
         print("report.py: " + note, file=sys.stderr)
     shell.say(told(pages, refused))

@@ -55,6 +55,11 @@ def program():
     return pathlib.Path(ran.stdout.strip())
 
 
+def slope():
+    """The words of the command `slope` and the variables by which it runs the program that is there; nothing is proved for it."""
+    return [str(TOP / "bin" / "slope")], {"PASOLETU_SLOPE": str(program())}
+
+
 def words(program):
     """The words that run a program: before it those of PASOLETU_EMULATOR, as bin/slope has it."""
     return os.environ.get("PASOLETU_EMULATOR", "").split() + [str(program)]

@@ -1108,11 +1108,20 @@ plastic hardening
             self.assertEqual(fractions.Fraction(report.decimal(k)), fractions.Fraction(k, 2 ** 30))
             self.assertRegex(report.decimal(k), r"^(-?(0|[1-9][0-9]*)(\.[0-9]*[1-9])?)$")
 
+    def test_a_column_is_that_of_fractions(self):
+        d = random.Random(11)
+        edges = [0.0, -0.0, 5e-324, -5e-324, 2.0 ** 20, -2.0 ** 20, math.nextafter(2.0 ** 20, 0.0), math.nextafter(2.0 ** 20, 2.0 ** 21), math.nextafter(-2.0 ** 20, 0.0), 2.0 ** -30, -(2.0 ** -31), *NOT_FINITE]
+        drawn = [d.uniform(-2, 2) * 2.0 ** d.randrange(-80, 23) for _ in range(20000)]
+        finite = [fractions.Fraction(x) for x in edges + drawn if math.isfinite(x)]
+        wholes = [math.floor(x * 2 ** 30) for x in finite if abs(x) <= 2 ** 20]
+        self.assertEqual(report.column_of(edges + drawn), (len(wholes), min(wholes), max(wholes), sum(wholes), len(finite) - len(wholes), len(NOT_FINITE)))
+        self.assertEqual(report.unpacked(report.packed([report.column_of(drawn)] * 3)), (report.column_of(drawn),) * 3)
+
     def test_over_4096_particles_are_told_in_parts(self):
         self.sheets(*[[float(k)] * 200 for k in range(21)])
         text = self.printed("--second")
         self.assertEqual([line for line in text.splitlines() if "sheet" in line], [
-            "part 1 of 2: 20 sheets, 4000 particles", "part 2 of 2: 1 sheet, 200 particles", "the night in whole numbers: 21 sheets, 4200 particles"])
+            "the night in whole numbers: 21 sheets, 4200 particles", "part 1 of 2: 20 sheets, 4000 particles", "part 2 of 2: 1 sheet, 200 particles"])
         self.assertIn("  total     %d/2^30 = %d\n" % (42000 << 30, 42000), text)
 
     def test_a_refused_sheet_is_named(self):
@@ -1246,12 +1255,17 @@ class ByZone(unittest.TestCase):
             self.result("far/c.sheet", True, 4),
             self.result("lost.sheet", False),
         ]
-        self.assertEqual(night_page.by_zone(results, zones).splitlines()[1:], ["0,1,0,0,0,0,not judged,1", "7,2,6,1,4,1,not judged,0", ",1,0,0,0,0,not judged,1"])
-        judged = night_page.by_zone(results, zones, {"a.sheet": 2, "b.sheet": 1})
-        self.assertEqual(judged.splitlines(), ["zone,sheets,particles,untouched,stored,refused,failed,not_worked", "0,1,0,0,0,0,0,1", "7,2,6,1,4,1,3,0", ",1,0,0,0,0,0,1"])
+        self.assertEqual(night_page.by_zone(results, zones).splitlines()[1:], ["0,1,0,0,0,0,not judged,1,0", "7,2,6,1,4,1,not judged,0,0", ",1,0,0,0,0,not judged,1,0"])
+        judged = night_page.by_zone([r._replace(failed=3) if r.sheet.name == "a.sheet" else r for r in results], {**zones, "gone.sheet": 3}, True)
+        self.assertEqual(judged.splitlines(), ["zone,sheets,particles,untouched,stored,refused,failed,not_worked,never_came",
+                                               "0,1,0,0,0,0,0,1,0", "3,0,0,0,0,0,0,0,1", "7,2,6,1,4,1,3,0,0", ",1,0,0,0,0,0,1,0"])
+
+    def test_what_stands_between(self):
+        for text in ("7 a b.sheet\n0\tc.sheet", "7,a b.sheet\n0 , c.sheet\n", '7,"a b.sheet"\r\n\n0;c.sheet'.replace(";", "\t"), " 7\t a b.sheet \n0,c.sheet"):
+            self.assertEqual(night_page.zones_of(text), {"a b.sheet": 7, "c.sheet": 0}, text)
 
     def test_wrong_line(self):
-        for text in ("seven a.sheet", "7", "-1 a.sheet"):
+        for text in ("seven a.sheet", "7", "7,", "-1 a.sheet", "1 a.sheet\n2 a.sheet"):
             with self.assertRaises(ValueError):
                 night_page.zones_of(text)
 

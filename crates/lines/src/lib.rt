@@ -1,7 +1,10 @@
 // What is printed of a sheet (RULES, section 7): the count, a line a particle, and "end"; or the refusal alone. Or the sheet itself,
 // with its updated records.
+mod frames;
+mod text;
 mod whole;
 
+pub use frames::answer_frames;
 use libc::STDOUT_FILENO;
 pub use whole::Input;
 pub use whole::read_whole;
@@ -14,75 +17,37 @@ ghost use lib.ListN.{length};
 // A byte more than the longest sheet has, so that every longer input is refused: by 5, 6 or 7, as the reader meets them.
 pub const ROOM: usize = sheet::LONGEST + 1;
 
-// Each part is written only where those before it were: what a failed output holds is a start of the answer.
-fn print_stored(amount: u64) -> bool {
-    if !io::write_all(STDOUT_FILENO, b" stored ") {
-        return false;
-    }
-    io::print_hex(STDOUT_FILENO, amount, 16)
-}
+// More bytes than an answer has: its heading, its first line, 28 bytes a particle and "end".
+pub const TEXT: usize = 8192;
 
-fn print_words(words: &[u8], number: u64) -> bool {
-    if !io::write_all(STDOUT_FILENO, words) {
-        return false;
-    }
-    io::print_decimal(STDOUT_FILENO, number)
-}
+// No text reaches to this place.
+const FULL: usize = 18446744073709551615;
 
-fn print_outcome(code: u64, value: u64) -> bool {
-    if code == 0 {
-        io::write_all(STDOUT_FILENO, b" untouched")
-    } else if code == 1 {
-        print_stored(value)
+// Runs a sheet and puts its answer into the text from a place on; the place behind it.
+fn put_answer(s: &[u8], text: &mut [u8], at: usize) -> usize {
+    let mut records = [0u64; sheet::MOST_WORDS];
+    let mut answers = [0u64; sheet::MOST_ANSWERS];
+    let r = sheet_run::run_sheet(s, &mut records, &mut answers);
+    if r.refusal != 0 {
+        text::put_refused(text, at, r.refusal)
     } else {
-        print_words(b" refused ", value)
+        text::put_sheet(text, at, &answers, r.particles)
     }
 }
 
-// One particle's line; whether all of it was written.
-fn print_line(i: usize, code: u64, value: u64) -> bool {
-    if !io::print_decimal(STDOUT_FILENO, i as u64) {
-        return false;
-    }
-    if !print_outcome(code, value) {
-        return false;
-    }
-    io::write_all(STDOUT_FILENO, b"\n")
+// The answer of a sheet by one call, so that what a failed output holds is a start of it; whether all of it was written.
+fn print_run(s: &[u8]) -> bool {
+    let mut text = [0u8; TEXT];
+    let k = put_answer(s, &mut text, 0);
+    write_front(&text, k)
 }
 
-// The lines of the first n particles, as far as they can be written.
-fn print_lines(answers: &[u64], n: usize) -> bool {
-    let mut i = 0;
-    while i < n {
-        if answers.len() / 2 <= i {
-            return true;
-        }
-        if !print_line(i, answers[2 * i], answers[2 * i + 1]) {
-            return false;
-        }
-        i += 1;
-    }
-    true
-}
-
-fn print_sheet(answers: &[u64], n: usize) -> bool {
-    if !print_words(b"particles ", n as u64) {
-        return false;
-    }
-    if !io::write_all(STDOUT_FILENO, b"\n") {
-        return false;
-    }
-    if !print_lines(answers, n) {
-        return false;
-    }
-    io::write_all(STDOUT_FILENO, b"end\n")
-}
-
-fn print_refused(refusal: u8) -> bool {
-    if !print_words(b"sheet refused ", refusal as u64) {
-        return false;
-    }
-    io::write_all(STDOUT_FILENO, b"\n")
+// The same under a heading with a number.
+fn print_headed(number: u64, s: &[u8]) -> bool {
+    let mut text = [0u8; TEXT];
+    let at = text::put_heading(&mut text, 0, number);
+    let k = put_answer(s, &mut text, at);
+    write_front(&text, k)
 }
 
 // Runs the sheet in the first n bytes of the room and prints it; whether all of it was written.
@@ -92,14 +57,17 @@ pub fn print_answer(room: &[u8], n: usize) -> bool
     if room.len() < n {
         return false;
     }
-    let mut records = [0u64; sheet::MOST_WORDS];
-    let mut answers = [0u64; sheet::MOST_ANSWERS];
-    let r = sheet_run::run_sheet(&room[..n], &mut records, &mut answers);
-    if r.refusal != 0 {
-        print_refused(r.refusal)
-    } else {
-        print_sheet(&answers, r.particles)
+    print_run(&room[..n])
+}
+
+// The same under a heading with a number.
+pub fn print_under(number: u64, room: &[u8], n: usize) -> bool
+    ensures { λ r. ⌜ (length (now (room .entry)) < n → r ≡ false) ⌝ }
+{
+    if room.len() < n {
+        return false;
     }
+    print_headed(number, &room[..n])
 }
 
 // The first k bytes; whether all of them were written.

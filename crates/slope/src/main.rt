@@ -1,18 +1,27 @@
-// The program: reads a sheet on standard input and prints it with its answers; with the argument --why it prints why each record moves or doesn't,
-// with another, as -o, it writes the sheet with its updated records instead (RULES, section 7).
+// The program: reads a sheet on standard input and prints it with its answers; with the argument --frames many sheets, each a frame; with
+// --why it prints why each record moves or doesn't, with another, as -o, it writes the sheet with its updated records instead (RULES, section 7).
 use libc::STDIN_FILENO;
 use lines::Input;
 
 // Whether the first argument is --why.
 fn asks_why() -> bool {
-    let mut word = [0u8; 5];
-    let n = os::arg(1, &mut word);
-    (n == 5)
-        & (word[0] == b'-')
-        & (word[1] == b'-')
-        & (word[2] == b'w')
-        & (word[3] == b'h')
-        & (word[4] == b'y')
+    let mut w = [0u8; 8];
+    let n = os::arg(1, &mut w);
+    (n == 5) & (w[0] == b'-') & (w[1] == b'-') & (w[2] == b'w') & (w[3] == b'h') & (w[4] == b'y')
+}
+
+// Whether it is --frames.
+fn asks_frames() -> bool {
+    let mut w = [0u8; 8];
+    let n = os::arg(1, &mut w);
+    let dashes = (n == 8) & (w[0] == b'-') & (w[1] == b'-');
+    dashes
+        & (w[2] == b'f')
+        & (w[3] == b'r')
+        & (w[4] == b'a')
+        & (w[5] == b'm')
+        & (w[6] == b'e')
+        & (w[7] == b's')
 }
 
 fn answer(room: &[u8], n: usize) -> bool {
@@ -25,7 +34,7 @@ fn answer(room: &[u8], n: usize) -> bool {
     lines::write_updated(room, n)
 }
 
-fn main() {
+fn answer_one() {
     let mut room = [0u8; lines::ROOM];
     let input = lines::read_whole(STDIN_FILENO, &mut room);
     match input {
@@ -37,5 +46,13 @@ fn main() {
         Input::Failed => {
             os::fail(b"standard input");
         }
+    }
+}
+
+fn main() {
+    if asks_frames() {
+        lines::answer_frames(STDIN_FILENO);
+    } else {
+        answer_one();
     }
 }

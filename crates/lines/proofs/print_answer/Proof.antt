@@ -6,17 +6,11 @@ use borrow.Author.Needs.{needs}
 use Rattle.lines.proofs.print_answer.Statement.{statement}
 use Rattle.lines.proofs.print_answer.Tie as tie
 
-slice-aggregate-run-sheet : tie.Need-slice-aggregate-run-sheet
-slice-aggregate-run-sheet c = simp length-take (omega arith)
+slice-aggregate-print-run : tie.Need-slice-aggregate-print-run
+slice-aggregate-print-run c = simp length-take (omega arith)
 
 returns-2 : tie.Need-returns-2
-returns-2 c = λ h. absurd (lt-irrefl _ (lt-of-lt-of-le h (c .before .before .before .before .before .before .before .before .before .if1 .left)))
-
-returns-3 : tie.Need-returns-3
-returns-3 c = λ h. absurd (lt-irrefl _ (lt-of-lt-of-le h (c .before .before .before .before .before .before .before .before .before .before .if1 .left)))
+returns-2 c = λ h. absurd (lt-irrefl _ (lt-of-lt-of-le h (c .before .before .if1 .left)))
 
 pub print-answer-spec : {M : Type 1} → statement M
-print-answer-spec =
-    tie.close
-    (tie.spec (λ c. search needs) slice-aggregate-run-sheet (λ c. search needs) (λ c. search needs)
-    (λ c κs. search needs) (λ c κs. search needs) (λ c. search needs) (λ c κs. search needs) returns-2 returns-3)
+print-answer-spec = tie.close (tie.spec (λ c. search needs) slice-aggregate-print-run (λ c κs. search needs) returns-2)
