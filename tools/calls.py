@@ -95,7 +95,7 @@ INNER = [
     (
         "model: model_of rankine drucker_prager neo_hookean corotated limits parameters_of is_flag_of",
         "the laws from their bits, for any number and any list: above 7 the numbers go round again, a place past the end reads as 0, a flag is any pattern but 0. "
-        "Who asks them has asked `fit` and `known` before (8, 6), or has read a header that has",
+        "Who asks them has asked `fit` and `known` before (8, 6), or has read a header; the header in a state of `parts` is the host's, and no call has tested it",
     ),
 ]
 
