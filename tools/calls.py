@@ -1,16 +1,19 @@
 #!/usr/bin/env python3
-"""Every call that a crate hands out, with its contract: docs/CALLS.md, made from crates.txt and crates/.
+"""Every call that a crate hands out, with its contract: docs/CALLS.md, made from crates.txt and crates/, and docs/EXCEPTIONS.md's tables.
 
-  tools/calls.py            writes docs/CALLS.md
+  tools/calls.py            writes docs/CALLS.md, and the tables of docs/EXCEPTIONS.md between their markers
   tools/calls.py --check    holds the documents to the sources; the last line is 'N passed, M failed', and the status is 1 on a failure
   tools/calls.py --open     prints the calls with a `requires`, or with no `ensures`
 
---check fails where docs/CALLS.md is not what this makes, where a call has no contract, where a call that requires something is not named in
-docs/EXCEPTIONS.md, and where docs/PROMISES.md cites what isn't there. It cites `crate/specs/File: name, name` (a definition or a theorem, in
-crates/crate/specs/File.antt), `crate/must-fail: name, name` (wrong builds) and `crate::call`.
+--check fails where either page is not what this makes, where a call has no contract, where a call that requires something or takes a float has
+no row below that says what (REQUIRES, NANS or FIRST), where a row names no such call, and where docs/PROMISES.md, DECISIONS.md or EXCEPTIONS.md cites what isn't there:
+`crate/specs/File: name, name` (a definition or a theorem, in crates/crate/specs/File.antt), `crate/must-fail: name, name` (wrong builds) and
+`crate::call`.
 """
 import argparse
 import collections
+import fnmatch
+import functools
 import pathlib
 import re
 import sys
@@ -22,10 +25,10 @@ HEAD = """# Every public call
 Made by `tools/calls.py` from the sources: don't edit. A call stands with the path by which another crate names it; a C call with its own name.
 The section is [RULES.md](RULES.md)'s, the words are the source's, where the name doesn't say it all.
 The contract names definitions, and below each table stands where these are. `r` is the result, `now (x .entry)` and `now (x .exit)` a lent list before and
-after. An *inner* call requires something: it is public for the project's own crates alone, which prove what it requires ([EXCEPTIONS.md](EXCEPTIONS.md)).
+after. An *inner* call is public for the project's own crates alone: it requires something, which they prove, or it is no part of what a host is given ([EXCEPTIONS.md](EXCEPTIONS.md)).
 """
 
-Call = collections.namedtuple("Call", "crate path name words requires ensures definitions")
+Call = collections.namedtuple("Call", "crate path name words takes gives requires ensures definitions")
 
 # The section of a call: by its name where the crate's would be wrong, else by its crate's (or the crate's first words). Of any other call it is the
 # one that the definitions' pages cite.
@@ -41,18 +44,151 @@ SECTIONS = [
     ("tensor", "4", ""),
     ("physics", "4", "norm_on_path"),
     ("physics", "1", ""),
-    ("law", "6", ""),
-    ("plasticity elasticity eos failure", "5", ""),
-    ("nearness factors record particles reader run lines", "7", ""),
+    ("plasticity elasticity eos failure solid", "5", ""),
+    ("flat_particles", "5, 7", ""),
+    ("flat", "5", ""),
+    ("model", "5, 6, 7", "make_ready parameters_ready update_ready"),
+    ("nearness factors record particles reader lines why_lines", "7", ""),
     ("sheet writer", "6, 7", ""),
-    ("lists", "6", ""),
+    ("host_lists", "6", ""),
     ("host", "3", "exp sinh ln sin sqrt cbrt inv_cbrt cbrt_squared inv_cbrt_squared"),
-    ("host", "7", "update factor factor_list pass pass_with_failure pass_factored pass_factored_with_failure read_sheet run_sheet write_sheet"),
+    ("host", "5, 7", "flat_update flat_pass"),
+    ("host", "7", "update factor factor_list pass pass_with_failure pass_factored pass_factored_with_failure read_sheet run_sheet write_sheet why fill_determinants"),
+    ("host", "7", "begin_parts part end_parts report join_reports clear_tallies move_particle pass_by_zone pass_with_failure_by_zone"),
     ("host", "1", "inv_exact shear_modulus bulk_modulus shear_modulus_from_lame bulk_modulus_from_lame lame_lambda_mu solve_quadratic"),
     ("host", "1", "spin_tensor strain_rate deviatoric_part spherical_part decomposed_times"),
     ("host", "5", ""),
 ]
 
+# docs/EXCEPTIONS.md's tables. A row: of which calls, each crate's by their names inside it, and what a reader is told of them.
+REQUIRES = [
+    ("fixed_point: to_float fixed", "a size. `to_float` says which float it is by `FloatOf`, which leaves one"),
+    ("record: all_finite", "a list of a record's length"),
+    ("record: determinant_right read_f read_u read_vt read_state", "a list of a record's length, whose floats are finite"),
+    ("record: write_row write_rows", "a place inside the list"),
+    ("record: finite_bits", "that what is written is finite"),
+    ("record: store_row store_rows", "that what is written is finite, and a place inside the list"),
+    ("particles: copy", "two lists of one length"),
+    ("particles: one", "of one record of a pass and its answers: that the record and its two places are inside the lists"),
+    ("writer: write_words", "that the room has place for the words, as bytes"),
+    (
+        "plasticity_snow: SnowPlasticity::update_ready; plasticity_rankine: RankinePlasticity::update_ready; plasticity_drucker_prager: DruckerPragerPlasticity::update_ready; "
+        "plasticity_nacc: NaccPlasticity::update_ready; model: update_ready",
+        "that the record's floats are finite, and the law's parameters and moduli, as `model::make_ready` leaves them",
+    ),
+    (
+        "plasticity_nacc: NaccPlasticity::hardened",
+        "of the hardening step, on three axes or two: that the numbers compared are no NaN, and that the two roots handed in are what the root answers",
+    ),
+    ("elasticity_corotated_linear: kirchhoff pos", "of the steps with a determinant that is handed in: that sigma is finite"),
+]
+
+# Calls that require nothing and yet are no part of what a host is given.
+INNER = [
+    (
+        "failure_maximum_stress: MaximumStressFailure::particle_failed",
+        "the verdict on principal stresses that are handed in. `particles` asks it (the pass with failure, on those of its own rule) and `solid` (on those of the stress that it answers); "
+        "sections 5 and 8 (P10, P11) are stated of it",
+    ),
+    ("elasticity_neo_hookean: kirchhoff", "the stress with a determinant that is handed in. `solid` asks it, and answers it with its verdict"),
+    ("solid: judged::refused_judged", "`host_lists` asks it, of a list of the wrong length"),
+    (
+        "model: model_of rankine drucker_prager neo_hookean corotated limits parameters_of is_flag_of",
+        "the laws from their bits, for any number and any list: above 7 the numbers go round again, a place past the end reads as 0, a flag is any pattern but 0. "
+        "Who asks them has asked `fit` and `known` before (8, 6), or has read a header; the header in a state of `parts` is the host's, and no call has tested it",
+    ),
+]
+
+# What comes of a NaN that isn't refused by 1.
+NANS = [
+    ("numbers: max min", "the number beside it: section 6 exempts them"),
+    (
+        "plasticity_snow: SnowPlasticity::clamp SnowPlasticity::project_deformation_gradient; flat_snow: clamped; host: pasoletu_snow_clamp",
+        "as the Rust works it: section 6 exempts Snow's bare clamp",
+    ),
+    (
+        "exponential: exp_on_path sinh_on_path exps_on_path; logarithm: ln_on_path logs_on_path; sine: sin_on_path; "
+        "thirds: cbrt_on_path inv_cbrt_on_path cbrt_squared_on_path inv_cbrt_squared_on_path; square_root: sqrt_on_path; physics: norm_on_path; answers: on_path first_refusal",
+        "3: inside a law it arose on the path",
+    ),
+    ("answers: outside", "10, as of what doesn't lie below the range; `answers::bare` and `answers::on_path`, through which every function goes, hand it on of no NaN"),
+    ("answers: answered finite_answer answered_pair; tensor: answered answered_vector", "3: a number to be returned"),
+    (
+        "numbers: powi bits_of; tensor: transpose dot mat_mul determinant inverse_transpose recompose sum product trace row_add row_sub row_scale mat_add mat_sub "
+        "mat_scale identity_times to_rows of_rows; flat: dot sum product row_sub to_rows",
+        "as the Rust works it; the bits of a NaN are 7ff8000000000000",
+    ),
+    (
+        "tensor: plain::spherical_part plain::deviatoric_part plain::decompose plain::recompose plain::add plain::add_assign plain::times; physics: plain::inv_exact plain::lame_lambda_mu "
+        "plain::shear_modulus plain::bulk_modulus plain::shear_modulus_from_lame plain::bulk_modulus_from_lame plain::spin_tensor plain::strain_rate plain::deviatoric_part "
+        "plain::spherical_part; elasticity_neo_hookean: plain::phase_coeff",
+        "as the Rust works it; the call of the same name outside `plain` refuses",
+    ),
+    (
+        "plasticity_rankine: RankinePlasticity::first_side RankinePlasticity::second_side RankinePlasticity::back_one RankinePlasticity::back_both RankinePlasticity::soft_strength; "
+        "plasticity_drucker_prager: DruckerPragerPlasticity::gamma DruckerPragerPlasticity::stays scalars_of; plasticity_nacc: NaccPlasticity::argument NaccPlasticity::p0 "
+        "NaccPlasticity::pressure NaccPlasticity::stressed NaccPlasticity::low NaccPlasticity::volume_square NaccPlasticity::lower_square NaccPlasticity::y0 NaccPlasticity::y1 "
+        "NaccPlasticity::y NaccPlasticity::scale scalars_of",
+        "as the Rust works it: a law's formulas, which the law of two axes asks too. Each law has tested what it hands in, or tests what comes out",
+    ),
+    (
+        "plasticity_drucker_prager: DruckerPragerPlasticity::alpha_on_path DruckerPragerPlasticity::measured; plasticity_nacc: NaccPlasticity::raised NaccPlasticity::hardened",
+        "3, with the step: inside a law, on three axes or two, it arose on the path",
+    ),
+    ("plasticity_rankine: RankineArguments::law; plasticity_nacc: NaccArguments::law", "a law with that in it; the calls of the arguments have refused it by 1 before"),
+    (
+        "elasticity_neo_hookean: kirchhoff fpk density pos; elasticity_corotated_linear: kirchhoff pos",
+        "3 where a step works with it. The calls of the law and of `solid`, which tests the determinant too, have tested all of them",
+    ),
+    (
+        "elasticity_corotated_linear: CorotatedLinearElasticity::principal_stresses",
+        "3 where it is in sigma, in the elastic hardening or in a modulus; a phase that is none is not 1.0. The pass has tested all of them, or they are the law's results, which the law has tested",
+    ),
+    (
+        "plasticity: refuse; flat: refuse untouched stored; host_lists: sized sized_vector sized_matrix sized_judged flagged flagged_judged put put_pair put_vector put_matrix put_judged; "
+        "record_why: words call_refusal",
+        "handed on: a state as it came, or an answer that its call has tested. Of `flat::stored` 3 where it is in F or sigma; `named` says that the other numbers are finite",
+    ),
+    (
+        "record: word float write_row write_rows determinant determinant_with; particles: copy fill_determinants; writer: write_words; host_lists: row matrix decomposed; model: rankine "
+        "drucker_prager model_of neo_hookean corotated limits fit known; host: pasoletu_fill_determinants",
+        "read, written or copied as it is, of a determinant as worked (7ff8000000000000); the law refuses that record or those parameters by 1",
+    ),
+    (
+        "record: finite_bits read_f read_u read_vt read_state store_row store_rows determinant_right; plasticity_snow: SnowPlasticity::update_ready; "
+        "plasticity_rankine: RankinePlasticity::update_ready; plasticity_drucker_prager: DruckerPragerPlasticity::update_ready; plasticity_nacc: NaccPlasticity::update_ready; model: update_ready",
+        "none comes in: they require that all floats are finite",
+    ),
+    ("factors: factors_of principal_of", "as the sweeps work it: what comes out misses the check"),
+    ("factors: factored principals", "14: it misses the check. A record's call has refused it by 1 before"),
+    (
+        "numbers: is_finite is_number; answers: in_range all_in_range; tensor: row_finite mat_finite rows_finite row_number mat_number; "
+        "nearness: near_all orthogonal surely_near surely_orthogonal; factors: accepted principal_accepted; plasticity: scalars_finite inputs_finite; "
+        "flat: inputs_finite; plasticity_snow: SnowPlasticity::parameters_finite; "
+        "plasticity_rankine: RankineArguments::parameters_finite RankinePlasticity::moduli_finite; plasticity_drucker_prager: DruckerPragerPlasticity::parameters_finite; "
+        "plasticity_nacc: NaccArguments::parameters_finite NaccPlasticity::parameters_finite NaccPlasticity::moduli_finite; "
+        "elasticity_neo_hookean: NeoHookeanElasticity::law_finite NeoHookeanElasticity::is_fluid; elasticity_corotated_linear: CorotatedLinearElasticity::law_finite "
+        "CorotatedLinearElasticity::is_fluid; eos_monaghan_sph: MonaghanSphEos::is_fluid; failure_maximum_stress: MaximumStressFailure::limits_finite; record: all_finite; "
+        "model: model_finite parameters_ready",
+        "a test's answer",
+    ),
+]
+
+# Calls with floats whose answer can be a refusal, and that refuse a NaN by 1 (`*` stands for any name): the other half of what NANS tells.
+FIRST = [
+    "exponential: exp sinh; logarithm: ln; sine: sin; thirds: cbrt inv_cbrt cbrt_squared inv_cbrt_squared; square_root: sqrt; answers: bare",
+    "tensor: DecomposedTensor::decompose DecomposedTensor::recompose DecomposedTensor::add DecomposedTensor::add_assign DecomposedTensor::times",
+    "physics: inv_exact lame_lambda_mu shear_modulus bulk_modulus shear_modulus_from_lame bulk_modulus_from_lame solve_quadratic spin_tensor strain_rate deviatoric_part spherical_part",
+    "plasticity_*: *::new *::with_m *::update_particle *::reason *::project *::project_deformation_gradient *::alpha; flat_*: update_particle; model: update reason_of make_ready",
+    "elasticity_*: *::new *::fpk_stress *::phase_coeff *::elastic_energy_density *::elastic_energy_density_in *::pos_energy",
+    "eos_monaghan_sph: *::new *::pressure *::kirchhoff_stress *::timestep_bound; failure_maximum_stress: *::new *::particle_failed",
+    "solid: *::stress_and_verdict *::fpk_stress *::elastic_energy_density *::elastic_energy_density_in *::pos_energy",
+    "particles: update_record pass* one; flat_particles: update_record pass; tallies: pass*; host: pasoletu_*",
+]
+
+FLOATS, LISTS = r"\bf64\b", r"\[u64"
+REFUSAL = r"\bRefused\(|\brefusal: u8|^u8$"
+MADE = re.compile(r"(<!-- made by tools/calls.py: (\w+) -->\n)(.*?)(<!-- end -->)", re.S)
 HEADING = re.compile(r"^( *)pub (?:extern \"C\" )?fn (\w+)((?:.|\n)*?)\n\1\{|^( *)pub fn (\w+)([^\n]*)\{$", re.M)
 CITED = re.compile(r"`(\w+)/((?:specs|proofs)/[\w/]+|must-fail)(?:: ([^`]+))?`")
 CALLED = re.compile(r"`(\w+)::([\w:]+)`")
@@ -111,6 +247,35 @@ def public_path(crate, module, own, name, root):
     return None
 
 
+def signature(rest, own):
+    """What a call takes and what it gives, as they are written; `self` is its type."""
+    written = " ".join(re.split(r"^ *(?:requires|ensures)\b", rest, maxsplit=1, flags=re.M)[0].split())
+    takes, _, gives = written.partition(" -> ")
+    return re.sub(r"\bself\b", own or "", takes), gives
+
+
+def types(top):
+    """Each struct's and enum's name with what it holds, by crate."""
+    found = collections.defaultdict(dict)
+    for crate, _ in crates(top):
+        for path in (top / "crates" / crate / "src").glob("*.rt"):
+            text = re.sub(r"//.*", "", path.read_text())
+            for name, body in re.findall(r"^(?:pub(?:\(crate\))? )?(?:struct|enum) (\w+)[^{;]*\{(.*?)^\}", text, re.M | re.S):
+                found[name][crate] = body
+    return found
+
+
+def holds(known, crate, written, wanted, through=()):
+    """Whether types as written are, or hold in some part, what a pattern finds."""
+    if re.search(wanted, written):
+        return True
+    for name in set(re.findall(r"\w+", written)) - set(through):
+        bodies = known.get(name, {})
+        if any(holds(known, crate, b, wanted, through + (name,)) for b in ([bodies[crate]] if crate in bodies else bodies.values())):
+            return True
+    return False
+
+
 def calls_of(top, crate):
     source = top / "crates" / crate / "src"
     root = (source / "lib.rt").read_text() if (source / "lib.rt").exists() else ""
@@ -127,7 +292,8 @@ def calls_of(top, crate):
             ensures = re.findall(r"ensures(?: \w+)? \{ (?:λ \w+\. )?⌜ (.*) ⌝ \}", rest)
             requires = re.findall(r"requires(?: \w+)? \{ ⌜ (.*) ⌝ \}", rest)
             used = {w: named[w] for w in re.findall(r"[^\s()]+", " ".join(ensures)) if w in named}
-            yield Call(crate, public, name, first_sentence(text[:m.start()]), requires, ensures, used)
+            takes, gives = signature(rest, owner(text[:m.start()]))
+            yield Call(crate, public, name, first_sentence(text[:m.start()]), takes, gives, requires, ensures, used)
 
 
 def section_of(top, call):
@@ -140,13 +306,65 @@ def section_of(top, call):
     return ", ".join(str(n) for n in sorted(cited))
 
 
+@functools.lru_cache(maxsize=None)
+def named(calls):
+    """The crate and the name inside it of each call that a row names."""
+    parts = (part.partition(": ") for part in calls.split("; "))
+    return [(crate, name) for crate, _, names in parts for name in names.split()]
+
+
+def inside(call):
+    """A call's name inside its crate."""
+    return call.path.partition("::")[2] or call.path
+
+
+def words_of(rows, call):
+    """What a table tells of a call, or nothing."""
+    return next((words for calls, words in rows if any(matches(call, n) for n in named(calls))), None)
+
+
+def matches(call, pattern):
+    return fnmatch.fnmatchcase(call.crate, pattern[0]) and fnmatch.fnmatchcase(inside(call), pattern[1])
+
+
+def takes(known, call, wanted):
+    return holds(known, call.crate, call.takes, wanted)
+
+
+def refuses(known, call):
+    """Whether its answer can be a refusal."""
+    return holds(known, call.crate, call.gives, REFUSAL)
+
+
+def table(rows, head):
+    """A table of EXCEPTIONS: several calls of one crate stand behind its name."""
+    lines = ["| Call | %s |" % head, "|---|---|"]
+    for calls, words in rows:
+        cells = []
+        for part in calls.split("; "):
+            crate, _, names = part.partition(": ")
+            names = names.split()
+            alone = ["`%s`" % (names[0] if names[0].startswith("pasoletu_") else "%s::%s" % (crate, names[0]))]
+            cells.append(", ".join(alone if len(names) == 1 else ["`%s`: `%s`" % (crate, names[0])] + ["`%s`" % n for n in names[1:]]))
+        lines.append("| %s | %s |" % ("; ".join(cells), words))
+    return "\n".join(lines) + "\n"
+
+
+def exceptions(text):
+    """docs/EXCEPTIONS.md with its tables made anew."""
+    tables = {"requires": (REQUIRES, "Requires"), "inner": (INNER, "What it is, and who asks it"), "nan": (NANS, "Of a NaN")}
+    return MADE.sub(lambda m: m.group(1) + "\n" + table(*tables[m.group(2)]) + "\n" + m.group(4), text)
+
+
 def cell(text):
     return text.replace("|", "\\|")
 
 
 def contract(call):
     said = "; ".join("`%s`" % cell(e) for e in call.ensures) or "none"
-    return said + (" (inner: requires %s)" % "; ".join("`%s`" % cell(r) for r in call.requires) if call.requires else "")
+    if call.requires:
+        return said + " (inner: requires %s)" % "; ".join("`%s`" % cell(r) for r in call.requires)
+    return said + (" (inner)" if words_of(INNER, call) else "")
 
 
 def row(top, call):
@@ -206,32 +424,62 @@ def page_fault(top, listed):
     return None if document(top, "CALLS.md") == page(top, listed) else stale
 
 
-def contract_fault(call, exceptions):
+def exceptions_fault(top):
+    text = document(top, "EXCEPTIONS.md")
+    if {m.group(2) for m in MADE.finditer(text)} != {"requires", "inner", "nan"}:
+        return "docs/EXCEPTIONS.md has not its three made tables"
+    return None if text == exceptions(text) else "docs/EXCEPTIONS.md's tables are not what tools/calls.py makes: run it and commit the page"
+
+
+def contract_fault(top, known, call):
+    """What a call's contract or signature has that no row tells, or nothing."""
     if not call.ensures:
         return "%s has no contract (docs/RULES.md, section 9)" % call.path
-    if call.requires and not re.search(r"`(?:[\w:]*::)?%s`" % call.name, exceptions):
-        return "%s requires something and is not named in docs/EXCEPTIONS.md" % call.path
+    if not section_of(top, call):
+        return "%s has no section: name it in SECTIONS of tools/calls.py" % call.path
+    if call.requires and not words_of(REQUIRES, call):
+        return "%s requires something: make it the crate's own, or say in REQUIRES of tools/calls.py what" % call.path
+    if words_of(NANS, call):
+        return None
+    if not refuses(known, call) and (takes(known, call, FLOATS) or takes(known, call, LISTS)):
+        return "%s takes a NaN and can't refuse it: make it the crate's own, or say in NANS of tools/calls.py what comes of it" % call.path
+    if takes(known, call, FLOATS) and not any(matches(call, n) for row in FIRST for n in named(row)):
+        return "%s takes a float: name it in FIRST of tools/calls.py if it refuses a NaN by 1, else say in NANS what comes of it" % call.path
     return None
 
 
-def promise_faults(top, listed):
-    """For each place and each call that docs/PROMISES.md cites, its fault, or nothing."""
-    promises = document(top, "PROMISES.md")
-    if not promises:
-        yield "there is no docs/PROMISES.md"
-    for crate, place, names in CITED.findall(promises):
+def row_faults(listed):
+    """For each call that a row names, its fault, or nothing: no such call, or the row is untrue of it."""
+    for title, rows in (("REQUIRES", REQUIRES), ("INNER", INNER), ("NANS", NANS), ("FIRST", [(row, "") for row in FIRST])):
+        for pattern in (n for calls, _ in rows for n in named(calls)):
+            found = [c for c in listed if matches(c, pattern)]
+            if not found:
+                yield "tools/calls.py: %s names %s of %s, which hands out no such call" % (title, pattern[1], pattern[0])
+            elif (title == "REQUIRES") > bool(found[0].requires):
+                yield "tools/calls.py: REQUIRES names %s, which requires nothing" % found[0].path
+            else:
+                yield None
+
+
+def cited_faults(top, listed, page):
+    """For each place that a document cites, and in PROMISES each call, its fault, or nothing."""
+    text = document(top, page)
+    if not text:
+        yield "there is no docs/%s" % page
+    for crate, place, names in CITED.findall(text):
         for fault in citation_faults(top, crate, place, names.split(", ") if names else []) or [None]:
-            yield fault and "docs/PROMISES.md: " + fault
+            yield fault and "docs/%s: %s" % (page, fault)
     paths, known = {c.path for c in listed}, {crate for crate, _ in crates(top)}
-    for crate, rest in CALLED.findall(promises):
+    for crate, rest in CALLED.findall(text) if page == "PROMISES.md" else []:
         path = "%s::%s" % (crate, rest)
         if crate in known:
-            yield None if path in paths else "docs/PROMISES.md: no crate hands out %s" % path
+            yield None if path in paths else "docs/%s: no crate hands out %s" % (page, path)
 
 
 def check(top, listed):
-    exceptions = document(top, "EXCEPTIONS.md")
-    faults = [page_fault(top, listed)] + [contract_fault(c, exceptions) for c in listed] + list(promise_faults(top, listed))
+    known = types(top)
+    faults = [page_fault(top, listed), exceptions_fault(top)] + [contract_fault(top, known, c) for c in listed] + list(row_faults(listed))
+    faults += [fault for page in ("PROMISES.md", "DECISIONS.md", "EXCEPTIONS.md") for fault in cited_faults(top, listed, page)]
     for fault in filter(None, faults):
         print(fault)
     failed = sum(1 for fault in faults if fault)
@@ -254,6 +502,7 @@ def main():
         print("\n".join("%s: %s" % (c.path, contract(c)) for c in listed if c.requires or not c.ensures))
     else:
         (options.top / PAGE).write_text(page(options.top, listed))
+        (options.top / "docs/EXCEPTIONS.md").write_text(exceptions(document(options.top, "EXCEPTIONS.md")))
     return 0
 
 

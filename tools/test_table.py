@@ -1,4 +1,5 @@
-"""Tests of tools/table: a stale file, a call of another kind in the proved crates and a row that makes no sense are each told."""
+"""Tests of tools/table: a stale file, a call of another kind in the proved crates and a row that makes no sense are each told. And of tools/calls.py: a public
+call that takes a NaN or requires something, and a row that is untrue, are told."""
 import pathlib
 import re
 import shutil
@@ -187,6 +188,85 @@ class Words(Copy):
         done = self.run_table("--chekc")
         self.assertEqual((done.returncode, done.stdout), (2, ""))
         self.assertIn("tools/table --check", done.stderr)
+
+
+class Calls(unittest.TestCase):
+    """tools/calls.py on a copy whose crate `physics` has one call more, and whose pages are made anew from it: what fails is the call, not the page."""
+
+    CALL = """
+// A call more.
+pub fn doubled(%s) -> %s%s
+    ensures { λ r. ⌜ r ≡ x ⌝ }
+{
+    x
+}
+"""
+
+    def setUp(self):
+        room = tempfile.TemporaryDirectory()
+        self.addCleanup(room.cleanup)
+        self.top = pathlib.Path(room.name)
+        for name in ("crates.txt", "crates", "docs"):
+            (self.top / name).symlink_to(TOP / name)
+
+    def run_calls(self, *words):
+        return subprocess.run([TOP / "tools/calls.py", "--top", self.top, *words], capture_output=True, text=True)
+
+    def own(self, name):
+        """A folder of the copy's own, whose files are the repository's."""
+        (self.top / name).unlink()
+        (self.top / name).mkdir()
+        for path in (TOP / name).iterdir():
+            (self.top / name / path.name).symlink_to(path)
+
+    def add(self, call):
+        self.own("crates")
+        (self.top / "crates/physics").unlink()
+        shutil.copytree(TOP / "crates/physics", self.top / "crates/physics")
+        with (self.top / "crates/physics/src/lib.rt").open("a") as file:
+            file.write(call)
+        self.own("docs")
+        for name in ("CALLS.md", "EXCEPTIONS.md"):
+            (self.top / "docs" / name).unlink()
+            shutil.copy(TOP / "docs" / name, self.top / "docs" / name)
+        self.assertEqual(self.run_calls().returncode, 0)
+
+    def told(self, words):
+        """--check fails by this alone."""
+        done = self.run_calls("--check")
+        self.assertEqual(done.returncode, 1, done.stdout)
+        self.assertRegex(done.stdout, r"^%s[^\n]*\n\d+ passed, 1 failed\n$" % words)
+
+    def test_what_is_committed_is_right(self):
+        done = self.run_calls("--check")
+        self.assertEqual(done.returncode, 0, done.stdout)
+        self.assertRegex(done.stdout, r"^\d+ passed, 0 failed\n$")
+
+    def test_a_call_that_takes_a_nan_is_told(self):
+        for takes, gives in (("x: f64", "f64"), ("x: [f64; 3]", "[f64; 3]"), ("x: State", "State"), ("x: &[u64]", "bool"), ("x: RankinePlasticity", "bool")):
+            with self.subTest(takes):
+                self.setUp()
+                self.add(self.CALL % (takes, gives, ""))
+                self.told("physics::doubled takes a NaN and can't refuse it")
+
+    def test_a_call_that_may_refuse_a_nan_is_told_until_it_is_named(self):
+        self.add(self.CALL % ("x: f64", "Answer", ""))
+        self.told("physics::doubled takes a float: name it in FIRST")
+
+    def test_a_call_that_requires_something_is_told(self):
+        self.add(self.CALL % ("x: u64", "u64", "\n    requires { ⌜ x ≡ 0 ⌝ }"))
+        self.told("physics::doubled requires something")
+
+    def test_a_call_of_its_own_crate_is_not(self):
+        self.add((self.CALL % ("x: f64", "f64", "")).replace("pub fn", "pub(crate) fn"))
+        self.assertEqual(self.run_calls("--check").returncode, 0)
+
+    def test_a_table_that_is_not_made_is_told(self):
+        self.own("docs")
+        (self.top / "docs/EXCEPTIONS.md").unlink()
+        text = (TOP / "docs/EXCEPTIONS.md").read_text()
+        (self.top / "docs/EXCEPTIONS.md").write_text(text.replace("a test's answer", "a test's answer, or none"))
+        self.told("docs/EXCEPTIONS.md's tables are not what tools/calls.py makes")
 
 
 if __name__ == "__main__":

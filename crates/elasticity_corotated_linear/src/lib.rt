@@ -97,7 +97,7 @@ impl CorotatedLinearElasticity {
     }
 
     // U, sigma and V^T are the factors of f that the caller brings.
-    pub fn kirchhoff_stress(
+    pub(crate) fn kirchhoff_stress(
         self,
         phase: f64,
         hardening: f64,

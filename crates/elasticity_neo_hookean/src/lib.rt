@@ -99,7 +99,13 @@ impl NeoHookeanElasticity {
         }
     }
 
-    pub fn kirchhoff_stress(self, phase: f64, hardening: f64, f: [[f64; 3]; 3]) -> MatrixAnswer
+    // Of a bare F. Hosts ask `solid`, with the verdict.
+    pub(crate) fn kirchhoff_stress(
+        self,
+        phase: f64,
+        hardening: f64,
+        f: [[f64; 3]; 3],
+    ) -> MatrixAnswer
         ensures { λ r. ⌜ r ≡ kirchhoffStress self phase hardening f ⌝ }
     {
         if self.inputs_finite(phase, hardening, f) {

@@ -4,13 +4,8 @@ mod matrix;
 mod update;
 
 pub use matrix::dot;
-pub use matrix::mat_finite;
-pub use matrix::of_rows;
 pub use matrix::product;
-pub use matrix::recompose;
-pub use matrix::row_finite;
 pub use matrix::row_sub;
-pub use matrix::rows_finite;
 pub use matrix::sum;
 pub use matrix::to_rows;
 use plasticity::Outcome;

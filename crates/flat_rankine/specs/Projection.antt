@@ -11,7 +11,8 @@ use Rattle.walk.specs.Walk.{Walk, at-most, branch, end, Ended, given, refused, 
 use Rattle.walk.specs.Matrix.{sum}
 use Rattle.plasticity_rankine.specs.declared.RankinePlasticity.{RankinePlasticity}
 use Rattle.plasticity_rankine.specs.Sorting.{orderOf, arrangedOf}
-use Rattle.plasticity_rankine.specs.Projection.{two, firstSide, secondSide, backOne, Way, none-moves, one-moves, two-move, all-move, Moved, ends}
+pub use Rattle.plasticity_rankine.specs.Projection.{backBoth}
+use Rattle.plasticity_rankine.specs.Projection.{firstSide, secondSide, backOne, Way, none-moves, one-moves, two-move, all-move, Moved, ends}
 use Rattle.flat_rankine.specs.declared.Branch.{Branch}
 use Rattle.flat_rankine.specs.declared.Branch.the-variants as way
 use Rattle.flat_rankine.specs.declared.Projected.{Projected}
@@ -19,10 +20,6 @@ use Rattle.flat_rankine.specs.declared.Sorted.{Sorted}
 
 abbrev pub pair : {A : Type 0} → A → A → List A
 pair x y = x ∷ y ∷ []
-
--- "else divides by 2mu + 2lambda"
-abbrev pub backBoth : RankinePlasticity → Expr → Expr
-backBoth p s = s / (num two * num (p .mu) + num two * num (p .lambda))
 
 -- ---- the tests, on strains e whose smaller is b and whose larger is a; they stand in the order k
 -- "Ours tests the smaller strain in the second branch"

@@ -7,9 +7,9 @@ use plasticity_rankine::RankinePlasticity;
 ghost use mathlib.Core.Path.{_≡_};
 ghost use mathlib.Core.Bool.{true};
 ghost use Rattle.numbers.specs.Floats.{isNumber};
-ghost use Rattle.walk.specs.Expr.{num, value};
+ghost use Rattle.walk.specs.Expr.{num};
 ghost use Rattle.walk.specs.Walk.{result};
-ghost use Rattle.flat_rankine.specs.Projection.{indexesOf, backBoth, secondWalk, refusedStrains, movedTo, movedOf, projectedOf};
+ghost use Rattle.flat_rankine.specs.Projection.{indexesOf, secondWalk, refusedStrains, movedTo, movedOf, projectedOf};
 
 fn refused_strains(n: u8) -> Projected
     ensures { λ r. ⌜ r ≡ refusedStrains n ⌝ }
@@ -30,13 +30,6 @@ fn moved_to(strains: [f64; 2]) -> Projected
     }
 }
 
-// What both strains become.
-fn back_both(p: RankinePlasticity, s: f64) -> f64
-    ensures { λ r. ⌜ r ≡ value (backBoth p (num s)) ⌝ }
-{
-    s / (2.0 * p.mu + 2.0 * p.lambda)
-}
-
 // The second test, where the first failed: of the smaller strain.
 fn one_or_both(p: RankinePlasticity, e: [f64; 2], r: Sorted, s: f64) -> Projected
     requires { ⌜ isNumber s ≡ true ⌝ }
@@ -49,7 +42,7 @@ fn one_or_both(p: RankinePlasticity, e: [f64; 2], r: Sorted, s: f64) -> Projecte
             let x = p.back_one(s, sum, r.high);
             moved_to(sorting::restore(r.up, r.low, x))
         } else {
-            let x = back_both(p, s);
+            let x = p.back_both(s);
             moved_to(sorting::restore(r.up, x, x))
         }
     } else {

@@ -6,7 +6,7 @@ ghost use lib.ListN.{length};
 ghost use Rattle.host.specs.Update.{outcomeCode, outcomeAnswer, updateCode, recordUpdated, answerUpdated};
 
 // A refusal of the law is the call's; else the two answers are written.
-pub fn put_outcome(o: Outcome, answer: &mut [u64]) -> u8
+pub(crate) fn put_outcome(o: Outcome, answer: &mut [u64]) -> u8
     requires { ⌜ length (now answer) ≡ 2 ⌝ }
     ensures { λ r. ⌜ r ≡ outcomeCode o ⌝ }
     ensures { λ r. ⌜ now (answer .exit) ≡ outcomeAnswer o (now (answer .entry)) ⌝ }

@@ -44,7 +44,7 @@ pub fn scalars_finite(s: Scalars) -> bool
         & numbers::is_finite(s.alpha)
 }
 
-pub fn state_finite(s: State) -> bool
+fn state_finite(s: State) -> bool
     ensures { λ r. ⌜ r ≡ stateFinite s ⌝ }
 {
     let f = s.f;

@@ -45,6 +45,10 @@ backTwo p s S a b = (s - num (p .lambda) * (S - a - b)) / (num two * num (p .mu)
 abbrev pub backAll : RankinePlasticity → Expr → Expr
 backAll p s = s / (num two * num (p .mu) + num thrice * num (p .lambda))
 
+-- on two axes what both become (ticket 13: "else divides by 2mu + 2lambda")
+abbrev pub backBoth : RankinePlasticity → Expr → Expr
+backBoth p s = s / (num two * num (p .mu) + num two * num (p .lambda))
+
 -- ---- where it ends: how many strains move, with the two numbers last compared, and the strains after it in index order. A NaN in these is
 -- in what is asked next
 pub data Way : Type 0 where

@@ -7,8 +7,8 @@ mod update;
 
 // The law with its moduli, which come from `new`.
 pub struct RankinePlasticity {
-    pub mu: f64,
-    pub lambda: f64,
+    mu: f64,
+    lambda: f64,
     pub tensile_strength: f64,
     pub softening_rate: f64,
 }

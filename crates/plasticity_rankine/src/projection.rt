@@ -13,7 +13,7 @@ ghost use Rattle.walk.specs.Expr.{num, value};
 ghost use Rattle.walk.specs.Walk.{result};
 ghost use Rattle.plasticity_rankine.specs.Law.{parametersFinite, moduliFinite};
 ghost use Rattle.plasticity_rankine.specs.Sorting.{indexesOf};
-ghost use Rattle.plasticity_rankine.specs.Projection.{firstSide, secondSide, thirdSide, backOne, backTwo, backAll, thirdWalk, secondWalk, refusedStrains, movedOf, projectedOf, byBranch, projectOf};
+ghost use Rattle.plasticity_rankine.specs.Projection.{firstSide, secondSide, thirdSide, backOne, backTwo, backAll, backBoth, thirdWalk, secondWalk, refusedStrains, movedOf, projectedOf, byBranch, projectOf};
 
 fn refused_strains(n: u8) -> Projected
     ensures { λ r. ⌜ r ≡ refusedStrains n ⌝ }
@@ -77,6 +77,13 @@ impl RankinePlasticity {
         ensures { λ r. ⌜ r ≡ value (backAll self (num s)) ⌝ }
     {
         s / (2.0 * self.mu + 3.0 * self.lambda)
+    }
+
+    // On two axes: what both become.
+    pub fn back_both(self, s: f64) -> f64
+        ensures { λ r. ⌜ r ≡ value (backBoth self (num s)) ⌝ }
+    {
+        s / (2.0 * self.mu + 2.0 * self.lambda)
     }
 
     // The third test.

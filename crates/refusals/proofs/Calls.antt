@@ -52,6 +52,8 @@ use Rattle.eos_monaghan_sph.specs.Pressure as monaghan
 use Rattle.eos_monaghan_sph.specs.Stress as monaghan-stress
 use Rattle.eos_monaghan_sph.specs.Timestep as monaghan-timestep
 use Rattle.refusals.specs.Refusals.{Numbers, Gives}
+use Rattle.refusals.specs.Enums.{verdictNumber}
+use Rattle.refusals.proofs.Enums.{coded, verdict-coded, verdict-failed}
 use Rattle.refusals.specs.Calls.{GivesPair, Beside, pairWalk, vectorWalk, tensorWalk, quadraticWalk, verdictWalk, Calls}
 use Rattle.refusals.proofs.Inner.{Inner, inner-then, alpha-inner}
 use Rattle.refusals.proofs.Numbers.{differ, nothing, told}
@@ -235,7 +237,8 @@ calls =
       tensor = tensor-gives;
       quadratic = quadratic-gives;
       alpha = alpha-gives;
-      verdicts = verdict-gives;
+      verdicts = λ l s. coded verdictNumber verdict.Refused verdict-coded (verdictOf l s) (path (verdictWalk l s)) (verdict-gives l s);
+      verdict-failed = verdict-failed;
       neo-kirchhoff = λ p phase h f. kirchhoff-gives p h f phase;
       neo-fpk = λ p f h. fpk-gives p h f;
       neo-energy-density = λ p phase h f. energy-gives p h f phase;

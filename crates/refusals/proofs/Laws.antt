@@ -3,7 +3,8 @@ use mathlib.Core.Path.{_≡_, refl, ap}
 use mathlib.Core.Bool.{Bool, true, false, cond, _&&_}
 use mathlib.Core.List.{List, [], _∷_, _++_}
 use mathlib.Core.Option.{Option, some, none}
-use Prim.Native.Nat.{ℕ}
+use Prim.Native.Nat.{ℕ, _<_}
+use native.Mathlib.Omega.{arith}
 use lib.Ieee.{Float}
 use Rattle.numbers.specs.Floats.{finite}
 use Rattle.answers.specs.Range.{onPath}
@@ -15,7 +16,7 @@ use Rattle.answers.specs.declared.Pair.the-variants as pair
 use Rattle.sine.specs.Sine.{sinRanged}
 use Rattle.square_root.specs.Sqrt.{sqrtRanged}
 use Rattle.tensor.specs.Axes.{allOf}
-use Rattle.tensor.specs.Matrix.{div, rowsOf}
+use Rattle.tensor.specs.Matrix.{one, div, rowsOf}
 use Rattle.physics.specs.Physics.{lameOf, lambdaOf, shearModulusOf}
 use Rattle.plasticity.specs.declared.Outcome.the-variants as outcome
 use Rattle.plasticity.specs.declared.State.{State}
@@ -61,8 +62,10 @@ use Rattle.model.specs.declared.Model.{Model}
 use Rattle.model.specs.Model.{modelUpdate}
 use Rattle.refusals.specs.Refusals.{Numbers, Refuses, parametersOf, stepsOf, walkOf}
 use Rattle.refusals.specs.Calls.{Beside}
+use Rattle.refusals.specs.Enums as enums
 use Rattle.refusals.specs.Laws.{moduliWalk, plainWalk, rankineNew, naccNew, naccAngled, Laws}
 use Rattle.refusals.proofs.Inner.{inner-then, steps-inner, rankine-project, rankine-inner, drucker-project, nacc-project, nacc-inner}
+use Rattle.refusals.proofs.Enums.{Coded, coded, made, made-once}
 use Rattle.refusals.proofs.Numbers.{differ, nothing, told}
 use Rattle.refusals.proofs.Answers.{after, tested, entered, asked, ended-beside}
 use Rattle.refusals.proofs.Updates.{outcome-numbers, walked}
@@ -75,6 +78,13 @@ neo-number (neo-made.Refused n) = some n
 neo-back : (x : neo-made-type.Made) (n : ℕ) → neo-number x ≡ some n → x ≡ neo-made.Refused n
 neo-back (neo-made.Law p) n e = absurd (nothing n e)
 neo-back (neo-made.Refused m) n e = ap neo-made.Refused (differ e)
+
+neo-coded : Coded enums.neoNumber neo-made.Refused
+neo-coded = (λ n. refl, back)
+  where
+    back : (y : neo-made-type.Made) (n : ℕ) → 0 < n → enums.neoNumber y ≡ n → y ≡ neo-made.Refused n
+    back (neo-made.Law p) n h e = absurd (omega arith)
+    back (neo-made.Refused m) n h e = ap neo-made.Refused e
 
 neo-gives : (young poisson : Float) → Numbers (λ n. neo-hookean.newOf young poisson ≡ neo-made.Refused n) (path (moduliWalk young poisson))
 unfolding neo-hookean.newOf neo-hookean.fromLame
@@ -94,6 +104,13 @@ corotated-back : (x : corotated-made-type.Made) (n : ℕ) → corotated-number x
 corotated-back (corotated-made.Law p) n e = absurd (nothing n e)
 corotated-back (corotated-made.Refused m) n e = ap corotated-made.Refused (differ e)
 
+corotated-coded : Coded enums.corotatedNumber corotated-made.Refused
+corotated-coded = (λ n. refl, back)
+  where
+    back : (y : corotated-made-type.Made) (n : ℕ) → 0 < n → enums.corotatedNumber y ≡ n → y ≡ corotated-made.Refused n
+    back (corotated-made.Law p) n h e = absurd (omega arith)
+    back (corotated-made.Refused m) n h e = ap corotated-made.Refused e
+
 corotated-gives : (young poisson : Float) → Numbers (λ n. corotated.newOf young poisson ≡ corotated-made.Refused n) (path (moduliWalk young poisson))
 unfolding corotated.newOf corotated.fromLame
 corotated-gives young poisson =
@@ -111,6 +128,13 @@ drucker-number (drucker-made.Refused n) = some n
 drucker-back : (x : drucker-made-type.Made) (n : ℕ) → drucker-number x ≡ some n → x ≡ drucker-made.Refused n
 drucker-back (drucker-made.Law p) n e = absurd (nothing n e)
 drucker-back (drucker-made.Refused m) n e = ap drucker-made.Refused (differ e)
+
+drucker-coded : Coded enums.druckerNumber drucker-made.Refused
+drucker-coded = (λ n. refl, back)
+  where
+    back : (y : drucker-made-type.Made) (n : ℕ) → 0 < n → enums.druckerNumber y ≡ n → y ≡ drucker-made.Refused n
+    back (drucker-made.Law p) n h e = absurd (omega arith)
+    back (drucker-made.Refused m) n h e = ap drucker-made.Refused e
 
 drucker-gives : (young poisson : Float) → Numbers (λ n. drucker-prager.newOf young poisson ≡ drucker-made.Refused n) (path (moduliWalk young poisson))
 unfolding drucker-prager.madeOf
@@ -132,6 +156,13 @@ monaghan-back : (x : monaghan-made-type.Made) (n : ℕ) → monaghan-number x �
 monaghan-back (monaghan-made.Law p) n e = absurd (nothing n e)
 monaghan-back (monaghan-made.Refused m) n e = ap monaghan-made.Refused (differ e)
 
+monaghan-coded : Coded enums.monaghanNumber monaghan-made.Refused
+monaghan-coded = (λ n. refl, back)
+  where
+    back : (y : monaghan-made-type.Made) (n : ℕ) → 0 < n → enums.monaghanNumber y ≡ n → y ≡ monaghan-made.Refused n
+    back (monaghan-made.Law p) n h e = absurd (omega arith)
+    back (monaghan-made.Refused m) n h e = ap monaghan-made.Refused e
+
 monaghan-gives : (pressure : Float) (gamma : ℕ) (viscosity : Float)
     → Numbers (λ n. monaghan.newOf pressure gamma viscosity ≡ monaghan-made.Refused n) (path (plainWalk pressure viscosity))
 unfolding monaghan.newOf
@@ -147,6 +178,13 @@ limits-number (limits-made.Refused n) = some n
 limits-back : (x : limits-made-type.Made) (n : ℕ) → limits-number x ≡ some n → x ≡ limits-made.Refused n
 limits-back (limits-made.Limits p) n e = absurd (nothing n e)
 limits-back (limits-made.Refused m) n e = ap limits-made.Refused (differ e)
+
+limits-coded : Coded enums.limitsNumber limits-made.Refused
+limits-coded = (λ n. refl, back)
+  where
+    back : (y : limits-made-type.Made) (n : ℕ) → 0 < n → enums.limitsNumber y ≡ n → y ≡ limits-made.Refused n
+    back (limits-made.Limits p) n h e = absurd (omega arith)
+    back (limits-made.Refused m) n h e = ap limits-made.Refused e
 
 limits-gives : (principal shear : Float) → Numbers (λ n. limitsOf principal shear ≡ limits-made.Refused n) (path (plainWalk principal shear))
 unfolding limitsOf
@@ -168,6 +206,13 @@ in-pairs true true c d = refl
 in-pairs true false c d = refl
 in-pairs false b c d = refl
 
+rankine-coded : Coded enums.rankineNumber rankine-made.Refused
+rankine-coded = (λ n. refl, back)
+  where
+    back : (y : rankine-made-type.Made) (n : ℕ) → 0 < n → enums.rankineNumber y ≡ n → y ≡ rankine-made.Refused n
+    back (rankine-made.Law p) n h e = absurd (omega arith)
+    back (rankine-made.Refused m) n h e = ap rankine-made.Refused e
+
 rankine-gives : (a : RankineArguments) → Numbers (λ n. rankine-law.madeOf a ≡ rankine-made.Refused n) (path (rankineNew a))
 unfolding rankine-law.madeOf
 rankine-gives a =
@@ -188,6 +233,13 @@ nacc-number (nacc-made.Refused n) = some n
 nacc-back : (x : nacc-made-type.Made) (n : ℕ) → nacc-number x ≡ some n → x ≡ nacc-made.Refused n
 nacc-back (nacc-made.Law p) n e = absurd (nothing n e)
 nacc-back (nacc-made.Refused m) n e = ap nacc-made.Refused (differ e)
+
+nacc-coded : Coded enums.naccNumber nacc-made.Refused
+nacc-coded = (λ n. refl, back)
+  where
+    back : (y : nacc-made-type.Made) (n : ℕ) → 0 < n → enums.naccNumber y ≡ n → y ≡ nacc-made.Refused n
+    back (nacc-made.Law p) n h e = absurd (omega arith)
+    back (nacc-made.Refused m) n h e = ap nacc-made.Refused e
 
 exchanged : (y n c x m : Bool) → y && n && c && x && m ≡ (y && n) && (x && c && m)
 exchanged true true true true m = refl
@@ -301,18 +353,78 @@ nacc-projects p f u sigma vt alpha =
     told refusalOf outcome.Refused (λ n. refl) as-outcome _ (nacc.projectFloats p f u sigma vt alpha)
     (nacc.moduli p (nacc.projectWalk p (rowsOf f) u sigma vt alpha)) (nacc-project p (rowsOf f) u sigma vt alpha) (nacc-told (result (nacc.projectCall p f u sigma vt alpha)))
 
+-- ---- what is made
+above-zero : 0 < 3
+above-zero = omega arith
+
+above-none : 0 < 1
+above-none = omega arith
+
+neo-makes : (young poisson : Float) → enums.neoNumber (neo-hookean.newOf young poisson) ≡ 0
+    → enums.neoFloats (neo-hookean.newOf young poisson) ≡ neo-hookean.parametersOf (neo-hookean.lawOf (lameOf young poisson))
+unfolding neo-hookean.newOf neo-hookean.fromLame
+neo-makes young poisson e =
+    let m = lameOf young poisson in
+    made enums.neoNumber enums.neoFloats (finite young && finite poisson) (finite (m .lambda) && finite (m .mu)) (neo-made.Law (neo-hookean.lawOf m)) (neo-made.Refused 3) (neo-made.Refused 1) above-zero above-none e
+
+corotated-makes : (young poisson : Float) → enums.corotatedNumber (corotated.newOf young poisson) ≡ 0
+    → enums.corotatedFloats (corotated.newOf young poisson) ≡ corotated.parametersOf (corotated.lawOf (lameOf young poisson))
+unfolding corotated.newOf corotated.fromLame
+corotated-makes young poisson e =
+    let m = lameOf young poisson in
+    made enums.corotatedNumber enums.corotatedFloats (finite young && finite poisson) (finite (m .lambda) && finite (m .mu)) (corotated-made.Law (corotated.lawOf m)) (corotated-made.Refused 3) (corotated-made.Refused 1) above-zero above-none e
+
+drucker-makes : (young poisson : Float) → enums.druckerNumber (drucker-prager.newOf young poisson) ≡ 0
+    → enums.druckerFloats (drucker-prager.newOf young poisson) ≡ drucker-prager.parametersOf (drucker-prager.defaultsOf (lambdaOf young poisson) (shearModulusOf young poisson))
+unfolding drucker-prager.madeOf
+drucker-makes young poisson e =
+    let lambda = lambdaOf young poisson in
+    let mu = shearModulusOf young poisson in
+    made (λ x. enums.druckerNumber (drucker-prager.madeOf x)) (λ x. enums.druckerFloats (drucker-prager.madeOf x)) (finite young && finite poisson) (finite lambda && finite mu)
+    (pair.Values lambda mu) (pair.Refused 3) (pair.Refused 1) above-zero above-none e
+
+monaghan-makes : (pressure : Float) (gamma : ℕ) (viscosity : Float) → enums.monaghanNumber (monaghan.newOf pressure gamma viscosity) ≡ 0
+    → enums.monaghanFloats (monaghan.newOf pressure gamma viscosity) ≡ pressure ∷ viscosity ∷ one ∷ []
+unfolding monaghan.newOf
+monaghan-makes pressure gamma viscosity e = made-once enums.monaghanNumber enums.monaghanFloats (finite pressure && finite viscosity)
+    (monaghan-made.Law (record { pressure0 = pressure; gamma = gamma; viscosity = viscosity; «max_neg_pressure» = one })) (monaghan-made.Refused 1) above-none e
+
+limits-makes : (principal shear : Float) → enums.limitsNumber (limitsOf principal shear) ≡ 0 → enums.limitsFloats (limitsOf principal shear) ≡ principal ∷ shear ∷ []
+unfolding limitsOf
+limits-makes principal shear e = made-once enums.limitsNumber enums.limitsFloats (finite principal && finite shear)
+    (limits-made.Limits (record { «max_principal_stress» = principal; «max_shear_stress» = shear })) (limits-made.Refused 1) above-none e
+
+rankine-makes : (a : RankineArguments) → enums.rankineNumber (rankine-law.madeOf a) ≡ 0 → enums.rankineFloats (rankine-law.madeOf a) ≡ enums.ofRankine (rankine-law.lawOf a)
+unfolding rankine-law.madeOf
+rankine-makes a e =
+    let p = rankine-law.lawOf a in
+    made enums.rankineNumber enums.rankineFloats (rankine-law.elasticFinite a && rankine-law.parametersFinite p) (rankine-law.moduliFinite p) (rankine-made.Law p) (rankine-made.Refused 3) (rankine-made.Refused 1) above-zero above-none e
+
+nacc-makes : (a : NaccArguments) → enums.naccNumber (nacc-law.madeOf a) ≡ 0 → enums.naccFloats (nacc-law.madeOf a) ≡ enums.ofNacc (nacc-law.lawOf a)
+unfolding nacc-law.madeOf
+nacc-makes a e =
+    let p = nacc-law.lawOf a in
+    made enums.naccNumber enums.naccFloats (nacc-law.elasticFinite a && nacc-law.parametersFinite p) (nacc-law.moduliFinite p) (nacc-made.Law p) (nacc-made.Refused 3) (nacc-made.Refused 1) above-zero above-none e
+
 -- ---- all of them
 pub laws : Laws
 laws =
     record {
-      neo-new = neo-gives;
-      corotated-new = corotated-gives;
-      drucker-new = drucker-gives;
-      monaghan-new = monaghan-gives;
-      limits-new = limits-gives;
-      rankine-new = rankine-gives;
-      nacc-with-m = with-m-gives;
-      nacc-new = new-gives;
+      neo-new = λ young poisson. coded enums.neoNumber neo-made.Refused neo-coded (neo-hookean.newOf young poisson) (path (moduliWalk young poisson)) (neo-gives young poisson);
+      corotated-new = λ young poisson. coded enums.corotatedNumber corotated-made.Refused corotated-coded (corotated.newOf young poisson) (path (moduliWalk young poisson)) (corotated-gives young poisson);
+      drucker-new = λ young poisson. coded enums.druckerNumber drucker-made.Refused drucker-coded (drucker-prager.newOf young poisson) (path (moduliWalk young poisson)) (drucker-gives young poisson);
+      monaghan-new = λ pressure gamma viscosity. coded enums.monaghanNumber monaghan-made.Refused monaghan-coded (monaghan.newOf pressure gamma viscosity) (path (plainWalk pressure viscosity)) (monaghan-gives pressure gamma viscosity);
+      limits-new = λ principal shear. coded enums.limitsNumber limits-made.Refused limits-coded (limitsOf principal shear) (path (plainWalk principal shear)) (limits-gives principal shear);
+      rankine-new = λ a. coded enums.rankineNumber rankine-made.Refused rankine-coded (rankine-law.madeOf a) (path (rankineNew a)) (rankine-gives a);
+      nacc-with-m = λ a. coded enums.naccNumber nacc-made.Refused nacc-coded (nacc-law.madeOf a) (path (naccNew a)) (with-m-gives a);
+      nacc-new = λ a. coded enums.naccNumber nacc-made.Refused nacc-coded (nacc-law.angledOf (nacc-law.madeOf a)) (path (naccAngled a)) (new-gives a);
+      neo-values = neo-makes;
+      corotated-values = corotated-makes;
+      drucker-values = drucker-makes;
+      monaghan-values = monaghan-makes;
+      limits-values = limits-makes;
+      rankine-values = rankine-makes;
+      nacc-values = nacc-makes;
       update = λ m u vt s. updates u vt s m;
       rankine-update = λ p u vt s. rankine-updates u vt s p;
       nacc-update = λ p u vt s. nacc-updates u vt s p;

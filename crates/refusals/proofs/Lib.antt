@@ -3,6 +3,7 @@ pub mod Numbers
 pub mod Inputs
 pub mod Answers
 pub mod EnergyModes
+pub mod Enums
 pub mod Updates
 pub mod Failure
 pub mod Passes

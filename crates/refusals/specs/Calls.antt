@@ -25,8 +25,7 @@ use Rattle.walk.specs.Answers.{returned, returnedMatrix}
 use Rattle.plasticity_drucker_prager.specs.declared.DruckerPragerPlasticity.{DruckerPragerPlasticity}
 use Rattle.plasticity_drucker_prager.specs.Alpha.{alphaCall}
 use Rattle.failure_maximum_stress.specs.declared.MaximumStressFailure.{MaximumStressFailure}
-use Rattle.failure_maximum_stress.specs.declared.Verdict.the-variants as verdict
-use Rattle.failure_maximum_stress.specs.Failure.{verdictOf}
+use Rattle.failure_maximum_stress.specs.Failure.{exceedsOf, verdictOf}
 use Rattle.elasticity_neo_hookean.specs.declared.NeoHookeanElasticity.{NeoHookeanElasticity}
 use Rattle.elasticity_neo_hookean.specs.Stress as neo-stress
 use Rattle.elasticity_neo_hookean.specs.Energy as neo-energy
@@ -38,6 +37,7 @@ use Rattle.eos_monaghan_sph.specs.Pressure as monaghan
 use Rattle.eos_monaghan_sph.specs.Stress as monaghan-stress
 use Rattle.eos_monaghan_sph.specs.Timestep as monaghan-timestep
 use Rattle.refusals.specs.Refusals.{Numbers, Gives}
+use Rattle.refusals.specs.Enums.{verdictNumber, verdictFailed}
 
 abbrev pub GivesPair : Pair → List Met → Type 0
 GivesPair e ms = Numbers (λ n. e ≡ pair.Refused n) ms
@@ -75,7 +75,8 @@ pub record Calls : Type 0 where
   pub tensor : (l : List Float) (ok : Bool) → allOf finite l ≡ ok → (t : DecomposedTensor) → Beside (givenTensor ok (answeredTensor t) .refusal) (path (tensorWalk l t))
   pub quadratic : (a b c : Float) → GivesPair (solveQuadraticOf a b c) (path (quadraticWalk a b c))
   pub alpha : (p : DruckerPragerPlasticity) (q : Float) → Gives (answerAs (result (alphaCall p q))) (path (alphaCall p q))
-  pub verdicts : (l : MaximumStressFailure) (s : List Float) → Numbers (λ n. verdictOf l s ≡ verdict.Refused n) (path (verdictWalk l s))
+  pub verdicts : (l : MaximumStressFailure) (s : List Float) → Beside (verdictNumber (verdictOf l s)) (path (verdictWalk l s))
+  pub verdict-failed : (l : MaximumStressFailure) (s : List Float) → verdictNumber (verdictOf l s) ≡ 0 → verdictFailed (verdictOf l s) ≡ exceedsOf l s
   pub neo-kirchhoff : (p : NeoHookeanElasticity) (phase h : Float) (f : List (List Float))
       → Beside (neo-stress.kirchhoffStress p phase h f .refusal) (path (neo-stress.kirchhoffWalk p phase h f))
   pub neo-fpk : (p : NeoHookeanElasticity) (f : List (List Float)) (h : Float) → Beside (neo-stress.fpkStress p f h .refusal) (path (neo-stress.fpkWalk p f h))

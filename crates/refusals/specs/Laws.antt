@@ -3,42 +3,36 @@ use mathlib.Core.Path.{_≡_}
 use mathlib.Core.List.{List, [], _∷_}
 use Prim.Native.Nat.{ℕ}
 use lib.Ieee.{Float}
-use Rattle.tensor.specs.Matrix.{div}
-use Rattle.physics.specs.Physics.{lambdaOf, shearModulusOf}
+use Rattle.tensor.specs.Matrix.{one, div}
+use Rattle.physics.specs.Physics.{lambdaOf, shearModulusOf, lameOf}
 use Rattle.plasticity.specs.declared.Outcome.the-variants as outcome
 use Rattle.plasticity.specs.declared.State.{State}
 use Rattle.walk.specs.Expr.{num, _-_, _*_, _/_, value}
 use Rattle.walk.specs.Walk.{Walk, sin, root, inputs, ask, results, end, result}
 use Rattle.walk.specs.Exact.{path}
 use Rattle.walk.specs.Answers.{returned}
-use Rattle.plasticity_rankine.specs.declared.Made.the-variants as rankine-made
 use Rattle.plasticity_rankine.specs.declared.RankineArguments.{RankineArguments}
 use Rattle.plasticity_rankine.specs.declared.RankinePlasticity.{RankinePlasticity}
 use Rattle.plasticity_rankine.specs.Law as rankine-law
 use Rattle.plasticity_rankine.specs.Projection as rankine-projection
 use Rattle.plasticity_rankine.specs.Rankine as rankine
 use Rattle.plasticity_drucker_prager.specs.declared.DruckerPragerPlasticity.{DruckerPragerPlasticity}
-use Rattle.plasticity_drucker_prager.specs.declared.Made.the-variants as drucker-made
 use Rattle.plasticity_drucker_prager.specs.Law as drucker-prager
 use Rattle.plasticity_drucker_prager.specs.Alpha.{dim}
 use Rattle.plasticity_drucker_prager.specs.Projection as drucker-projection
-use Rattle.plasticity_nacc.specs.declared.Made.the-variants as nacc-made
 use Rattle.plasticity_nacc.specs.declared.NaccArguments.{NaccArguments}
 use Rattle.plasticity_nacc.specs.declared.NaccPlasticity.{NaccPlasticity}
 use Rattle.plasticity_nacc.specs.Law as nacc-law
 use Rattle.plasticity_nacc.specs.Nacc as nacc
-use Rattle.failure_maximum_stress.specs.declared.Made.the-variants as limits-made
 use Rattle.failure_maximum_stress.specs.Failure.{limitsOf}
-use Rattle.elasticity_neo_hookean.specs.declared.Made.the-variants as neo-made
 use Rattle.elasticity_neo_hookean.specs.Law as neo-hookean
-use Rattle.elasticity_corotated_linear.specs.declared.Made.the-variants as corotated-made
 use Rattle.elasticity_corotated_linear.specs.Law as corotated
-use Rattle.eos_monaghan_sph.specs.declared.Made.the-variants as monaghan-made
 use Rattle.eos_monaghan_sph.specs.Pressure as monaghan
 use Rattle.model.specs.declared.Model.{Model}
 use Rattle.model.specs.Model.{modelUpdate}
 use Rattle.refusals.specs.Refusals.{Numbers, Refuses, walkOf}
 use Rattle.refusals.specs.Calls.{Beside, pairWalk}
+use Rattle.refusals.specs.Enums.{neoNumber, neoFloats, corotatedNumber, corotatedFloats, druckerNumber, druckerFloats, monaghanNumber, monaghanFloats, limitsNumber, limitsFloats, rankineNumber, rankineFloats, ofRankine, naccNumber, naccFloats, ofNacc}
 
 -- ---- `new` and `with_m`: 1 for an argument, then 3 for a modulus
 -- lambda and mu of the two arguments
@@ -66,15 +60,27 @@ naccAngled a =
     returned 4 (r * two * s / (dim - s) * dim / r)))))
 
 pub record Laws : Type 0 where
-  pub neo-new : (young poisson : Float) → Numbers (λ n. neo-hookean.newOf young poisson ≡ neo-made.Refused n) (path (moduliWalk young poisson))
-  pub corotated-new : (young poisson : Float) → Numbers (λ n. corotated.newOf young poisson ≡ corotated-made.Refused n) (path (moduliWalk young poisson))
-  pub drucker-new : (young poisson : Float) → Numbers (λ n. drucker-prager.newOf young poisson ≡ drucker-made.Refused n) (path (moduliWalk young poisson))
+  pub neo-new : (young poisson : Float) → Beside (neoNumber (neo-hookean.newOf young poisson)) (path (moduliWalk young poisson))
+  pub corotated-new : (young poisson : Float) → Beside (corotatedNumber (corotated.newOf young poisson)) (path (moduliWalk young poisson))
+  pub drucker-new : (young poisson : Float) → Beside (druckerNumber (drucker-prager.newOf young poisson)) (path (moduliWalk young poisson))
   pub monaghan-new : (pressure : Float) (gamma : ℕ) (viscosity : Float)
-      → Numbers (λ n. monaghan.newOf pressure gamma viscosity ≡ monaghan-made.Refused n) (path (plainWalk pressure viscosity))
-  pub limits-new : (principal shear : Float) → Numbers (λ n. limitsOf principal shear ≡ limits-made.Refused n) (path (plainWalk principal shear))
-  pub rankine-new : (a : RankineArguments) → Numbers (λ n. rankine-law.madeOf a ≡ rankine-made.Refused n) (path (rankineNew a))
-  pub nacc-with-m : (a : NaccArguments) → Numbers (λ n. nacc-law.madeOf a ≡ nacc-made.Refused n) (path (naccNew a))
-  pub nacc-new : (a : NaccArguments) → Numbers (λ n. nacc-law.angledOf (nacc-law.madeOf a) ≡ nacc-made.Refused n) (path (naccAngled a))
+      → Beside (monaghanNumber (monaghan.newOf pressure gamma viscosity)) (path (plainWalk pressure viscosity))
+  pub limits-new : (principal shear : Float) → Beside (limitsNumber (limitsOf principal shear)) (path (plainWalk principal shear))
+  pub rankine-new : (a : RankineArguments) → Beside (rankineNumber (rankine-law.madeOf a)) (path (rankineNew a))
+  pub nacc-with-m : (a : NaccArguments) → Beside (naccNumber (nacc-law.madeOf a)) (path (naccNew a))
+  pub nacc-new : (a : NaccArguments) → Beside (naccNumber (nacc-law.angledOf (nacc-law.madeOf a))) (path (naccAngled a))
+  -- ---- what is made where nothing is refused
+  pub neo-values : (young poisson : Float) → let m = neo-hookean.newOf young poisson in
+      neoNumber m ≡ 0 → neoFloats m ≡ neo-hookean.parametersOf (neo-hookean.lawOf (lameOf young poisson))
+  pub corotated-values : (young poisson : Float) → let m = corotated.newOf young poisson in
+      corotatedNumber m ≡ 0 → corotatedFloats m ≡ corotated.parametersOf (corotated.lawOf (lameOf young poisson))
+  pub drucker-values : (young poisson : Float) → let m = drucker-prager.newOf young poisson in
+      druckerNumber m ≡ 0 → druckerFloats m ≡ drucker-prager.parametersOf (drucker-prager.defaultsOf (lambdaOf young poisson) (shearModulusOf young poisson))
+  pub monaghan-values : (pressure : Float) (gamma : ℕ) (viscosity : Float) → let m = monaghan.newOf pressure gamma viscosity in
+      monaghanNumber m ≡ 0 → monaghanFloats m ≡ pressure ∷ viscosity ∷ one ∷ []
+  pub limits-values : (principal shear : Float) → limitsNumber (limitsOf principal shear) ≡ 0 → limitsFloats (limitsOf principal shear) ≡ principal ∷ shear ∷ []
+  pub rankine-values : (a : RankineArguments) → rankineNumber (rankine-law.madeOf a) ≡ 0 → rankineFloats (rankine-law.madeOf a) ≡ ofRankine (rankine-law.lawOf a)
+  pub nacc-values : (a : NaccArguments) → naccNumber (nacc-law.madeOf a) ≡ 0 → naccFloats (nacc-law.madeOf a) ≡ ofNacc (nacc-law.lawOf a)
   -- ---- one update
   pub update : (m : Model) (u vt : List (List Float)) (s : State) → Refuses (modelUpdate m u vt s .outcome) (path (walkOf m u vt s))
   pub rankine-update : (p : RankinePlasticity) (u vt : List (List Float)) (s : State) → Refuses (rankine.rankineUpdate p u vt s .outcome) (path (rankine.rankineWalk p u vt s))

@@ -1,4 +1,5 @@
 pub mod Refusals
+pub mod Enums
 pub mod Calls
 pub mod Laws
 pub mod Ran

@@ -38,6 +38,7 @@ use Rattle.solid.specs.Told.{Other, ToldNumber, ToldMatrix, ToldJudged, 
 use Rattle.solid.proofs.NeoHookeanStored as neo-stored
 use Rattle.solid.proofs.CorotatedStored as corotated-stored
 use Rattle.solid.proofs.Numbers.{all-told}
+use Rattle.solid.proofs.Entries.{Ends, diagonal-finite, neo-ends, corotated-ends}
 use Rattle.solid.proofs.Ways.{all-judged}
 
 -- ---- what stops a walk without inputs
@@ -96,12 +97,13 @@ module _ (r : List ℕ) where
   matrix-told ok l w i k = all-told refusedMatrix (λ a n. a .refusal ≡ n) (λ m n. Iff·rfl) (matrixAs (result (inputs l w))) ok r (λ q. matrix-other l (k q) w i)
 
   -- with the verdict
-  judged-told : (ok : Bool) (l : List Float) (w : Walk (List (List Float))) → Inner w → (ok && recordFinite r ≡ true → allOf finite l ≡ true) → (b : MaximumStressFailure)
+  judged-told : (ok : Bool) (l : List Float) (w : Walk (List (List Float))) → Inner w → Ends w → (ok && recordFinite r ≡ true → allOf finite l ≡ true) → (b : MaximumStressFailure)
       → ToldJudged b (ofRecord refusedJudged (ok && limitsFinite b) r (judgedOf b (matrixAs (result (inputs l w))))) (matrixAs (result (inputs l w))) (ok && limitsFinite b) r
-  judged-told ok l w i k b =
+  judged-told ok l w i d k b =
       all-judged b (matrixAs (result (inputs l w))) (ok && limitsFinite b) r
       (λ q. and-both ok (limitsFinite b) (and-both (ok && limitsFinite b) (recordFinite r) q .0) .1)
       (λ q n e. let f = k (without ok (limitsFinite b) (recordFinite r) q) in (matrix-other l f w i n e, matrix-not-fourteen l f w n e))
+      (diagonal-finite (inputs l w) d)
 
   -- and a number
   number-told : (ok : Bool) (l : List Float) (w : Walk Float) → Inner w → (ok && recordFinite r ≡ true → allOf finite l ≡ true)
@@ -114,7 +116,7 @@ module _ (r : List ℕ) where
       let ok = neo.lawFinite p in
       let l = neo.floats p (phase ∷ h ∷ []) f in
       record {
-        judged = judged-told ok l (neo-stress.kirchhoffSteps p phase h f) (neo-laws.kirchhoff-inner p phase h f) (neo-stored.all-finite p r);
+        judged = judged-told ok l (neo-stress.kirchhoffSteps p phase h f) (neo-laws.kirchhoff-inner p phase h f) (neo-ends p phase h f) (neo-stored.all-finite p r);
         fpk = matrix-told ok (neo.floats p (h ∷ []) f) (neo-stress.fpkSteps p f h) (neo-laws.fpk-inner p f h) (neo-stored.fpk-finite p r);
         energy = λ m. number-told ok l (neo-energy.energySteps m p phase h f) (neo-laws.energy-inner m p phase h f) (neo-stored.all-finite p r);
         pos-energy = number-told ok l (neo-energy.posSteps p phase h f) (neo-laws.pos-inner p phase h f) (neo-stored.all-finite p r);
@@ -127,7 +129,7 @@ module _ (r : List ℕ) where
       let u = uAt r in
       let vt = vtAt r in
       record {
-        judged = judged-told ok (corotated.floats p ((phase ∷ h ∷ []) ++ flat f ++ flat u ++ s ++ flat vt)) (corotated-stress.stressSteps p phase h f u s vt) (corotated-laws.stress-inner p phase h f u s vt) (corotated-stored.all-finite p r);
+        judged = judged-told ok (corotated.floats p ((phase ∷ h ∷ []) ++ flat f ++ flat u ++ s ++ flat vt)) (corotated-stress.stressSteps p phase h f u s vt) (corotated-laws.stress-inner p phase h f u s vt) (corotated-ends p phase h f u s vt) (corotated-stored.all-finite p r);
         energy = number-told ok (corotated.floats p (s ++ (h ∷ []))) (returned 1 (corotated-energy.density p s h)) tt (corotated-stored.energy-finite p r);
         pos-energy = number-told ok (corotated.floats p (flat f ++ s ++ (h ∷ []))) (corotated-energy.posSteps p f s h) (corotated-laws.pos-inner p s h f) (corotated-stored.pos-finite p r);
       }

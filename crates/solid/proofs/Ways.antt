@@ -150,7 +150,7 @@ module _ (l : MaximumStressFailure) (x : MatrixAnswer) where
 
   -- ---- of a record
   module _ (ok : Bool) (r : List ℕ) (limits : ok && recordFinite r ≡ true → limitsFinite l ≡ true)
-      (law : ok && recordFinite r ≡ true → (n : ℕ) → x .refusal ≡ n → Other n × (n ≡ notAccepted → ⊥)) where
+      (law : ok && recordFinite r ≡ true → (n : ℕ) → x .refusal ≡ n → Other n × (n ≡ notAccepted → ⊥)) (finite-entries : rowFinite (diagonal x) ≡ true) where
     abbrev a : StressVerdict
     a = ofRecord refusedJudged ok r (judgedOf l x)
 
@@ -194,5 +194,5 @@ module _ (l : MaximumStressFailure) (x : MatrixAnswer) where
           );
       both = λ e. let y = front .other 0 other-zero .0 e in worked (y .0) ∙ both-given (was (y .0 .1)) (y .1);
       neither = stands-alone;
-      on-diagonal = λ c z q z₁ z₂ z₃. worked c ∙ diagonal-judged z (limits (c .1)) q z₁ z₂ z₃;
+      on-diagonal = λ c z z₁ z₂ z₃. worked c ∙ diagonal-judged z (limits (c .1)) finite-entries z₁ z₂ z₃;
     }

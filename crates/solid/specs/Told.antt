@@ -11,7 +11,6 @@ use Rattle.answers.specs.Refusals.{notFinite, wrongLength, wrongDeterminant, no
 use Rattle.answers.specs.declared.Answer.{Answer}
 use Rattle.answers.specs.declared.Answer.the-variants.{Refused}
 use Rattle.tensor.specs.Matrix.{three, at, ofRows}
-use Rattle.tensor.specs.Finite.{rowFinite}
 use Rattle.tensor.specs.declared.MatrixAnswer.{MatrixAnswer}
 use Rattle.factors.specs.PrincipalValues.{principalOf, principalAccepted}
 use Rattle.factors.specs.Diagonal.{Zero}
@@ -85,8 +84,8 @@ pub record ToldJudged (l : MaximumStressFailure) (a : StressVerdict) (x : Matrix
   pub both : a .refusal ≡ 0 → a ≡ together x (exceedsOf l (principals x))
   -- beside a refusal nothing stands
   pub neither : (a .refusal ≡ 0 → ⊥) → a ≡ refusedJudged (a .refusal)
-  -- a diagonal stress, its lower triangle zeros of either sign, is judged by its entries
-  pub on-diagonal : Clear ok r → x .refusal ≡ 0 → rowFinite (diagonal x) ≡ true → Zero (entry x 1 0) → Zero (entry x 2 0) → Zero (entry x 2 1)
+  -- a diagonal stress, its lower triangle zeros of either sign, is always accepted, and judged by its entries
+  pub on-diagonal : Clear ok r → x .refusal ≡ 0 → Zero (entry x 1 0) → Zero (entry x 2 0) → Zero (entry x 2 1)
       → a ≡ together x (exceedsOf l (diagonal x))
 
 pub record NeoHookeanTold (p : NeoHookeanElasticity) (r : List ℕ) : Type 0 where

@@ -40,7 +40,7 @@ fn answered_tensor(t: DecomposedTensor) -> DecomposedAnswer
             tensor: t,
         }
     } else {
-        refused_tensor(3)
+        refused_tensor(answers::NO_NUMBER)
     }
 }
 
@@ -51,7 +51,7 @@ impl DecomposedTensor {
         if matrix::mat_finite(m) {
             answered_tensor(plain::decompose(m))
         } else {
-            refused_tensor(1)
+            refused_tensor(answers::NOT_FINITE)
         }
     }
 
@@ -71,8 +71,15 @@ impl DecomposedTensor {
         if tensor_finite(self) & tensor_finite(rhs) {
             answered_tensor(plain::add(self, rhs))
         } else {
-            refused_tensor(1)
+            refused_tensor(answers::NOT_FINITE)
         }
+    }
+
+    // `self += rhs`: what self holds after it, or the refusal of the sum.
+    pub fn add_assign(self, rhs: DecomposedTensor) -> DecomposedAnswer
+        ensures { λ r. ⌜ r ≡ givenTensor (tensorFinite self && tensorFinite rhs) (answeredTensor (sumOf self rhs)) ⌝ }
+    {
+        self.add(rhs)
     }
 
     // The tensor times a vector.
