@@ -8,7 +8,7 @@ pub extern "C" fn pasoletu_clear_tallies(particles: u64, zones: &[u64], tallies:
     ensures { λ r. ⌜ r ≡ cleared particles (now (zones .entry)) (now (tallies .entry)) ⌝ }
     ensures { λ r. ⌜ now (tallies .exit) ≡ clearedWords particles (now (zones .entry)) (now (tallies .entry)) ⌝ }
 {
-    tallies::clear(particles as usize, zones, tallies)
+    tallies::clear_words(particles as usize, zones, tallies)
 }
 
 #[no_mangle]
@@ -23,7 +23,7 @@ pub extern "C" fn pasoletu_move_particle(
     ensures { λ r. ⌜ now (zones .exit) ≡ movedZones particles particle zone (now (zones .entry)) (now (tallies .entry)) ⌝ }
     ensures { λ r. ⌜ now (tallies .exit) ≡ movedWords particles particle zone (now (zones .entry)) (now (tallies .entry)) ⌝ }
 {
-    tallies::move_particle(
+    tallies::move_particle_words(
         particles as usize,
         particle as usize,
         zone as usize,
@@ -51,7 +51,7 @@ pub extern "C" fn pasoletu_pass_by_zone(
         & tallies::whole_words(tallies.len())
     {
         if model::known(model, parameters) {
-            return tallies::pass(
+            return tallies::pass_words(
                 model::model_of(model, parameters),
                 records,
                 answers,
@@ -87,7 +87,7 @@ pub extern "C" fn pasoletu_pass_with_failure_by_zone(
         & tallies::whole_words(tallies.len())
     {
         if model::known(model, parameters) & model::is_flag(record::word(corotated, 0)) {
-            return tallies::pass_with_failure(
+            return tallies::pass_with_failure_words(
                 model::model_of(model, parameters),
                 model::limits(limits),
                 model::corotated(corotated),

@@ -1,16 +1,19 @@
 -- Tallies by zone, one changed at a time. Assumes nothing.
 use mathlib.Core.Path.{_≡_, refl, sym, ap, _∙_}
-use mathlib.Core.Bool.{Bool, true, false}
+use mathlib.Core.Bool.{Bool, true, false, cond}
 use mathlib.Core.List.{List, [], _∷_}
-use Prim.Native.Nat.{ℕ, zero, suc, _+_, _≤_, _<_}
+use Prim.Native.Nat.{ℕ, zero, suc, _+_, _/_, _<_}
 use native.Mathlib.Nat.{not-suc-le-zero, le-of-suc-le-suc}
 use native.Mathlib.Omega.{arith}
 use lib.Dec.{eqb}
-use lib.ListN.{length, getD, set, replicate, length-set, length-replicate, getD-replicate}
+use lib.ListN.{length, getD, set, length-set, length-replicate}
 use lib.Seq.{ext-getD, getD-set-same, getD-set-other}
 use borrow.Author.Tests.{eqb-true, eqb-false}
+use Rattle.record.specs.Layout.{floats}
+use Rattle.particles.specs.Pass.{Worked}
 use Rattle.tallies.specs.declared.tally.Tally.{Tally}
-use Rattle.tallies.specs.Tallies.{none, spare, byZone, recount, recounted, clearedAt}
+use Rattle.tallies.specs.Zones.{zonesFit, moveFits}
+use Rattle.tallies.specs.Tallies.{none, spare, byZone, recount, recounted, clearedAt, talliedIn, clearTallies, moveTallies, passGoes, passTallies}
 
 get-from : (f : ℕ → Tally → Tally) (k : ℕ) (ts : List Tally) (z j : ℕ) → j ≡ k + z → z < length ts → getD (byZone f k ts) z none ≡ f j (getD ts z none)
 unfolding byZone
@@ -55,14 +58,20 @@ by-by f g ts = is-by (λ z t. g z (f z t)) (byZone g 0 (byZone f 0 ts)) ts (leng
 pub recounted-twice : (zones : List ℕ) (ts : List Tally) → recounted zones (recounted zones ts) ≡ recounted zones ts
 recounted-twice zones ts = by-by (recount zones) (recount zones) ts
 
--- no tallies, counted afresh, are as many tallies cleared
-cleared-of : (zones : List ℕ) (ts : List Tally) (n : ℕ) → length ts ≡ n → recounted zones (replicate n none) ≡ byZone (clearedAt zones) 0 ts
-cleared-of zones ts n e = is-by (clearedAt zones) (recounted zones (replicate n none)) ts (length-by (recount zones) (replicate n none) ∙ length-replicate n none ∙ sym e)
-    (λ z h. let k : z < n = omega (arith, h, e) in get-by (recount zones) (replicate n none) z (rw (length-replicate n none) k) ∙ ap (recount zones z) (getD-replicate n z none none k))
+-- as many after a call as before it
+pub either-length : (b : Bool) (us ts : List Tally) → length us ≡ length ts → length (cond b us ts) ≡ length ts
+either-length true us ts e = e
+either-length false us ts e = refl
 
-pub cleared-by : (zones : List ℕ) (ts : List Tally) → length ts ≡ 256 → recounted zones spare ≡ byZone (clearedAt zones) 0 ts
-unfolding spare
-cleared-by zones ts e = cleared-of zones ts 256 e
+pub clear-length : (particles : ℕ) (zones : List ℕ) (n : ℕ) (ts : List Tally) → length (clearTallies particles zones n ts) ≡ length ts
+clear-length particles zones n ts = either-length (zonesFit particles zones n) _ ts (length-by (clearedAt zones) ts)
+
+pub move-length : (particles p z : ℕ) (zones : List ℕ) (n : ℕ) (ts : List Tally) → length (moveTallies particles p z zones n ts) ≡ length ts
+move-length particles p z zones n ts = either-length (moveFits particles p z zones n) _ ts (length-by (recount (set zones p z)) ts)
+
+pub pass-length : (law : List ℕ → Worked) (xs out zones : List ℕ) (n : ℕ) (ts : List Tally) → length (passTallies law xs out zones n ts) ≡ length ts
+pass-length law xs out zones n ts =
+    either-length (passGoes xs out zones n ts) _ ts (length-by (talliedIn law xs zones (length xs / floats)) (recounted zones ts) ∙ length-by (recount zones) ts)
 
 pub spare-length : length spare ≡ 256
 unfolding spare

@@ -7,7 +7,7 @@ use Prim.Native.Nat.{ℕ, zero, suc, _+_, _/_, _≤_, _<_}
 use native.Mathlib.Omega.{arith}
 use lib.Dec.{eqb, leb, ltb}
 use lib.ListN.{length, getD}
-use borrow.Author.Tests.{leb-true, leb-false, ltb-true, ltb-false, eqb-true, eqb-false, le-leb, lt-leb, le-ltb, ne-eqb}
+use borrow.Author.Tests.{leb-false, ltb-true, ltb-false, eqb-false}
 use Rattle.numbers.proofs.Laws.{and-both}
 use Rattle.answers.specs.Refusals.{wrongLength, outOfRange, tallyFull}
 use Rattle.record.specs.Layout.{floats}

@@ -5,32 +5,27 @@ use mathlib.Core.Bool.{Bool, true, false, cond, _&&_, false≢true}
 use mathlib.Core.List.{List, [], _∷_}
 use Prim.Native.Nat.{ℕ, _/_, _≤_, _<_}
 use native.Mathlib.Omega.{arith}
-use lib.Dec.{eqb}
-use lib.ListN.{length, getD, set}
+use lib.ListN.{length, getD}
 use Rattle.answers.specs.Refusals.{wrongLength, outOfRange, tallyFull}
 use Rattle.record.specs.Layout.{floats}
-use Rattle.particles.specs.Pass.{Worked, worked, answers, wellSized}
+use Rattle.particles.specs.Pass.{Worked, wellSized}
 use Rattle.particles.specs.Step.{stepLaw}
 use Rattle.tallies.specs.declared.tally.Tally.{Tally}
 use Rattle.tallies.specs.Zones.{listed, zonesFit, moveFits}
-use Rattle.tallies.specs.Tallies.{none, byZone, recounted, clearedAt, recount, talliedIn, clearRefusal, clearTallies, moveRefusal, moveZones, moveTallies, passZonesFit, passRoom, passRefusal, passGoes, passTallies}
-use Rattle.tallies.specs.Words.{zonesOf, whole, tallyAt, talliesIn, allTallies, written, cleared, clearedWords, moved, movedZones, movedWords, passed, passedRecords, passedAnswers, passedWords}
+use Rattle.tallies.specs.Tallies.{none, clearRefusal, clearTallies, moveRefusal, moveZones, moveTallies, passZonesFit, passRoom, passRefusal, passGoes, passTallies}
+use Rattle.tallies.specs.Words.{zonesOf, whole, allTallies, written, cleared, clearedWords, moved, movedZones, movedWords, passed, passedRecords, passedAnswers, passedWords}
 use Rattle.tallies.specs.Exactly.{OutOfRange, Full}
-use Rattle.tallies.specs.Sequence.{Call, clear, move, pass, Kept, after, Event, log, afterAll, logAll, Counted}
-use Rattle.tallies.specs.HostSequence.{KeptWords, keptOf, answerOf, afterWords, afterAllWords, logAllWords, AllCountedWords, AllNowWords, Asked, afterAsked, afterAllAsked, going}
-use Rattle.tallies.proofs.ByZone.{length-by}
+use Rattle.tallies.specs.Sequence.{Call, clear, move, pass, Kept, after, Event, log, afterAll, logAll}
+use Rattle.tallies.specs.HostSequence.{KeptWords, keptOf, answerOf, afterWords, afterAllWords, logAllWords, AllCountedWords, AllNowWords, Asked, afterAllAsked, going}
+use Rattle.tallies.proofs.ByZone.{clear-length, move-length, pass-length}
 use Rattle.tallies.proofs.WordLaws.{tallies-length}
-use Rattle.tallies.proofs.WordsBack.{tally-read, written-length, written-whole, written-back}
+use Rattle.tallies.proofs.WordsBack.{tally-read, written-whole, written-back}
 use Rattle.tallies.proofs.Exactly.{clear-twelve, move-twelve, pass-twelve, pass-thirteen}
 use Rattle.tallies.proofs.Sequence.{AllCounted, AllNow, refusalOf, since-cleared, now-counted}
 
 -- ---- one call on words is the call on the tallies that they are
 kept-is : (z z′ : List ℕ) (ts ts′ : List Tally) → z ≡ z′ → ts ≡ ts′ → _≡_ {A = Kept} (record { zones = z; tallies = ts }) (record { zones = z′; tallies = ts′ })
 kept-is z z′ ts ts′ e q = rw (e, q) refl
-
-either-length : (b : Bool) (us ts : List Tally) (n : ℕ) → length us ≡ n → length ts ≡ n → length (cond b us ts) ≡ n
-either-length true us ts n e q = e
-either-length false us ts n e q = q
 
 twice : (w b : Bool) (us ts : List Tally) → w ≡ true → cond (w && b) (cond b us ts) ts ≡ cond b us ts
 twice true true us ts e = refl
@@ -47,23 +42,21 @@ module _ (ws : List ℕ) (w : whole ws ≡ true) where
   many : length ts ≡ n
   many = tallies-length ws n
 
-  -- a call that changes them by zone where it goes
-  went : (b : Bool) (us : List Tally) → length us ≡ n → allTallies (written (whole ws && b) (cond b us ts) ws) ≡ cond b us ts
-  went b us e = written-back ws w (whole ws && b) (cond b us ts) (either-length b us ts n e many) ∙ twice (whole ws) b us ts w
+  -- what a call makes of them where it goes, it makes of the words
+  went : (b : Bool) (us : List Tally) → length (cond b us ts) ≡ length ts → allTallies (written (whole ws && b) (cond b us ts) ws) ≡ cond b us ts
+  went b us e = written-back ws w (whole ws && b) (cond b us ts) (e ∙ many) ∙ twice (whole ws) b us ts w
 
   as-cleared : (m : ℕ) (zones : List ℕ) → allTallies (clearedWords m zones ws) ≡ clearTallies m zones (length ts) ts
-  as-cleared m zones = went (zonesFit m zones n) (byZone (clearedAt zones) 0 ts) (length-by (clearedAt zones) ts ∙ many) ∙ ap (λ (k : ℕ). clearTallies m zones k ts) (sym many)
+  as-cleared m zones = went (zonesFit m zones n) _ (clear-length m zones n ts) ∙ ap (λ (k : ℕ). clearTallies m zones k ts) (sym many)
 
   as-moved : (m p z : ℕ) (zones : List ℕ) → allTallies (movedWords m p z zones ws) ≡ moveTallies m p z zones (length ts) ts
-  as-moved m p z zones = went (moveFits m p z zones n) (recounted (set zones p z) ts) (length-by (recount (set zones p z)) ts ∙ many) ∙ ap (λ (k : ℕ). moveTallies m p z zones k ts) (sym many)
+  as-moved m p z zones = went (moveFits m p z zones n) _ (move-length m p z zones n ts) ∙ ap (λ (k : ℕ). moveTallies m p z zones k ts) (sym many)
 
   as-moved-zones : (m p z : ℕ) (zones : List ℕ) → movedZones m p z zones ws ≡ moveZones m p z zones (length ts)
   as-moved-zones m p z zones = ap (λ (b : Bool). cond b (moveZones m p z zones n) zones) w ∙ ap (moveZones m p z zones) (sym many)
 
   as-passed : (law : List ℕ → Worked) (xs out zones : List ℕ) → allTallies (passedWords law xs out zones ws) ≡ passTallies law xs out zones (length ts) ts
-  as-passed law xs out zones =
-      went (passGoes xs out zones n ts) (byZone (talliedIn law xs zones (length xs / floats)) 0 (recounted zones ts)) (length-by (talliedIn law xs zones (length xs / floats)) (recounted zones ts) ∙ length-by (recount zones) ts ∙ many)
-      ∙ ap (λ (k : ℕ). passTallies law xs out zones k ts) (sym many)
+  as-passed law xs out zones = went (passGoes xs out zones n ts) _ (pass-length law xs out zones n ts) ∙ ap (λ (k : ℕ). passTallies law xs out zones k ts) (sym many)
 
 pub as-tallies : (c : Call) (k : KeptWords) → whole (k .words) ≡ true → keptOf (afterWords c k) ≡ after c (keptOf k)
 as-tallies (clear m) k w = kept-is _ _ _ _ refl (as-cleared (k .words) w m (k .zones))
@@ -176,11 +169,11 @@ refused-keeps (move m p z) k h =
 refused-keeps (pass s xs out) k h =
     kept-words _ _ _ _ refl (kept (whole (k .words)) (wellSized xs out) (passZonesFit xs (k .zones) (zonesOf (k .words))) (passRoom (k .zones) (zonesOf (k .words)) (allTallies (k .words))) (List ℕ) _ (k .words) h .0)
 
-pub refused-pass-keeps : (law : List ℕ → Worked) (xs out zones ws : List ℕ) → (passed xs out zones ws ≡ 0 → ⊥) → (passedRecords law xs out zones ws ≡ xs) × (passedAnswers law xs out zones ws ≡ out)
+pub refused-pass-keeps : (law : List ℕ → Worked) (xs out zones ws : List ℕ) → (passed xs out zones ws ≡ 0 → ⊥) → (passedRecords law xs out zones ws ≡ xs) × (passedAnswers law xs out zones ws ≡ out) × (passedWords law xs out zones ws ≡ ws)
 refused-pass-keeps law xs out zones ws h =
     let b = passZonesFit xs zones (zonesOf ws) in
     let c = passRoom zones (zonesOf ws) (allTallies ws) in
-    (kept (whole ws) (wellSized xs out) b c (List ℕ) _ xs h .1, kept (whole ws) (wellSized xs out) b c (List ℕ) _ out h .1)
+    (kept (whole ws) (wellSized xs out) b c (List ℕ) _ xs h .1, kept (whole ws) (wellSized xs out) b c (List ℕ) _ out h .1, kept (whole ws) (wellSized xs out) b c (List ℕ) _ ws h .0)
 
 -- ---- 12 and 13, of the calls on words: exactly when, after 8
 after-eight : (w : Bool) (r k : ℕ) → (wrongLength ≡ k → ⊥) → (cond w r wrongLength ≡ k) ↔ ((w ≡ true) × (r ≡ k))

@@ -1,8 +1,9 @@
 pub mod Again
+pub mod Answering
 pub mod ByZone
-pub mod Counting
 pub mod Cut
 pub mod Exactly
+pub mod Front
 pub mod HostSequence
 pub mod LentLaws
 pub mod Local

@@ -1,11 +1,11 @@
 -- A pass over lent tallies by its plans: the look for room, then particles counted afresh, then the records. Assumes nothing.
 use mathlib.Core.Path.{_≡_, refl, sym, ap, _∙_}
-use mathlib.Core.Bool.{Bool, true, false, cond, _&&_, false≢true}
+use mathlib.Core.Bool.{Bool, true, false, cond, _&&_}
 use mathlib.Core.List.{List}
-use Prim.Native.Nat.{ℕ, zero, suc, _+_, _*_, _/_, _≤_, _<_}
+use Prim.Native.Nat.{ℕ, zero, suc, _/_, _≤_, _<_}
 use native.Mathlib.Omega.{arith}
 use lib.Dec.{eqb}
-use lib.ListN.{length, getD}
+use lib.ListN.{length}
 use Rattle.numbers.proofs.Laws.{and-both}
 use Rattle.answers.specs.Refusals.{wrongLength, outOfRange, tallyFull}
 use Rattle.record.specs.Layout.{floats}
@@ -14,8 +14,8 @@ use Rattle.particles.specs.Step.{stepLaw}
 use Rattle.particles.specs.Pass.{Worked, worked, answers, wellSized}
 use Rattle.tallies.specs.declared.tally.Tally.{Tally}
 use Rattle.tallies.specs.declared.plan.Plan.{Plan}
-use Rattle.tallies.specs.Zones.{belowIn, listed, zonesFit}
-use Rattle.tallies.specs.Tallies.{none, withParticles, byZone, recount, recounted, talliedIn, hasRoom, roomIn, clearRefusal, passZonesFit, passRoom, passRefusal, passGoes, recordsAfter, answersAfter, passTallies}
+use Rattle.tallies.specs.Zones.{zonesFit}
+use Rattle.tallies.specs.Tallies.{byZone, recount, recounted, talliedIn, roomIn, clearRefusal, passZonesFit, passRoom, passRefusal, passGoes, recordsAfter, answersAfter, passTallies}
 use Rattle.tallies.specs.Plans.{Counts, Planned, planned, roomBy}
 use Rattle.tallies.proofs.ByZone.{get-by, length-by, recounted-twice}
 use Rattle.tallies.proofs.ZoneLaws.{fits-of, sized-of}

@@ -19,7 +19,7 @@ use Rattle.tallies.specs.declared.tally.Told.{Told}
 use Rattle.tallies.specs.Zones.{belowIn}
 use Rattle.tallies.specs.Tallies.{none, tallied, toldOf, grown, Small, byZone, recount, recounted, talliedIn, roomIn}
 use Rattle.tallies.proofs.ByZone.{get-by, length-by, is-by, set-by}
-use Rattle.tallies.proofs.ZoneLaws.{Within, below-at, listed-grows, tallied-here, tallied-other, tallied-within, room-at, room-of}
+use Rattle.tallies.proofs.ZoneLaws.{below-at, listed-grows, tallied-here, tallied-other, tallied-within, room-at, room-of}
 
 -- what the pass requires of its lists
 abbrev pub Ready : List ℕ → List ℕ → List ℕ → List Tally → ℕ → Type 0
@@ -70,11 +70,6 @@ none-worked law xs = refl
 pub none-answered : (law : List ℕ → Worked) (xs out : List ℕ) → out ≡ answers law xs 0 ++ drop (0 * 2) out
 unfolding answersOver
 none-answered law xs out = refl
-
--- of an array's tallies
-pub ready-of : (xs out zones : List ℕ) (ts : List Tally) (n : ℕ) → length ts ≡ 256
-    → (length xs ≡ length zones * floats) × (length out ≡ length zones * 2) × (n ≤ 256) × (belowIn n zones (length zones) ≡ true) × (roomIn (recounted zones ts) n ≡ true) → Ready xs out zones ts n
-ready-of xs out zones ts n e q = (q .0, q .1, omega (arith, e, q .2), q .3, q .4)
 
 -- what the step tells grows as a pass counts
 pub grown-tallied : (t : Tally) (o : Outcome) (f : Bool) → grown t (toldOf o f) ≡ tallied t o f

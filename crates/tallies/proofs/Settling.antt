@@ -2,7 +2,7 @@
 use mathlib.Core.Path.{_≡_, refl, sym, ap, _∙_}
 use mathlib.Core.Bool.{Bool, true, false, cond, _&&_}
 use mathlib.Core.List.{List}
-use Prim.Native.Nat.{ℕ, suc, _+_, _≤_, _<_, zero-le}
+use Prim.Native.Nat.{ℕ, _+_, _≤_, _<_, zero-le}
 use native.Mathlib.Numerals.{add-one, add-one-le}
 use native.Mathlib.Omega.{arith}
 use lib.Dec.{eqb, ltb}
@@ -11,8 +11,8 @@ use borrow.Author.Tests.{ltb-true, ltb-false, lt-ltb, le-ltb}
 use Rattle.numbers.proofs.Laws.{and-both}
 use Rattle.tallies.specs.declared.tally.Tally.{Tally}
 use Rattle.tallies.specs.declared.plan.Plan.{Plan}
-use Rattle.tallies.specs.Zones.{listed, zonesFit, moveFits}
-use Rattle.tallies.specs.Tallies.{none, withParticles, byZone, recount, clearedAt, hasRoom, clearRefusal, clearTallies, moveZones, moveTallies}
+use Rattle.tallies.specs.Zones.{zonesFit, moveFits}
+use Rattle.tallies.specs.Tallies.{none, withParticles, byZone, recount, clearedAt, hasRoom, clearTallies, moveZones, moveTallies}
 use Rattle.tallies.specs.Plans.{Counts, Planned, planned, roomBy}
 use Rattle.tallies.proofs.ByZone.{get-by, length-by, is-by, set-by}
 use Rattle.tallies.proofs.ZoneLaws.{fits-of}

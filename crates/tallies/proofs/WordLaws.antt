@@ -1,16 +1,14 @@
--- Tallies as words, one more at a time; and what is read of an array that begins with them. Assumes nothing.
+-- Tallies as words, one more at a time. Assumes nothing.
 use mathlib.Core.Path.{_≡_, refl, sym, ap, _∙_}
-use mathlib.Core.Bool.{Bool, true, false, cond, _&&_}
 use mathlib.Core.List.{List, [], _∷_, _++_, append-assoc}
 use Prim.Native.Nat.{ℕ, zero, suc, _+_, _*_, _≤_, _<_}
 use native.Mathlib.Omega.{arith}
 use native.Mathlib.Numerals.{add-one}
-use lib.ListN.{length, getD, set, take, drop, length-append, length-drop, List·getD-append}
+use lib.ListN.{length, getD, set, take, drop, length-append, length-drop}
 use lib.Seq.{take-at, drop-at, drop-drop, drop-cons, set-at}
 use Rattle.tallies.specs.declared.tally.Tally.{Tally}
-use Rattle.tallies.specs.Tallies.{none, byZone, recount, recounted, hasRoom, roomIn}
+use Rattle.tallies.specs.Tallies.{none}
 use Rattle.tallies.specs.Words.{fields, wordsOf, tallyAt, talliesIn, wordsIn}
-use Rattle.tallies.proofs.ByZone.{get-by, length-by}
 
 pub tallies-length : (ws : List ℕ) (n : ℕ) → length (talliesIn ws n) ≡ n
 unfolding talliesIn
@@ -47,22 +45,8 @@ words-long ts l ws z h e =
     let n = words-length ts z in
     ap length e ∙ simp (length-append, length-drop) (omega arith)
 
--- ---- an array that begins with n tallies stands for them
+-- the words of n tallies are those of any list that begins with them
 pub words-same : (us ts : List Tally) (n : ℕ) → ((z : ℕ) → z < n → getD us z none ≡ getD ts z none) → wordsIn us n ≡ wordsIn ts n
 unfolding wordsIn
 words-same us ts zero h = refl
 words-same us ts (suc n) h = rw (words-same us ts n (λ z l. h z (omega arith)), h n (omega arith)) refl
-
-pub room-same : (us ts : List Tally) (n : ℕ) → ((z : ℕ) → z < n → getD us z none ≡ getD ts z none) → roomIn us n ≡ roomIn ts n
-unfolding roomIn
-room-same us ts zero h = refl
-room-same us ts (suc n) h = rw (room-same us ts n (λ z l. h z (omega arith)), h n (omega arith)) refl
-
-module _ (ts us : List Tally) where
-  pub begins : (z : ℕ) → z < length ts → getD (ts ++ us) z none ≡ getD ts z none
-  begins z h = List·getD-append ts us none z h
-
-  pub begins-by : (f : ℕ → Tally → Tally) (z : ℕ) → z < length ts → getD (byZone f 0 (ts ++ us)) z none ≡ getD (byZone f 0 ts) z none
-  begins-by f z h =
-      let k : z < length (ts ++ us) = simp length-append (omega arith) in
-      get-by f (ts ++ us) z k ∙ ap (f z) (begins z h) ∙ sym (get-by f ts z h)

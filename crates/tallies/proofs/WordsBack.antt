@@ -59,6 +59,10 @@ words-back ts n e =
     ext-getD none (talliesIn (wordsIn ts n) n) ts (tallies-length (wordsIn ts n) n ∙ sym e)
     (λ z l. let h : z < n = omega (arith, l, tallies-length (wordsIn ts n) n) in tally-read (wordsIn ts n) n z h ∙ tally-written ts n z h)
 
+-- RULES' order: particles now, untouched, stored, refused, failed
+pub in-order : tallyAt (1 ∷ 2 ∷ 3 ∷ 4 ∷ 5 ∷ []) 0 ≡ record { particles = 1; untouched = 2; stored = 3; refused = 4; failed = 5 }
+in-order = refl
+
 -- what a call wrote, or left
 module _ (ws : List ℕ) (w : whole ws ≡ true) where
   pub written-length : (g : Bool) (ts : List Tally) → length (written g ts ws) ≡ length ws

@@ -4,7 +4,6 @@ use mathlib.Core.Bool.{Bool, cond}
 use mathlib.Core.List.{List, [], _∷_}
 use Prim.Native.Nat.{ℕ, _<_}
 use Rattle.particles.specs.Step.{stepLaw}
-use Rattle.tallies.specs.declared.tally.Tally.{Tally}
 use Rattle.tallies.specs.Zones.{listed}
 use Rattle.tallies.specs.Words.{zonesOf, tallyAt, allTallies, cleared, clearedWords, moved, movedZones, movedWords, passed, passedWords}
 use Rattle.tallies.specs.Sequence.{Call, clear, move, pass, Kept, Event, log, Counted}

@@ -56,9 +56,6 @@ unfoldable pub byZone : (ℕ → Tally → Tally) → ℕ → List Tally → Lis
 byZone f z [] = []
 byZone f z (t ∷ ts) = f z t ∷ byZone f (suc z) ts
 
-abbrev pub noParticles : List Tally → List Tally
-noParticles ts = byZone (λ z t. withParticles 0 t) 0 ts
-
 -- particles now, counted afresh from the zone list
 abbrev pub recount : List ℕ → ℕ → Tally → Tally
 recount zones z t = withParticles (listed zones z) t

@@ -5,7 +5,7 @@ use Prim.Native.Nat.{ℕ, zero, suc, _+_, _*_, _/_}
 use lib.Dec.{eqb}
 use lib.ListN.{length, getD}
 use Rattle.answers.specs.Refusals.{wrongLength}
-use Rattle.particles.specs.Pass.{Worked, wellSized}
+use Rattle.particles.specs.Pass.{Worked}
 use Rattle.tallies.specs.declared.tally.Tally.{Tally}
 use Rattle.tallies.specs.Zones.{zonesFit, moveFits}
 use Rattle.tallies.specs.Tallies.{none, clearRefusal, clearTallies, moveRefusal, moveZones, moveTallies, passRefusal, passGoes, recordsAfter, answersAfter, passTallies}

@@ -1,7 +1,6 @@
-// The calls on tallies that are lent as words. What is refused leaves every lent list.
+// The same calls on tallies that are lent as words: at most 256 are read into an array, of which the slice calls are lent the first. What is refused leaves every lent list.
 use crate::array;
-use crate::held;
-use crate::held::Held;
+use crate::array::Held;
 use crate::tally::ZONES;
 use crate::words;
 use elasticity_corotated_linear::CorotatedLinearElasticity;
@@ -34,7 +33,7 @@ fn put_done(r: Held, tallies: &mut [u64], n: usize) -> u8
     code
 }
 
-fn clear_words(particles: usize, zones: &[u64], tallies: &mut [u64], n: usize) -> u8
+fn clear_up_to(particles: usize, zones: &[u64], tallies: &mut [u64], n: usize) -> u8
     requires { ⌜ (n ≤ 256) × (length (now tallies) ≡ n * fields) ⌝ }
     ensures { λ r. ⌜ r ≡ clearRefusal particles (now (zones .entry)) n ⌝ }
     ensures { λ r. ⌜ now (tallies .exit) ≡ cond (zonesFit particles (now (zones .entry)) n) (wordsIn (clearTallies particles (now (zones .entry)) n (talliesIn (now (tallies .entry)) n)) n) (now (tallies .entry)) ⌝ }
@@ -44,7 +43,7 @@ fn clear_words(particles: usize, zones: &[u64], tallies: &mut [u64], n: usize) -
     put_done(r, tallies, n)
 }
 
-fn move_words(
+fn move_up_to(
     particles: usize,
     p: usize,
     z: usize,
@@ -58,11 +57,11 @@ fn move_words(
     ensures { λ r. ⌜ now (tallies .exit) ≡ cond (moveFits particles p z (now (zones .entry)) n) (wordsIn (moveTallies particles p z (now (zones .entry)) n (talliesIn (now (tallies .entry)) n)) n) (now (tallies .entry)) ⌝ }
 {
     let ts = words::read_tallies(&tallies[..], n);
-    let r = held::move_held(particles, p, z, zones, ts, n);
+    let r = array::move_array(particles, p, z, zones, ts, n);
     put_done(r, tallies, n)
 }
 
-fn pass_words(
+fn pass_up_to(
     s: Step,
     xs: &mut [u64],
     out: &mut [u64],
@@ -77,19 +76,19 @@ fn pass_words(
     ensures { λ r. ⌜ now (tallies .exit) ≡ cond (passGoes (now (xs .entry)) (now (out .entry)) (now (zones .entry)) n (talliesIn (now (tallies .entry)) n)) (wordsIn (passTallies (stepLaw s) (now (xs .entry)) (now (out .entry)) (now (zones .entry)) n (talliesIn (now (tallies .entry)) n)) n) (now (tallies .entry)) ⌝ }
 {
     let ts = words::read_tallies(&tallies[..], n);
-    let r = held::pass_held(s, xs, out, zones, ts, n);
+    let r = array::pass_array(s, xs, out, zones, ts, n);
     put_done(r, tallies, n)
 }
 
 // The tallies cleared, and particles now counted from the zone list of so many particles. 0, or the refusal's number.
-pub fn clear(particles: usize, zones: &[u64], tallies: &mut [u64]) -> u8
+pub fn clear_words(particles: usize, zones: &[u64], tallies: &mut [u64]) -> u8
     ensures { λ r. ⌜ r ≡ cleared particles (now (zones .entry)) (now (tallies .entry)) ⌝ }
     ensures { λ r. ⌜ now (tallies .exit) ≡ clearedWords particles (now (zones .entry)) (now (tallies .entry)) ⌝ }
 {
     if words::whole_words(tallies.len()) {
         let n = tallies.len() / words::FIELDS;
         if n <= ZONES {
-            return clear_words(particles, zones, tallies, n);
+            return clear_up_to(particles, zones, tallies, n);
         }
         return answers::OUT_OF_RANGE;
     }
@@ -97,7 +96,7 @@ pub fn clear(particles: usize, zones: &[u64], tallies: &mut [u64]) -> u8
 }
 
 // Particle p goes to zone z, and particles now are counted afresh.
-pub fn move_particle(
+pub fn move_particle_words(
     particles: usize,
     p: usize,
     z: usize,
@@ -111,15 +110,21 @@ pub fn move_particle(
     if words::whole_words(tallies.len()) {
         let n = tallies.len() / words::FIELDS;
         if n <= ZONES {
-            return move_words(particles, p, z, zones, tallies, n);
+            return move_up_to(particles, p, z, zones, tallies, n);
         }
         return answers::OUT_OF_RANGE;
     }
     answers::LENGTH
 }
 
-// A pass by either step: records and answers as in `particles`, and each outcome in the tally of its particle's zone.
-pub fn pass_by(s: Step, xs: &mut [u64], out: &mut [u64], zones: &[u64], tallies: &mut [u64]) -> u8
+// A pass by any step of `particles`, each outcome in the tally of its particle's zone. A step that only stores a record's factors counts as its outcome says: stored, or refused.
+pub fn pass_by_words(
+    s: Step,
+    xs: &mut [u64],
+    out: &mut [u64],
+    zones: &[u64],
+    tallies: &mut [u64],
+) -> u8
     ensures { λ r. ⌜ r ≡ passed (now (xs .entry)) (now (out .entry)) (now (zones .entry)) (now (tallies .entry)) ⌝ }
     ensures { λ r. ⌜ now (xs .exit) ≡ passedRecords (stepLaw s) (now (xs .entry)) (now (out .entry)) (now (zones .entry)) (now (tallies .entry)) ⌝ }
     ensures { λ r. ⌜ now (out .exit) ≡ passedAnswers (stepLaw s) (now (xs .entry)) (now (out .entry)) (now (zones .entry)) (now (tallies .entry)) ⌝ }
@@ -128,7 +133,7 @@ pub fn pass_by(s: Step, xs: &mut [u64], out: &mut [u64], zones: &[u64], tallies:
     if words::whole_words(tallies.len()) & particles::well_sized(xs.len(), out.len()) {
         let n = tallies.len() / words::FIELDS;
         if n <= ZONES {
-            return pass_words(s, xs, out, zones, tallies, n);
+            return pass_up_to(s, xs, out, zones, tallies, n);
         }
         return answers::OUT_OF_RANGE;
     }
@@ -136,17 +141,23 @@ pub fn pass_by(s: Step, xs: &mut [u64], out: &mut [u64], zones: &[u64], tallies:
 }
 
 // The pass by the model's law.
-pub fn pass(m: Model, xs: &mut [u64], out: &mut [u64], zones: &[u64], tallies: &mut [u64]) -> u8
+pub fn pass_words(
+    m: Model,
+    xs: &mut [u64],
+    out: &mut [u64],
+    zones: &[u64],
+    tallies: &mut [u64],
+) -> u8
     ensures { λ r. ⌜ r ≡ passed (now (xs .entry)) (now (out .entry)) (now (zones .entry)) (now (tallies .entry)) ⌝ }
     ensures { λ r. ⌜ now (xs .exit) ≡ passedRecords (recordLaw m) (now (xs .entry)) (now (out .entry)) (now (zones .entry)) (now (tallies .entry)) ⌝ }
     ensures { λ r. ⌜ now (out .exit) ≡ passedAnswers (recordLaw m) (now (xs .entry)) (now (out .entry)) (now (zones .entry)) (now (tallies .entry)) ⌝ }
     ensures { λ r. ⌜ now (tallies .exit) ≡ passedWords (recordLaw m) (now (xs .entry)) (now (out .entry)) (now (zones .entry)) (now (tallies .entry)) ⌝ }
 {
-    pass_by(Step::Plain(m), xs, out, zones, tallies)
+    pass_by_words(Step::Plain(m), xs, out, zones, tallies)
 }
 
 // The pass with failure, by limits and corotated law.
-pub fn pass_with_failure(
+pub fn pass_with_failure_words(
     m: Model,
     l: MaximumStressFailure,
     e: CorotatedLinearElasticity,
@@ -160,5 +171,5 @@ pub fn pass_with_failure(
     ensures { λ r. ⌜ now (out .exit) ≡ passedAnswers (failureLaw m l e) (now (xs .entry)) (now (out .entry)) (now (zones .entry)) (now (tallies .entry)) ⌝ }
     ensures { λ r. ⌜ now (tallies .exit) ≡ passedWords (failureLaw m l e) (now (xs .entry)) (now (out .entry)) (now (zones .entry)) (now (tallies .entry)) ⌝ }
 {
-    pass_by(Step::Judged(m, l, e), xs, out, zones, tallies)
+    pass_by_words(Step::Judged(m, l, e), xs, out, zones, tallies)
 }

@@ -1,4 +1,4 @@
-// Tallies lent as a slice: each particle listed, and each record's outcome, changes the tally of its zone.
+// The calls on tallies that are lent as a slice. What is refused leaves every lent list.
 use crate::plan;
 use crate::plan::Plan;
 use crate::tally;
@@ -18,45 +18,8 @@ ghost use Rattle.particles.specs.Judged.{failureLaw};
 ghost use Rattle.particles.specs.Plain.{recordLaw};
 ghost use Rattle.particles.specs.Step.{stepLaw};
 ghost use Rattle.tallies.specs.Zones.{belowIn};
-ghost use Rattle.tallies.specs.Tallies.{none, noParticles, toldOf, grown, Small, byZone, recounted, talliedIn, roomIn, clearRefusal, clearTallies, moveRefusal, moveZones, moveTallies, passRefusal, recordsAfter, answersAfter, passTallies};
+ghost use Rattle.tallies.specs.Tallies.{none, toldOf, grown, Small, byZone, recounted, talliedIn, roomIn, clearRefusal, clearTallies, moveRefusal, moveZones, moveTallies, passRefusal, recordsAfter, answersAfter, passTallies};
 ghost use Rattle.tallies.specs.Plans.{planned, roomBy};
-
-// No particles in any zone.
-fn emptied(ts: [Tally; 256]) -> [Tally; 256]
-    ensures { λ r. ⌜ r ≡ noParticles ts ⌝ }
-{
-    let mut r = ts;
-    let mut z = 0;
-    while z < 256 {
-        let t = r[z];
-        r[z] = tally::with_particles(t, 0);
-        z = z + 1;
-    }
-    r
-}
-
-// One particle more in the tally of each zone listed: one field of one tally.
-fn count_all(ts: &mut [Tally], zones: &[u64])
-    requires { ⌜ (belowIn (length (now ts)) (now zones) (length (now zones)) ≡ true) × (now ts ≡ noParticles (now ts)) ⌝ }
-    ensures { λ _. ⌜ now (ts .exit) ≡ recounted (now (zones .entry)) (now (ts .entry)) ⌝ }
-{
-    let mut i = 0;
-    while i < zones.len() {
-        let z = zones[i] as usize;
-        ts[z].particles = ts[z].particles + 1;
-        i = i + 1;
-    }
-}
-
-// Particles now, counted afresh in tallies by value, which are lent for it.
-pub fn recount(ts: [Tally; 256], zones: &[u64]) -> [Tally; 256]
-    requires { ⌜ belowIn 256 (now zones) (length (now zones)) ≡ true ⌝ }
-    ensures { λ r. ⌜ r ≡ recounted (now (zones .entry)) ts ⌝ }
-{
-    let mut r = emptied(ts);
-    count_all(&mut r, zones);
-    r
-}
 
 // Record i is worked, and what its outcome adds to is told.
 fn tell_record(s: Step, xs: &mut [u64], out: &mut [u64], i: usize) -> Told
@@ -101,23 +64,6 @@ fn pass_all(s: Step, xs: &mut [u64], out: &mut [u64], zones: &[u64], ts: &mut [T
     }
 }
 
-// The same of tallies by value, which are lent for it.
-pub fn pass_array(
-    s: Step,
-    xs: &mut [u64],
-    out: &mut [u64],
-    zones: &[u64],
-    ts: [Tally; 256],
-    n: usize,
-) -> [Tally; 256]
-    requires { ⌜ (length (now xs) ≡ length (now zones) * floats) × (length (now out) ≡ length (now zones) * 2) × (n ≤ 256) × (belowIn n (now zones) (length (now zones)) ≡ true) × (roomIn (recounted (now zones) ts) n ≡ true) ⌝ }
-    ensures { λ r. ⌜ (r ≡ byZone (talliedIn (stepLaw s) (now (xs .entry)) (now (zones .entry)) (length (now (zones .entry)))) 0 ts) × (now (xs .exit) ≡ worked (stepLaw s) (now (xs .entry)) (length (now (zones .entry)))) × (now (out .exit) ≡ answers (stepLaw s) (now (xs .entry)) (length (now (zones .entry)))) ⌝ }
-{
-    let mut r = ts;
-    pass_all(s, xs, out, zones, &mut r, n);
-    r
-}
-
 // Each tally as the plan has it, by the step by value; and whether all have room for the particles counted.
 fn settle(ts: &mut [Tally], p: Plan) -> bool
     ensures { λ r. ⌜ (r ≡ roomBy p (now (ts .entry)) (length (now (ts .entry)))) × (now (ts .exit) ≡ byZone (planned p) 0 (now (ts .entry))) ⌝ }
@@ -134,7 +80,7 @@ fn settle(ts: &mut [Tally], p: Plan) -> bool
 }
 
 // The lent tallies cleared, and particles now counted: 0, or 12 and nothing changed.
-pub fn clear_slice(particles: usize, zones: &[u64], ts: &mut [Tally]) -> u8
+pub fn clear(particles: usize, zones: &[u64], ts: &mut [Tally]) -> u8
     ensures { λ r. ⌜ (r ≡ clearRefusal particles (now (zones .entry)) (length (now (ts .entry)))) × (now (ts .exit) ≡ clearTallies particles (now (zones .entry)) (length (now (ts .entry))) (now (ts .entry))) ⌝ }
 {
     let p = plan::to_clear(particles, zones, ts.len());
@@ -142,14 +88,8 @@ pub fn clear_slice(particles: usize, zones: &[u64], ts: &mut [Tally]) -> u8
     p.refusal
 }
 
-// A pass by a step over the lent tallies: 8, 12 and 13 before any record, and nothing changed then.
-pub fn pass_slice_by(
-    s: Step,
-    xs: &mut [u64],
-    out: &mut [u64],
-    zones: &[u64],
-    ts: &mut [Tally],
-) -> u8
+// A pass by any step of `particles`, each outcome in the tally of its particle's zone: 8, 12 and 13 before any record, and nothing changed then.
+pub fn pass_by(s: Step, xs: &mut [u64], out: &mut [u64], zones: &[u64], ts: &mut [Tally]) -> u8
     ensures { λ r. ⌜ (r ≡ passRefusal (now (xs .entry)) (now (out .entry)) (now (zones .entry)) (length (now (ts .entry))) (now (ts .entry))) × (now (xs .exit) ≡ recordsAfter (stepLaw s) (now (xs .entry)) (now (out .entry)) (now (zones .entry)) (length (now (ts .entry))) (now (ts .entry))) × (now (out .exit) ≡ answersAfter (stepLaw s) (now (xs .entry)) (now (out .entry)) (now (zones .entry)) (length (now (ts .entry))) (now (ts .entry))) × (now (ts .exit) ≡ passTallies (stepLaw s) (now (xs .entry)) (now (out .entry)) (now (zones .entry)) (length (now (ts .entry))) (now (ts .entry))) ⌝ }
 {
     let p = plan::to_pass(xs.len(), out.len(), zones, ts.len());
@@ -165,7 +105,13 @@ pub fn pass_slice_by(
 }
 
 // Particle p goes to zone z, and particles now are counted afresh: 0, or 12 and nothing changed.
-pub fn move_slice(particles: usize, p: usize, z: usize, zones: &mut [u64], ts: &mut [Tally]) -> u8
+pub fn move_particle(
+    particles: usize,
+    p: usize,
+    z: usize,
+    zones: &mut [u64],
+    ts: &mut [Tally],
+) -> u8
     ensures { λ r. ⌜ (r ≡ moveRefusal particles p z (now (zones .entry)) (length (now (ts .entry)))) × (now (zones .exit) ≡ moveZones particles p z (now (zones .entry)) (length (now (ts .entry)))) × (now (ts .exit) ≡ moveTallies particles p z (now (zones .entry)) (length (now (ts .entry))) (now (ts .entry))) ⌝ }
 {
     let q = plan::to_move(particles, p, z, zones, ts.len());
@@ -174,15 +120,15 @@ pub fn move_slice(particles: usize, p: usize, z: usize, zones: &mut [u64], ts: &
 }
 
 // The pass by the model's law.
-pub fn pass_slice(m: Model, xs: &mut [u64], out: &mut [u64], zones: &[u64], ts: &mut [Tally]) -> u8
+pub fn pass(m: Model, xs: &mut [u64], out: &mut [u64], zones: &[u64], ts: &mut [Tally]) -> u8
     ensures { λ r. ⌜ (r ≡ passRefusal (now (xs .entry)) (now (out .entry)) (now (zones .entry)) (length (now (ts .entry))) (now (ts .entry))) × (now (xs .exit) ≡ recordsAfter (recordLaw m) (now (xs .entry)) (now (out .entry)) (now (zones .entry)) (length (now (ts .entry))) (now (ts .entry))) × (now (out .exit) ≡ answersAfter (recordLaw m) (now (xs .entry)) (now (out .entry)) (now (zones .entry)) (length (now (ts .entry))) (now (ts .entry))) × (now (ts .exit) ≡ passTallies (recordLaw m) (now (xs .entry)) (now (out .entry)) (now (zones .entry)) (length (now (ts .entry))) (now (ts .entry))) ⌝ }
 {
     let s = plan::plain(m);
-    pass_slice_by(s, xs, out, zones, ts)
+    pass_by(s, xs, out, zones, ts)
 }
 
 // The pass with failure, by limits and corotated law.
-pub fn pass_slice_with_failure(
+pub fn pass_with_failure(
     m: Model,
     l: MaximumStressFailure,
     e: CorotatedLinearElasticity,
@@ -194,5 +140,5 @@ pub fn pass_slice_with_failure(
     ensures { λ r. ⌜ (r ≡ passRefusal (now (xs .entry)) (now (out .entry)) (now (zones .entry)) (length (now (ts .entry))) (now (ts .entry))) × (now (xs .exit) ≡ recordsAfter (failureLaw m l e) (now (xs .entry)) (now (out .entry)) (now (zones .entry)) (length (now (ts .entry))) (now (ts .entry))) × (now (out .exit) ≡ answersAfter (failureLaw m l e) (now (xs .entry)) (now (out .entry)) (now (zones .entry)) (length (now (ts .entry))) (now (ts .entry))) × (now (ts .exit) ≡ passTallies (failureLaw m l e) (now (xs .entry)) (now (out .entry)) (now (zones .entry)) (length (now (ts .entry))) (now (ts .entry))) ⌝ }
 {
     let s = plan::judged(m, l, e);
-    pass_slice_by(s, xs, out, zones, ts)
+    pass_by(s, xs, out, zones, ts)
 }

@@ -16,7 +16,7 @@ returns c =
     let goes = zonesGo (a .model) (a .parameters .now) (a .records .now) (a .answers .now) (a .tallies .now) in
     let go : goes ≡ true = simp (t, k) in
     let m = c .before .before .before .before .before .before .before .before .before .before .model-of .ensures in
-    let e = c .before .before .before .before .before .before .pass .ensures in
+    let e = c .before .before .before .before .before .before .pass-words .ensures in
     (simp (t, k) (e .0), (chosen goes (a .records .now) go (rw m at (e .1 .0)), (chosen goes (a .answers .now) go (rw m at (e .1 .1 .0)), chosen goes (a .tallies .now) go (rw m at (e .1 .1 .1)))))
 
 returns-2 : tie.Need-returns-2

@@ -18,7 +18,7 @@ returns c =
     let m = c .before .before .before .before .before .before .before .before .before .before .before .before .model-of .ensures in
     let l = c .before .before .before .before .before .before .before .before .before .before .before .limits .ensures in
     let g = c .before .before .before .before .before .before .before .before .before .before .corotated .ensures in
-    let e = c .before .before .before .before .before .before .pass-with-failure .ensures in
+    let e = c .before .before .before .before .before .before .pass-with-failure-words .ensures in
     (simp (t, k) (e .0), (chosen goes (a .records .now) go (rw (m, l, g) at (e .1 .0)), (chosen goes (a .answers .now) go (rw (m, l, g) at (e .1 .1 .0)), chosen goes (a .tallies .now) go (rw (m, l, g) at (e .1 .1 .1)))))
 
 returns-2 : tie.Need-returns-2

@@ -1,34 +1,31 @@
--- `tallies::lent::clear_words` meets its contract: what its calls ensure.
-use mathlib.Core.Path.{_≡_, sym, ap, _∙_}
-use mathlib.Core.Bool.{cond}
-use mathlib.Core.List.{List, _++_}
-use Prim.Native.Nat.{ℕ}
-use lib.Dec.{eqb}
-use lib.ListN.{take, drop}
-use Rattle.tallies.specs.declared.tally.Tally.{Tally}
-use Rattle.tallies.specs.Tallies.{spare, clearRefusal, clearTallies}
-use Rattle.tallies.specs.Words.{talliesIn, wordsIn}
-use Rattle.tallies.proofs.WordLaws.{tallies-length}
-use Rattle.tallies.proofs.LentLaws.{clear-array-lent}
+-- `tallies::lent::clear_words` meets its contract: 8, then 12, then the call itself.
+use mathlib.Core.Path.{sym, _∙_}
+use borrow.Author.Tests.{eqb-true, lt-leb}
 use borrow.Author.Needs.{needs}
 use Rattle.tallies.proofs.lent.clear_words.Statement.{statement}
 use Rattle.tallies.proofs.lent.clear_words.Tie as tie
 
+clear-up-to-requires : tie.Need-clear-up-to-requires
+clear-up-to-requires c κs = (c .before .if2 .taken, sym (eqb-true _ _ (sym (c .before .before .before .whole-words .ensures) ∙ c .before .before .if1 .taken)))
+
 returns : tie.Need-returns
 returns c =
-    let a = c .before .before .before .before .before .before .before .before .before .args in
-    let ws = a .tallies .now in
-    let zones = a .zones .now in
-    let p = c .before .before .put-done .ensures in
-    let h = c .before .before .before .before .clear-array in
-    let r = c .before .before .before .before .before .read-tallies .ensures in (
-      p .0 ∙ h .ensures .0,
-      p .1 ∙ ap (λ (k : ℕ). cond (eqb k 0) (wordsIn (h .result .tallies) (a .n)) ws) (h .ensures .0)
-          ∙ ap (λ (l : List Tally). cond (eqb (clearRefusal (a .particles) zones (a .n)) 0) (wordsIn l (a .n)) ws) (h .ensures .1 ∙ ap (λ (l : List Tally). clearTallies (a .particles) zones (a .n) (take (a .n) l) ++ drop (a .n) l) r)
-          ∙ clear-array-lent (a .n) (talliesIn ws (a .n)) (drop (a .n) spare) (tallies-length ws (a .n)) ws (a .particles) zones,
-    )
+    let w = sym (c .before .before .before .before .before .before .whole-words .ensures) ∙ c .before .before .before .before .before .if1 .taken in
+    let e = c .before .before .clear-up-to .ensures in
+    (rw w (e .0), rw w (e .1))
+
+returns-2 : tie.Need-returns-2
+returns-2 c =
+    let w = sym (c .before .before .whole-words .ensures) ∙ c .before .if1 .taken in
+    let t = lt-leb _ _ (c .if2 .left) in
+    (simp (w, t), simp (w, t))
+
+returns-3 : tie.Need-returns-3
+returns-3 c =
+    let f = sym (c .before .whole-words .ensures) ∙ c .if1 .left in
+    (simp f, simp f)
 
 pub clear-words-spec : {M : Type 1} → statement M
 clear-words-spec =
     tie.close
-    (tie.spec (λ c κs. search needs) (λ c κs. search needs) (λ c κs. search needs) (λ c. search needs) returns)
+    (tie.spec (λ c κs. search needs) clear-up-to-requires (λ c. search needs) returns returns-2 returns-3)

@@ -9,7 +9,7 @@ use lib.Dec.{eqb}
 use lib.ListN.{length, getD, set, replicate, length-set, length-replicate, getD-replicate}
 use lib.Seq.{getD-set-same, getD-set-other}
 use borrow.Author.Tests.{eqb-true, eqb-false}
-use Rattle.tallies.specs.Zones.{listedIn, belowIn}
+use Rattle.tallies.specs.Zones.{listedIn}
 use Rattle.tallies.proofs.ZoneLaws.{below-at, listed-here, listed-other, listed-most}
 use borrow.Author.Needs.{needs}
 use Rattle.tallies.proofs.plan.counted.Statement.{statement}

@@ -1,7 +1,6 @@
 -- `tallies::plan::decided` meets its contract: by whether it goes.
 use mathlib.Core.Path.{sym, _∙_}
 use mathlib.Core.Bool.{false≢true}
-use borrow.Author.Needs.{needs}
 use Rattle.tallies.proofs.plan.decided.Statement.{statement}
 use Rattle.tallies.proofs.plan.decided.Tie as tie
 

@@ -1,7 +1,6 @@
 -- `tallies::plan::to_count` meets its contract: by the refusal and the room.
 use mathlib.Core.Path.{refl}
 use borrow.Author.Tests.{eq-eqb, ne-eqb}
-use borrow.Author.Needs.{needs}
 use Rattle.tallies.proofs.plan.to_count.Statement.{statement}
 use Rattle.tallies.proofs.plan.to_count.Tie as tie
 

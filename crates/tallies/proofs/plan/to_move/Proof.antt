@@ -1,5 +1,5 @@
 -- `tallies::plan::to_move` meets its contract: by what is in range.
-use mathlib.Core.Path.{_≡_, refl, sym, _∙_}
+use mathlib.Core.Path.{refl, sym, _∙_}
 use mathlib.Core.Bool.{false≢true}
 use native.Mathlib.Omega.{arith}
 use Rattle.tallies.proofs.ZoneLaws.{listed-there, below-after}

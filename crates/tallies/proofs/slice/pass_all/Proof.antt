@@ -1,7 +1,7 @@
 -- `tallies::slice::pass_all` meets its contract: a walk of its MIR with a loop, by hand. At the head of a turn the tallies' borrow is closed, and records, answers and tallies are as `Passing`'s `State` says.
 -- A turn looks into the zones for one number, lends records and answers again for the call of `tell_record`, and the tallies for that of `count_told`. All that the proof knows of the two is that each meets its contract.
 -- Assumes nothing.
-use mathlib.Core.Path.{_≡_, refl, sym, ap, subst}
+use mathlib.Core.Path.{_≡_, refl, sym, subst}
 use Prim.Native.Nat.{ℕ, _*_, _+_, _-_, _<_, _≤_, _^_}
 use native.Mathlib.Numerals.{add-one-dec}
 use native.Mathlib.Omega.{arith}
@@ -62,7 +62,6 @@ use Rattle.tallies.proofs.Again.{LentAgain, lends-again, comes-back}
 use Rattle.tallies.proofs.Local.{byte-fits, next-fits}
 use Rattle.tallies.proofs.Passing.{Ready, State, Stepped, Passed, start, zone, told, xs-long, out-long, ts-long, asks, asks-too, next, over}
 use Rattle.tallies.proofs.tally.Tally as T
-use Rattle.tallies.proofs.tally.Tally.Laws as T′
 use Rattle.tallies.proofs.tally.Told as D
 use Rattle.tallies.proofs.tally.Told.Laws as D′
 use Rattle.tallies.proofs.slice.tell_record as core

@@ -1,6 +1,5 @@
 -- `tallies::slice::tell_record` meets its contract: what its calls ensure.
 use mathlib.Core.Path.{ap, _∙_}
-use mathlib.Core.Bool.{Bool}
 use Rattle.plasticity.specs.declared.Outcome.{Outcome}
 use Rattle.particles.specs.Pass.{recordAt, answered}
 use Rattle.particles.specs.Step.{stepLaw}

@@ -1,11 +1,10 @@
 -- `tallies::tally::fit` meets its contract: a difference below the last number.
 use mathlib.Core.Path.{_≡_, refl, sym}
 use mathlib.Core.Bool.{Bool, true, false}
-use Prim.Native.Nat.{ℕ, _+_, _-_, _≤_, _<_}
+use Prim.Native.Nat.{ℕ, _+_, _-_, _≤_}
 use native.Mathlib.Omega.{arith}
 use lib.Dec.{leb}
 use borrow.Author.Tests.{leb-true, leb-false, le-leb, lt-leb}
-use borrow.Author.Needs.{needs}
 use Rattle.tallies.specs.Tallies.{lastTally}
 use Rattle.tallies.proofs.tally.fit.Statement.{statement}
 use Rattle.tallies.proofs.tally.fit.Tie as tie

@@ -1,6 +1,5 @@
 -- `tallies::tally::no_tallies` meets its contract: one tally, 256 times.
 use mathlib.Core.Path.{refl}
-use borrow.Author.Needs.{needs}
 use Rattle.tallies.specs.Tallies.{spare}
 use Rattle.tallies.proofs.tally.no_tallies.Statement.{statement}
 use Rattle.tallies.proofs.tally.no_tallies.Tie as tie

@@ -1,10 +1,10 @@
 -- `tallies::words::write_tallies` meets its contract: tally by tally.
-use mathlib.Core.Path.{_≡_, refl, sym, ap, _∙_}
-use mathlib.Core.List.{List, _++_}
-use Prim.Native.Nat.{ℕ, _*_, _≤_, _<_, _-_, zero-le}
+use mathlib.Core.Path.{_≡_, refl, _∙_}
+use mathlib.Core.List.{_++_}
+use Prim.Native.Nat.{_*_, _≤_, _-_, zero-le}
 use native.Mathlib.Numerals.{add-one-le}
 use native.Mathlib.Omega.{arith}
-use lib.ListN.{length, drop}
+use lib.ListN.{drop}
 use borrow.Author.Needs.{needs}
 use Rattle.particles.proofs.PassLaws.{all-done}
 use Rattle.tallies.specs.Words.{fields, wordsIn}
