@@ -427,8 +427,10 @@ class Built(InFolder):
             return count
         self.slope()
         self.assertGreater(reads(), 0)
-        self.slope()  # the first after the build may read once more: what was written in the same tick of the clock is not taken for known
-        reads()
+        for _ in range(100):  # what was written in the same tick of the clock is not taken for known: the next call reads it once more
+            self.slope()
+            if not reads():
+                break
         self.ended(self.slope(), 3, "sheet refused 4\n")
         self.assertEqual(reads(), 0)
         source = self.top / "crates" / "slope" / "src" / "lib.rt"
