@@ -273,6 +273,21 @@ class Answers(Night):
         self.assertLessEqual(len(self.jobs()), 20)
         self.assertEqual(self.times_worked(), collections.Counter(self.digests()))
 
+    def test_batches_are_by_bytes_and_the_last_ones_short(self):
+        sizes = [night_work.LONGEST] * 10000
+        queue, batches = night_work.Queue(sizes, 4), []
+        while True:
+            batch = queue.take()
+            if not batch:
+                break
+            batches.append(batch)
+            queue.over([])
+        self.assertEqual([k for batch in batches for k in batch], list(range(10000)))
+        self.assertTrue(all(sum(sizes[k] for k in batch) <= night_work.MOST_BYTES for batch in batches))
+        self.assertGreater(len(batches[0]), 200)
+        self.assertLess(len(batches[-1]), 30)
+        self.assertLess(len(batches), 100)
+
     def test_an_answer_that_is_not_whole_is_worked_again(self):
         """Emptied, cut, with a line too few, with other words."""
         self.numbered(8)

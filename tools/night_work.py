@@ -383,7 +383,7 @@ class Work:
         self.results = [None] * len(names)
         self.before = 0  # sheets that had an answer
         self.lock, self.running = threading.Lock(), Running()
-        self.failure, self.jobs, self.said = None, 0, []
+        self.failure, self.jobs = None, 0
         self.queue = Queue(list(sizes(folder, names)), sum(machine.slots for machine in machines))
         self.log = open(out / "joblog", "w")
         self.log.write("job\tmachine\tbegan\tseconds\tsheets\tanswers\ttold\n")
