@@ -11,6 +11,7 @@ pub mod PassPlan
 pub mod Passing
 pub mod Sequence
 pub mod Settling
+pub mod Shared
 pub mod Telling
 pub mod WordLaws
 pub mod WordsBack

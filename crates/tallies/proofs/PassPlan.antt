@@ -31,7 +31,7 @@ abbrev pub Turned : Plan → Bool → Plan → Type 0
 Turned p ok q = (q .refusal ≡ cond (eqb (p .refusal) 0) (cond ok 0 tallyFull) (p .refusal)) × (q .what ≡ cond (eqb (p .refusal) 0 && ok) 1 (p .what)) × (q .counts ≡ p .counts)
 
 -- the look finds room where the tallies, counted afresh, have it
-pub room-found : (p : Plan) (zones : List ℕ) (ts : List Tally) → length ts ≤ 256 → Counts zones (p .counts) → (n : ℕ) → n ≤ length ts → roomBy p ts n ≡ roomIn (recounted zones ts) n
+pub room-found : (p : Plan) (zones : List ℕ) (ts : List Tally) → length ts ≤ 256 → Counts zones (p .counts) → (n : ℕ) → n ≤ length ts → roomBy (p .counts) ts n ≡ roomIn (recounted zones ts) n
 unfolding roomBy roomIn
 room-found p zones ts h c zero l = refl
 room-found p zones ts h c (suc n) l =
@@ -89,7 +89,7 @@ module _ (xs out zones : List ℕ) (ts : List Tally) where
             let works : q .what ≡ 1 = qw ∙ rw zero-code refl in
             let has : passRoom zones n ts ≡ true = sym (room ea eb c) ∙ eo in
             let f = fits-of (length xs / floats) zones n eb in
-            let new : us ≡ recounted zones ts = second .1 ∙ ap (byZone (planned q) 0) same ∙ recounts q zones ts (f .most) works (rw (turned .2) c) in
+            let new : us ≡ recounted zones ts = second .1 ∙ ap (byZone (planned (q .what) (q .counts)) 0) same ∙ recounts q zones ts (f .most) works (rw (turned .2) c) in
             let long : length us ≡ n = ap length new ∙ length-by (recount zones) ts in
             let z = sized-of xs out zones n ea eb in (
               done ∙ rw (ea, eb, has) refl,

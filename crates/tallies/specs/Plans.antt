@@ -18,11 +18,12 @@ Counts zones counts = (z : ℕ) → z < mostZones → getD counts z 0 ≡ listed
 abbrev pub Planned : ℕ → Bool → List ℕ → Plan → Type 0
 Planned k goes zones p = (p .what ≡ cond goes k 0) × (goes ≡ true → Counts zones (p .counts))
 
-abbrev pub planned : Plan → ℕ → Tally → Tally
-planned p z t =
-    cond (eqb (p .what) 1) (withParticles (getD (p .counts) z 0) t) (cond (eqb (p .what) 2) (withParticles (getD (p .counts) z 0) none) t)
+-- tally z where the plan does this, by these counts
+abbrev pub planned : ℕ → List ℕ → ℕ → Tally → Tally
+planned what counts z t =
+    cond (eqb what 1) (withParticles (getD counts z 0) t) (cond (eqb what 2) (withParticles (getD counts z 0) none) t)
 
 -- the first n tallies have room for the particles counted
-unfoldable pub roomBy : Plan → List Tally → ℕ → Bool
-roomBy p ts zero = true
-roomBy p ts (suc n) = roomBy p ts n && hasRoom (withParticles (getD (p .counts) n 0) (getD ts n none))
+unfoldable pub roomBy : List ℕ → List Tally → ℕ → Bool
+roomBy counts ts zero = true
+roomBy counts ts (suc n) = roomBy counts ts n && hasRoom (withParticles (getD counts n 0) (getD ts n none))

@@ -69,30 +69,27 @@ pub fn to_clear(particles: usize, zones: &[u64], n: usize) -> Plan
 }
 
 // The particles listed in zone z; none in a zone beyond the last.
-fn count_at(counts: [u64; 256], z: usize) -> u64
-    ensures { λ r. ⌜ r ≡ getD counts z 0 ⌝ }
+fn count_at(counts: &[u64], z: usize) -> u64
+    ensures { λ r. ⌜ r ≡ getD (now (counts .entry)) z 0 ⌝ }
 {
-    if z < 256 {
+    if z < counts.len() {
         return counts[z];
     }
     0
 }
 
 // Whether tally z has room for an outcome of every particle listed there, and those before it had.
-pub fn room_too(before: bool, t: Tally, p: Plan, z: usize) -> bool
-    ensures { λ r. ⌜ r ≡ (before && hasRoom (withParticles (getD (p .counts) z 0) t)) ⌝ }
+pub fn room_too(before: bool, t: Tally, counts: &[u64], z: usize) -> bool
+    ensures { λ r. ⌜ r ≡ (before && hasRoom (withParticles (getD (now (counts .entry)) z 0) t)) ⌝ }
 {
-    let counts = p.counts;
     let u = tally::with_particles(t, count_at(counts, z));
     before & tally::has_room(u)
 }
 
 // Tally z after the call.
-pub fn settled(t: Tally, p: Plan, z: usize) -> Tally
-    ensures { λ r. ⌜ r ≡ planned p z t ⌝ }
+pub fn settled(t: Tally, what: u64, counts: &[u64], z: usize) -> Tally
+    ensures { λ r. ⌜ r ≡ planned what (now (counts .entry)) z t ⌝ }
 {
-    let what = p.what;
-    let counts = p.counts;
     let n = count_at(counts, z);
     if what == 1 {
         return tally::with_particles(t, n);

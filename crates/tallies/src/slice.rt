@@ -65,18 +65,27 @@ fn pass_all(s: Step, xs: &mut [u64], out: &mut [u64], zones: &[u64], ts: &mut [T
 }
 
 // Each tally as the plan has it, by the step by value; and whether all have room for the particles counted.
-fn settle(ts: &mut [Tally], p: Plan) -> bool
-    ensures { λ r. ⌜ (r ≡ roomBy p (now (ts .entry)) (length (now (ts .entry)))) × (now (ts .exit) ≡ byZone (planned p) 0 (now (ts .entry))) ⌝ }
+fn settle_all(ts: &mut [Tally], what: u64, counts: &[u64]) -> bool
+    ensures { λ r. ⌜ (r ≡ roomBy (now (counts .entry)) (now (ts .entry)) (length (now (ts .entry)))) × (now (ts .exit) ≡ byZone (planned what (now (counts .entry))) 0 (now (ts .entry))) ⌝ }
 {
     let mut ok = true;
     let mut z = 0;
     while z < ts.len() {
         let t = ts[z];
-        ok = plan::room_too(ok, t, p, z);
-        ts[z] = plan::settled(t, p, z);
+        ok = plan::room_too(ok, t, counts, z);
+        ts[z] = plan::settled(t, what, counts, z);
         z = z + 1;
     }
     ok
+}
+
+// The same of a plan, whose counts are lent: none of them is copied for a tally.
+fn settle(ts: &mut [Tally], p: Plan) -> bool
+    ensures { λ r. ⌜ (r ≡ roomBy (p .counts) (now (ts .entry)) (length (now (ts .entry)))) × (now (ts .exit) ≡ byZone (planned (p .what) (p .counts)) 0 (now (ts .entry))) ⌝ }
+{
+    let what = p.what;
+    let counts = p.counts;
+    settle_all(ts, what, &counts)
 }
 
 // The lent tallies cleared, and particles now counted: 0, or 12 and nothing changed.

@@ -1,16 +1,13 @@
 -- `tallies::plan::count_at` meets its contract: by the place.
-use mathlib.Core.Path.{_≡_, sym}
+use mathlib.Core.Path.{sym}
 use native.Mathlib.Omega.{arith}
-use lib.ListN.{length, List·getD-eq-default}
+use lib.ListN.{List·getD-eq-default}
 use borrow.Author.Needs.{needs}
 use Rattle.tallies.proofs.plan.count_at.Statement.{statement}
 use Rattle.tallies.proofs.plan.count_at.Tie as tie
 
 returns-2 : tie.Need-returns-2
-returns-2 c =
-    let n : length (c .before .args .t1) ≡ 256 = c .before .good .0 .1 .0 .1 in
-    let f = c .if1 .left in
-    sym (List·getD-eq-default (c .before .args .t1) 0 (omega arith))
+returns-2 c = let f = c .if1 .left in sym (List·getD-eq-default (c .before .args .counts .now) 0 (omega arith))
 
 pub count-at-spec : {M : Type 1} → statement M
 count-at-spec = tie.close (tie.spec (λ c. search needs) (λ c. search needs) (λ c. search needs) returns-2)
