@@ -5,6 +5,7 @@ pub mod Answers
 pub mod EnergyModes
 pub mod Updates
 pub mod Failure
+pub mod Factored
 pub mod Passes
 pub mod Table
 pub mod Calls
