@@ -106,8 +106,10 @@ section-3 =
       ln-one = ln-one;
       exp = promised exponential.expOf exponential.low exponential.high _ _ ExpNear tt tt exp-near refl refl (record { low-number = refl; high-number = refl; in-order = refl });
       exp-zero = exp-zero .0;
+      exp-minus-zero = exp-zero .1;
       sinh = promised sinhOf exponential.low exponential.high _ _ SinhNear tt tt sinh-near refl refl (record { low-number = refl; high-number = refl; in-order = refl });
       sinh-zero = sinh-zero .0;
+      sinh-minus-zero = sinh-zero .1;
       sin = promised sine.sinOf sine.low sine.high _ _ SinNear tt tt sin-near refl refl (record { low-number = refl; high-number = refl; in-order = refl });
       third = promised thirds.cbrtOf thirds.low thirds.high _ _ CbrtNear tt tt cbrt-near refl refl (record { low-number = refl; high-number = refl; in-order = refl });
       two-thirds = promised thirds.cbrtSquaredOf thirds.low thirds.high _ _ CbrtSquaredNear tt tt cbrt-squared-near refl refl (record { low-number = refl; high-number = refl; in-order = refl });

@@ -8,7 +8,7 @@ use Prim.Native.Nat.{_*_, _-_, _^_}
 use lib.Dec.{T}
 use lib.IntN.{ℤ, pos, negℤ}
 use lib.Ieee as Ieee
-use lib.Ieee.{Float, binary64, fits}
+use lib.Ieee.{Float, binary64, ofBits, fits}
 use Rattle.exact.specs.Value.{val}
 use Rattle.exact.specs.RootOf.{Rooted, sqrtOf}
 use Rattle.series.specs.ExpNear.{ExpNear}
@@ -47,6 +47,10 @@ abbrev 2^-60 : ℤ
 abbrev 2^60 : ℤ
 2^60 = pos (2 ^ 1134)
 
+-- -0.0
+abbrev minus-zero : Float
+minus-zero = ofBits binary64 0x8000_0000_0000_0000
+
 pub record Section3 : Type 0 where
   -- finite, at least 0; correctly rounded
   pub root : Promised (λ x. bare x (square-root.sqrtRanged x)) sqrtOf square-root.least square-root.largest (pos 0) (pos ((2 ^ 53 - 1) * 2 ^ 2045)) Rooted
@@ -54,8 +58,10 @@ pub record Section3 : Type 0 where
   pub ln-one : logarithm.lnOf one ≡ zero
   pub exp : Promised (λ x. bare x (expRanged x)) exponential.expOf exponential.low exponential.high (negℤ (pos (700 * 2 ^ 1074))) (pos (700 * 2 ^ 1074)) ExpNear
   pub exp-zero : exponential.expOf zero ≡ one
+  pub exp-minus-zero : exponential.expOf minus-zero ≡ one
   pub sinh : Promised (λ x. bare x (sinhRanged x)) sinhOf exponential.low exponential.high (negℤ (pos (700 * 2 ^ 1074))) (pos (700 * 2 ^ 1074)) SinhNear
   pub sinh-zero : sinhOf zero ≡ zero
+  pub sinh-minus-zero : sinhOf minus-zero ≡ minus-zero
   pub sin : Promised (λ x. bare x (sine.sinRanged x)) sine.sinOf sine.low sine.high (negℤ (pos (8 * 2 ^ 1074))) (pos (8 * 2 ^ 1074)) SinNear
   pub third : Promised (λ x. bare x (thirds.cbrtRanged x)) thirds.cbrtOf thirds.low thirds.high 2^-60 2^60 CbrtNear
   pub two-thirds : Promised (λ x. bare x (thirds.cbrtSquaredRanged x)) thirds.cbrtSquaredOf thirds.low thirds.high 2^-60 2^60 CbrtSquaredNear

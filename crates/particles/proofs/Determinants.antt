@@ -101,7 +101,7 @@ rows-measured r at m h k q =
     row-measured (putRow (putRow r at (m .r0)) (at + 3) (m .r1)) (at + 6) (m .r2) (omega arith) (omega arith)
     (row-measured (putRow r at (m .r0)) (at + 3) (m .r1) (omega arith) (omega arith) (row-measured r at (m .r0) h (omega arith) q))
 
-factors-measured : (r : List ℕ) → factorRefusal r ≡ 0 → Measured (withFactors r)
+pub factors-measured : (r : List ℕ) → factorRefusal r ≡ 0 → Measured (withFactors r)
 unfolding withFactors
 factors-measured r z =
     let f = fine r z in

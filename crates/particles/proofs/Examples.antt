@@ -1,7 +1,7 @@
 -- Records in the pass with failure (RULES, section 7): each as it came, and as the law leaves it. By computation.
 use mathlib.Core.Path.{_≡_, refl}
 use mathlib.Core.Bool.{true, false}
-use mathlib.Core.List.{List, [], _∷_}
+use mathlib.Core.List.{List, [], _∷_, map}
 use Prim.Native.Nat.{ℕ}
 use lib.Ieee as Ieee
 use lib.Ieee.{Float, binary64, ofBits, toBits, fits, round, size}
@@ -32,7 +32,7 @@ use Rattle.failure_maximum_stress.specs.declared.Verdict.{Verdict}
 use Rattle.failure_maximum_stress.specs.declared.Verdict.the-variants.{No, Yes}
 use Rattle.failure_maximum_stress.specs.Failure.{overLimit, verdictOf}
 use Rattle.elasticity_corotated_linear.specs.declared.CorotatedLinearElasticity.{CorotatedLinearElasticity}
-use Rattle.elasticity_corotated_linear.specs.Principal.{principalWalk}
+use Rattle.elasticity_corotated_linear.specs.Principal.{principalWalk, principalStresses}
 use Rattle.record.specs.Layout.{stateAt, determinantAt, determinantRight}
 use Rattle.model.specs.declared.Model.the-variants.{Snow, Rankine, DruckerPrager}
 use Rattle.particles.specs.Plain.{updatedAt, lawAt, recordLaw}
@@ -111,6 +111,20 @@ only-failed =
 whole-sand : let w = failureLaw (DruckerPrager only-failed) limits law stretched in (w .outcome ≡ Untouched) × (w .failed ≡ true)
 unfolding failureLaw judgedAt verdictAfter updatedAt lawAt recordLaw determinantRight determinantAt toBits drucker-over.druckerWalk drucker-over.floats drucker-over.runWalk body.floatsOf principalWalk overLimit verdictOf product finite isNumber ofBits Ieee.add Ieee.sub Ieee.mul Ieee.div Ieee.neg Ieee.le Ieee.lt Ieee.eq Ieee.ne
 whole-sand = (refl, refl)
+
+-- ---- what is judged at phase 0.0 with the flag is the compressive part alone, by hand
+abbrev split-stresses : List ℕ → List ℕ → Type 0
+split-stresses s t = principalStresses law (f64 0) one (map f64 s) ≡ record { refusal = 0; vector = map f64 t }
+
+-- below J = 1, sigma 2, 1/4 and 1: lambda h (J - 1) J is -3/4, and 2mu h (sigma - 1) sigma is -3/8 for the second
+below-one : split-stresses (0x4000_0000_0000_0000 ∷ 0x3fd0_0000_0000_0000 ∷ unit ∷ []) (0xbfe8_0000_0000_0000 ∷ 0xbff2_0000_0000_0000 ∷ 0xbfe8_0000_0000_0000 ∷ [])
+unfolding principalWalk product finite isNumber ofBits Ieee.add Ieee.sub Ieee.mul Ieee.div Ieee.neg Ieee.le Ieee.lt Ieee.eq
+below-one = refl
+
+-- above it, sigma 4, 1/2 and 1: the spherical stress is tensile, and the second's -1/2 is left
+above-one : split-stresses (0x4010_0000_0000_0000 ∷ 0x3fe0_0000_0000_0000 ∷ unit ∷ []) (0 ∷ 0xbfe0_0000_0000_0000 ∷ 0 ∷ [])
+unfolding principalWalk product finite isNumber ofBits Ieee.add Ieee.sub Ieee.mul Ieee.div Ieee.neg Ieee.le Ieee.lt Ieee.eq
+above-one = refl
 
 -- ---- the determinant: of an F of zeros it is 0.0, and -0.0 is another in one bit
 abbrev zeros : List ℕ → List ℕ

@@ -1,15 +1,16 @@
 -- Laws of a pass over records of any width w, by any step that keeps a record's length: what record i adds to the records, the answers and the
 -- counts.
 -- Assumes nothing.
-use mathlib.Core.Bool.{Bool, true, false, cond}
-use mathlib.Core.Path.{_≡_, refl, sym, ap, _∙_}
+use mathlib.Core.Bool.{Bool, true, false, not, cond}
+use mathlib.Core.Path.{_≡_, refl, sym, ap, subst, _∙_}
 use mathlib.Core.List.{List, [], _∷_, _++_, append-assoc, append-nil}
 use Prim.Native.Nat.{ℕ, zero, suc, _+_, _*_, _≤_, _<_}
 use native.Mathlib.Nat.{zero-mul}
 use native.Mathlib.Omega.{arith}
 use native.Mathlib.Numerals.{add-one}
-use lib.ListN.{length, set, take, drop, getD, length-set, length-append, length-take, length-drop}
-use lib.Seq.{take-at, drop-at, drop-drop, drop-cons, set-at, drop-length}
+use lib.Dec.{T, ltb, ltb→lt, nltb→le}
+use lib.ListN.{length, set, take, drop, getD, length-set, length-append, length-take, length-drop, List·getD-append}
+use lib.Seq.{take-at, drop-at, drop-drop, drop-cons, set-at, drop-length, getD-append-add}
 use Rattle.plasticity.specs.declared.Outcome.{Outcome}
 use Rattle.plasticity.specs.declared.Outcome.the-variants.{Untouched, Stored, Refused}
 use Rattle.plasticity.specs.declared.Scalars.{Scalars}
@@ -23,7 +24,7 @@ use Rattle.particles.specs.declared.failure.PassedWithFailure.the-varian
 use Rattle.particles.specs.Named.{named, byOutcome}
 use Rattle.particles.specs.Plain.{recordLaw, kept, lawAt, putState}
 use Rattle.particles.specs.Fill.{fillLaw}
-use Rattle.particles.specs.Pass.{Worked, answered, countedIf, counted, recordOver, replacedOver, workedOver, answersOver, countsOver, threeOf, withoutVerdicts}
+use Rattle.particles.specs.Pass.{Worked, codeOf, valueOf, answered, countedIf, counted, recordOver, replacedOver, workedOver, answersOver, countsOver, threeOf, withoutVerdicts}
 
 -- a law keeps a record's length
 abbrev pub Keeps : (List ℕ → Worked) → Type 0
@@ -149,3 +150,34 @@ three-passed false c n = refl
 -- at the end nothing is left of the old list
 pub all-done : (q l : List ℕ) (k : ℕ) → length l ≡ k → q ++ drop k l ≡ q
 all-done q l k e = rw (← e, drop-length) (append-nil q)
+
+-- ---- the two answers of record i
+-- i below n + 1 is below n, or n
+pub or-last : (i n : ℕ) {G : Type 0} → i < suc n → (i < n → G) → (i ≡ n → G) → G
+or-last i n {G} h f g = go (ltb i n) (ltb→lt i n) (nltb→le i n)
+  where
+    go : (b : Bool) → (T b → i < n) → (T (not b) → n ≤ i) → G
+    go true k l = f (k tt)
+    go false k l = g (let m = l tt in omega arith)
+
+module _ (w : ℕ) (law : List ℕ → Worked) (l : List ℕ) where
+  abbrev code : ℕ → ℕ
+  code i = codeOf (law (recordOver w l i) .outcome)
+
+  abbrev value : ℕ → ℕ
+  value i = valueOf (law (recordOver w l i) .outcome)
+
+  pub answers-at : (n i : ℕ) → i < n → (getD (answersOver w law l n) (i * 2) 0 ≡ code i) × (getD (answersOver w law l n) (i * 2 + 1) 0 ≡ value i)
+  unfolding answersOver
+  answers-at zero i j = absurd (omega arith)
+  answers-at (suc n) i j =
+      let q = answersOver w law l n in
+      let s = code n ∷ value n ∷ [] in
+      let e : length q ≡ n * 2 = answers-length w law l n in
+      or-last i n j
+      (λ m. let a = answers-at n i m in
+      (List·getD-append q s 0 (i * 2) (omega arith) ∙ a .0, List·getD-append q s 0 (i * 2 + 1) (omega arith) ∙ a .1))
+      (λ m. subst (λ (x : ℕ). (getD (q ++ s) (x * 2) 0 ≡ code x) × (getD (q ++ s) (x * 2 + 1) 0 ≡ value x)) (sym m) (
+        ap (λ (x : ℕ). getD (q ++ s) x 0) (let y : n * 2 ≡ length q + 0 = omega arith in y) ∙ getD-append-add q s 0 0,
+        ap (λ (x : ℕ). getD (q ++ s) x 0) (let y : n * 2 + 1 ≡ length q + 1 = omega arith in y) ∙ getD-append-add q s 1 0,
+      ))

@@ -12,5 +12,6 @@ pub mod Passes
 pub mod Records
 pub mod Sheets
 pub mod Stored
+pub mod Factored
 pub mod Cases
 pub mod Examples

@@ -108,7 +108,7 @@ module _ (a : RankineArguments) (l : MaximumStressFailure) (e : CorotatedLinearE
   step-found true (verdict.Refused n) h = absurd h
   step-found false v h = absurd h
 
-  law-found : Accepted (failureLaw (Rankine a) l e r .outcome)
+  pub law-found : Accepted (failureLaw (Rankine a) l e r .outcome)
       → (foundOf (failureLaw (Rankine a) l e r) ≡ markedBy (failureLaw (Rankine a) l e r .failed) (foundOf (recordLaw (Rankine a) r))) × Accepted (recordLaw (Rankine a) r .outcome)
   unfolding failureLaw
   law-found h = step-found (judgeFinite l e) (judgedAt (Rankine a) l e r) h

@@ -43,7 +43,7 @@ update-archived {a} {u} {vt} {st} g h q =
     (λ t. ap code (d .update ∙ d .law .holds t .untouched))
     (λ t. subst (λ (v : Updated). Archived (lawOf a) (softened (lawOf a) st) (v .state .sigma)) (sym (d .update)) (d .law .fails t .archive))
 
-found-archived : {a : RankineArguments} {r : List ℕ} {f : Found} → Demand3At a r f → ArchivesAt a r f
+pub found-archived : {a : RankineArguments} {r : List ℕ} {f : Found} → Demand3At a r f → ArchivesAt a r f
 found-archived {a} {r} {f} d q = by-test (firstTestAt a r) (f .code) q (λ t. d .holds t .answer .0) (λ t. d .fails t .archive)
 
 pub record-archived : {a : RankineArguments} {r : List ℕ} → length r ≡ floats → Premises a r (recordLaw (Rankine a) r .outcome)
@@ -56,7 +56,7 @@ pub pass-archived : {a : RankineArguments} {xs out : List ℕ} {i : ℕ} → InP
 pass-archived w g = found-archived (pass-3 w g)
 
 -- phase changes no sigma
-marked-archived : (a : RankineArguments) (r : List ℕ) (b : Bool) (f : Found) → ArchivesAt a r f → ArchivesAt a r (markedBy b f)
+pub marked-archived : (a : RankineArguments) (r : List ℕ) (b : Bool) (f : Found) → ArchivesAt a r f → ArchivesAt a r (markedBy b f)
 marked-archived a r false f d = d
 marked-archived a r true f d = λ q. subst (Archived (lawOf a) (softenedAt a r)) (sym (phase-sigma (f .after) zero)) (d q)
 

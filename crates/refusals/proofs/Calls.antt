@@ -1,5 +1,5 @@
 -- Section 6 of the calls that give a number, two numbers, a matrix or a verdict. Assumes nothing.
-use mathlib.Core.Path.{_≡_, refl, sym, ap, _∙_}
+use mathlib.Core.Path.{_≡_, refl, sym, ap, subst, _∙_}
 use mathlib.Core.Bool.{Bool, true, false, cond, _&&_}
 use mathlib.Core.List.{List, [], _∷_, _++_}
 use mathlib.Core.Option.{Option, some, none}
@@ -17,17 +17,19 @@ use Rattle.square_root.specs.Sqrt.{sqrtRanged}
 use Rattle.tensor.specs.Axes.{allOf}
 use Rattle.tensor.specs.Matrix as tensor
 use Rattle.tensor.specs.Matrix.{ofRows}
-use Rattle.tensor.specs.Finite.{rowFinite, rowsFinite}
+use Rattle.tensor.specs.Finite.{rowFinite, matFinite, rowsFinite}
 use Rattle.tensor.specs.Answer.{answered, answeredVector, givenMatrix, givenVector, refusedMatrix, refusedVector}
-use Rattle.tensor.specs.Decomposed.{refusedTensor, answeredTensor, givenTensor}
+use Rattle.tensor.specs.Decomposed.{sphericalOf, deviatoricOf, decomposeOf, recomposedOf, sumOf, timesOf, tensorFinite, refusedTensor, answeredTensor, givenTensor}
 use Rattle.tensor.specs.declared.DecomposedAnswer.{DecomposedAnswer}
 use Rattle.tensor.specs.declared.DecomposedTensor.{DecomposedTensor}
+use Rattle.physics.specs.Physics.{invExactOf, shearModulusOf, bulkModulusOf, lambdaOf, shearFromLameOf, bulkFromLameOf, spinTensorOf, strainRateOf}
 use Rattle.physics.specs.Quadratic.{discriminantOf, rootsOf, solveQuadraticOf}
-use Rattle.walk.specs.Expr.{Expr, num, value, values}
+use Rattle.walk.specs.Expr.{Expr, num, nums, value, values}
 use Rattle.walk.specs.Walk as walk
 use Rattle.walk.specs.Walk.{Walk, root, inputs, results, end, _then_, Ended, result, answerAs}
 use Rattle.walk.specs.Exact.{path}
-use Rattle.walk.specs.Every.{flat, all-append}
+use Rattle.walk.specs.Every.{flat, all-flat, all-append}
+use Rattle.walk.specs.Matrix.{values-nums}
 use Rattle.walk.specs.Tensor.{worth, rows, worth-rows}
 use Rattle.walk.specs.Answers.{returned, returnedMatrix, refusalIn, matrixAs}
 use Rattle.plasticity_drucker_prager.specs.declared.DruckerPragerPlasticity.{DruckerPragerPlasticity}
@@ -54,7 +56,7 @@ use Rattle.eos_monaghan_sph.specs.Timestep as monaghan-timestep
 use Rattle.refusals.specs.Refusals.{Numbers, Gives}
 use Rattle.refusals.specs.Enums.{verdictNumber}
 use Rattle.refusals.proofs.Enums.{coded, verdict-coded, verdict-failed}
-use Rattle.refusals.specs.Calls.{GivesPair, Beside, pairWalk, vectorWalk, tensorWalk, quadraticWalk, verdictWalk, Calls}
+use Rattle.refusals.specs.Calls.{GivesPair, Beside, matrixPath, floatsIn, pairWalk, vectorWalk, tensorWalk, quadraticWalk, verdictWalk, Calls}
 use Rattle.refusals.proofs.Inner.{Inner, inner-then, alpha-inner}
 use Rattle.refusals.proofs.Numbers.{differ, nothing, told}
 use Rattle.refusals.proofs.EnergyModes.{mode-gives}
@@ -121,6 +123,21 @@ module _ (l : List Float) (ok : Bool) (q : allOf finite l ≡ ok) where
       (entered T l ok q (answeredTensor t) (refusedTensor 1) (after (tensorWalk l t))
       (tested T 3 (a && b) (record { refusal = 0; tensor = t }) (refusedTensor 3) (walk.given t) refl refl
       ∙ rw (worth-rows (ofRows (t .«deviatoric_part»))) (split-in a b (walk.given t))) refl)
+
+  -- of numbers
+  numbers-give : (m : List (List Float)) → Beside (givenMatrix ok (answered m) .refusal) (matrixPath l m)
+  numbers-give m = subst (λ (v : List (List Float)). Beside (givenMatrix ok (answered v) .refusal) (matrixPath l m)) (worth-rows m) (matrix-gives (rows m))
+
+  row-gives : (v : List Float) → Beside (givenVector ok (answeredVector v) .refusal) (path (vectorWalk l (nums v)))
+  row-gives v = subst (λ (w : List Float). Beside (givenVector ok (answeredVector w) .refusal) (path (vectorWalk l (nums v)))) (values-nums v) (vector-gives (nums v))
+
+floats-in : (t : DecomposedTensor) → allOf finite (floatsIn t) ≡ tensorFinite t
+floats-in t =
+    all-append finite (flat (ofRows (t .«deviatoric_part»))) (t .«spherical_part» ∷ []) ∙ ap (λ b. b && finite (t .«spherical_part»)) (all-flat finite (ofRows (t .«deviatoric_part»)))
+
+phase-gives : (phase : Float) → Gives (neo-hookean.phaseCoeff phase) (path (inputs (phase ∷ []) (returned 1 (neo-hookean.coefficient phase))))
+unfolding neo-hookean.phaseCoeff
+phase-gives phase = walk-gives (phase ∷ []) (returned 1 (neo-hookean.coefficient phase)) tt
 
 -- ---- of a walk that ends in a matrix
 walk-beside : (l : List Float) (w : Walk (List (List Float))) → Inner w → Beside (matrixAs (result (inputs l w)) .refusal) (path (inputs l w))
@@ -230,11 +247,21 @@ module _ (law : MonaghanSphEos) (mass volume density : Float) where
 pub calls : Calls
 calls =
     record {
-      one-number = number-gives;
-      two-numbers = pair-gives;
-      matrix = matrix-gives;
-      vector = vector-gives;
-      tensor = tensor-gives;
+      inv-exact = λ e. number-gives (e ∷ []) (finite e) refl (num (invExactOf e));
+      lame-lambda-mu = λ y p. pair-gives (y ∷ p ∷ []) (finite y && finite p) refl (num (lambdaOf y p)) (num (shearModulusOf y p));
+      shear-modulus = λ y p. number-gives (y ∷ p ∷ []) (finite y && finite p) refl (num (shearModulusOf y p));
+      bulk-modulus = λ y p. number-gives (y ∷ p ∷ []) (finite y && finite p) refl (num (bulkModulusOf y p));
+      shear-modulus-from-lame = λ l m. number-gives (l ∷ m ∷ []) (finite l && finite m) refl (num (shearFromLameOf l m));
+      bulk-modulus-from-lame = λ l m. number-gives (l ∷ m ∷ []) (finite l && finite m) refl (num (bulkFromLameOf l m));
+      spin-tensor = λ m. numbers-give (flat m) (matFinite m) (all-flat finite m) (spinTensorOf m);
+      strain-rate = λ m. numbers-give (flat m) (matFinite m) (all-flat finite m) (strainRateOf m);
+      deviatoric-part = λ m. numbers-give (flat m) (matFinite m) (all-flat finite m) (deviatoricOf m);
+      spherical-part = λ m. number-gives (flat m) (matFinite m) (all-flat finite m) (num (sphericalOf m));
+      decompose = λ m. tensor-gives (flat m) (matFinite m) (all-flat finite m) (decomposeOf m);
+      recompose = λ t. numbers-give (floatsIn t) (tensorFinite t) (floats-in t) (recomposedOf t);
+      add = λ t u. tensor-gives (floatsIn t ++ floatsIn u) (tensorFinite t && tensorFinite u) (all-append finite (floatsIn t) (floatsIn u) ∙ (λ i. floats-in t i && floats-in u i)) (sumOf t u);
+      times = λ t v. row-gives (floatsIn t ++ v) (tensorFinite t && rowFinite v) (all-append finite (floatsIn t) v ∙ ap (λ b. b && rowFinite v) (floats-in t)) (timesOf t v);
+      phase-coeff = phase-gives;
       quadratic = quadratic-gives;
       alpha = alpha-gives;
       verdicts = λ l s. coded verdictNumber verdict.Refused verdict-coded (verdictOf l s) (path (verdictWalk l s)) (verdict-gives l s);

@@ -32,10 +32,11 @@ use Rattle.elasticity_corotated_linear.proofs.Laws.{principal-law}
 use Rattle.model.specs.declared.Model.{Model}
 use Rattle.model.specs.Model.{modelFinite}
 use Rattle.plasticity.specs.declared.Updated.{Updated}
+use Rattle.particles.specs.declared.step.Step.the-variants.{Judged}
 use Rattle.particles.specs.Pass.{Worked}
 use Rattle.particles.specs.Plain.{keptBy, lawAt, recordLaw}
 use Rattle.particles.specs.Judged.{verdictOn, judgeFinite, verdictAfter, unlessRefused, judgedAt, refusedRecord, marked, failureLaw}
-use Rattle.refusals.specs.Refusals.{SomeNotFinite, RecordNotFinite, parametersOf, recordFloats, recordSteps, failureOf, leftBy, stressesOf, failureSteps, failureWalk, failurePath, RecordRefuses}
+use Rattle.refusals.specs.Refusals.{SomeNotFinite, RecordNotFinite, parametersOf, recordFloats, recordSteps, failureOf, leftBy, stressesOf, failureSteps, failureWalk, StepRefuses}
 use Rattle.refusals.proofs.Inner.{inner-then, principal-inner}
 use Rattle.refusals.proofs.Inputs.{some-append}
 use Rattle.refusals.proofs.Updates.{record-inputs, steps-by, law-one-first, law-eleven-next, record-inner, outcome-record, input-places}
@@ -91,7 +92,7 @@ module _ (m : Model) (l : MaximumStressFailure) (e : CorotatedLinearElasticity) 
   abbrev inner : Bool
   inner = modelFinite m && recordFinite r
 
-  all-inputs : allOf finite (failureOf l e ++ (parametersOf m ++ recordFloats r)) ≡ judgeFinite l e && inner
+  pub all-inputs : allOf finite (failureOf l e ++ (parametersOf m ++ recordFloats r)) ≡ judgeFinite l e && inner
   all-inputs =
       all-append finite (failureOf l e) (parametersOf m ++ recordFloats r)
       ∙ rw (record-inputs m r, five (finite (l .«max_principal_stress»)) (finite (l .«max_shear_stress»)) (finite (e .«cfl_coeff»)) (finite (e .lambda)) (finite (e .mu))) refl
@@ -129,7 +130,7 @@ module _ (m : Model) (l : MaximumStressFailure) (e : CorotatedLinearElasticity) 
       ap (λ v. cond (judgeFinite l e) (Law v) (refusedRecord notFinite r) .outcome) (law-eleven-next m r d) ∙ wrong (judgeFinite l e) inner
       ∙ ap (λ b. cond b (outcome.Refused wrongDeterminant) (outcome.Refused notFinite)) (sym all-inputs)
 
-  pub failure-refuses : RecordRefuses (failureLaw m l e r .outcome) (determinantRight r) (failurePath m l e r)
+  pub failure-refuses : StepRefuses (failureLaw m l e r .outcome) (Judged m l e) r
   failure-refuses =
       let s = stateAt r in
       outcome-record s (failureLaw m l e r .outcome) (determinantRight r) (failureOf l e ++ (parametersOf m ++ recordFloats r)) (failureSteps m e r)

@@ -68,5 +68,5 @@ module _ (r : List ℕ) where
       back : RecordNotFinite r → SomeNotFinite (recordFloats r)
       back (k, g, z) = subst SomeNotFinite (sym all-listed) (placed (floatAt r) 0 floats (k, omega arith, omega arith, z))
 
-  holds : allOf finite (recordFloats r) ≡ true → (k : ℕ) → k < floats → finite (floatAt r k) ≡ true
+  pub holds : allOf finite (recordFloats r) ≡ true → (k : ℕ) → k < floats → finite (floatAt r k) ≡ true
   holds q k h = ⊎-elim (λ t. t) (λ z. absurd (no-both (allOf finite (recordFloats r)) q (not-finite (recordFloats r) .1 (places .1 (k, h, z))))) (decide (finite (floatAt r k)))

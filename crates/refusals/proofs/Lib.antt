@@ -6,6 +6,7 @@ pub mod EnergyModes
 pub mod Enums
 pub mod Updates
 pub mod Failure
+pub mod Factored
 pub mod Passes
 pub mod Table
 pub mod Calls

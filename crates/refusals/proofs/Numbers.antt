@@ -8,7 +8,7 @@ use Prim.Native.Nat.{ℕ}
 use native.Mathlib.Omega.{arith}
 use lib.Ieee.{Float}
 use Rattle.numbers.specs.Floats.{finite}
-use Rattle.answers.specs.Refusals.{belowRange, aboveRange, wrongDeterminant}
+use Rattle.answers.specs.Refusals.{belowRange, aboveRange, wrongDeterminant, notAccepted}
 use Rattle.tensor.specs.Axes.{allOf}
 use Rattle.walk.specs.Walk.{Walk, inputs, result}
 use Rattle.walk.specs.Exact.{Met, input, path}
@@ -106,11 +106,55 @@ transfer w q =
       only = λ n r. q .only n (w n .0 r);
     }
 
-pub record-transfer : {R Q : ℕ → Type 0} {right : Bool} {ms : List Met} → ((n : ℕ) → R n ↔ Q n) → RecordNumbers Q right ms → RecordNumbers R right ms
+-- ---- the numbers of a record, of which there are never two: refused by 1, 11 or 14, or the law's numbers
+module _ {R : ℕ → Type 0} (alone : (m n : ℕ) → R m → R n → m ≡ n) {l : List Float} {right checked : Bool} {ms : List Met} where
+  pub by-one : R 1 → SomeNotFinite l → RecordNumbers R l right checked ms
+  by-one h z =
+      record {
+        one = (λ q. z, λ q. h);
+        eleven = (λ q. absurd (let e = alone 1 wrongDeterminant h q in omega arith), λ q. absurd (q .0 z));
+        fourteen = (λ q. absurd (let e = alone 1 notAccepted h q in omega arith), λ q. absurd (q .0 z));
+        goes-on = λ f. absurd (f z);
+        alone = alone;
+      }
+
+  pub by-eleven : R wrongDeterminant → (SomeNotFinite l → ⊥) → right ≡ false → RecordNumbers R l right checked ms
+  by-eleven h f d =
+      record {
+        one = (λ q. absurd (let e = alone 1 wrongDeterminant q h in omega arith), λ q. absurd (f q));
+        eleven = (λ q. (f, d), λ q. h);
+        fourteen = (λ q. absurd (let e = alone wrongDeterminant notAccepted h q in omega arith), λ q. absurd (true≢false (sym (q .1) ∙ d)));
+        goes-on = λ g t. absurd (true≢false (sym t ∙ d));
+        alone = alone;
+      }
+
+  pub by-fourteen : R notAccepted → (SomeNotFinite l → ⊥) → right ≡ true → checked ≡ false → RecordNumbers R l right checked ms
+  by-fourteen h f d c =
+      record {
+        one = (λ q. absurd (let e = alone 1 notAccepted q h in omega arith), λ q. absurd (f q));
+        eleven = (λ q. absurd (let e = alone wrongDeterminant notAccepted q h in omega arith), λ q. absurd (true≢false (sym d ∙ q .1)));
+        fourteen = (λ q. (f, d, c), λ q. h);
+        goes-on = λ g t k. absurd (true≢false (sym k ∙ c));
+        alone = alone;
+      }
+
+  pub by-law : (SomeNotFinite l → ⊥) → right ≡ true → checked ≡ true → (R 1 → ⊥) → Numbers R ms → RecordNumbers R l right checked ms
+  by-law f d c g q =
+      record {
+        one = (λ z. absurd (g z), λ z. absurd (f z));
+        eleven = (λ z. absurd (⊎-elim (λ k. omega arith) (λ k. omega arith) (q .only wrongDeterminant z)), λ z. absurd (true≢false (sym d ∙ z .1)));
+        fourteen = (λ z. absurd (⊎-elim (λ k. omega arith) (λ k. omega arith) (q .only notAccepted z)), λ z. absurd (true≢false (sym c ∙ z .2)));
+        goes-on = λ h t k. q;
+        alone = alone;
+      }
+
+pub record-transfer : {R Q : ℕ → Type 0} {l : List Float} {right checked : Bool} {ms : List Met} → ((n : ℕ) → R n ↔ Q n) → RecordNumbers Q l right checked ms
+    → RecordNumbers R l right checked ms
 record-transfer w q =
     record {
       one = (λ r. q .one .0 (w 1 .0 r), λ b. w 1 .1 (q .one .1 b));
       eleven = (λ r. q .eleven .0 (w wrongDeterminant .0 r), λ b. w wrongDeterminant .1 (q .eleven .1 b));
-      wrong = λ f n r. q .wrong f n (w n .0 r);
-      goes-on = λ t. transfer w (q .goes-on t);
+      fourteen = (λ r. q .fourteen .0 (w notAccepted .0 r), λ b. w notAccepted .1 (q .fourteen .1 b));
+      goes-on = λ f t c. transfer w (q .goes-on f t c);
+      alone = λ m n a b. q .alone m n (w m .0 a) (w n .0 b);
     }

@@ -2,24 +2,23 @@
 use mathlib.Core.Path.{_≡_, refl, sym, ap, _∙_}
 use mathlib.Core.Logic.{⊎-elim, _↔_}
 use mathlib.Core.Bool.{Bool, true, false, cond}
-use mathlib.Core.List.{List, [], _∷_, _++_}
-use Prim.Native.Nat.{ℕ, zero, suc, _+_, _*_, _/_, _<_}
-use native.Mathlib.Nat.{eq-or-lt-of-le}
+use mathlib.Core.List.{List}
+use Prim.Native.Nat.{ℕ, _+_, _*_, _/_, _<_}
 use native.Mathlib.Omega.{arith}
-use lib.ListN.{length, getD, List·getD-append}
-use lib.Seq.{getD-append-add}
+use lib.ListN.{length, getD}
 use Rattle.plasticity.specs.declared.Outcome.{Outcome}
 use Rattle.plasticity.specs.declared.Outcome.the-variants.{Untouched, Stored, Refused}
-use Rattle.record.specs.Layout.{floats, determinantRight}
+use Rattle.record.specs.Layout.{floats}
+use Rattle.particles.specs.declared.step.Step.{Step}
 use Rattle.particles.specs.declared.list.Counts.{Counts}
 use Rattle.particles.specs.declared.list.Passed.the-variants as pass
 use Rattle.particles.specs.declared.failure.FailureCounts.{FailureCounts}
 use Rattle.particles.specs.declared.failure.PassedWithFailure.the-variants as failure-pass
-use Rattle.particles.specs.Pass.{Worked, codeOf, valueOf, recordAt, answers, wellSized, passAnswers, answersOver}
-use Rattle.particles.proofs.PassLaws.{answers-length}
-use Rattle.walk.specs.Exact.{Met}
+use Rattle.particles.specs.Pass.{codeOf, valueOf, recordAt, answers, wellSized, passAnswers}
+use Rattle.particles.specs.Step.{stepLaw}
+use Rattle.particles.proofs.PassLaws.{answers-at}
 use Rattle.sheet_run.proofs.Parts.{taken, sized, quotient, well}
-use Rattle.refusals.specs.Refusals.{RecordRefuses, Answers, Sized, Eight, Pass}
+use Rattle.refusals.specs.Refusals.{StepRefuses, Answers, Sized, Eight, Pass}
 use Rattle.refusals.proofs.Numbers.{record-transfer}
 use Rattle.refusals.proofs.Inputs.{no-both, decide}
 
@@ -58,31 +57,6 @@ pub failure-eight : (c : FailureCounts) (xs out : List ℕ)
 failure-eight c = eight (failure-pass.Done c) failure-pass.Refused (failure-not c) (λ n e. cc)
 
 -- ---- the answers
-module _ (law : List ℕ → Worked) (l : List ℕ) where
-  abbrev at : ℕ → Outcome
-  at i = law (recordAt l i) .outcome
-
-  answer : (k i : ℕ) → i < k → (getD (answers law l k) (i * 2) 0 ≡ codeOf (at i)) × (getD (answers law l k) (i * 2 + 1) 0 ≡ valueOf (at i))
-  unfolding answersOver
-  answer zero i h = absurd (omega arith)
-  answer (suc k) i h =
-      let q = answers law l k in
-      let n = answers-length floats law l k in
-      let p = codeOf (at k) ∷ valueOf (at k) ∷ [] in
-      ⊎-elim
-      (λ e.
-      let a : length q + 0 ≡ i * 2 = omega arith in
-      let b : length q + 1 ≡ i * 2 + 1 = omega arith in
-      let c : k ≡ i = omega arith in (
-        ap (λ (j : ℕ). getD (q ++ p) j 0) (sym a) ∙ getD-append-add q p 0 0 ∙ ap (λ (j : ℕ). codeOf (at j)) c,
-        ap (λ (j : ℕ). getD (q ++ p) j 0) (sym b) ∙ getD-append-add q p 1 0 ∙ ap (λ (j : ℕ). valueOf (at j)) c,
-      ))
-      (λ g.
-      let f : i < k = omega arith in
-      let u = answer k i f in
-      (List·getD-append q p 0 (i * 2) (omega arith) ∙ u .0, List·getD-append q p 0 (i * 2 + 1) (omega arith) ∙ u .1))
-      (eq-or-lt-of-le h)
-
 -- code 2 is a refusal by the value beside it
 refused-by : (o : Outcome) → codeOf o ≡ 2 → o ≡ Refused (valueOf o)
 refused-by Untouched e = absurd (omega arith)
@@ -93,9 +67,9 @@ refused-by (Refused n) e = refl
 answered : (o : Outcome) (n : ℕ) → ((codeOf o ≡ 2) × (valueOf o ≡ n)) ↔ (o ≡ Refused n)
 answered o n = (λ p. refused-by o (p .0) ∙ ap Refused (p .1), λ e. (ap codeOf e, ap valueOf e))
 
-answers-of : {right : Bool} {ms : List Met} (o : Outcome) → RecordRefuses o right ms → (a : List ℕ) (i : ℕ)
-    → getD a (i * 2) 0 ≡ codeOf o → getD a (i * 2 + 1) 0 ≡ valueOf o → Answers a i right ms
-answers-of o r a i c v = record-transfer (λ n. (to n, from n)) r
+answers-of : (s : Step) (r : List ℕ) (o : Outcome) → StepRefuses o s r → (a : List ℕ) (i : ℕ)
+    → getD a (i * 2) 0 ≡ codeOf o → getD a (i * 2 + 1) 0 ≡ valueOf o → Answers a i s r
+answers-of s r o f a i c v = record-transfer (λ n. (to n, from n)) f
   where
     to : (n : ℕ) → (getD a (i * 2) 0 ≡ 2) × (getD a (i * 2 + 1) 0 ≡ n) → o ≡ Refused n
     to n p = answered o n .0 (sym c ∙ p .0, sym v ∙ p .1)
@@ -103,14 +77,13 @@ answers-of o r a i c v = record-transfer (λ n. (to n, from n)) r
     from : (n : ℕ) → o ≡ Refused n → (getD a (i * 2) 0 ≡ 2) × (getD a (i * 2 + 1) 0 ≡ n)
     from n e = let q = answered o n .1 e in (c ∙ q .0, v ∙ q .1)
 
-pub pass-refuses : (law : List ℕ → Worked) (ms : List ℕ → List Met) (R : ℕ → Type 0) (xs out : List ℕ)
-    → ((r : List ℕ) → RecordRefuses (law r .outcome) (determinantRight r) (ms r)) → Eight R xs out → Pass law ms R xs out
-pass-refuses law ms R xs out f e = record { eight = e; records = records }
+pub pass-refuses : (s : Step) (R : ℕ → Type 0) (xs out : List ℕ) → ((r : List ℕ) → StepRefuses (stepLaw s r .outcome) s r) → Eight R xs out → Pass s R xs out
+pass-refuses s R xs out f e = record { eight = e; records = records }
   where
-    records : (k : ℕ) → Sized xs out k → (i : ℕ) → i < k → Answers (passAnswers law xs out) i (determinantRight (recordAt xs i)) (ms (recordAt xs i))
-    records k s i h =
-        let q : passAnswers law xs out ≡ answers law xs k =
-        taken (wellSized xs out) (answers law xs (length xs / floats)) out (well xs out k s) ∙ ap (answers law xs) (quotient xs out k (s .0)) in
-        let u = answer law xs k i h in
-        answers-of (law (recordAt xs i) .outcome) (f (recordAt xs i)) (passAnswers law xs out) i (ap (λ (a : List ℕ). getD a (i * 2) 0) q ∙ u .0)
+    records : (k : ℕ) → Sized xs out k → (i : ℕ) → i < k → Answers (passAnswers (stepLaw s) xs out) i s (recordAt xs i)
+    records k z i h =
+        let q : passAnswers (stepLaw s) xs out ≡ answers (stepLaw s) xs k =
+        taken (wellSized xs out) (answers (stepLaw s) xs (length xs / floats)) out (well xs out k z) ∙ ap (answers (stepLaw s) xs) (quotient xs out k (z .0)) in
+        let u = answers-at floats (stepLaw s) xs k i h in
+        answers-of s (recordAt xs i) (stepLaw s (recordAt xs i) .outcome) (f (recordAt xs i)) (passAnswers (stepLaw s) xs out) i (ap (λ (a : List ℕ). getD a (i * 2) 0) q ∙ u .0)
         (ap (λ (a : List ℕ). getD a (i * 2 + 1) 0) q ∙ u .1)

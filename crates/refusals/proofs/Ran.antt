@@ -7,7 +7,8 @@ use native.Mathlib.Omega.{arith}
 use borrow.Author.Tests.{eqb-true}
 use lib.Dec.{eqb}
 use lib.ListN.{length}
-use Rattle.record.specs.Layout.{floats, determinantRight}
+use Rattle.record.specs.Layout.{floats}
+use Rattle.particles.specs.declared.step.Step.the-variants.{Plain}
 use Rattle.particles.specs.declared.list.Passed.{Passed}
 use Rattle.particles.specs.declared.list.Passed.the-variants as pass
 use Rattle.particles.specs.Pass.{counts, threeOf, wellSized, passed}
@@ -15,7 +16,7 @@ use Rattle.sheet.specs.Sheet.{readOf, roomOf}
 use Rattle.sheet.proofs.Reasons.{read-refused-exactly}
 use Rattle.sheet_run.specs.Run.{lawOf, recordsIn, answersIn, frontOf, finished, stopped, ranWith, ranOf, ranAnswers}
 use Rattle.sheet_run.proofs.Parts.{taken, sized, well, parts, answer-found}
-use Rattle.refusals.specs.Refusals.{pathOf, Answers, Sized}
+use Rattle.refusals.specs.Refusals.{Answers, Sized}
 use Rattle.refusals.specs.Ran.{header, model, recordOf, Ran}
 use Rattle.refusals.proofs.Inputs.{decide}
 use Rattle.refusals.proofs.Numbers.{record-transfer}
@@ -55,7 +56,7 @@ module _ (s xs out : List ℕ) where
         (λ q. ap (λ r. r .refusal) (left-out t x (stopped (h .refusal)) q)) (decide t)
 
     ran-records : header s xs out .refusal ≡ 0 → (i : ℕ) → i < header s xs out .count
-        → Answers (ranAnswers s xs out) i (determinantRight (recordOf s xs out i)) (pathOf (model s xs out) (recordOf s xs out i))
+        → Answers (ranAnswers s xs out) i (Plain (model s xs out)) (recordOf s xs out i)
     ran-records e i l =
         let h = header s xs out in
         let w = well xs out k z in

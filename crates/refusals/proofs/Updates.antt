@@ -33,13 +33,14 @@ use Rattle.walk.specs.Body.{floats-finite}
 use Rattle.model.specs.declared.Model.{Model}
 use Rattle.model.specs.declared.Model.the-variants.{Snow, Rankine, DruckerPrager, Nacc}
 use Rattle.model.specs.Model.{modelFinite, modelUpdate}
+use Rattle.particles.specs.declared.step.Step.the-variants.{Plain}
 use Rattle.particles.specs.Pass.{valueOf}
 use Rattle.particles.specs.Plain.{putState, updatedAt, measured, lawAt, recordLaw}
 use Rattle.particles.proofs.NotFinite.{last-finite, law-right}
-use Rattle.refusals.specs.Refusals.{SomeNotFinite, RecordNotFinite, parametersOf, stepsOf, walkOf, recordFloats, measureWalk, recordSteps, recordWalk, pathOf, Refuses, RecordRefuses}
+use Rattle.refusals.specs.Refusals.{SomeNotFinite, RecordNotFinite, parametersOf, stepsOf, walkOf, recordFloats, measureWalk, recordSteps, recordWalk, Refuses, RecordNumbers, StepRefuses}
 use Rattle.refusals.proofs.Inner.{Inner, inner-then, steps-inner}
 use Rattle.refusals.proofs.Inputs.{some-append, places}
-use Rattle.refusals.proofs.Numbers.{not-finite, told}
+use Rattle.refusals.proofs.Numbers.{not-finite, told, by-one, by-eleven, by-law}
 
 -- ---- an outcome's number
 outcome-told : (s : State) (x : Ended Change) → refusalOf (updatedOf s x .outcome) ≡ refusalIn x
@@ -66,7 +67,7 @@ parameters (Rankine a) = refl
 parameters (DruckerPrager p) = refl
 parameters (Nacc a) = refl
 
-floats-of : (r : List ℕ) → allOf finite (recordFloats r) ≡ recordFinite r
+pub floats-of : (r : List ℕ) → allOf finite (recordFloats r) ≡ recordFinite r
 floats-of r =
     let x = floatAt r placeDeterminant in
     all-append finite (floatsOf (uAt r) (vtAt r) (stateAt r)) (x ∷ []) ∙ ap (λ b. b && finite x) (floats-finite inThree (uAt r) (vtAt r) (stateAt r))
@@ -125,8 +126,8 @@ record-walked m r d = go (modelFinite m && recordFinite r) refl
     go false h = ap (λ v. v .outcome) (law-one-first m r h) ∙ ap (λ b. updatedOf (stateAt r) (cond b (result (recordSteps m r)) (refused 1)) .outcome) (sym (record-inputs m r ∙ h))
 
 -- ---- the numbers of a record's outcome o
-number-is : {n k : ℕ} {o : Outcome} → o ≡ Refused n → o ≡ Refused k → n ≡ k
-number-is p q = ap valueOf (sym p ∙ q)
+pub same-number : (o : Outcome) (m n : ℕ) → o ≡ Refused m → o ≡ Refused n → m ≡ n
+same-number o m n p q = ap valueOf (sym p ∙ q)
 
 -- the steps test no inputs, nor does the determinant
 measure-inner : (m : Model) (r : List ℕ) (c : Change) → Inner (measureWalk m r c)
@@ -138,40 +139,24 @@ record-inner m r = inner-then (stepsOf m (uAt r) (vtAt r) (stateAt r)) (measureW
 
 pub outcome-record : (s : State) (o : Outcome) (right : Bool) (l : List Float) (w : Walk Change) → Inner w
     → (right ≡ true → o ≡ updatedOf s (result (inputs l w)) .outcome) → (right ≡ false → o ≡ cond (allOf finite l) (Refused wrongDeterminant) (Refused notFinite))
-    → RecordRefuses o right (path (inputs l w))
-outcome-record s o true l w h f g =
-    let q = outcome-numbers s o l w h (f refl) in
-    record {
-      one = q .one;
-      eleven = (λ e. ⊎-elim (λ z. absurd (omega arith)) (λ z. absurd (omega arith)) (q .only wrongDeterminant e), λ p. absurd (true≢false (p .1)));
-      wrong = λ z. absurd (true≢false z);
-      goes-on = λ z. q;
-    }
-outcome-record s o false l w h f g = go (allOf finite l) refl
+    → RecordNumbers (λ n. o ≡ Refused n) l right true (path (inputs l w))
+outcome-record s o right l w h f g = go right (allOf finite l) refl refl
   where
-    go : (b : Bool) → allOf finite l ≡ b → RecordRefuses o false (path (inputs l w))
-    go true k =
-        let e : o ≡ Refused wrongDeterminant = g refl ∙ ap (λ b. cond b (Refused wrongDeterminant) (Refused notFinite)) k in
-        record {
-          one = (λ q. absurd (let z = number-is e q in omega arith), λ q. absurd (true≢false (sym k ∙ not-finite l .1 q)));
-          eleven = (λ q. (λ z. true≢false (sym k ∙ not-finite l .1 z), refl), λ q. e);
-          wrong = λ z n q. inr (sym (number-is e q));
-          goes-on = λ z. absurd (true≢false (sym z));
-        }
-    go false k =
-        let e : o ≡ Refused notFinite = g refl ∙ ap (λ b. cond b (Refused wrongDeterminant) (Refused notFinite)) k in
-        record {
-          one = (λ q. not-finite l .0 k, λ q. e);
-          eleven = (λ q. absurd (let z = number-is e q in omega arith), λ q. absurd (q .0 (not-finite l .0 k)));
-          wrong = λ z n q. inl (sym (number-is e q));
-          goes-on = λ z. absurd (true≢false (sym z));
-        }
+    go : (d b : Bool) → right ≡ d → allOf finite l ≡ b → RecordNumbers (λ n. o ≡ Refused n) l right true (path (inputs l w))
+    go true true d k =
+        let q = outcome-numbers s o l w h (f d) in
+        let fine : SomeNotFinite l → ⊥ = λ z. true≢false (sym k ∙ not-finite l .1 z) in
+        by-law (same-number o) fine d refl (λ e. fine (q .one .0 e)) q
+    go true false d k = by-one (same-number o) (outcome-numbers s o l w h (f d) .one .1 (not-finite l .0 k)) (not-finite l .0 k)
+    go false true d k =
+        by-eleven (same-number o) (g d ∙ ap (λ b. cond b (Refused wrongDeterminant) (Refused notFinite)) k) (λ z. true≢false (sym k ∙ not-finite l .1 z)) d
+    go false false d k = by-one (same-number o) (g d ∙ ap (λ b. cond b (Refused wrongDeterminant) (Refused notFinite)) k) (not-finite l .0 k)
 
 told-by : (b : Bool) (s : State) → cond b (law.refused wrongDeterminant s) (law.refused notFinite s) .outcome ≡ cond b (Refused wrongDeterminant) (Refused notFinite)
 told-by true s = refl
 told-by false s = refl
 
-pub law-refuses : (m : Model) (r : List ℕ) → RecordRefuses (recordLaw m r .outcome) (determinantRight r) (pathOf m r)
+pub law-refuses : (m : Model) (r : List ℕ) → StepRefuses (recordLaw m r .outcome) (Plain m) r
 unfolding recordLaw
 law-refuses m r =
     outcome-record (stateAt r) (recordLaw m r .outcome) (determinantRight r) (parametersOf m ++ recordFloats r) (recordSteps m r) (record-inner m r) (record-walked m r)

@@ -1,32 +1,35 @@
--- Section 6 of the calls that give a number, two numbers, a matrix or a verdict. Proved in proofs/Calls. ok is the contract's test of the
--- call's floats l. A call whose contract is one formula, and the quadratic, have their walk here; the others in their own crates.
+-- Section 6 of the calls that give a number, two numbers, a matrix or a verdict, a field a call, by what its contract cites. Proved in
+-- proofs/Calls. A call whose contract is one formula, and the quadratic, have their walk here; the others in their own crates.
 use mathlib.Core.Path.{_≡_}
-use mathlib.Core.Bool.{Bool}
-use mathlib.Core.List.{List, [], _∷_}
+use mathlib.Core.Bool.{_&&_}
+use mathlib.Core.List.{List, [], _∷_, _++_}
 use Prim.Native.Nat.{ℕ, _<_}
 use lib.Ieee.{Float}
 use Rattle.numbers.specs.Floats.{finite}
 use Rattle.answers.specs.Answer.{answeredOf, given, pairOf, givenPair}
 use Rattle.answers.specs.declared.Pair.{Pair}
 use Rattle.answers.specs.declared.Pair.the-variants as pair
-use Rattle.tensor.specs.Axes.{allOf}
 use Rattle.tensor.specs.Matrix.{ofRows}
 use Rattle.tensor.specs.Answer.{answered, answeredVector, givenMatrix, givenVector}
-use Rattle.tensor.specs.Decomposed.{answeredTensor, givenTensor}
+use Rattle.tensor.specs.Finite.{rowFinite, matFinite}
+use Rattle.tensor.specs.Decomposed.{sphericalOf, deviatoricOf, decomposeOf, recomposedOf, sumOf, timesOf, tensorFinite, answeredTensor, givenTensor}
 use Rattle.tensor.specs.declared.DecomposedTensor.{DecomposedTensor}
 use Rattle.tensor.specs.declared.MatrixAnswer.{MatrixAnswer}
 use Rattle.numbers.specs.Constants.{two, four}
+use Rattle.physics.specs.Physics.{invExactOf, shearModulusOf, bulkModulusOf, lambdaOf, shearFromLameOf, bulkFromLameOf, spinTensorOf, strainRateOf}
 use Rattle.physics.specs.Quadratic.{solveQuadraticOf}
-use Rattle.walk.specs.Expr.{Expr, num, neg, _+_, _-_, _*_, _/_, value, values}
+use Rattle.walk.specs.Expr.{Expr, num, nums, neg, _+_, _-_, _*_, _/_, value, values}
 use Rattle.walk.specs.Walk.{Walk, root, inputs, ask, results, end, result, answerAs}
 use Rattle.walk.specs.Exact.{Met, path}
-use Rattle.walk.specs.Tensor.{worth, rows}
+use Rattle.walk.specs.Every.{flat}
+use Rattle.walk.specs.Tensor.{rows}
 use Rattle.walk.specs.Answers.{returned, returnedMatrix}
 use Rattle.plasticity_drucker_prager.specs.declared.DruckerPragerPlasticity.{DruckerPragerPlasticity}
 use Rattle.plasticity_drucker_prager.specs.Alpha.{alphaCall}
 use Rattle.failure_maximum_stress.specs.declared.MaximumStressFailure.{MaximumStressFailure}
 use Rattle.failure_maximum_stress.specs.Failure.{exceedsOf, verdictOf}
 use Rattle.elasticity_neo_hookean.specs.declared.NeoHookeanElasticity.{NeoHookeanElasticity}
+use Rattle.elasticity_neo_hookean.specs.Law as neo-hookean
 use Rattle.elasticity_neo_hookean.specs.Stress as neo-stress
 use Rattle.elasticity_neo_hookean.specs.Energy as neo-energy
 use Rattle.elasticity_corotated_linear.specs.declared.CorotatedLinearElasticity.{CorotatedLinearElasticity}
@@ -47,6 +50,17 @@ abbrev pub Beside : ℕ → List Met → Type 0
 Beside refusal ms = Numbers (λ n. (0 < n) × (refusal ≡ n)) ms
 
 -- ---- a result with nothing met before it
+-- inputs l, then a number, a matrix; a NaN in a part of its formula comes through to the result
+abbrev pub numberPath : List Float → Float → List Met
+numberPath l x = path (inputs l (returned 1 (num x)))
+
+abbrev pub matrixPath : List Float → List (List Float) → List Met
+matrixPath l m = path (inputs l (returnedMatrix 1 (rows m)))
+
+-- a tensor's floats
+abbrev pub floatsIn : DecomposedTensor → List Float
+floatsIn t = flat (ofRows (t .«deviatoric_part»)) ++ (t .«spherical_part» ∷ [])
+
 abbrev pub pairWalk : List Float → Expr → Expr → Walk Float
 pairWalk l a b = inputs l (results 1 ((a ∷ b ∷ []) ∷ []) (end (value a)))
 
@@ -67,12 +81,32 @@ abbrev pub verdictWalk : MaximumStressFailure → List Float → Walk (List Floa
 verdictWalk l s = inputs (l .«max_principal_stress» ∷ l .«max_shear_stress» ∷ s) (end s)
 
 pub record Calls : Type 0 where
-  -- `inv_exact`, the moduli, `phase_coeff`, `spherical_part`; `lame_lambda_mu`; the tensor parts, `DecomposedTensor`'s calls
-  pub one-number : (l : List Float) (ok : Bool) → allOf finite l ≡ ok → (e : Expr) → Gives (given ok (answeredOf (value e))) (path (inputs l (returned 1 e)))
-  pub two-numbers : (l : List Float) (ok : Bool) → allOf finite l ≡ ok → (a b : Expr) → GivesPair (givenPair ok (pairOf (value a) (value b))) (path (pairWalk l a b))
-  pub matrix : (l : List Float) (ok : Bool) → allOf finite l ≡ ok → (m : List (List Expr)) → Beside (givenMatrix ok (answered (worth m)) .refusal) (path (inputs l (returnedMatrix 1 m)))
-  pub vector : (l : List Float) (ok : Bool) → allOf finite l ≡ ok → (v : List Expr) → Beside (givenVector ok (answeredVector (values v)) .refusal) (path (vectorWalk l v))
-  pub tensor : (l : List Float) (ok : Bool) → allOf finite l ≡ ok → (t : DecomposedTensor) → Beside (givenTensor ok (answeredTensor t) .refusal) (path (tensorWalk l t))
+  -- ---- `physics`
+  pub inv-exact : (e : Float) → Gives (given (finite e) (answeredOf (invExactOf e))) (numberPath (e ∷ []) (invExactOf e))
+  pub lame-lambda-mu : (young poisson : Float)
+      → GivesPair (givenPair (finite young && finite poisson) (pairOf (lambdaOf young poisson) (shearModulusOf young poisson)))
+      (path (pairWalk (young ∷ poisson ∷ []) (num (lambdaOf young poisson)) (num (shearModulusOf young poisson))))
+  pub shear-modulus : (young poisson : Float)
+      → Gives (given (finite young && finite poisson) (answeredOf (shearModulusOf young poisson))) (numberPath (young ∷ poisson ∷ []) (shearModulusOf young poisson))
+  pub bulk-modulus : (young poisson : Float)
+      → Gives (given (finite young && finite poisson) (answeredOf (bulkModulusOf young poisson))) (numberPath (young ∷ poisson ∷ []) (bulkModulusOf young poisson))
+  pub shear-modulus-from-lame : (lambda mu : Float)
+      → Gives (given (finite lambda && finite mu) (answeredOf (shearFromLameOf lambda mu))) (numberPath (lambda ∷ mu ∷ []) (shearFromLameOf lambda mu))
+  pub bulk-modulus-from-lame : (lambda mu : Float)
+      → Gives (given (finite lambda && finite mu) (answeredOf (bulkFromLameOf lambda mu))) (numberPath (lambda ∷ mu ∷ []) (bulkFromLameOf lambda mu))
+  pub spin-tensor : (m : List (List Float)) → Beside (givenMatrix (matFinite m) (answered (spinTensorOf m)) .refusal) (matrixPath (flat m) (spinTensorOf m))
+  pub strain-rate : (m : List (List Float)) → Beside (givenMatrix (matFinite m) (answered (strainRateOf m)) .refusal) (matrixPath (flat m) (strainRateOf m))
+  pub deviatoric-part : (m : List (List Float)) → Beside (givenMatrix (matFinite m) (answered (deviatoricOf m)) .refusal) (matrixPath (flat m) (deviatoricOf m))
+  pub spherical-part : (m : List (List Float)) → Gives (given (matFinite m) (answeredOf (sphericalOf m))) (numberPath (flat m) (sphericalOf m))
+  -- ---- `DecomposedTensor`
+  pub decompose : (m : List (List Float)) → Beside (givenTensor (matFinite m) (answeredTensor (decomposeOf m)) .refusal) (path (tensorWalk (flat m) (decomposeOf m)))
+  pub recompose : (t : DecomposedTensor) → Beside (givenMatrix (tensorFinite t) (answered (recomposedOf t)) .refusal) (matrixPath (floatsIn t) (recomposedOf t))
+  pub add : (t u : DecomposedTensor)
+      → Beside (givenTensor (tensorFinite t && tensorFinite u) (answeredTensor (sumOf t u)) .refusal) (path (tensorWalk (floatsIn t ++ floatsIn u) (sumOf t u)))
+  pub times : (t : DecomposedTensor) (v : List Float)
+      → Beside (givenVector (tensorFinite t && rowFinite v) (answeredVector (timesOf t v)) .refusal) (path (vectorWalk (floatsIn t ++ v) (nums (timesOf t v))))
+  -- ---- and the others
+  pub phase-coeff : (phase : Float) → Gives (neo-hookean.phaseCoeff phase) (path (inputs (phase ∷ []) (returned 1 (neo-hookean.coefficient phase))))
   pub quadratic : (a b c : Float) → GivesPair (solveQuadraticOf a b c) (path (quadraticWalk a b c))
   pub alpha : (p : DruckerPragerPlasticity) (q : Float) → Gives (answerAs (result (alphaCall p q))) (path (alphaCall p q))
   pub verdicts : (l : MaximumStressFailure) (s : List Float) → Beside (verdictNumber (verdictOf l s)) (path (verdictWalk l s))

@@ -1,17 +1,18 @@
 -- RULES, section 6, "When, and only then", over the definitions that the contracts cite. Proved in proofs/Table.
 -- Every law is a walk; what stops on its path is said in `walk` (specs/Numbers): 1 an input that isn't finite, 2 an argument below
 -- section 3's range, 10 one above it, 3 a NaN in any part of any formula there, or a modulus, a principal stress or a result that isn't finite.
--- A record has 11 besides, after 1 and before the law's steps, and its new determinant is a result too.
+-- A record has 11 besides, after 1 and before the law's steps, and its new determinant is a result too. A step that works out our own
+-- factors has 14 after 11, and its law meets the record with these factors.
 -- Calls and Laws say the same of the calls by themselves, Ran of a sheet that is run. 4 to 7 are a sheet's: `sheet` specs/Refused.
 use mathlib.Core.Path.{_≡_}
 use mathlib.Core.Logic.{_⊎_, _↔_}
-use mathlib.Core.Bool.{Bool, true, false}
+use mathlib.Core.Bool.{Bool, true, false, _&&_}
 use mathlib.Core.List.{List, [], _∷_, _++_}
 use Prim.Native.Nat.{ℕ, _+_, _*_, _≤_, _<_}
 use lib.ListN.{length, getD}
 use lib.Ieee.{Float}
 use Rattle.numbers.specs.Floats.{finite}
-use Rattle.answers.specs.Refusals.{belowRange, aboveRange, wrongDeterminant}
+use Rattle.answers.specs.Refusals.{belowRange, aboveRange, wrongDeterminant, notAccepted}
 use Rattle.answers.specs.Range.{ranged, bare}
 use Rattle.answers.specs.declared.Answer.{Answer}
 use Rattle.answers.specs.declared.Answer.the-variants as answers
@@ -24,7 +25,9 @@ use Rattle.walk.specs.Exact.{Met, input, argument, worked, tested, result-of, p
 use Rattle.walk.specs.Update.{inThree, Change, untouched, stored, updatedOf, floatsOf}
 use Rattle.walk.specs.Numbers as walk
 use Rattle.walk.specs.Numbers.{Stops, Comes, Clear}
-use Rattle.record.specs.Layout.{floats, placeDeterminant, floatAt, uAt, vtAt, stateAt, determinantRight}
+use Rattle.record.specs.Layout.{floats, placeF, placeDeterminant, floatAt, matAt, uAt, vtAt, stateAt, determinantRight}
+use Rattle.factors.specs.Sweeps.{factorsOf}
+use Rattle.factors.specs.Check.{acceptedOf}
 use Rattle.plasticity_snow.specs.Snow as snow
 use Rattle.plasticity_rankine.specs.Law as rankine-law
 use Rattle.plasticity_rankine.specs.Rankine as rankine
@@ -38,11 +41,17 @@ use Rattle.elasticity_corotated_linear.specs.Law as corotated
 use Rattle.elasticity_corotated_linear.specs.Principal.{principalWalk}
 use Rattle.model.specs.declared.Model.{Model}
 use Rattle.model.specs.declared.Model.the-variants.{Snow, Rankine, DruckerPrager, Nacc}
+use Rattle.model.specs.Model.{modelFinite}
 use Rattle.particles.specs.declared.list.Passed.the-variants as pass
 use Rattle.particles.specs.declared.failure.PassedWithFailure.the-variants as failure-pass
-use Rattle.particles.specs.Plain.{putState, recordLaw}
-use Rattle.particles.specs.Judged.{failureLaw}
-use Rattle.particles.specs.Pass.{Worked, recordAt, passed, passAnswers, passedWithFailure}
+use Rattle.particles.specs.declared.step.Step.{Step}
+use Rattle.particles.specs.declared.step.Step.the-variants.{Plain, Judged, Factors, FactoredPlain, FactoredJudged}
+use Rattle.particles.specs.Plain.{putState, recordLaw, recordOutcome}
+use Rattle.particles.specs.Judged.{judgeFinite, failureLaw}
+use Rattle.particles.specs.Factored.{withFactors, factorLaw, factoredLaw, factorOutcome}
+use Rattle.particles.specs.Fill.{fillAnswer}
+use Rattle.particles.specs.Step.{stepLaw}
+use Rattle.particles.specs.Pass.{recordAt, passed, passAnswers, passedWithFailure}
 
 -- ---- 1: "an input float is NaN or infinite"
 abbrev pub NotFinite : Float → Type 0
@@ -71,23 +80,22 @@ pub record Numbers (R : ℕ → Type 0) (ms : List Met) : Type 0 where
   pub above : R aboveRange ↔ Comes walk.above ms
   pub only : (n : ℕ) → R n → ((1 ≤ n) × (n ≤ 3)) ⊎ (n ≡ aboveRange)
 
--- of a record: right says that its stored determinant is that of its F
-pub record RecordNumbers (R : ℕ → Type 0) (right : Bool) (ms : List Met) : Type 0 where
-  pub one : R 1 ↔ SomeNotFinite (inputsOf ms)
-  -- 11 exactly where the determinant is wrong and 1 doesn't come: it is tested after 1, and then nothing else is
-  pub eleven : R wrongDeterminant ↔ ((SomeNotFinite (inputsOf ms) → ⊥) × (right ≡ false))
-  pub wrong : right ≡ false → (n : ℕ) → R n → (n ≡ 1) ⊎ (n ≡ wrongDeterminant)
-  pub goes-on : right ≡ true → Numbers R ms
+-- of a record, by a step of a pass: l are the floats that are tested first; right says that the stored determinant is that of its F,
+-- checked that our own factors pass their check, where the step asks for them; ms is the path of the step's law
+pub record RecordNumbers (R : ℕ → Type 0) (l : List Float) (right checked : Bool) (ms : List Met) : Type 0 where
+  pub one : R 1 ↔ SomeNotFinite l
+  -- 11 exactly where the determinant is wrong and 1 doesn't come
+  pub eleven : R wrongDeterminant ↔ ((SomeNotFinite l → ⊥) × (right ≡ false))
+  -- 14 exactly where the factors miss their check and neither comes
+  pub fourteen : R notAccepted ↔ ((SomeNotFinite l → ⊥) × (right ≡ true) × (checked ≡ false))
+  -- the law's own numbers, where none of the three comes
+  pub goes-on : (SomeNotFinite l → ⊥) → right ≡ true → checked ≡ true → Numbers R ms
+  -- and never two
+  pub alone : (m n : ℕ) → R m → R n → m ≡ n
 
--- as an outcome, as it stands in the answer list at record i, and as a number or a refusal
+-- as an outcome, and as a number or a refusal
 abbrev pub Refuses : Outcome → List Met → Type 0
 Refuses o ms = Numbers (λ n. o ≡ Refused n) ms
-
-abbrev pub RecordRefuses : Outcome → Bool → List Met → Type 0
-RecordRefuses o right ms = RecordNumbers (λ n. o ≡ Refused n) right ms
-
-abbrev pub Answers : List ℕ → ℕ → Bool → List Met → Type 0
-Answers a i right ms = RecordNumbers (λ n. (getD a (i * 2) 0 ≡ 2) × (getD a (i * 2 + 1) 0 ≡ n)) right ms
 
 abbrev pub Gives : Answer → List Met → Type 0
 Gives e ms = Numbers (λ n. e ≡ answers.Refused n) ms
@@ -149,6 +157,46 @@ failureWalk m l e r = inputs (failureOf l e ++ (parametersOf m ++ recordFloats r
 abbrev pub failurePath : Model → MaximumStressFailure → CorotatedLinearElasticity → List ℕ → List Met
 failurePath m l e r = path (failureWalk m l e r)
 
+-- ---- a step of a pass
+-- the path of its law on a record; factors by themselves have no law, and nothing is met after the record's floats
+abbrev pub stepPath : Step → List ℕ → List Met
+stepPath (Plain m) r = pathOf m r
+stepPath (Judged m l e) r = failurePath m l e r
+stepPath Factors r = path (inputs (recordFloats r) (end r))
+stepPath (FactoredPlain m) r = pathOf m r
+stepPath (FactoredJudged m l e) r = failurePath m l e r
+
+-- whether our own factors of the record's F pass the check
+abbrev pub checkedAt : List ℕ → Bool
+checkedAt r = acceptedOf (matAt r placeF) (factorsOf (matAt r placeF))
+
+-- where the step asks for them
+abbrev pub checkedBy : Step → List ℕ → Bool
+checkedBy (Plain m) r = true
+checkedBy (Judged m l e) r = true
+checkedBy Factors r = checkedAt r
+checkedBy (FactoredPlain m) r = checkedAt r
+checkedBy (FactoredJudged m l e) r = checkedAt r
+
+-- the record that its law meets
+abbrev pub metBy : Step → List ℕ → List ℕ
+metBy (Plain m) r = r
+metBy (Judged m l e) r = r
+metBy Factors r = r
+metBy (FactoredPlain m) r = withFactors r
+metBy (FactoredJudged m l e) r = withFactors r
+
+-- 1 of the step's own inputs and of the record as it came; 11; 14; then the law's on the record that it meets
+abbrev pub StepNumbers : (ℕ → Type 0) → Step → List ℕ → Type 0
+StepNumbers R s r = RecordNumbers R (inputsOf (stepPath s r)) (determinantRight r) (checkedBy s r) (stepPath s (metBy s r))
+
+-- as an outcome, and as it stands in the answer list at record i
+abbrev pub StepRefuses : Outcome → Step → List ℕ → Type 0
+StepRefuses o s r = StepNumbers (λ n. o ≡ Refused n) s r
+
+abbrev pub Answers : List ℕ → ℕ → Step → List ℕ → Type 0
+Answers a i s r = StepNumbers (λ n. (getD a (i * 2) 0 ≡ 2) × (getD a (i * 2 + 1) 0 ≡ n)) s r
+
 -- ---- an elementary function by itself
 abbrev pub callPath : Function → Float → List Met
 callPath f x = path (inputs (x ∷ []) (ask 1 f (num x) (λ v. end (value v))))
@@ -162,10 +210,20 @@ pub record Eight (R : ℕ → Type 0) (xs out : List ℕ) : Type 0 where
   pub when : ((k : ℕ) → Sized xs out k → ⊥) → R 8
   pub only-then : (n : ℕ) → R n → (n ≡ 8) × ((k : ℕ) → Sized xs out k → ⊥)
 
--- a pass by a law: "8 .. come[s] before any record"; otherwise each answer is its record's
-pub record Pass (law : List ℕ → Worked) (ms : List ℕ → List Met) (R : ℕ → Type 0) (xs out : List ℕ) : Type 0 where
+-- a pass by a step: "8 .. come[s] before any record"; otherwise each answer is its record's
+pub record Pass (s : Step) (R : ℕ → Type 0) (xs out : List ℕ) : Type 0 where
   pub eight : Eight R xs out
-  pub records : (k : ℕ) → Sized xs out k → (i : ℕ) → i < k → Answers (passAnswers law xs out) i (determinantRight (recordAt xs i)) (ms (recordAt xs i))
+  pub records : (k : ℕ) → Sized xs out k → (i : ℕ) → i < k → Answers (passAnswers (stepLaw s) xs out) i s (recordAt xs i)
+
+-- one record lent by itself, answered o
+pub record Lent (s : Step) (o : Outcome) (r : List ℕ) : Type 0 where
+  pub eight : (o ≡ Refused 8) ↔ (length r ≡ floats → ⊥)
+  pub numbers : length r ≡ floats → StepRefuses o s r
+
+-- records whose determinants are filled in, answered n: no float is tested
+pub record Filled (n : ℕ) (xs : List ℕ) : Type 0 where
+  pub eight : (n ≡ 8) ↔ ((k : ℕ) → length xs ≡ k * floats → ⊥)
+  pub only : (n ≡ 8 → ⊥) → n ≡ 0
 
 -- ---- 1 by place: one of the record's 37
 abbrev pub RecordNotFinite : List ℕ → Type 0
@@ -173,18 +231,27 @@ RecordNotFinite r = (k : ℕ) × (k < floats) × NotFinite (floatAt r k)
 
 -- ---- the table
 pub record Section6 : Type 0 where
-  pub law : (m : Model) (r : List ℕ) → RecordRefuses (recordLaw m r .outcome) (determinantRight r) (pathOf m r)
+  -- a record by each of the five steps; 1 and 11 by place
+  pub step : (s : Step) (r : List ℕ) → StepRefuses (stepLaw s r .outcome) s r
   pub law-one : (m : Model) (r : List ℕ) → (recordLaw m r .outcome ≡ Refused 1) ↔ (SomeNotFinite (parametersOf m) ⊎ RecordNotFinite r)
   pub law-eleven : (m : Model) (r : List ℕ)
       → (recordLaw m r .outcome ≡ Refused wrongDeterminant) ↔ ((SomeNotFinite (parametersOf m) ⊎ RecordNotFinite r → ⊥) × (determinantRight r ≡ false))
-  pub failure-law : (m : Model) (l : MaximumStressFailure) (e : CorotatedLinearElasticity) (r : List ℕ)
-      → RecordRefuses (failureLaw m l e r .outcome) (determinantRight r) (failurePath m l e r)
   pub failure-one : (m : Model) (l : MaximumStressFailure) (e : CorotatedLinearElasticity) (r : List ℕ)
       → (failureLaw m l e r .outcome ≡ Refused 1) ↔ (SomeNotFinite (failureOf l e) ⊎ (SomeNotFinite (parametersOf m) ⊎ RecordNotFinite r))
   pub failure-eleven : (m : Model) (l : MaximumStressFailure) (e : CorotatedLinearElasticity) (r : List ℕ)
       → (failureLaw m l e r .outcome ≡ Refused wrongDeterminant)
       ↔ ((SomeNotFinite (failureOf l e) ⊎ (SomeNotFinite (parametersOf m) ⊎ RecordNotFinite r) → ⊥) × (determinantRight r ≡ false))
-  pub the-pass : (m : Model) (xs out : List ℕ) → Pass (recordLaw m) (pathOf m) (λ n. passed (recordLaw m) xs out ≡ pass.Refused n) xs out
+  -- `update_record`, `factor_record`, `fill_determinants`
+  pub one-record : (m : Model) (r : List ℕ) → Lent (Plain m) (recordOutcome m r) r
+  pub one-factored : (r : List ℕ) → Lent Factors (factorOutcome r) r
+  pub filled : (xs : List ℕ) → Filled (fillAnswer xs) xs
+  -- `pass`, `pass_with_failure`, `factor_list`, `pass_factored`, `pass_factored_with_failure`
+  pub the-pass : (m : Model) (xs out : List ℕ) → Pass (Plain m) (λ n. passed (recordLaw m) xs out ≡ pass.Refused n) xs out
   pub the-pass-with-failure : (m : Model) (l : MaximumStressFailure) (e : CorotatedLinearElasticity) (xs out : List ℕ)
-      → Pass (failureLaw m l e) (failurePath m l e) (λ n. passedWithFailure (failureLaw m l e) xs out ≡ failure-pass.Refused n) xs out
+      → Pass (Judged m l e) (λ n. passedWithFailure (failureLaw m l e) xs out ≡ failure-pass.Refused n) xs out
+  pub the-factor-list : (xs out : List ℕ) → Pass Factors (λ n. passed factorLaw xs out ≡ pass.Refused n) xs out
+  pub the-pass-factored : (m : Model) (xs out : List ℕ)
+      → Pass (FactoredPlain m) (λ n. passed (factoredLaw (modelFinite m) (recordLaw m)) xs out ≡ pass.Refused n) xs out
+  pub the-pass-factored-with-failure : (m : Model) (l : MaximumStressFailure) (e : CorotatedLinearElasticity) (xs out : List ℕ)
+      → Pass (FactoredJudged m l e) (λ n. passedWithFailure (factoredLaw (modelFinite m && judgeFinite l e) (failureLaw m l e)) xs out ≡ failure-pass.Refused n) xs out
   pub call : (f : Function) (x : Float) → Gives (bare x (ranged (lowOf f) (highOf f) x (at f x))) (callPath f x)
