@@ -20,6 +20,7 @@ from .arrival import Arrival
 from .laws import (
     CorotatedLinearElasticity,
     DruckerPragerPlasticity,
+    FlatNaccPlasticity,
     MaximumStressFailure,
     MonaghanSphEos,
     NaccPlasticity,
@@ -59,6 +60,7 @@ __all__ = [
     "CorotatedLinearElasticity",
     "DruckerPragerPlasticity",
     "FLOATS",
+    "FlatNaccPlasticity",
     "FlatParticle",
     "MODELS",
     "MaximumStressFailure",

@@ -72,7 +72,9 @@ pub use lists::{
     read_sheet_into, write_sheet_into, write_sheet_with_determinants_into, Answer, Counts, Header,
 };
 pub use particle::Particle;
-pub use plasticity::{DruckerPragerPlasticity, Model, NaccPlasticity, Outcome, RankinePlasticity, SnowPlasticity};
+pub use plasticity::{
+    DruckerPragerPlasticity, FlatModel, FlatNaccPlasticity, Model, NaccPlasticity, Outcome, RankinePlasticity, SnowPlasticity,
+};
 pub use refusal::Refusal;
 pub use reasons::{Bound, Place, Reason};
 pub use reports::{report, Column, Report};

@@ -3,14 +3,12 @@ use mathlib.Core.Path.{_≡_}
 use mathlib.Core.List.{List, [], _∷_}
 use Prim.Native.Nat.{ℕ}
 use lib.Ieee.{Float}
-use Rattle.tensor.specs.Matrix.{div}
 use Rattle.physics.specs.Physics.{lambdaOf, shearModulusOf}
 use Rattle.plasticity.specs.declared.Outcome.the-variants as outcome
 use Rattle.plasticity.specs.declared.State.{State}
-use Rattle.walk.specs.Expr.{num, _-_, _*_, _/_, value}
-use Rattle.walk.specs.Walk.{Walk, sin, root, inputs, ask, results, end, result}
+use Rattle.walk.specs.Expr.{num}
+use Rattle.walk.specs.Walk.{Walk, inputs, end, result}
 use Rattle.walk.specs.Exact.{path}
-use Rattle.walk.specs.Answers.{returned}
 use Rattle.plasticity_rankine.specs.declared.Made.the-variants as rankine-made
 use Rattle.plasticity_rankine.specs.declared.RankineArguments.{RankineArguments}
 use Rattle.plasticity_rankine.specs.declared.RankinePlasticity.{RankinePlasticity}
@@ -26,6 +24,7 @@ use Rattle.plasticity_nacc.specs.declared.Made.the-variants as nacc-made
 use Rattle.plasticity_nacc.specs.declared.NaccArguments.{NaccArguments}
 use Rattle.plasticity_nacc.specs.declared.NaccPlasticity.{NaccPlasticity}
 use Rattle.plasticity_nacc.specs.Law as nacc-law
+use Rattle.plasticity_nacc.specs.Friction as nacc-friction
 use Rattle.plasticity_nacc.specs.Nacc as nacc
 use Rattle.failure_maximum_stress.specs.declared.Made.the-variants as limits-made
 use Rattle.failure_maximum_stress.specs.Failure.{limitsOf}
@@ -37,7 +36,7 @@ use Rattle.eos_monaghan_sph.specs.declared.Made.the-variants as monaghan-made
 use Rattle.eos_monaghan_sph.specs.Pressure as monaghan
 use Rattle.model.specs.declared.Model.{Model}
 use Rattle.model.specs.Model.{modelUpdate}
-use Rattle.refusals.specs.Refusals.{Numbers, Refuses, walkOf}
+use Rattle.refusals.specs.Refusals.{Numbers, Refuses, Gives, walkOf}
 use Rattle.refusals.specs.Calls.{Beside, pairWalk}
 
 -- ---- `new` and `with_m`: 1 for an argument, then 3 for a modulus
@@ -55,15 +54,9 @@ rankineNew a = inputs (rankine-law.argumentsFloats a) (rankine-law.moduli (ranki
 abbrev pub naccNew : NaccArguments → Walk Float
 naccNew a = inputs (nacc-law.argumentsFloats a) (nacc.moduli (nacc-law.lawOf a) (end (a .m)))
 
--- NACC's friction from the angle m: "the angle's sine comes after the moduli". root(2/3) 2 s / (3 - s) 3 / root(2/3)
-abbrev pub naccAngled : NaccArguments → Walk Float
-naccAngled a =
-    let two = num nacc-law.two in
-    let dim = num nacc-law.dim in
-    inputs (nacc-law.argumentsFloats a) (nacc.moduli (nacc-law.lawOf a)
-    (ask 2 sin (num (a .m)) (λ s.
-    ask 3 root (two / dim) (λ r.
-    returned 4 (r * two * s / (dim - s) * dim / r)))))
+-- NACC's friction from the angle m, in d axes: "the angle's sine comes after the moduli"
+abbrev pub naccAngled : Float → NaccArguments → Walk Float
+naccAngled d a = inputs (nacc-law.argumentsFloats a) (nacc.moduli (nacc-law.lawOf a) (nacc-friction.frictionWalk d (a .m)))
 
 pub record Laws : Type 0 where
   pub neo-new : (young poisson : Float) → Numbers (λ n. neo-hookean.newOf young poisson ≡ neo-made.Refused n) (path (moduliWalk young poisson))
@@ -74,7 +67,8 @@ pub record Laws : Type 0 where
   pub limits-new : (principal shear : Float) → Numbers (λ n. limitsOf principal shear ≡ limits-made.Refused n) (path (plainWalk principal shear))
   pub rankine-new : (a : RankineArguments) → Numbers (λ n. rankine-law.madeOf a ≡ rankine-made.Refused n) (path (rankineNew a))
   pub nacc-with-m : (a : NaccArguments) → Numbers (λ n. nacc-law.madeOf a ≡ nacc-made.Refused n) (path (naccNew a))
-  pub nacc-new : (a : NaccArguments) → Numbers (λ n. nacc-law.angledOf (nacc-law.madeOf a) ≡ nacc-made.Refused n) (path (naccAngled a))
+  pub nacc-new : (d : Float) (a : NaccArguments) → Numbers (λ n. nacc-friction.angledOf d (nacc-law.madeOf a) ≡ nacc-made.Refused n) (path (naccAngled d a))
+  pub nacc-m : (d angle : Float) → Gives (nacc-friction.frictionOf d angle) (path (nacc-friction.frictionCall d angle))
   -- ---- one update
   pub update : (m : Model) (u vt : List (List Float)) (s : State) → Refuses (modelUpdate m u vt s .outcome) (path (walkOf m u vt s))
   pub rankine-update : (p : RankinePlasticity) (u vt : List (List Float)) (s : State) → Refuses (rankine.rankineUpdate p u vt s .outcome) (path (rankine.rankineWalk p u vt s))
