@@ -43,6 +43,7 @@ extern "C" {
     pub fn pasoletu_snow_clamp(min_epsilon: f64, max_epsilon: f64, hardening_coeff: f64, sigma: *const u64, sigma_length: usize, out: *mut u64, out_length: usize) -> u8;
     pub fn pasoletu_rankine_project(arguments: *const u64, arguments_length: usize, s: f64, strains: *const u64, strains_length: usize, out: *mut u64, out_length: usize) -> u8;
     pub fn pasoletu_drucker_prager_alpha(fields: *const u64, fields_length: usize, q: f64, out: *mut u64, out_length: usize) -> u8;
+    pub fn pasoletu_nacc_friction(axes: u64, friction_angle: f64, out: *mut u64, out_length: usize) -> u8;
     pub fn pasoletu_update(model: u64, parameters: *const u64, parameters_length: usize, record: *mut u64, record_length: usize, answer: *mut u64, answer_length: usize) -> u8;
     pub fn pasoletu_factor(record: *mut u64, record_length: usize) -> u8;
     pub fn pasoletu_pass(model: u64, parameters: *const u64, parameters_length: usize, records: *mut u64, records_length: usize, answers: *mut u64, answers_length: usize, counts: *mut u64, counts_length: usize) -> u8;

@@ -74,7 +74,7 @@ enum {
     PASOLETU_NO_NUMBER = 3,          /* a NaN arose, or a modulus or a result is not finite */
     PASOLETU_ENDS_EARLY = 4,         /* the sheet ends early */
     PASOLETU_NOT_SHORTEST = 5,       /* a number of the sheet is not spelled shortest or has over two groups */
-    PASOLETU_UNKNOWN = 6,            /* unknown model, or a flag that is neither 0.0 nor 1.0 */
+    PASOLETU_UNKNOWN = 6,            /* unknown model, a flag that is neither 0.0 nor 1.0, or a number of axes that the call does not take */
     PASOLETU_TOO_MANY = 7,           /* the sheet has over 200 particles, or bytes after the last */
     PASOLETU_LENGTH = 8,             /* a list has the wrong length */
     PASOLETU_NO_ROOM = 9,            /* the lent room is shorter than the sheet */
@@ -105,7 +105,8 @@ static inline const char *pasoletu_refusal_text(uint64_t refusal)
     case PASOLETU_NOT_SHORTEST:
         return "a number of the sheet is not spelled shortest or has over two groups: correct the sheet's writer";
     case PASOLETU_UNKNOWN:
-        return "unknown model, or a flag that is neither 0.0 nor 1.0: check the model's number and its flags";
+        return "unknown model, a flag that is neither 0.0 nor 1.0, or a number of axes that the call does not take: "
+               "check the model's number, its flags and its axes";
     case PASOLETU_TOO_MANY:
         return "the sheet has over 200 particles, or bytes after the last: split the sheet, or send it alone";
     case PASOLETU_LENGTH:
@@ -522,6 +523,12 @@ uint8_t pasoletu_rankine_project(const double *arguments, size_t arguments_lengt
 uint8_t pasoletu_drucker_prager_alpha(const double *fields, size_t fields_length, double q, double *out,
                                       size_t out_length);
 
+/* out: 1. NACC's parameter m of a friction angle in radians (plasticity_nacc.rs, new), for records of three axes or,
+ * with axes 2, flat ones. The two are not alike: of 35 degrees 1.418 and 1.092.
+ * Refusals: 8; 6 unless axes is 2 or 3; 1 for an angle that is not finite; 2 below the sine's range, -8 to 8, 10
+ * above it. */
+uint8_t pasoletu_nacc_friction(uint64_t axes, double friction_angle, double *out, size_t out_length);
+
 /* ---- One particle ------------------------------------------------------------------------------------------------ */
 
 /* record: 37; answer: 2. The plastic law on one record (sections 5 and 7). parameters: as many as the model has.
@@ -609,7 +616,9 @@ uint8_t pasoletu_fill_determinants(double *records, size_t records_length);
 /* ---- Slices of a slope (section 7) ------------------------------------------------------------------------------- */
 /* The four plastic laws in two axes, on flat records: 20 doubles, F, U, sigma and V^T of 4, 4, 2 and 4, then the six
  * scalars, and no determinant. Snow, Drucker-Prager and NACC are the Rust's with DIM = 2; Rankine tests the smaller
- * strain in its second branch and else divides by 2 mu + 2 lambda (docs/DIFFERENCES.md). */
+ * strain in its second branch and else divides by 2 mu + 2 lambda (docs/DIFFERENCES.md). NACC's m of a friction
+ * angle is pasoletu_nacc_friction's with axes 2: the m of three axes is another, and no call here can tell the two
+ * apart. */
 
 /* record: 20; answer: 2. The plastic law on one flat record. parameters: as many as the model has.
  * Returns 0: answer is (PASOLETU_UNTOUCHED, 0) and the record keeps its bits, or (PASOLETU_STORED, the amount's

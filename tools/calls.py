@@ -108,7 +108,7 @@ NANS = [
     ),
     (
         "exponential: exp_on_path sinh_on_path exps_on_path; logarithm: ln_on_path logs_on_path; sine: sin_on_path; "
-        "thirds: cbrt_on_path inv_cbrt_on_path cbrt_squared_on_path inv_cbrt_squared_on_path; square_root: sqrt_on_path; physics: norm_on_path; answers: on_path first_refusal",
+        "thirds: cbrt_on_path inv_cbrt_on_path cbrt_squared_on_path inv_cbrt_squared_on_path; square_root: sqrt_on_path; physics: norm_on_path; answers: on_path first_refusal; plasticity_nacc: friction_on_path",
         "3: inside a law it arose on the path",
     ),
     ("answers: outside", "10, as of what doesn't lie below the range; `answers::bare` and `answers::on_path`, through which every function goes, hand it on of no NaN"),
@@ -179,7 +179,7 @@ FIRST = [
     "exponential: exp sinh; logarithm: ln; sine: sin; thirds: cbrt inv_cbrt cbrt_squared inv_cbrt_squared; square_root: sqrt; answers: bare",
     "tensor: DecomposedTensor::decompose DecomposedTensor::recompose DecomposedTensor::add DecomposedTensor::add_assign DecomposedTensor::times",
     "physics: inv_exact lame_lambda_mu shear_modulus bulk_modulus shear_modulus_from_lame bulk_modulus_from_lame solve_quadratic spin_tensor strain_rate deviatoric_part spherical_part",
-    "plasticity_*: *::new *::with_m *::update_particle *::reason *::project *::project_deformation_gradient *::alpha; flat_*: update_particle; model: update reason_of make_ready",
+    "plasticity_*: *::new *::with_m *::update_particle *::reason *::project *::project_deformation_gradient *::alpha; plasticity_nacc: friction_of; flat_*: update_particle project project_deformation_gradient new; model: update reason_of make_ready",
     "elasticity_*: *::new *::fpk_stress *::phase_coeff *::elastic_energy_density *::elastic_energy_density_in *::pos_energy",
     "eos_monaghan_sph: *::new *::pressure *::kirchhoff_stress *::timestep_bound; failure_maximum_stress: *::new *::particle_failed",
     "solid: *::stress_and_verdict *::fpk_stress *::elastic_energy_density *::elastic_energy_density_in *::pos_energy",

@@ -35,6 +35,15 @@ pub fn drucker_prager_dq(p: &[f64], r: &Record, alpha: f64) -> f64 {
     drucker_prager(p).project_deformation_gradient(sigma, r[GAIN], alpha).unwrap().1
 }
 
+/// NACC by m, and by a friction angle in m's place.
+pub fn by_m(p: &[f64]) -> NaccPlasticity {
+    NaccPlasticity::with_m(p[0], p[1], p[2], p[3] == 1.0, p[4], p[5])
+}
+
+pub fn by_angle(p: &[f64]) -> NaccPlasticity {
+    NaccPlasticity::new(p[0], p[1], p[2], p[3] == 1.0, p[4], p[5])
+}
+
 /// The text's update: F and the six scalars come back, U, sigma and V^T stay.
 #[inline(never)]
 pub fn update(model: usize, p: &[f64], r: &mut Record) {
@@ -48,7 +57,7 @@ pub fn update(model: usize, p: &[f64], r: &mut Record) {
         ),
         1 => RankinePlasticity::new(p[0], p[1], p[2], p[3]).update_particle(&mut f, &mut plastic),
         2 => drucker_prager(p).update_particle(phase, &mut f, &mut det, &mut plastic, &mut gain),
-        _ => NaccPlasticity::with_m(p[0], p[1], p[2], p[3] == 1.0, p[4], p[5]).update_particle(&mut f, &mut alpha),
+        _ => by_m(p).update_particle(&mut f, &mut alpha),
     }
     r[..4].copy_from_slice(&[f[(0, 0)], f[(0, 1)], f[(1, 0)], f[(1, 1)]]);
     r[PHASE..].copy_from_slice(&[phase, det, plastic, elastic, gain, alpha]);

@@ -321,6 +321,14 @@ static void parts_of_laws(void)
     REFUSED(6, 1, pasoletu_drucker_prager_alpha, odd, 8, 0.0);
     REFUSED(2, 1, pasoletu_drucker_prager_alpha, cone, 8, 1e5);
     REFUSED(10, 1, pasoletu_drucker_prager_alpha, cone, 8, -1e5);
+    DONE(1, pasoletu_nacc_friction, 2, 0.6108652381980153);
+    CHECK(near(out[0], 1.091827543679469));
+    DONE(1, pasoletu_nacc_friction, 3, 0.6108652381980153);
+    CHECK(near(out[0], 1.4183255840669762));
+    REFUSED(6, 1, pasoletu_nacc_friction, 4, 0.5);
+    REFUSED(1, 1, pasoletu_nacc_friction, 2, infinity());
+    REFUSED(2, 1, pasoletu_nacc_friction, 2, -8.5);
+    REFUSED(10, 1, pasoletu_nacc_friction, 3, 8.5);
 }
 
 static void at_rest(double *r)

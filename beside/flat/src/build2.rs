@@ -134,6 +134,25 @@ pub fn run(model: usize, p: &[f64], r: &Record, machine: bool) -> Record {
     o
 }
 
+/// The text's `new` of NACC in build 2, every field told; or the refusal of its angle: 1, then that of its steps.
+pub fn made(p: &[f64]) -> Result<String, u8> {
+    if !p[5].is_finite() {
+        return Err(1);
+    }
+    let w = watch();
+    *w = Watch::default();
+    let was = flags();
+    set_flags(was & !0x3f);
+    let law = law::by_angle(p);
+    let after = flags();
+    set_flags(was);
+    match w.event {
+        0 if after & NAN_AROSE != 0 => Err(3),
+        0 => Ok(format!("{law:?}")),
+        e => Err(e),
+    }
+}
+
 /// 6 for a flag, then 1 for an input, then 3 for a modulus: before any step.
 pub fn before(model: usize, p: &[f64], r: &Record) -> Result<(), u8> {
     let flag = [None, None, Some(6), Some(3)][model];

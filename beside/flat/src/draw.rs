@@ -120,6 +120,16 @@ impl Draw {
         }
     }
 
+    /// NACC's arguments with a friction angle in m's place: often within a turn, at times beyond the sine's range or at an edge.
+    pub fn angled(&mut self) -> Vec<f64> {
+        let mut p = self.plain(3).0;
+        let (near, far, any) = (self.between(-1.6, 1.6), self.between(-9.0, 9.0), f64::from_bits(self.word()));
+        let edge = self.pick(&EDGES) * self.pick(&[1.0, -1.0, 1.0 + f64::EPSILON]);
+        let none = self.pick(&[f64::NAN, f64::INFINITY, f64::NEG_INFINITY]);
+        p[5] = self.pick(&[near, near, near, near, far, far, edge, any, none]);
+        p
+    }
+
     /// Parameters and a record as hosts have them.
     pub fn plain(&mut self, model: usize) -> (Vec<f64>, Record) {
         let mut r = [0.0; FLOATS];

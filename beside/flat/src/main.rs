@@ -149,6 +149,32 @@ impl Tally {
     }
 }
 
+/// NACC by a friction angle: our m makes the law that the text's `new` makes, in every field, or both are refused alike; another number of axes is 6.
+fn angles(draw: &mut Draw, count: u64) -> bool {
+    let (mut refused, mut unlisted) = (BTreeMap::<u8, u64>::new(), 0);
+    for _ in 0..count {
+        let p = draw.angled();
+        let right = build2::made(&p);
+        let ours = ours::friction(2, p[5]).map(|m| m.map(|m| format!("{:?}", law::by_m(&[&p[..5], &[m]].concat()))));
+        if let Err(e) = right {
+            *refused.entry(e).or_default() += 1;
+        }
+        let other = [0, 1, 4, u64::MAX].iter().all(|axes| ours::friction(*axes, p[5]) == Some(Err(6)));
+        if ours.as_ref() != Some(&right) || !other {
+            unlisted += 1;
+            if unlisted <= 3 {
+                println!("UNLISTED: new {p:?}\n  ours {ours:?}\n  right {right:?}");
+            }
+        }
+    }
+    println!("\nnacc by a friction angle: {count} laws, refused (number: times) {refused:?}, UNLISTED {unlisted}");
+    let came = [1, 2, 10].iter().all(|number| refused.contains_key(number));
+    if !came {
+        println!("  a refusal of the angle NEVER CAME");
+    }
+    unlisted == 0 && came
+}
+
 /// Every list a word shorter and a word longer: 8; a model over 7: 6; nothing written. How many were tried, and whether all are so.
 fn lengths() -> (u64, bool) {
     let (mut n, mut fine) = (0, true);
@@ -276,6 +302,7 @@ fn main() {
             }
         }
     }
+    failed |= !angles(&mut draw, count);
     let (tried, fine) = lengths();
     println!(
         "\nlists of a wrong length: {tried} calls, {}",

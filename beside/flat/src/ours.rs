@@ -7,10 +7,12 @@ use std::sync::OnceLock;
 
 type Elementary = extern "C" fn(f64, *mut f64, usize) -> u8;
 type Update = extern "C" fn(u64, *const f64, usize, *mut f64, usize, *mut u64, usize) -> u8;
+type Friction = extern "C" fn(u64, f64, *mut f64, usize) -> u8;
 type Pass = extern "C" fn(u64, *const f64, usize, *mut f64, usize, *mut u64, usize, *mut u64, usize) -> u8;
 
 struct Ours {
     elementary: [Elementary; 5],
+    friction: Friction,
     update: Update,
     pass: Pass,
 }
@@ -23,9 +25,10 @@ pub fn open(path: &str) {
     let find = |name: &str| lib.find(name).unwrap_or_else(|| stop(path, &format!("lacks {name}")));
     let elementary = ["exp", "ln", "sinh", "sin", "sqrt"]
         .map(|f| unsafe { std::mem::transmute::<usize, Elementary>(find(&format!("pasoletu_{f}"))) });
+    let friction = unsafe { std::mem::transmute::<usize, Friction>(find("pasoletu_nacc_friction")) };
     let update = unsafe { std::mem::transmute::<usize, Update>(find("pasoletu_flat_update")) };
     let pass = unsafe { std::mem::transmute::<usize, Pass>(find("pasoletu_flat_pass")) };
-    let _ = OURS.set(Ours { elementary, update, pass });
+    let _ = OURS.set(Ours { elementary, friction, update, pass });
 }
 
 fn stop(path: &str, what: &str) -> ! {
@@ -48,6 +51,15 @@ pub fn elementary(which: Function, x: f64) -> Result<f64, u8> {
 
 /// What stands in places that no call may write, before it.
 const UNWRITTEN: u64 = 0xdead_beef_0bad_f00d;
+
+/// NACC's m of an angle, or the refusal's number. Nothing where a refused call has written.
+pub fn friction(axes: u64, angle: f64) -> Option<Result<f64, u8>> {
+    let mut out = [f64::from_bits(UNWRITTEN)];
+    match (ours().friction)(axes, angle, out.as_mut_ptr(), 1) {
+        0 => Some(Ok(out[0])),
+        e => (out[0].to_bits() == UNWRITTEN).then_some(Err(e)),
+    }
+}
 
 /// The update of lists as they are; the status.
 pub fn update_lists(model: u64, p: &[f64], r: &mut [f64], a: &mut [u64]) -> u8 {

@@ -21,6 +21,7 @@ from .arrival import Arrival
 from .laws import (
     CorotatedLinearElasticity,
     DruckerPragerPlasticity,
+    FlatNaccPlasticity,
     MaximumStressFailure,
     MonaghanSphEos,
     NaccPlasticity,
@@ -60,6 +61,7 @@ __all__ = [
     "CorotatedLinearElasticity",
     "DruckerPragerPlasticity",
     "FLOATS",
+    "FlatNaccPlasticity",
     "FlatParticle",
     "MODELS",
     "MaximumStressFailure",

@@ -42,7 +42,7 @@ def matrix(call: str, told: str, **given: Any) -> Rows:
 
 def _lent(told: str, name: str, argument: Argument, value: Any) -> Any:
     if argument.length is None:
-        return int(value) if argument.kind == "u32" else number(told, name, value)
+        return number(told, name, value) if argument.kind == "f64" else int(value)
     if isinstance(value, Law):
         return doubles(told, name, value.parameters())
     if isinstance(value, Particle):

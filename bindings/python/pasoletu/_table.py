@@ -96,8 +96,8 @@ REFUSALS: dict[int, Refusal] = {
     ),
     6: Refusal(
         "UNKNOWN",
-        "unknown model, or a flag that is neither 0.0 nor 1.0",
-        "check the model's number and its flags",
+        "unknown model, a flag that is neither 0.0 nor 1.0, or a number of axes that the call does not take",
+        "check the model's number, its flags and its axes",
     ),
     7: Refusal(
         "TOO_MANY",
@@ -505,6 +505,11 @@ CALLS: dict[str, tuple[Argument, ...]] = {
     "drucker_prager_alpha": (
         Argument("fields", "f64", 8, False),
         Argument("q", "f64", None, False),
+        Argument("out", "f64", 1, True),
+    ),
+    "nacc_friction": (
+        Argument("axes", "u64", None, False),
+        Argument("friction_angle", "f64", None, False),
         Argument("out", "f64", 1, True),
     ),
     "update": (

@@ -6,7 +6,7 @@ import numbers
 from dataclasses import dataclass
 from typing import Any, Callable, ClassVar, Iterable, NamedTuple, Optional, TypeVar, Union
 
-from . import elementary, utils
+from . import utils
 from ._arguments import Law, Matrix, Rows, Vector, doubles, first_not_finite, number, rows
 from ._calls import floats, lists, matrix, one
 from ._library import ask, words
@@ -195,6 +195,8 @@ class NaccPlasticity(Plasticity):
     m: float
 
     model = NACC
+    # Whether m is that of an angle, in three axes.
+    angled: ClassVar[bool] = False
 
     @classmethod
     def with_m(
@@ -224,14 +226,58 @@ class NaccPlasticity(Plasticity):
         hardening_factor: float,
         friction_angle: float,
     ) -> NaccPlasticity:
-        """The friction from an angle in radians; also refused by 2 below the sine's range, -8 to 8, and by 10 above it. The library
-        has no call for this: m is worked here, by the Rust's steps over the library's sine and root."""
+        """The friction from an angle in radians, for particles of three axes: a flat call refuses this law by 6, since in two axes the
+        same angle has another m (FlatNaccPlasticity). Also refused by 2 below the sine's range, -8 to 8, and by 10 above it."""
         given = (young_modulus, poisson_ratio, cohesion, hardening_enabled, hardening_factor)
-        _given("NaccPlasticity.new", friction_angle=friction_angle)
-        _moduli("NaccPlasticity.new", cls.with_m, *given, friction_angle)
-        s = _moduli("NaccPlasticity.new", elementary.sin, friction_angle)
-        r = elementary.sqrt(2.0 / 3.0)
-        return cls.with_m(*given, r * 2.0 * s / (3.0 - s) * 3.0 / r)
+        made = cls(*given, _m_of("NaccPlasticity.new", 3, *given, friction_angle))
+        object.__setattr__(made, "angled", True)
+        return made
+
+
+@dataclass(frozen=True)
+class FlatNaccPlasticity(Law):
+    """Non-associated Cam-Clay made by a friction angle in two axes: FlatParticle.update and flat_pass take it, and no call on particles of
+    three axes does. By m the law is one, NaccPlasticity.with_m, for either."""
+
+    young_modulus: float
+    poisson_ratio: float
+    cohesion: float
+    hardening_enabled: bool
+    hardening_factor: float
+    m: float
+
+    flat_model = NACC
+
+    @classmethod
+    def new(
+        cls,
+        young_modulus: float,
+        poisson_ratio: float,
+        cohesion: float,
+        hardening_enabled: bool,
+        hardening_factor: float,
+        friction_angle: float,
+    ) -> FlatNaccPlasticity:
+        """The friction from an angle in radians; refused as NaccPlasticity.new."""
+        given = (young_modulus, poisson_ratio, cohesion, hardening_enabled, hardening_factor)
+        return cls(*given, _m_of("FlatNaccPlasticity.new", 2, *given, friction_angle))
+
+
+def _m_of(
+    told: str,
+    axes: int,
+    young_modulus: float,
+    poisson_ratio: float,
+    cohesion: float,
+    hardening_enabled: bool,
+    hardening_factor: float,
+    friction_angle: float,
+) -> float:
+    """The friction of an angle in two axes or three, once the other arguments make a law."""
+    _given(told, friction_angle=friction_angle)
+    given = (young_modulus, poisson_ratio, cohesion, hardening_enabled, hardening_factor)
+    _moduli(told, NaccPlasticity.with_m, *given, friction_angle)
+    return one("nacc_friction", told, axes=axes, friction_angle=friction_angle)
 
 
 PLASTICITIES: tuple[type[Plasticity], ...] = (

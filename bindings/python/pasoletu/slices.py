@@ -7,11 +7,12 @@ from typing import Any, Iterable, Optional, Union
 from ._arguments import Matrix, Vector, doubles, first_not_finite, number, numbers
 from ._library import ask, words
 from ._table import ANSWERS, FLAT_FLOATS, FLAT_PHASE, SHEET_FLOATS
-from .laws import Plasticity
+from .laws import FlatNaccPlasticity, NaccPlasticity, Plasticity
 from .outcome import Passed, Stored, Untouched, worked
 from .particle import AT_REST, PLACES
-from .refusal import LENGTH, NOT_FINITE, Refused
+from .refusal import LENGTH, NOT_FINITE, UNKNOWN, Refused
 
+FlatLaw = Union[Plasticity, FlatNaccPlasticity]
 MATRICES = ("deformation_gradient", "u", "v_t")
 SCALARS = PLACES[SHEET_FLOATS - (FLAT_FLOATS - FLAT_PHASE):SHEET_FLOATS]
 
@@ -116,12 +117,13 @@ class FlatParticle:
             raise Refused(LENGTH, told, place="%s, which is not two rows of two" % name)
         return held[0] + held[1]
 
-    def update(self, model: Plasticity) -> Union[Untouched, Stored]:
-        """The law on this particle in two axes, in place. A refused particle keeps every bit."""
+    def update(self, model: FlatLaw) -> Union[Untouched, Stored]:
+        """The law on this particle in two axes, in place. A refused particle keeps every bit. A NaccPlasticity that was made by an angle,
+        whose m is that of three axes, is refused by 6: FlatNaccPlasticity has that of two."""
         told = "FlatParticle.update"
-        _law(told, model)
+        chosen = _law(told, model)
         room, answer = doubles(told, "particle", self.floats()), words(ANSWERS)
-        status = ask("flat_update", model.model, doubles(told, "the law", model.parameters()), room, answer)
+        status = ask("flat_update", chosen, doubles(told, "the law", model.parameters()), room, answer)
         if status:
             raise Refused(status, told, place=_place(model, list(room)) if status == NOT_FINITE else None)
         self._take(list(room))
@@ -136,27 +138,34 @@ class FlatParticle:
         return "FlatParticle(%s)" % ", ".join("%s=%r" % (name, getattr(self, name)) for name in self.__slots__)
 
 
-def _law(told: str, model: Any) -> None:
+def _law(told: str, model: Any) -> int:
+    """The number of a law that may be asked in two axes."""
+    if isinstance(model, FlatNaccPlasticity):
+        return model.flat_model
     if not isinstance(model, Plasticity):
         raise TypeError("%s: model is a %s and must be a Plasticity" % (told, type(model).__name__))
+    if isinstance(model, NaccPlasticity) and model.angled:
+        raise Refused(UNKNOWN, told, place="the law's m, which is that of an angle in three axes")
+    return model.model
 
 
-def _place(model: Plasticity, floats: list[float]) -> Optional[str]:
+def _place(model: FlatLaw, floats: list[float]) -> Optional[str]:
     """Where the first float is that is not finite: in the parameters, then in the record."""
     names = itertools.chain(("the law's " + name for name in model.names()), FLAT_PLACES)
     return first_not_finite(itertools.chain(model.parameters(), floats), names)
 
 
-def flat_pass(model: Plasticity, particles: Iterable[FlatParticle]) -> Passed:
-    """The plastic law on every flat particle, in place. The pass goes on after a refused one, which keeps every bit."""
+def flat_pass(model: FlatLaw, particles: Iterable[FlatParticle]) -> Passed:
+    """The plastic law on every flat particle, in place. The pass goes on after a refused one, which keeps every bit. The law as
+    FlatParticle.update takes it."""
     told, held = "flat_pass", list(particles)
-    _law(told, model)
+    chosen = _law(told, model)
     for k, particle in enumerate(held):
         if not isinstance(particle, FlatParticle):
             raise TypeError("%s: particles[%d] is a %s and must be a FlatParticle" % (told, k, type(particle).__name__))
     room = doubles(told, "particles", (x for particle in held for x in particle.floats()))
     answers, counts = words(len(held) * ANSWERS), words(3)
-    status = ask("flat_pass", model.model, doubles(told, "the law", model.parameters()), room, answers, counts)
+    status = ask("flat_pass", chosen, doubles(told, "the law", model.parameters()), room, answers, counts)
     if status:
         raise Refused(status, told)
 

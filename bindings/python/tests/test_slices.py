@@ -4,9 +4,11 @@ import random
 import struct
 import sys
 import unittest
+from array import array
 
 import pasoletu
-from pasoletu.refusal import LENGTH, NOT_FINITE
+from pasoletu import raw
+from pasoletu.refusal import LENGTH, NOT_FINITE, UNKNOWN
 
 NAN, INF = float("nan"), float("inf")
 PHASE, PDET, PHARD, EHARD, GAIN, ALPHA = range(14, 20)
@@ -291,6 +293,65 @@ class Lists(unittest.TestCase):
         particle.update(pasoletu.RankinePlasticity(1e5, 0.3, 500.0, 2.0))
         self.assertTrue(near(particle.singular_values[0], 0.9))
         self.assertLess(particle.singular_values[1], 1.3)
+
+
+CLAY = (1e4, 0.3, 0.05, True, 3.0)
+
+
+def friction(d, angle):
+    s = math.sin(angle)
+    return math.sqrt(2.0 / 3.0) * 2.0 * s / (3.0 - s) * d / math.sqrt(2.0 / (6.0 - d))
+
+
+class FrictionAngle(unittest.TestCase):
+    def test_m_is_that_of_the_axes(self):
+        for angle in (0.0, -0.4, 0.5, math.radians(35.0), 1.2, 8.0):
+            self.assertTrue(near(pasoletu.FlatNaccPlasticity.new(*CLAY, angle).m, friction(2.0, angle)), angle)
+            self.assertTrue(near(pasoletu.NaccPlasticity.new(*CLAY, angle).m, friction(3.0, angle)), angle)
+        self.assertAlmostEqual(pasoletu.FlatNaccPlasticity.new(*CLAY, math.radians(35.0)).m, 1.0918, 4)
+
+    def test_the_law_is_that_of_its_m(self):
+        made = pasoletu.FlatNaccPlasticity.new(*CLAY, math.radians(35.0))
+        given = pasoletu.NaccPlasticity.with_m(*CLAY, made.m)
+        rng = random.Random(35)
+        held = [pasoletu.FlatParticle.from_floats(drawn(rng)) for _ in range(500)]
+        alike = [pasoletu.FlatParticle.from_floats(particle.floats()) for particle in held]
+        told, also = pasoletu.flat_pass(made, held), pasoletu.flat_pass(given, alike)
+        self.assertEqual((told.untouched, told.stored, told.refused), (also.untouched, also.stored, also.refused))
+        for one, other in zip(held, alike):
+            self.assertEqual(bits(one.floats()), bits(other.floats()))
+        self.assertGreater(told.stored, 0)
+
+    def test_a_law_of_the_other_axes_is_not_taken(self):
+        three, two = pasoletu.NaccPlasticity.new(*CLAY, 0.6), pasoletu.FlatNaccPlasticity.new(*CLAY, 0.6)
+        particle = pasoletu.FlatParticle.stretched([1.5, 0.8])
+        was = bits(particle.floats())
+        for call in (lambda: particle.update(three), lambda: pasoletu.flat_pass(three, [particle])):
+            with self.assertRaises(pasoletu.Refused) as told:
+                call()
+            self.assertEqual(told.exception.number, UNKNOWN)
+            self.assertEqual(bits(particle.floats()), was)
+        self.assertFalse(hasattr(two, "update_particle"))
+        with self.assertRaises(TypeError):
+            pasoletu.pass_particles(two, [pasoletu.Particle()])
+        with self.assertRaises(TypeError):
+            pasoletu.write_sheet(two, [pasoletu.Particle()])
+
+    def test_refusals(self):
+        for number, angle in ((NOT_FINITE, NAN), (NOT_FINITE, INF), (2, -8.5), (10, 8.5)):
+            with self.assertRaises(pasoletu.Refused) as told:
+                pasoletu.FlatNaccPlasticity.new(*CLAY, angle)
+            self.assertEqual(told.exception.number, number)
+        with self.assertRaises(pasoletu.Refused) as told:
+            pasoletu.FlatNaccPlasticity.new(1e5, 0.5, 0.05, True, 3.0, 9.0)
+        self.assertEqual(told.exception.number, 3)
+        out = array("d", [7.0])
+        for axes in (0, 1, 4, 2 ** 63):
+            self.assertEqual(raw.call("nacc_friction", axes, 0.5, out), UNKNOWN)
+        self.assertEqual(raw.call("nacc_friction", 2, 0.5, array("d", [])), LENGTH)
+        self.assertEqual(raw.call("nacc_friction", 7, 0.5, array("d", [])), LENGTH)
+        self.assertEqual(raw.call("nacc_friction", 7, NAN, out), UNKNOWN)
+        self.assertEqual(out[0], 7.0)
 
 
 if __name__ == "__main__":

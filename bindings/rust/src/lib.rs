@@ -74,7 +74,9 @@ pub use lists::{
 };
 pub use mode::float_mode;
 pub use particle::Particle;
-pub use plasticity::{DruckerPragerPlasticity, Model, NaccPlasticity, Outcome, RankinePlasticity, SnowPlasticity};
+pub use plasticity::{
+    DruckerPragerPlasticity, FlatModel, FlatNaccPlasticity, Model, NaccPlasticity, Outcome, RankinePlasticity, SnowPlasticity,
+};
 pub use refusal::Refusal;
 pub use reasons::{Bound, Place, Reason};
 pub use reports::{report, Column, Report};

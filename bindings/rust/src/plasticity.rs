@@ -1,8 +1,11 @@
 //! The four plastic laws and the choice among them.
 use crate::calls::{all_finite, flag, floats, number};
 use crate::math::{Real, Vector};
-use crate::table::{self, pasoletu_drucker_prager_alpha, pasoletu_rankine_project, pasoletu_snow_clamp, pasoletu_update, Law};
-use crate::{elementary, utils, Answer, Particle, Refusal};
+use crate::table::{
+    self, pasoletu_drucker_prager_alpha, pasoletu_nacc_friction, pasoletu_rankine_project, pasoletu_snow_clamp, pasoletu_update,
+    Law,
+};
+use crate::{utils, Answer, Particle, Refusal};
 
 /// What a plastic law did to a particle.
 #[derive(Copy, Clone, Debug, PartialEq)]
@@ -137,10 +140,11 @@ impl DruckerPragerPlasticity {
     }
 }
 
-/// Non-associated Cam-Clay (plasticity_nacc.rs). Holds the arguments of `with_m`.
+/// Non-associated Cam-Clay (plasticity_nacc.rs). Holds the arguments of `with_m`, and whether m is that of an angle in three axes.
 #[derive(Copy, Clone, Debug, PartialEq)]
 pub struct NaccPlasticity {
     arguments: [Real; 6],
+    angled: bool,
 }
 
 impl NaccPlasticity {
@@ -158,11 +162,11 @@ impl NaccPlasticity {
         given(&arguments, NAME)?;
         utils::shear_modulus(young_modulus, poisson_ratio).map_err(|r| r.of(NAME))?;
         utils::bulk_modulus(young_modulus, poisson_ratio).map_err(|r| r.of(NAME))?;
-        Ok(Self { arguments })
+        Ok(Self { arguments, angled: false })
     }
 
-    /// The friction from an angle in radians; also refused by 2 below the sine's range, -8 to 8, and by 10 above it. The library
-    /// has no call for this: m is worked here, by the Rust's steps over the library's sine and root.
+    /// The friction from an angle in radians, for particles of three axes: a flat call refuses this law by 6, since in two axes the
+    /// same angle has another m ([`FlatNaccPlasticity`]). Also refused by 2 below the sine's range, -8 to 8, and by 10 above it.
     pub fn new(
         young_modulus: Real,
         poisson_ratio: Real,
@@ -171,18 +175,86 @@ impl NaccPlasticity {
         hardening_factor: Real,
         friction_angle: Real,
     ) -> Result<Self, Refusal> {
-        let told = |r: Refusal| r.of("NaccPlasticity::new");
-        let with_m =
-            |m| Self::with_m(young_modulus, poisson_ratio, cohesion, hardening_enabled, hardening_factor, m).map_err(told);
-        with_m(friction_angle)?;
-        let s = elementary::sin(friction_angle).map_err(told)?;
-        let r = elementary::sqrt(2.0 / 3.0).map_err(told)?;
-        with_m(r * 2.0 * s / (3.0 - s) * 3.0 / r)
+        let law = Self::with_m(young_modulus, poisson_ratio, cohesion, hardening_enabled, hardening_factor, friction_angle);
+        let arguments = law.and_then(|law| angled(3, law.arguments)).map_err(|r| r.of("NaccPlasticity::new"))?;
+        Ok(Self { arguments, angled: true })
     }
 
     /// Stores F with its determinant, sigma and alpha, which is the amount.
     pub fn update_particle(&self, particle: &mut Particle) -> Result<Outcome, Refusal> {
         Model::Nacc(*self).update_particle(particle)
+    }
+}
+
+/// The arguments with the m of the angle that stands in its place.
+fn angled(axes: u64, arguments: [Real; 6]) -> Result<[Real; 6], Refusal> {
+    let [young, poisson, cohesion, enabled, factor, angle] = arguments;
+    let m = number("nacc_friction", |out, n| unsafe { pasoletu_nacc_friction(axes, angle, out, n) })?;
+    Ok([young, poisson, cohesion, enabled, factor, m])
+}
+
+/// Non-associated Cam-Clay made by a friction angle in two axes: [`FlatParticle::update`](crate::FlatParticle::update) and
+/// [`flat_pass_into`](crate::flat_pass_into) take it, and no call on particles of three axes does. By m the law is one,
+/// [`NaccPlasticity::with_m`], for either.
+#[derive(Copy, Clone, Debug, PartialEq)]
+pub struct FlatNaccPlasticity {
+    arguments: [Real; 6],
+}
+
+impl FlatNaccPlasticity {
+    /// The friction from an angle in radians; refused as [`NaccPlasticity::new`].
+    pub fn new(
+        young_modulus: Real,
+        poisson_ratio: Real,
+        cohesion: Real,
+        hardening_enabled: bool,
+        hardening_factor: Real,
+        friction_angle: Real,
+    ) -> Result<Self, Refusal> {
+        let law =
+            NaccPlasticity::with_m(young_modulus, poisson_ratio, cohesion, hardening_enabled, hardening_factor, friction_angle);
+        let arguments = law.and_then(|law| angled(2, law.arguments)).map_err(|r| r.of("FlatNaccPlasticity::new"))?;
+        Ok(Self { arguments })
+    }
+
+    /// The angle's m.
+    pub fn m(&self) -> Real {
+        self.arguments[5]
+    }
+}
+
+/// What a flat call takes: one of the four plastic laws, or NACC made by an angle in two axes.
+#[derive(Copy, Clone, Debug, PartialEq)]
+pub enum FlatModel {
+    /// A law that has the same parameters in two axes and three.
+    Law(Model),
+    /// Non-associated Cam-Clay by an angle in two axes.
+    Nacc(FlatNaccPlasticity),
+}
+
+impl FlatModel {
+    /// Refused by 6 where m is that of an angle in three axes.
+    pub(crate) fn parameters(&self, call: &'static str) -> Result<Parameters, Refusal> {
+        match self {
+            FlatModel::Law(Model::Nacc(law)) if law.angled => {
+                let place = Some("the law's m, which is that of an angle in three axes");
+                Err(Refusal { number: Refusal::UNKNOWN, call, particle: None, place })
+            }
+            FlatModel::Law(law) => Ok(law.parameters()),
+            FlatModel::Nacc(law) => Ok(Parameters::new(table::NACC, &law.arguments)),
+        }
+    }
+}
+
+impl From<FlatNaccPlasticity> for FlatModel {
+    fn from(law: FlatNaccPlasticity) -> FlatModel {
+        FlatModel::Nacc(law)
+    }
+}
+
+impl<L: Into<Model>> From<L> for FlatModel {
+    fn from(law: L) -> FlatModel {
+        FlatModel::Law(law.into())
     }
 }
 
@@ -256,7 +328,7 @@ impl Model {
                 only_active_when_failed: bits[6] != 0,
                 volume_correction: p(7),
             }),
-            3 => Model::Nacc(NaccPlasticity { arguments: [p(0), p(1), p(2), p(3), p(4), p(5)] }),
+            3 => Model::Nacc(NaccPlasticity { arguments: [p(0), p(1), p(2), p(3), p(4), p(5)], angled: false }),
             _ => unreachable!("there are four laws"),
         }
     }

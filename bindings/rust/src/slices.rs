@@ -5,7 +5,7 @@ use crate::table::{
     pasoletu_flat_pass, pasoletu_flat_update, ANSWERS, FLAT_FLOATS, FLAT_PHASE, FLAT_SIGMA, FLAT_U, FLAT_VT, PLACES,
     SHEET_FLOATS,
 };
-use crate::{Counts, Model, Outcome, Refusal};
+use crate::{Counts, FlatModel, Outcome, Refusal};
 
 /// A particle of a flat section: 20 floats, with the names of a [`Particle`](crate::Particle) and no determinant.
 ///
@@ -93,10 +93,11 @@ impl FlatParticle {
         FlatParticle { deformation_gradient: [[a, 0.0], [0.0, b]], singular_values: sigma, ..FlatParticle::REST }
     }
 
-    /// The plastic law in two axes. A refused particle keeps every bit.
-    pub fn update(&mut self, model: impl Into<Model>) -> Result<Outcome, Refusal> {
+    /// The plastic law in two axes. A refused particle keeps every bit. A [`NaccPlasticity`](crate::NaccPlasticity) that was made by an
+    /// angle, whose m is that of three axes, is refused by 6: [`FlatNaccPlasticity`](crate::FlatNaccPlasticity) has that of two.
+    pub fn update(&mut self, model: impl Into<FlatModel>) -> Result<Outcome, Refusal> {
         const CALL: &str = "FlatParticle::update";
-        let law = model.into().parameters();
+        let law = model.into().parameters(CALL)?;
         let mut answer = Answer::default();
         let status = unsafe {
             let (p, record) = (law.values.as_ptr(), self.floats_mut().as_mut_ptr());
@@ -144,7 +145,8 @@ impl From<[f64; FlatParticle::FLOATS]> for FlatParticle {
 }
 
 /// [`pass_into`](crate::pass_into) in two axes: the plastic law on every flat particle, with an answer for each. The pass goes on after a
-/// refused particle, which keeps every bit. Refused by 8, with nothing written, unless there are as many answers as particles.
+/// refused particle, which keeps every bit. Refused, with nothing written, by 8 unless there are as many answers as particles, and by 6 for a
+/// law that [`FlatParticle::update`] refuses by it.
 ///
 /// ```
 /// use pasoletu::{flat_pass_into, Answer, Counts, FlatParticle, Outcome, SnowPlasticity};
@@ -157,12 +159,12 @@ impl From<[f64; FlatParticle::FLOATS]> for FlatParticle {
 /// # Ok::<(), pasoletu::Refusal>(())
 /// ```
 pub fn flat_pass_into(
-    model: impl Into<Model>,
+    model: impl Into<FlatModel>,
     particles: &mut [FlatParticle],
     answers: &mut [Answer],
 ) -> Result<Counts, Refusal> {
     held("flat_pass_into");
-    let law = model.into().parameters();
+    let law = model.into().parameters("flat_pass_into")?;
     let mut counts = [0u64; 4];
     let status = unsafe {
         let (records, floats) = (particles.as_mut_ptr().cast(), particles.len() * FLAT_FLOATS);

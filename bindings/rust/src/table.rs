@@ -18,7 +18,7 @@ impl Refusal {
     pub const ENDS_EARLY: u8 = 4;
     /// A number of the sheet is not spelled shortest or has over two groups.
     pub const NOT_SHORTEST: u8 = 5;
-    /// Unknown model, or a flag that is neither 0.0 nor 1.0.
+    /// Unknown model, a flag that is neither 0.0 nor 1.0, or a number of axes that the call does not take.
     pub const UNKNOWN: u8 = 6;
     /// The sheet has over 200 particles, or bytes after the last.
     pub const TOO_MANY: u8 = 7;
@@ -50,7 +50,7 @@ pub fn words(number: u8) -> Option<(&'static str, &'static str)> {
         3 => ("a NaN arose, or a modulus or a result is not finite", "look at the sizes of the parameters and inputs"),
         4 => ("the sheet ends early", "send the sheet again, whole"),
         5 => ("a number of the sheet is not spelled shortest or has over two groups", "correct the sheet's writer"),
-        6 => ("unknown model, or a flag that is neither 0.0 nor 1.0", "check the model's number and its flags"),
+        6 => ("unknown model, a flag that is neither 0.0 nor 1.0, or a number of axes that the call does not take", "check the model's number, its flags and its axes"),
         7 => ("the sheet has over 200 particles, or bytes after the last", "split the sheet, or send it alone"),
         8 => ("a list has the wrong length", "give 37 floats (the determinant last) and 2 answers a particle, 9 floats a matrix, 3 a vector"),
         9 => ("the lent room is shorter than the sheet", "lend 59267 bytes, which hold every sheet"),
@@ -204,6 +204,7 @@ extern "C" {
     pub fn pasoletu_snow_clamp(min_epsilon: f64, max_epsilon: f64, hardening_coeff: f64, sigma: *const f64, sigma_length: usize, out: *mut f64, out_length: usize) -> u8;
     pub fn pasoletu_rankine_project(arguments: *const f64, arguments_length: usize, s: f64, strains: *const f64, strains_length: usize, out: *mut f64, out_length: usize) -> u8;
     pub fn pasoletu_drucker_prager_alpha(fields: *const f64, fields_length: usize, q: f64, out: *mut f64, out_length: usize) -> u8;
+    pub fn pasoletu_nacc_friction(axes: u64, friction_angle: f64, out: *mut f64, out_length: usize) -> u8;
     pub fn pasoletu_update(model: u64, parameters: *const f64, parameters_length: usize, record: *mut f64, record_length: usize, answer: *mut u64, answer_length: usize) -> u8;
     pub fn pasoletu_factor(record: *mut f64, record_length: usize) -> u8;
     pub fn pasoletu_pass(model: u64, parameters: *const f64, parameters_length: usize, records: *mut f64, records_length: usize, answers: *mut u64, answers_length: usize, counts: *mut u64, counts_length: usize) -> u8;

@@ -1,6 +1,6 @@
 //! Flat records: layouts, the four laws, refusals.
 use pasoletu::{
-    flat_pass_into, Answer, Counts, DruckerPragerPlasticity, FlatParticle, Model, NaccPlasticity, Outcome, RankinePlasticity, Refusal,
+    flat_pass_into, Answer, Counts, DruckerPragerPlasticity, FlatNaccPlasticity, FlatParticle, Model, NaccPlasticity, Outcome, RankinePlasticity, Refusal,
     SnowPlasticity,
 };
 
@@ -69,4 +69,37 @@ fn refusals() {
     let answers = &mut [Answer::default(); 2];
     assert_eq!(flat_pass_into(SnowPlasticity::new(), &mut [FlatParticle::REST; 3], answers).unwrap_err().number, 8);
     assert_eq!(flat_pass_into(SnowPlasticity::new(), &mut [], &mut []), Ok(Counts::default()));
+}
+
+fn friction(d: f64, angle: f64) -> f64 {
+    let s = angle.sin();
+    (2.0f64 / 3.0).sqrt() * 2.0 * s / (3.0 - s) * d / (2.0 / (6.0 - d)).sqrt()
+}
+
+#[test]
+fn nacc_by_an_angle_has_the_m_of_its_axes() {
+    let angle = 35.0f64.to_radians();
+    let made = FlatNaccPlasticity::new(1e4, 0.3, 0.05, true, 3.0, angle).unwrap();
+    assert!((made.m() - friction(2.0, angle)).abs() < 1e-12 && (made.m() - 1.0918).abs() < 1e-4);
+    let given = NaccPlasticity::with_m(1e4, 0.3, 0.05, true, 3.0, made.m()).unwrap();
+    let start = FlatParticle { nacc_alpha: -0.05, ..FlatParticle::stretched([0.8, 1.1]) };
+    let (mut one, mut other) = (start, start);
+    assert_eq!(one.update(made), other.update(given));
+    assert_eq!(one, other);
+    assert_ne!(one, start);
+}
+
+#[test]
+fn nacc_by_an_angle_in_three_axes_is_not_taken() {
+    let three = NaccPlasticity::new(1e4, 0.3, 0.05, true, 3.0, 0.6).unwrap();
+    let start = FlatParticle::stretched([1.5, 0.8]);
+    let mut particle = start;
+    let refusal = particle.update(three).unwrap_err();
+    assert_eq!((refusal.number, refusal.call), (Refusal::UNKNOWN, "FlatParticle::update"));
+    let mut particles = [start; 2];
+    let refusal = flat_pass_into(Model::from(three), &mut particles, &mut [Answer::default(); 2]).unwrap_err();
+    assert_eq!((refusal.number, refusal.call), (Refusal::UNKNOWN, "flat_pass_into"));
+    assert_eq!((particle, particles), (start, [start; 2]));
+    let number = |angle: f64| FlatNaccPlasticity::new(1e4, 0.3, 0.05, true, 3.0, angle).unwrap_err().number;
+    assert_eq!((number(f64::NAN), number(-9.0), number(9.0)), (1, Refusal::BELOW_RANGE, Refusal::ABOVE_RANGE));
 }

@@ -5,6 +5,7 @@ mod update;
 
 pub use matrix::dot;
 pub use matrix::product;
+pub use matrix::row_finite;
 pub use matrix::row_sub;
 pub use matrix::sum;
 pub use matrix::to_rows;

@@ -1,1 +1,2 @@
 pub mod DruckerPrager
+pub mod Project

@@ -11,7 +11,7 @@ ghost use Rattle.walk.specs.Walk.{exp, asks, end, result};
 ghost use Rattle.plasticity_drucker_prager.specs.Projection.{yieldWalk, strainedWalk, projectWalk};
 ghost use Rattle.flat_drucker_prager.specs.DruckerPrager.{dim, refusedProjection, projectedOf, tipOf, surfacedOf};
 
-fn refused_projection(n: u8) -> Projected
+pub fn refused_projection(n: u8) -> Projected
     ensures { λ r. ⌜ r ≡ refusedProjection n ⌝ }
 {
     let z = [0.0, 0.0];

@@ -8,16 +8,15 @@ use lib.Ieee as Ieee
 use lib.Ieee.{Float, binary64, ofBits, round, size}
 use Rattle.exact.specs.Units.{mag, L}
 use Rattle.exact.specs.RootOf.{sqrtOf, floorRoot, rootIn}
-use Rattle.answers.specs.Range.{ranged, onPath, inRange, sideOf}
+use Rattle.answers.specs.Range.{inRange, sideOf}
 use Rattle.answers.specs.Refusals.{noNumber}
 use Rattle.answers.specs.declared.Answer.{Answer}
 use Rattle.answers.specs.declared.Answer.the-variants as answers
 use Rattle.numbers.specs.Floats.{finite, isNumber, maxOf}
-use Rattle.thirds.specs.Thirds as thirds
 use Rattle.tensor.specs.Axes.{allOf}
 use Rattle.tensor.specs.Matrix.{zero}
 use Rattle.walk.specs.Expr.{num, value}
-use Rattle.walk.specs.Walk.{Walk, root, third, two-thirds, minus-two-thirds, at, answerOf, _then_, Ended, given, refused, result}
+use Rattle.walk.specs.Walk.{Walk, root, itself, lowOf, highOf, answerOf, _then_, Ended, given, refused, result}
 use Rattle.walk.specs.Exact.{andThen, result-then}
 use Rattle.walk.specs.Every.{and-right}
 use Rattle.reason.specs.declared.Number.{Number}
@@ -47,44 +46,17 @@ inputs-law a u vt s = inputs-finite inTwo (argumentsFloats a) u vt s
 pub run-alpha : (a : NaccArguments) (u vt : List (List Float)) (s : State) → argumentsFinite a && inputsFinite u vt s ≡ true → finite (s .scalars .alpha) ≡ true
 run-alpha a u vt s h = nacc.alpha-of (s .scalars) (finite-scalars inTwo u vt s (and-right (argumentsFinite a) (inputsFinite u vt s) h))
 
--- ---- what lies within the range of one power lies within that of the others
+-- ---- what is answered within the range of powers is x itself
 abbrev answer-of : Bool → Bool → ℕ → Float → Answer
-answer-of a b m u = cond a (cond b (answers.Value u) (answers.Refused m)) (answers.Refused noNumber)
+answer-of a b m x = cond a (cond b (answers.Value x) (answers.Refused m)) (answers.Refused noNumber)
 
-given-of : (a b : Bool) (m : ℕ) (x v u : Float) → answer-of a b m x ≡ answers.Value v → answer-of a b m u ≡ answers.Value u
-given-of true true m x v u h = refl
-given-of true false m x v u h = absurd (let z : _≡_ {A = ℕ} 0 1 = cc in omega arith)
-given-of false b m x v u h = absurd (let z : _≡_ {A = ℕ} 0 1 = cc in omega arith)
+given-of : (a b : Bool) (m : ℕ) (x v : Float) → answer-of a b m x ≡ answers.Value v → answer-of a b m x ≡ answers.Value x
+given-of true true m x v h = refl
+given-of true false m x v h = absurd (let z : _≡_ {A = ℕ} 0 1 = cc in omega arith)
+given-of false b m x v h = absurd (let z : _≡_ {A = ℕ} 0 1 = cc in omega arith)
 
-refused-of : (a b : Bool) (m n : ℕ) (x u : Float) → answer-of a b m x ≡ answers.Refused n → answer-of a b m u ≡ answers.Refused n
-refused-of true true m n x u h = absurd (let z : _≡_ {A = ℕ} 0 1 = cc in omega arith)
-refused-of true false m n x u h = h
-refused-of false b m n x u h = h
-
-module _ (x : Float) where
-  within-given : (v u : Float) → withinOf x ≡ answers.Value v → onPath x (ranged thirds.low thirds.high x u) ≡ answers.Value u
-  within-given v u h = given-of (isNumber x) (inRange thirds.low thirds.high x) (sideOf thirds.low thirds.high x) x v u h
-
-  within-refused : (n : ℕ) (u : Float) → withinOf x ≡ answers.Refused n → onPath x (ranged thirds.low thirds.high x u) ≡ answers.Refused n
-  within-refused n u h = refused-of (isNumber x) (inRange thirds.low thirds.high x) (sideOf thirds.low thirds.high x) n x u h
-
-pub inverse-given : (x : Float) {v : Float} → withinOf x ≡ answers.Value v → answerOf minus-two-thirds x ≡ answers.Value (at minus-two-thirds x)
-inverse-given x {v} h = within-given x v (at minus-two-thirds x) h
-
-pub inverse-refused : (x : Float) {n : ℕ} → withinOf x ≡ answers.Refused n → answerOf minus-two-thirds x ≡ answers.Refused n
-inverse-refused x {n} h = within-refused x n (at minus-two-thirds x) h
-
-pub rooted-given : (x : Float) {v : Float} → withinOf x ≡ answers.Value v → answerOf third x ≡ answers.Value (at third x)
-rooted-given x {v} h = within-given x v (at third x) h
-
-pub rooted-refused : (x : Float) {n : ℕ} → withinOf x ≡ answers.Refused n → answerOf third x ≡ answers.Refused n
-rooted-refused x {n} h = within-refused x n (at third x) h
-
-pub squared-given : (x : Float) {v : Float} → withinOf x ≡ answers.Value v → answerOf two-thirds x ≡ answers.Value (at two-thirds x)
-squared-given x {v} h = within-given x v (at two-thirds x) h
-
-pub squared-refused : (x : Float) {n : ℕ} → withinOf x ≡ answers.Refused n → answerOf two-thirds x ≡ answers.Refused n
-squared-refused x {n} h = within-refused x n (at two-thirds x) h
+pub within-given : (x : Float) {v : Float} → withinOf x ≡ answers.Value v → withinOf x ≡ answers.Value x
+within-given x {v} h = given-of (isNumber x) (inRange (lowOf itself) (highOf itself) x) (sideOf (lowOf itself) (highOf itself) x) x v h
 
 -- ---- the law's pieces tell the step of a refusal: it is left here
 pub steps-law : (p : NaccPlasticity) (sigma : List Float) (alpha : Float) → finite alpha ≡ true

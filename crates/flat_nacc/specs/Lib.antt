@@ -1,1 +1,3 @@
 pub mod Nacc
+pub mod Angle
+pub mod Project

@@ -3,14 +3,12 @@ use mathlib.Core.List.{List, [], _∷_, _++_}
 use Prim.Native.Nat.{ℕ}
 use lib.Ieee.{Float}
 use Rattle.numbers.specs.Floats.{finite}
-use Rattle.answers.specs.Range.{ranged, onPath}
 use Rattle.answers.specs.declared.Answer.{Answer}
-use Rattle.thirds.specs.Thirds as thirds
 use Rattle.tensor.specs.Matrix.{zero}
 use Rattle.plasticity.specs.declared.Outcome.{Outcome}
 use Rattle.plasticity.specs.declared.Outcome.the-variants as outcome
 use Rattle.walk.specs.Expr.{num, values}
-use Rattle.walk.specs.Walk.{Walk, inputs, end, _then_, Ended, given, refused, result}
+use Rattle.walk.specs.Walk.{Walk, itself, answerOf, inputs, end, _then_, Ended, given, refused, result}
 use Rattle.walk.specs.Body.{floatsOf, storeWalk}
 use Rattle.plasticity_nacc.specs.declared.NaccArguments.{NaccArguments}
 use Rattle.plasticity_nacc.specs.declared.NaccPlasticity.{NaccPlasticity}
@@ -51,7 +49,7 @@ naccUpdate a u vt s = updatedOf s (result (naccWalk a u vt s))
 
 -- ---- as the code hands it on: the powers' range asked of x, and x
 abbrev pub withinOf : Float → Answer
-withinOf x = onPath x (ranged thirds.low thirds.high x x)
+withinOf x = answerOf itself x
 
 abbrev pub stressedOf : NaccPlasticity → Float → Float → Float → List Float → Stressed
 stressedOf p w p0 j sigma = record { trial = trialOf (dimOf two-axes) p w p0 j sigma; s = values (stress (dimOf two-axes) p (num w) sigma) }

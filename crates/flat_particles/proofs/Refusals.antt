@@ -1,12 +1,14 @@
 -- RULES, section 6, of flat records, both ways: a law refuses exactly where the path of its walk stops, and then, or where it leaves a record
 -- untouched, every bit stays; a record or a list is refused by 8 exactly where its length is wrong.
-use mathlib.Core.Bool.{Bool, true, false, cond, true≢false}
+use mathlib.Core.Bool.{Bool, true, false, cond, _&&_, true≢false}
 use mathlib.Core.List.{List}
-use mathlib.Core.Logic.{_↔_}
+use mathlib.Core.Logic.{_↔_, inl, inr}
 use mathlib.Core.Option.{none}
 use mathlib.Core.Path.{_≡_, refl, sym}
 use native.Mathlib.Omega.{arith}
-use Prim.Native.Nat.{ℕ, _/_}
+use Prim.Native.Nat.{ℕ, _*_, _/_}
+use borrow.Author.Tests.{eqb-true, eqb-false}
+use lib.Dec.{eqb}
 use lib.ListN.{length}
 use Rattle.answers.specs.Refusals.{wrongLength}
 use Rattle.plasticity.specs.declared.Outcome.{Outcome}
@@ -21,9 +23,9 @@ use Rattle.particles.specs.declared.list.Passed.the-variants as passed-variants
 use Rattle.particles.specs.Pass.{Worked}
 use Rattle.flat.specs.declared.State.{State}
 use Rattle.flat.specs.Update.{inTwo}
-use Rattle.flat_particles.specs.Layout.{uAt, vtAt, stateAt}
+use Rattle.flat_particles.specs.Layout.{floats, uAt, vtAt, stateAt}
 use Rattle.flat_particles.specs.Law.{walkOf, kept, updatedAt, flatLaw}
-use Rattle.flat_particles.specs.Pass.{threeOf, wellSizedOver, countsOver, passedOver}
+use Rattle.flat_particles.specs.Pass.{WrongLengths, threeOf, wellSizedOver, countsOver, passedOver}
 
 -- ---- one record
 module _ (m : Model) (r : List ℕ) where
@@ -58,5 +60,21 @@ eight : (b : Bool) (c : Counts) → (cond b (passed-variants.Done c) (passed-var
 eight true c = (λ e. absurd (let z : _≡_ {A = ℕ} 0 1 = cc in omega arith), λ e. absurd (true≢false e))
 eight false c = (λ e. refl, λ e. refl)
 
-pub pass-refused : (w : ℕ) (step : List ℕ → Worked) (xs out : List ℕ) → (passedOver w step xs out ≡ passed-variants.Refused wrongLength) ↔ (wellSizedOver w xs out ≡ false)
-pass-refused w step xs out = eight (wellSizedOver w xs out) (threeOf (countsOver w step xs (length xs / w)))
+-- by the lengths
+wrong : (s t : Bool) (xs out : List ℕ) → eqb (length xs / floats * floats) (length xs) ≡ s → eqb (length xs / floats * 2) (length out) ≡ t → (s && t ≡ false) ↔ WrongLengths xs out
+wrong true true xs out e f =
+    let whole = eqb-true (length xs / floats * floats) (length xs) e in
+    let places = eqb-true (length xs / floats * 2) (length out) f in
+    (λ q. absurd (true≢false q), λ n. absurd (fits whole places n))
+  where
+    fits : length xs / floats * floats ≡ length xs → length xs / floats * 2 ≡ length out → WrongLengths xs out → ⊥
+    fits whole places (inl n) = n whole
+    fits whole places (inr n) = n (sym places)
+wrong true false xs out e f = (λ q. inr (λ p. eqb-false (length xs / floats * 2) (length out) f (sym p)), λ n. refl)
+wrong false t xs out e f = (λ q. inl (eqb-false (length xs / floats * floats) (length xs) e), λ n. refl)
+
+pub pass-refused : (step : List ℕ → Worked) (xs out : List ℕ) → (passedOver floats step xs out ≡ passed-variants.Refused 8) ↔ WrongLengths xs out
+pass-refused step xs out =
+    let b = eight (wellSizedOver floats xs out) (threeOf (countsOver floats step xs (length xs / floats))) in
+    let l = wrong (eqb (length xs / floats * floats) (length xs)) (eqb (length xs / floats * 2) (length out)) xs out refl refl in
+    (λ e. l .0 (b .0 e), λ n. b .1 (l .1 n))

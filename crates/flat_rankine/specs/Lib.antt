@@ -1,2 +1,3 @@
 pub mod Projection
 pub mod Rankine
+pub mod Project

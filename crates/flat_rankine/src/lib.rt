@@ -1,9 +1,11 @@
 // Rankine in two axes: log strains are returned to the tensile surface (ticket 13). Law, arguments and tests are those of three axes; what
 // both strains become is ours.
+mod alone;
 mod projection;
 mod sorting;
 mod update;
 
+pub use alone::project;
 pub use update::update_particle;
 
 // Strains sorted upwards, and whether they stood so.

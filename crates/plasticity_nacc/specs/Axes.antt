@@ -5,7 +5,7 @@ use lib.Ieee.{Float}
 use Rattle.tensor.specs.Matrix.{three}
 use Rattle.walk.specs.Expr.{Expr, num, _/_, value}
 use Rattle.walk.specs.Constants.{one, two}
-use Rattle.walk.specs.Walk.{Walk, root, third, two-thirds, minus-two-thirds, ask}
+use Rattle.walk.specs.Walk.{Walk, root, third, two-thirds, minus-two-thirds, itself, ask}
 use Rattle.plasticity_nacc.specs.Law as law
 
 pub data Axes : Type 0 where
@@ -23,18 +23,18 @@ alike two-axes e = e ∷ e ∷ []
 alike three-axes e = three e e e
 
 -- ---- the powers of x, at step n. "Powers -1, 1/2 and 1 where it has -2/d, 1/d and 2/d, worked as 1/x, the root and x, within section 3's
--- range for powers": on two axes that range is asked of x first, and what else is asked is not used
+-- range for powers": on two axes that range is asked of x itself
 -- -2/d
 abbrev pub inverse : {A : Type 0} → Axes → ℕ → Expr → (Expr → Walk A) → Walk A
-inverse two-axes n x k = ask n minus-two-thirds x (λ w. k (num (value (one / x))))
+inverse two-axes n x k = ask n itself x (λ w. k (num (value (one / w))))
 inverse three-axes n x k = ask n minus-two-thirds x k
 
 -- 1/d
 abbrev pub rooted : {A : Type 0} → Axes → ℕ → Expr → (Expr → Walk A) → Walk A
-rooted two-axes n x k = ask n third x (λ w. ask n root x k)
+rooted two-axes n x k = ask n itself x (λ w. ask n root w k)
 rooted three-axes n x k = ask n third x k
 
 -- 2/d
 abbrev pub squared : {A : Type 0} → Axes → ℕ → Expr → (Expr → Walk A) → Walk A
-squared two-axes n x k = ask n two-thirds x (λ w. k (num (value x)))
+squared two-axes n x k = ask n itself x k
 squared three-axes n x k = ask n two-thirds x k

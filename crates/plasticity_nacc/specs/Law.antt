@@ -1,18 +1,11 @@
--- The NACC law of its arguments: `with_m` and `new` (RULES, section 6; plasticity_nacc.rs).
+-- The NACC law of its arguments: `with_m` (RULES, section 6; plasticity_nacc.rs).
 use mathlib.Core.Bool.{Bool, cond, _&&_}
 use mathlib.Core.List.{List, [], _∷_}
 use lib.Ieee.{Float, binary64, ofBits}
 use Rattle.answers.specs.Refusals.{notFinite, noNumber}
-use Rattle.numbers.specs.Constants.{three}
 pub use Rattle.numbers.specs.Constants.{two}
 use Rattle.numbers.specs.Floats.{finite}
-use Rattle.answers.specs.Range.{onPath}
-use Rattle.answers.specs.declared.Answer.{Answer}
-use Rattle.answers.specs.declared.Answer.the-variants as answers
 use Rattle.physics.specs.Physics.{shearModulusOf, bulkModulusOf}
-use Rattle.sine.specs.Sine.{sinRanged}
-use Rattle.square_root.specs.Sqrt.{sqrtRanged}
-use Rattle.tensor.specs.Matrix.{sub, mul, div}
 use Rattle.plasticity_nacc.specs.declared.Made.{Made}
 use Rattle.plasticity_nacc.specs.declared.Made.the-variants.{Law, Refused}
 use Rattle.plasticity_nacc.specs.declared.NaccArguments.{NaccArguments}
@@ -71,35 +64,3 @@ moduliFinite p = finite (p .mu) && finite (p .kappa)
 unfoldable pub madeOf : NaccArguments → Made
 madeOf a =
     cond (elasticFinite a && parametersFinite (lawOf a)) (cond (moduliFinite (lawOf a)) (Law (lawOf a)) (Refused noNumber)) (Refused notFinite)
-
--- root(2/3) 2 s / (3 - s) 3 / root(2/(6 - 3)), with s the sine of the friction angle; the two roots are one number r
-unfoldable pub frictionOf : Float → Float → Float
-frictionOf r s = div (mul (div (mul (mul r two) s) (sub three s)) dim) r
-
--- once the root is known; a number to be returned is finite, else 3
-unfoldable pub frictionRooted : Answer → Float → Answer
-frictionRooted (answers.Value r) s =
-    cond (finite (frictionOf r s)) (answers.Value (frictionOf r s)) (answers.Refused noNumber)
-frictionRooted (answers.Refused n) s = answers.Refused n
-
--- once the sine is known
-unfoldable pub frictionSined : Answer → Answer
-frictionSined (answers.Value s) = frictionRooted (onPath (div two three) (sqrtRanged (div two three))) s
-frictionSined (answers.Refused n) = answers.Refused n
-
-unfoldable pub framedOf : NaccPlasticity → Answer → Made
-framedOf p (answers.Value m) =
-    Law (record {
-      mu = p .mu;
-      kappa = p .kappa;
-      «hardening_enabled» = p .«hardening_enabled»;
-      «hardening_factor» = p .«hardening_factor»;
-      cohesion = p .cohesion;
-      friction = m;
-    })
-framedOf p (answers.Refused n) = Refused n
-
--- `new`: the law that `with_m` makes with the friction angle in m's place; the angle's sine comes after the moduli
-unfoldable pub angledOf : Made → Made
-angledOf (Law p) = framedOf p (frictionSined (onPath (p .friction) (sinRanged (p .friction))))
-angledOf (Refused n) = Refused n

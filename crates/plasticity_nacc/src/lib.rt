@@ -2,12 +2,15 @@
 mod arguments;
 mod branches;
 mod formulas;
+mod friction;
 mod hardening;
 mod reasons;
 mod steps;
 mod surface;
 mod update;
 
+pub use friction::friction_of;
+pub use friction::friction_on_path;
 use plasticity::Outcome;
 use tensor::Rows;
 pub use update::scalars_of;

@@ -7,22 +7,17 @@ use Prim.Native.Nat.{ℕ, _<_}
 use native.Mathlib.Omega.{arith}
 use lib.Ieee.{Float}
 use Rattle.numbers.specs.Floats.{finite}
-use Rattle.answers.specs.Range.{onPath}
 use Rattle.answers.specs.Answer.{pairOf}
-use Rattle.answers.specs.declared.Answer.{Answer}
-use Rattle.answers.specs.declared.Answer.the-variants as answers
 use Rattle.answers.specs.declared.Pair.{Pair}
 use Rattle.answers.specs.declared.Pair.the-variants as pair
-use Rattle.sine.specs.Sine.{sinRanged}
-use Rattle.square_root.specs.Sqrt.{sqrtRanged}
 use Rattle.tensor.specs.Axes.{allOf}
-use Rattle.tensor.specs.Matrix.{one, div, rowsOf}
+use Rattle.tensor.specs.Matrix.{one, rowsOf}
 use Rattle.physics.specs.Physics.{lameOf, lambdaOf, shearModulusOf}
 use Rattle.plasticity.specs.declared.Outcome.the-variants as outcome
 use Rattle.plasticity.specs.declared.State.{State}
 use Rattle.walk.specs.Expr.{num}
 use Rattle.walk.specs.Numbers.{as-outcome}
-use Rattle.walk.specs.Walk.{Walk, inputs, end, _then_, Ended, given, refused, result}
+use Rattle.walk.specs.Walk.{Walk, inputs, end, _then_, Ended, given, refused, result, answerAs}
 use Rattle.walk.specs.Exact.{path}
 use Rattle.walk.specs.Update.{inThree, floatsOf, refusalOf}
 use Rattle.walk.specs.Answers.{refusalIn}
@@ -44,6 +39,7 @@ use Rattle.plasticity_nacc.specs.declared.Made.the-variants as nacc-made
 use Rattle.plasticity_nacc.specs.declared.NaccArguments.{NaccArguments}
 use Rattle.plasticity_nacc.specs.declared.NaccPlasticity.{NaccPlasticity}
 use Rattle.plasticity_nacc.specs.Law as nacc-law
+use Rattle.plasticity_nacc.specs.Friction as nacc-friction
 use Rattle.plasticity_nacc.specs.Nacc as nacc
 use Rattle.plasticity_rankine.specs.Over as rankine-over
 use Rattle.failure_maximum_stress.specs.declared.Made as limits-made-type
@@ -60,14 +56,14 @@ use Rattle.eos_monaghan_sph.specs.declared.Made.the-variants as monaghan-made
 use Rattle.eos_monaghan_sph.specs.Pressure as monaghan
 use Rattle.model.specs.declared.Model.{Model}
 use Rattle.model.specs.Model.{modelUpdate}
-use Rattle.refusals.specs.Refusals.{Numbers, Refuses, parametersOf, stepsOf, walkOf}
+use Rattle.refusals.specs.Refusals.{Numbers, Refuses, Gives, parametersOf, stepsOf, walkOf}
 use Rattle.refusals.specs.Calls.{Beside}
 use Rattle.refusals.specs.Enums as enums
 use Rattle.refusals.specs.Laws.{moduliWalk, plainWalk, rankineNew, naccNew, naccAngled, Laws}
-use Rattle.refusals.proofs.Inner.{inner-then, steps-inner, rankine-project, rankine-inner, drucker-project, nacc-project, nacc-inner}
+use Rattle.refusals.proofs.Inner.{Inner, inner-then, steps-inner, rankine-project, rankine-inner, drucker-project, nacc-project, nacc-inner}
 use Rattle.refusals.proofs.Enums.{Coded, coded, made, made-once}
 use Rattle.refusals.proofs.Numbers.{differ, nothing, told}
-use Rattle.refusals.proofs.Answers.{after, tested, entered, asked, ended-beside}
+use Rattle.refusals.proofs.Answers.{after, tested, entered, walk-gives, ended-beside}
 use Rattle.refusals.proofs.Updates.{outcome-numbers, walked}
 
 -- ---- `new` and `with_m`
@@ -270,19 +266,28 @@ module _ (a : NaccArguments) where
       (entered nacc-number l ok all-inputs (cond (nacc-law.moduliFinite q) (nacc-made.Law q) (nacc-made.Refused 3)) (nacc-made.Refused 1) w
       (tested nacc-number 3 (nacc-law.moduliFinite q) (nacc-made.Law q) (nacc-made.Refused 3) (given (a .m)) refl refl) refl)
 
-  new-gives : Numbers (λ n. nacc-law.angledOf (nacc-law.madeOf a) ≡ nacc-made.Refused n) (path (naccAngled a))
-  unfolding nacc-law.madeOf nacc-law.angledOf nacc-law.framedOf nacc-law.frictionSined nacc-law.frictionRooted nacc-law.frictionOf
-  new-gives =
-      let third = div nacc-law.two nacc-law.dim in
-      let w = after (naccAngled a) in
-      let T : nacc-made-type.Made → Option ℕ = λ y. nacc-number (nacc-law.angledOf y) in
-      let G : Answer → Option ℕ = λ e. nacc-number (nacc-law.framedOf q e) in
-      told nacc-number nacc-made.Refused (λ n. refl) nacc-back (nacc-law.angledOf (nacc-law.madeOf a)) l w (λ s r. tt)
+  framed-told : (x : Ended Float) → nacc-number (nacc-friction.framedOf q (answerAs x)) ≡ refusalIn x
+  unfolding nacc-friction.framedOf
+  framed-told (given m) = refl
+  framed-told (refused n) = refl
+
+  angle-inner : (d : Float) → Inner (nacc-friction.frictionWalk d (a .m))
+  unfolding nacc-friction.frictionWalk
+  angle-inner d = λ s r q. tt
+
+  new-gives : (d : Float) → Numbers (λ n. nacc-friction.angledOf d (nacc-law.madeOf a) ≡ nacc-made.Refused n) (path (naccAngled d a))
+  unfolding nacc-law.madeOf nacc-friction.angledOf
+  new-gives d =
+      let w = after (naccAngled d a) in
+      let T : nacc-made-type.Made → Option ℕ = λ y. nacc-number (nacc-friction.angledOf d y) in
+      told nacc-number nacc-made.Refused (λ n. refl) nacc-back (nacc-friction.angledOf d (nacc-law.madeOf a)) l w (angle-inner d)
       (entered T l ok all-inputs (cond (nacc-law.moduliFinite q) (nacc-made.Law q) (nacc-made.Refused 3)) (nacc-made.Refused 1) w
-      (tested T 3 (nacc-law.moduliFinite q) (nacc-made.Law q) (nacc-made.Refused 3) _
-      (asked (λ e. G (nacc-law.frictionSined e)) (λ n. refl) (onPath (a .m) (sinRanged (a .m))) _ (λ s.
-      asked (λ e. G (nacc-law.frictionRooted e s)) (λ n. refl) (onPath third (sqrtRanged third)) _ (λ r.
-      tested G 3 (finite (nacc-law.frictionOf r s)) (answers.Value (nacc-law.frictionOf r s)) (answers.Refused 3) (given (nacc-law.frictionOf r s)) refl refl))) refl) refl)
+      (tested T 3 (nacc-law.moduliFinite q) (nacc-made.Law q) (nacc-made.Refused 3) (result (nacc-friction.frictionWalk d (a .m)))
+      (framed-told (result (nacc-friction.frictionWalk d (a .m)))) refl) refl)
+
+friction-gives : (d angle : Float) → Gives (nacc-friction.frictionOf d angle) (path (nacc-friction.frictionCall d angle))
+unfolding nacc-friction.frictionCall nacc-friction.frictionWalk
+friction-gives d angle = walk-gives (d ∷ angle ∷ []) (nacc-friction.frictionWalk d angle) (λ s r q. tt)
 
 -- ---- one update
 module _ (u vt : List (List Float)) (s : State) where
@@ -417,7 +422,8 @@ laws =
       limits-new = λ principal shear. coded enums.limitsNumber limits-made.Refused limits-coded (limitsOf principal shear) (path (plainWalk principal shear)) (limits-gives principal shear);
       rankine-new = λ a. coded enums.rankineNumber rankine-made.Refused rankine-coded (rankine-law.madeOf a) (path (rankineNew a)) (rankine-gives a);
       nacc-with-m = λ a. coded enums.naccNumber nacc-made.Refused nacc-coded (nacc-law.madeOf a) (path (naccNew a)) (with-m-gives a);
-      nacc-new = λ a. coded enums.naccNumber nacc-made.Refused nacc-coded (nacc-law.angledOf (nacc-law.madeOf a)) (path (naccAngled a)) (new-gives a);
+      nacc-new = λ d a. coded enums.naccNumber nacc-made.Refused nacc-coded (nacc-friction.angledOf d (nacc-law.madeOf a)) (path (naccAngled d a)) (new-gives a d);
+      nacc-m = friction-gives;
       neo-values = neo-makes;
       corotated-values = corotated-makes;
       drucker-values = drucker-makes;

@@ -3,14 +3,13 @@ use mathlib.Core.Path.{_≡_}
 use mathlib.Core.List.{List, [], _∷_}
 use Prim.Native.Nat.{ℕ}
 use lib.Ieee.{Float}
-use Rattle.tensor.specs.Matrix.{one, div}
+use Rattle.tensor.specs.Matrix.{one}
 use Rattle.physics.specs.Physics.{lambdaOf, shearModulusOf, lameOf}
 use Rattle.plasticity.specs.declared.Outcome.the-variants as outcome
 use Rattle.plasticity.specs.declared.State.{State}
-use Rattle.walk.specs.Expr.{num, _-_, _*_, _/_, value}
-use Rattle.walk.specs.Walk.{Walk, sin, root, inputs, ask, results, end, result}
+use Rattle.walk.specs.Expr.{num}
+use Rattle.walk.specs.Walk.{Walk, inputs, end, result}
 use Rattle.walk.specs.Exact.{path}
-use Rattle.walk.specs.Answers.{returned}
 use Rattle.plasticity_rankine.specs.declared.RankineArguments.{RankineArguments}
 use Rattle.plasticity_rankine.specs.declared.RankinePlasticity.{RankinePlasticity}
 use Rattle.plasticity_rankine.specs.Law as rankine-law
@@ -23,6 +22,7 @@ use Rattle.plasticity_drucker_prager.specs.Projection as drucker-projection
 use Rattle.plasticity_nacc.specs.declared.NaccArguments.{NaccArguments}
 use Rattle.plasticity_nacc.specs.declared.NaccPlasticity.{NaccPlasticity}
 use Rattle.plasticity_nacc.specs.Law as nacc-law
+use Rattle.plasticity_nacc.specs.Friction as nacc-friction
 use Rattle.plasticity_nacc.specs.Nacc as nacc
 use Rattle.failure_maximum_stress.specs.Failure.{limitsOf}
 use Rattle.elasticity_neo_hookean.specs.Law as neo-hookean
@@ -30,7 +30,7 @@ use Rattle.elasticity_corotated_linear.specs.Law as corotated
 use Rattle.eos_monaghan_sph.specs.Pressure as monaghan
 use Rattle.model.specs.declared.Model.{Model}
 use Rattle.model.specs.Model.{modelUpdate}
-use Rattle.refusals.specs.Refusals.{Numbers, Refuses, walkOf}
+use Rattle.refusals.specs.Refusals.{Numbers, Refuses, Gives, walkOf}
 use Rattle.refusals.specs.Calls.{Beside, pairWalk}
 use Rattle.refusals.specs.Enums.{neoNumber, neoFloats, corotatedNumber, corotatedFloats, druckerNumber, druckerFloats, monaghanNumber, monaghanFloats, limitsNumber, limitsFloats, rankineNumber, rankineFloats, ofRankine, naccNumber, naccFloats, ofNacc}
 
@@ -49,15 +49,9 @@ rankineNew a = inputs (rankine-law.argumentsFloats a) (rankine-law.moduli (ranki
 abbrev pub naccNew : NaccArguments → Walk Float
 naccNew a = inputs (nacc-law.argumentsFloats a) (nacc.moduli (nacc-law.lawOf a) (end (a .m)))
 
--- NACC's friction from the angle m: "the angle's sine comes after the moduli". root(2/3) 2 s / (3 - s) 3 / root(2/3)
-abbrev pub naccAngled : NaccArguments → Walk Float
-naccAngled a =
-    let two = num nacc-law.two in
-    let dim = num nacc-law.dim in
-    inputs (nacc-law.argumentsFloats a) (nacc.moduli (nacc-law.lawOf a)
-    (ask 2 sin (num (a .m)) (λ s.
-    ask 3 root (two / dim) (λ r.
-    returned 4 (r * two * s / (dim - s) * dim / r)))))
+-- NACC's friction from the angle m, in d axes: "the angle's sine comes after the moduli"
+abbrev pub naccAngled : Float → NaccArguments → Walk Float
+naccAngled d a = inputs (nacc-law.argumentsFloats a) (nacc.moduli (nacc-law.lawOf a) (nacc-friction.frictionWalk d (a .m)))
 
 pub record Laws : Type 0 where
   pub neo-new : (young poisson : Float) → Beside (neoNumber (neo-hookean.newOf young poisson)) (path (moduliWalk young poisson))
@@ -68,7 +62,8 @@ pub record Laws : Type 0 where
   pub limits-new : (principal shear : Float) → Beside (limitsNumber (limitsOf principal shear)) (path (plainWalk principal shear))
   pub rankine-new : (a : RankineArguments) → Beside (rankineNumber (rankine-law.madeOf a)) (path (rankineNew a))
   pub nacc-with-m : (a : NaccArguments) → Beside (naccNumber (nacc-law.madeOf a)) (path (naccNew a))
-  pub nacc-new : (a : NaccArguments) → Beside (naccNumber (nacc-law.angledOf (nacc-law.madeOf a))) (path (naccAngled a))
+  pub nacc-new : (d : Float) (a : NaccArguments) → Beside (naccNumber (nacc-friction.angledOf d (nacc-law.madeOf a))) (path (naccAngled d a))
+  pub nacc-m : (d angle : Float) → Gives (nacc-friction.frictionOf d angle) (path (nacc-friction.frictionCall d angle))
   -- ---- what is made where nothing is refused
   pub neo-values : (young poisson : Float) → let m = neo-hookean.newOf young poisson in
       neoNumber m ≡ 0 → neoFloats m ≡ neo-hookean.parametersOf (neo-hookean.lawOf (lameOf young poisson))

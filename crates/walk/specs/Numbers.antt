@@ -18,7 +18,7 @@ use Rattle.tensor.specs.Axes.{allOf}
 use Rattle.plasticity.specs.declared.Outcome.{Outcome}
 use Rattle.plasticity.specs.declared.Outcome.the-variants as outcome
 use Rattle.walk.specs.Expr.{Expr, value, clean, whole-tells}
-use Rattle.walk.specs.Walk.{Function, exp, ln, sin, root, sinh, third, two-thirds, minus-third, minus-two-thirds, lowOf, highOf, compared, Walk, result}
+use Rattle.walk.specs.Walk.{Function, exp, ln, sin, root, sinh, third, two-thirds, minus-third, minus-two-thirds, itself, lowOf, highOf, compared, Walk, result}
 use Rattle.walk.specs.Exact.{Met, input, argument, worked, tested, result-of, path, first, allClean, Refusal}
 use Rattle.walk.specs.Body.{Body, Change, outcomeOf, refusalOf, numberOf, refused-exactly}
 
@@ -131,6 +131,7 @@ ends third = record { low-number = refl; high-number = refl; in-order = refl }
 ends two-thirds = record { low-number = refl; high-number = refl; in-order = refl }
 ends minus-third = record { low-number = refl; high-number = refl; in-order = refl }
 ends minus-two-thirds = record { low-number = refl; high-number = refl; in-order = refl }
+ends itself = record { low-number = refl; high-number = refl; in-order = refl }
 
 -- the number of a step's argument, were it outside the range
 abbrev side : Met → ℕ

@@ -33,6 +33,8 @@ pub data Function : Type 0 where
   two-thirds : Function
   minus-third : Function
   minus-two-thirds : Function
+  -- x itself, its first power, within the range for powers
+  itself : Function
 
 abbrev pub lowOf : Function → Float
 lowOf exp = exponential.low
@@ -44,6 +46,7 @@ lowOf third = thirds.low
 lowOf two-thirds = thirds.low
 lowOf minus-third = thirds.low
 lowOf minus-two-thirds = thirds.low
+lowOf itself = thirds.low
 
 abbrev pub highOf : Function → Float
 highOf exp = exponential.high
@@ -55,6 +58,7 @@ highOf third = thirds.high
 highOf two-thirds = thirds.high
 highOf minus-third = thirds.high
 highOf minus-two-thirds = thirds.high
+highOf itself = thirds.high
 
 abbrev pub at : Function → Float → Float
 at exp x = exponential.expOf x
@@ -66,6 +70,7 @@ at third x = thirds.cbrtOf x
 at two-thirds x = thirds.cbrtSquaredOf x
 at minus-third x = thirds.invCbrtOf x
 at minus-two-thirds x = thirds.invCbrtSquaredOf x
+at itself x = x
 
 -- as a step: 3 of a NaN, 2 below the range, 10 above it
 abbrev pub answerOf : Function → Float → Answer

@@ -5,7 +5,7 @@ use Rattle.walk.specs.Matrix.{value-product}
 use Rattle.plasticity_nacc.specs.Axes.{two-axes}
 use Rattle.plasticity_nacc.specs.Formulas.{trialOf}
 use Rattle.plasticity_nacc.specs.Nacc.{pressWalk}
-use Rattle.flat_nacc.proofs.Laws.{inverse-given, inverse-refused, steps-law}
+use Rattle.flat_nacc.proofs.Laws.{within-given, steps-law}
 use Rattle.flat_nacc.proofs.branches.steps.Statement.{statement}
 use Rattle.flat_nacc.proofs.branches.steps.Tie as tie
 
@@ -44,7 +44,7 @@ returns c =
     let t0 = simp (c17 .sinh-on-path .ensures, c18 .argument .ensures) at (c15 .x .given .1) in
     let t1 = simp (c12 .is-number .ensures, c13 .p0 .ensures) at (c11 .if1 .taken) in
     let within = simp (c9 .within .ensures, c10 .product .ensures) at (c7 .enum-told .given .1) in
-    let t2 = inverse-given (productOf (a .sigma)) within in
+    let t2 = within-given (productOf (a .sigma)) within in
     let t3 = simp (c2 .is-number3 .ensures, c3 .is-number2 .ensures, c6 .trial .ensures, c10 .product .ensures, c13 .p0 .ensures) at (c1 .if2 .taken) in
     simp (c .branched .ensures, c6 .trial .ensures, c10 .product .ensures, c13 .p0 .ensures, t0, t1, t2, t3, law, value-product)
 
@@ -70,7 +70,7 @@ returns-2 c =
     let t0 = simp (c17 .sinh-on-path .ensures, c18 .argument .ensures) at (c15 .x .given .1) in
     let t1 = simp (c12 .is-number .ensures, c13 .p0 .ensures) at (c11 .if1 .taken) in
     let within = simp (c9 .within .ensures, c10 .product .ensures) at (c7 .enum-told .given .1) in
-    let t2 = inverse-given (productOf (a .sigma)) within in
+    let t2 = within-given (productOf (a .sigma)) within in
     let t3 = simp (c2 .is-number3 .ensures, c3 .is-number2 .ensures, c6 .trial .ensures, c10 .product .ensures, c13 .p0 .ensures) at (c1 .if2 .left) in
     simp (c .refused-step .ensures, c6 .trial .ensures, c10 .product .ensures, c13 .p0 .ensures, t0, t1, t2, t3, law, value-product)
 
@@ -91,8 +91,7 @@ returns-3 c =
     let law = steps-law (a .p) (a .sigma) (a .alpha) (c14 .pre) in
     let t0 = simp (c12 .sinh-on-path .ensures, c13 .argument .ensures) at (c10 .x .given .1) in
     let t1 = simp (c7 .is-number .ensures, c8 .p0 .ensures) at (c6 .if1 .taken) in
-    let within = simp (c4 .within .ensures, c5 .product .ensures) at (c2 .n .given .1) in
-    let t2 = inverse-refused (productOf (a .sigma)) within in
+    let t2 = simp (c4 .within .ensures, c5 .product .ensures) at (c2 .n .given .1) in
     simp (c .refused-step2 .ensures, c5 .product .ensures, t0, t1, t2, law, value-product)
 
 returns-4 : tie.Need-returns-4

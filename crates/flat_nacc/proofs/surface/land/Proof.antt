@@ -1,7 +1,7 @@
 -- `flat_nacc::surface::land` answers `shapedOf (result (landWalk two-axes p t s alpha))`: the stress's norm comes with it.
 use borrow.Author.Needs.{needs}
 use Rattle.plasticity_nacc.specs.Nacc.{landWalk}
-use Rattle.flat_nacc.proofs.Laws.{squared-given, squared-refused}
+use Rattle.flat_nacc.proofs.Laws.{within-given}
 use Rattle.flat_nacc.proofs.surface.land.Statement.{statement}
 use Rattle.flat_nacc.proofs.surface.land.Tie as tie
 
@@ -21,7 +21,7 @@ returns c =
     let start = c15 .before in
     let t0 = simp (c13 .sqrt-on-path .ensures, c14 .y0 .ensures, c15 .y1 .ensures) at (c11 .r .given .1) in
     let within = simp (c9 .within .ensures) at (c7 .enum-told .given .1) in
-    let t1 = squared-given (start .args .t .j) within in
+    let t1 = within-given (start .args .t .j) within in
     let t2 = simp (c5 .is-number .ensures, c6 .scale .ensures) at (c4 .if1 .taken) in
     let t3 = simp (start .pre) at (c2 .norm .given .1) in
     simp (c .landed .ensures, c6 .scale .ensures, t0, t1, t2, t3)
@@ -42,7 +42,7 @@ returns-2 c =
     let start = c15 .before in
     let t0 = simp (c13 .sqrt-on-path .ensures, c14 .y0 .ensures, c15 .y1 .ensures) at (c11 .r .given .1) in
     let within = simp (c9 .within .ensures) at (c7 .enum-told .given .1) in
-    let t1 = squared-given (start .args .t .j) within in
+    let t1 = within-given (start .args .t .j) within in
     let t2 = simp (c5 .is-number .ensures, c6 .scale .ensures) at (c4 .if1 .taken) in
     let t3 = simp (start .pre) at (c2 .norm2 .given .1) in
     simp (c .refused-step .ensures, t0, t1, t2, t3)
@@ -61,7 +61,7 @@ returns-3 c =
     let c12 = c11 .before in
     let t0 = simp (c10 .sqrt-on-path .ensures, c11 .y0 .ensures, c12 .y1 .ensures) at (c8 .r .given .1) in
     let within = simp (c6 .within .ensures) at (c4 .enum-told .given .1) in
-    let t1 = squared-given (c12 .before .args .t .j) within in
+    let t1 = within-given (c12 .before .args .t .j) within in
     let t2 = simp (c2 .is-number .ensures, c3 .scale .ensures) at (c1 .if1 .left) in
     simp (c .refused-step2 .ensures, t0, t1, t2)
 
@@ -75,8 +75,7 @@ returns-4 c =
     let c9 = c8 .before in
     let c10 = c9 .before in
     let t0 = simp (c8 .sqrt-on-path .ensures, c9 .y0 .ensures, c10 .y1 .ensures) at (c6 .r .given .1) in
-    let within = simp (c4 .within .ensures) at (c2 .n .given .1) in
-    let t1 = squared-refused (c10 .before .args .t .j) within in
+    let t1 = simp (c4 .within .ensures) at (c2 .n .given .1) in
     simp (c .refused-step3 .ensures, t0, t1)
 
 returns-5 : tie.Need-returns-5

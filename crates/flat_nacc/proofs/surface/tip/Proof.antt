@@ -1,7 +1,7 @@
 -- `flat_nacc::surface::tip` answers `shapedOf (result (tipWalk two-axes p (num x) j alpha))`.
 use borrow.Author.Needs.{needs}
 use Rattle.plasticity_nacc.specs.Nacc.{tipWalk}
-use Rattle.flat_nacc.proofs.Laws.{alpha-then, rooted-given, rooted-refused}
+use Rattle.flat_nacc.proofs.Laws.{alpha-then, within-given}
 use Rattle.flat_nacc.proofs.surface.tip.Statement.{statement}
 use Rattle.flat_nacc.proofs.surface.tip.Tie as tie
 
@@ -15,7 +15,7 @@ returns c =
     let c8 = c7 .before in
     let c10 = c8 .before .before in
     let within = simp (c10 .within .ensures) at (c8 .enum-told .given .1) in
-    let t0 = rooted-given (c10 .before .args .x) within in
+    let t0 = within-given (c10 .before .args .x) within in
     let t1 = simp (c7 .sqrt-on-path .ensures) at (c5 .e .given .1) in
     let t2 = simp (c3 .raised .ensures) at (c1 .a .given .1) in
     simp (t0, t1, t2, alpha-then)
@@ -30,7 +30,7 @@ returns-2 c =
     let c9 = c8 .before in
     let c11 = c9 .before .before in
     let within = simp (c11 .within .ensures) at (c9 .enum-told .given .1) in
-    let t0 = rooted-given (c11 .before .args .x) within in
+    let t0 = within-given (c11 .before .args .x) within in
     let t1 = simp (c8 .sqrt-on-path .ensures) at (c6 .e .given .1) in
     let t2 = simp (c4 .raised .ensures) at (c2 .n .given .1) in
     simp (c .refused-step .ensures, t0, t1, t2, alpha-then)
@@ -43,7 +43,7 @@ returns-3 c =
     let c5 = c4 .before in
     let c7 = c5 .before .before in
     let within = simp (c7 .within .ensures) at (c5 .enum-told .given .1) in
-    let t0 = rooted-given (c7 .before .args .x) within in
+    let t0 = within-given (c7 .before .args .x) within in
     let t1 = simp (c4 .sqrt-on-path .ensures) at (c2 .n2 .given .1) in
     simp (c .refused-step2 .ensures, t0, t1)
 
@@ -52,8 +52,7 @@ unfolding tipWalk
 returns-4 c =
     let c2 = c .before .before in
     let c4 = c2 .before .before in
-    let within = simp (c4 .within .ensures) at (c2 .n3 .given .1) in
-    let t0 = rooted-refused (c4 .before .args .x) within in
+    let t0 = simp (c4 .within .ensures) at (c2 .n3 .given .1) in
     simp (c .refused-step3 .ensures, t0)
 
 pub tip-spec : {M : Type 1} → statement M

@@ -1,0 +1,28 @@
+-- `host::returns::friction_in` answers `naccFriction axes angle`.
+use borrow.Author.Needs.{needs}
+use Rattle.host.specs.Calls.{naccFriction}
+use Rattle.host.proofs.returns.friction_in.Statement.{statement}
+use Rattle.host.proofs.returns.friction_in.Tie as tie
+
+returns : tie.Need-returns
+unfolding naccFriction
+returns c =
+    let t0 = c .before .if1 .taken in
+    simp (c .friction-of .ensures, t0)
+
+returns-2 : tie.Need-returns-2
+unfolding naccFriction
+returns-2 c =
+    let t0 = c .before .if2 .taken in
+    let t1 = c .before .before .if1 .left in
+    simp (c .friction-of2 .ensures, t0, t1)
+
+returns-3 : tie.Need-returns-3
+unfolding naccFriction
+returns-3 c =
+    let t0 = c .if2 .left in
+    let t1 = c .before .if1 .left in
+    simp (t0, t1)
+
+pub friction-in-spec : {M : Type 1} → statement M
+friction-in-spec = tie.close (tie.spec (λ c κs. search needs) (λ c κs. search needs) returns returns-2 returns-3)
