@@ -162,7 +162,7 @@ NANS = [
     ("factors: factors_of principal_of", "as the sweeps work it: what comes out misses the check"),
     ("factors: factored principals", "14: it misses the check. A record's call has refused it by 1 before"),
     (
-        "numbers: is_finite is_number; answers: in_range all_in_range; tensor: row_finite mat_finite rows_finite row_number mat_number; "
+        "numbers: is_finite is_number; answers: in_range all_in_range; tensor: row_finite mat_finite rows_finite row_number mat_number; flat: row_finite; "
         "nearness: near_all orthogonal surely_near surely_orthogonal; factors: accepted principal_accepted; plasticity: scalars_finite inputs_finite; "
         "flat: inputs_finite; plasticity_snow: SnowPlasticity::parameters_finite; "
         "plasticity_rankine: RankineArguments::parameters_finite RankinePlasticity::moduli_finite; plasticity_drucker_prager: DruckerPragerPlasticity::parameters_finite; "

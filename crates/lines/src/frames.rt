@@ -5,9 +5,10 @@ use crate::print_under;
 use crate::read_whole;
 use libc::STDERR_FILENO;
 use sheet::Word;
+ghost use Prim.Native.Nat.{_≤_};
 
 // No input has as many frames.
-const LAST: u64 = 18446744073709551615;
+pub const ALL_FRAMES: u64 = 18446744073709551615;
 
 enum Frame {
     Bytes(usize),
@@ -85,13 +86,16 @@ fn answer_frame(file: i32, number: u64) -> bool {
     }
 }
 
-// The answers of all frames of an input, each under its number from 0, until it ends or something fails.
-pub fn answer_frames(file: i32) {
+// The answers of an input's frames, each under its number from 0, until it ends, something fails or there are as many as asked for; how many.
+pub fn answer_frames(file: i32, most: u64) -> u64
+    ensures { λ r. ⌜ r ≤ most ⌝ }
+{
     let mut number: u64 = 0;
-    while number < LAST {
+    while number < most {
         if !answer_frame(file, number) {
-            return;
+            return number;
         }
         number += 1;
     }
+    number
 }

@@ -4,6 +4,7 @@ mod frames;
 mod text;
 mod whole;
 
+pub use frames::ALL_FRAMES;
 pub use frames::answer_frames;
 use libc::STDOUT_FILENO;
 pub use whole::Input;

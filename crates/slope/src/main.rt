@@ -51,7 +51,7 @@ fn answer_one() {
 
 fn main() {
     if asks_frames() {
-        lines::answer_frames(STDIN_FILENO);
+        lines::answer_frames(STDIN_FILENO, lines::ALL_FRAMES);
     } else {
         answer_one();
     }

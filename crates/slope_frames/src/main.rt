@@ -2,5 +2,5 @@
 use libc::STDIN_FILENO;
 
 fn main() {
-    lines::answer_frames(STDIN_FILENO);
+    lines::answer_frames(STDIN_FILENO, lines::ALL_FRAMES);
 }
