@@ -107,7 +107,7 @@ class Finding(InFolder):
         made = subprocess.run([compiler, "-shared", "-o", str(file), str(source)], capture_output=True)
         self.assertEqual(made.returncode, 0, made.stderr)
         done = self.python("-c", CALL, path=HERE, PASOLETU_LIB=str(file))
-        if "cannot be opened" in done.stderr:
+        if "cannot be opened" in done.stderr or "for another processor" in done.stderr:
             self.skipTest("%s makes libraries for another machine than Python's" % compiler)
         self.assertIn("lacks the call pasoletu_ln, so it is of another version than this package: run install.sh anew", done.stderr)
 
