@@ -13,6 +13,7 @@ pub mod Sequence
 pub mod Settling
 pub mod Shared
 pub mod Telling
+pub mod Walking
 pub mod WordLaws
 pub mod WordsBack
 pub mod ZoneLaws
