@@ -31,6 +31,7 @@ import report  # noqa: E402
 import samples  # noqa: E402
 import sheet  # noqa: E402
 import shell  # noqa: E402
+import twice  # noqa: E402
 
 SHEETS = cases.SHEETS
 SAMPLES = sorted((HERE.parent / "samples").glob("*.sheet"))
@@ -107,6 +108,35 @@ class InFolder(unittest.TestCase):
         self.assertEqual(process.returncode, 1, process)
         self.assertIn(words, process.stderr.decode())
         self.assertEqual(process.stderr.decode().count("\n"), 1, process)
+
+
+class Twice(InFolder):
+    """What tools/twice.py counts, of a file in flat_snow and one in plasticity_snow."""
+
+    def counted(self, two, three):
+        for crate, text in (("flat_snow", two), ("plasticity_snow", three)):
+            (self.folder / "crates" / crate / "proofs").mkdir(parents=True, exist_ok=True)
+            self.file(f"crates/{crate}/proofs/Laws.antt", text)
+        with unittest.mock.patch.object(twice, "HERE", self.folder), unittest.mock.patch.dict(twice.MOST, {c: 0 for c in twice.MOST}):
+            status, out, _ = quiet(twice.main)
+        last = out.splitlines()[-1]
+        self.assertEqual((status, last), (1, "6 passed, 1 failed") if status else (0, "7 passed, 0 failed"))
+        return int(out.splitlines()[-2].split()[0])
+
+    def test_a_lemma_under_other_names(self):
+        two = "pub flat-law : (p : Law) (s : State) → length (s .sigma) ≡ 2 → run inTwo p s ≡ s\nflat-law p s h = refl\n"
+        three = "module _ (q : Law) where\n  pub law : (t : State) → length (t .sigma) ≡ 3\n      → run inThree q t ≡ t\n  law t h = cc\n"
+        self.assertEqual(self.counted(two, three), 1)
+        self.assertEqual(self.counted(two, three.replace("≡ t", "≡ q")), 0)
+
+    def test_an_instance_is_none(self):
+        two = "abbrev pub runOf : State → State\nrunOf s = over.run inTwo s\n"
+        self.assertEqual(self.counted(two, two.replace("inTwo", "inThree")), 0)
+        self.assertEqual(self.counted(two.replace("over.run inTwo s", "s"), two.replace("over.run inTwo s", "s")), 1)
+
+    def test_a_local_lemma_is_none(self):
+        text = "pub {0} : {1}\n{0} = go\n  where\n    go : (x : ℕ) → x ≡ x\n    go x = refl\n"
+        self.assertEqual(self.counted(text.format("a", "A"), text.format("b", "B")), 0)
 
 
 class Tables(InFolder):

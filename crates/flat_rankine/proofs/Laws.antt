@@ -5,10 +5,9 @@ use mathlib.Core.Path.{_≡_, refl, sym, ap, _∙_}
 use lib.ListN.{length, getD}
 use lib.Ieee.{Float, nan, le}
 use Rattle.numbers.specs.Floats.{finite, isNumber}
-use Rattle.tensor.specs.Axes.{allOf}
 use Rattle.walk.specs.Expr.{Expr, num, value, values, nums}
 use Rattle.walk.specs.Walk.{result}
-use Rattle.walk.specs.Body.{inputs-finite, finite-scalars}
+use Rattle.walk.specs.Body.{finite-scalars}
 use Rattle.walk.specs.Every.{and-left, and-right}
 use Rattle.plasticity_rankine.specs.declared.RankineArguments.{RankineArguments}
 use Rattle.plasticity_rankine.specs.declared.RankinePlasticity.{RankinePlasticity}
@@ -58,10 +57,6 @@ restored true x y = refl
 restored false x y = refl
 
 -- ---- of finite inputs
-pub inputs-law : (l : List Float) (u vt : List (List Float)) (s : State) → allOf finite (over.floats inTwo l u vt s) ≡ allOf finite l && inputsFinite u vt s
-unfolding over.floats
-inputs-law l u vt s = inputs-finite inTwo l u vt s
-
 pub hardening-finite : (a : RankineArguments) (u vt : List (List Float)) (s : State) → argumentsFinite a && inputsFinite u vt s ≡ true
     → finite (a .«tensile_strength») && finite (s .scalars .«plastic_hardening») ≡ true
 hardening-finite a u vt s h =

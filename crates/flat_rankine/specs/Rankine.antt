@@ -1,4 +1,5 @@
--- The Rankine update of a flat particle (ticket 13): the walk over any number of axes with the state and the projection of two.
+-- The Rankine update of a flat particle (RULES, sections 5 and 6; ticket 13): the walk over any number of axes with the state and the projection of
+-- two.
 use mathlib.Core.List.{List}
 use lib.Ieee.{Float}
 use Rattle.walk.specs.Expr.{Expr, nums}

@@ -87,9 +87,9 @@ module _ (u vt : List (List Float)) (s : State) (h : inputsFinite u vt s ≡ tru
   rankine-ready a =
       either-way (rankine-law.argumentsFinite a)
       (λ t. either-way (rankine-law.moduliFinite (rankine-law.lawOf a))
-      (λ l. simp (rankine-laws.inputs-law, t, l, h, rankine-parameters a t))
-      (λ l. simp (rankine-laws.inputs-law, t, l, h)))
-      (λ f. simp (rankine-laws.inputs-law, f))
+      (λ l. simp (rankine-laws.inputs-law inThree, t, l, h, rankine-parameters a t))
+      (λ l. simp (rankine-laws.inputs-law inThree, t, l, h)))
+      (λ f. simp (rankine-laws.inputs-law inThree, f))
 
   drucker-prager-ready : (p : DruckerPragerPlasticity) → readyUpdate (readyOf (DruckerPrager p)) u vt s ≡ drucker-prager.druckerUpdate p u vt s
   unfolding readyOf drucker-over.druckerWalk

@@ -47,7 +47,7 @@ module _ (u vt : List (List Float)) (s : State) where
   not-finite (Snow p) q = first (walk.result (snow.runWalk inThree p u vt s)) (snow-laws.inputs-law inThree p u vt s) q
   not-finite (Rankine a) q =
       let p = rankine-law.lawOf a in
-      first (walk.result (rankine-law.moduli p (rankine.runWalk p (s .sigma) u vt s))) (rankine-laws.inputs-law (rankine-law.argumentsFloats a) u vt s) q
+      first (walk.result (rankine-law.moduli p (rankine.runWalk p (s .sigma) u vt s))) (rankine-laws.inputs-law inThree (rankine-law.argumentsFloats a) u vt s) q
   not-finite (DruckerPrager p) q = first (walk.result (drucker-prager.runWalk p u vt s)) (drucker-prager-laws.inputs-law p u vt s) q
   not-finite (Nacc a) q =
       let p = nacc-law.lawOf a in

@@ -42,10 +42,11 @@ use Rattle.plasticity_rankine.specs.Over as over
 use Rattle.plasticity_rankine.specs.Over.{hardenedOf}
 use Rattle.plasticity_rankine.specs.Rankine.{stateOf, storeWalk, wayWalk, softStrength, strainedWalk, runWalk, rankineWalk, argumentsWalk, followedOf, rankineUpdate, grows, changes}
 
--- ---- the inputs
-pub inputs-law : (l : List Float) (u vt : List (List Float)) (s : State) → allOf finite (over.floats inThree l u vt s) ≡ allOf finite l && inputsFinite u vt s
+-- ---- the inputs, over however many axes
+pub inputs-law : {S R : Type 0} (b : Body S R) (l : List Float) (u vt : List (List Float)) (s : S)
+    → allOf finite (over.floats b l u vt s) ≡ allOf finite l && body.inputsFinite b u vt s
 unfolding over.floats
-inputs-law l u vt s = inputs-finite inThree l u vt s
+inputs-law b l u vt s = inputs-finite b l u vt s
 
 leftwards : (a b c : Bool) → a && (b && c) ≡ a && b && c
 leftwards true b c = refl
@@ -67,7 +68,7 @@ pub arguments-law : (a : RankineArguments) (u vt : List (List Float)) (s : State
     → update.updatedOf s (result (argumentsWalk a u vt s)) ≡ cond (elasticFinite a) (rankineUpdate (lawOf a) u vt s) (law.refused 1 s)
 unfolding over.argumentsWalk over.rankineWalk
 arguments-law a u vt s =
-    rw (inputs-law (argumentsFloats a) u vt s, inputs-law (parametersOf (lawOf a)) u vt s)
+    rw (inputs-law inThree (argumentsFloats a) u vt s, inputs-law inThree (parametersOf (lawOf a)) u vt s)
     (twice (update.updatedOf s) (finite (a .«young_modulus»)) (finite (a .«poisson_ratio»)) (finite (a .«tensile_strength»)) (finite (a .«softening_rate»)) (inputsFinite u vt s)
     (result (moduli (lawOf a) (runWalk (lawOf a) (s .sigma) u vt s))))
 

@@ -32,6 +32,7 @@ use Rattle.plasticity_rankine.specs.Projection.{firstSide, secondSide, t
 use Rattle.plasticity_rankine.specs.Over as over
 use Rattle.plasticity_rankine.specs.Rankine.{expsWalk, hardenWalk, movedWalk, wayWalk, softStrength, strainedWalk, runWalk, rankineWalk, argumentsWalk}
 use Rattle.plasticity_rankine.specs.Reason.{unmetOf, refusedAt, followedReason}
+use Rattle.walk.specs.Update.{inThree}
 use Rattle.plasticity_rankine.proofs.Laws.{inputs-law, change-law}
 
 -- ---- the inputs: the arguments' own test, and then the law's
@@ -45,7 +46,7 @@ pub arguments-why : (a : RankineArguments) (u vt : List (List Float)) (s : State
     → why untold (argumentsWalk a u vt s) ≡ cond (elasticFinite a) (why untold (rankineWalk (lawOf a) u vt s)) (reason.Refused 1 0)
 unfolding over.argumentsWalk over.rankineWalk
 arguments-why a u vt s =
-    rw (inputs-law (argumentsFloats a) u vt s, inputs-law (parametersOf (lawOf a)) u vt s)
+    rw (inputs-law inThree (argumentsFloats a) u vt s, inputs-law inThree (parametersOf (lawOf a)) u vt s)
     (twice (finite (a .«young_modulus»)) (finite (a .«poisson_ratio»)) (finite (a .«tensile_strength»)) (finite (a .«softening_rate»)) (inputsFinite u vt s)
     (why untold (moduli (lawOf a) (runWalk (lawOf a) (s .sigma) u vt s))) (reason.Refused 1 0))
 

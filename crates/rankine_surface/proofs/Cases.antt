@@ -15,7 +15,7 @@ use Rattle.rankine_surface.specs.Axes.{Each, Some}
 use Rattle.rankine_surface.specs.Surface.{demanded, archived, Under, Below, Reaches, Fair, Strain}
 
 -- the law of two moduli
-abbrev of : Float → Float → RankinePlasticity
+abbrev pub of : Float → Float → RankinePlasticity
 of mu lambda = record { mu = mu; lambda = lambda; «tensile_strength» = zero; «softening_rate» = zero }
 
 abbrev law : RankinePlasticity

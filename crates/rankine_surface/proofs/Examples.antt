@@ -39,11 +39,11 @@ use Rattle.rankine_surface.proofs.Sheets.{sheet-3}
 use Rattle.rankine_surface.proofs.Stored.{pass-archived}
 
 -- mu and lambda are 4, strength and rate 1
-abbrev arguments : RankineArguments
+abbrev pub arguments : RankineArguments
 arguments = argumentsOf (ofBits binary64 0x4024000000000000) (ofBits binary64 0x3fd0000000000000) one one
 
 -- F, U and V^T the identity, sigma x, 1 and 1, phase, plastic determinant and hardenings 1, gain and alpha 0; F's determinant is 1
-abbrev unit : ℕ
+abbrev pub unit : ℕ
 unit = 0x3ff0000000000000
 
 abbrev rows : List ℕ → List ℕ
@@ -52,10 +52,10 @@ rows l = unit ∷ 0 ∷ 0 ∷ 0 ∷ unit ∷ 0 ∷ 0 ∷ 0 ∷ unit ∷ l
 abbrev of : ℕ → List ℕ
 of x = rows (rows (x ∷ unit ∷ unit ∷ rows (unit ∷ unit ∷ unit ∷ unit ∷ 0 ∷ 0 ∷ unit ∷ [])))
 
-abbrev two : ℕ
+abbrev pub two : ℕ
 two = 0x4000000000000000
 
-abbrev answers : List ℕ
+abbrev pub answers : List ℕ
 answers = 0 ∷ 0 ∷ []
 
 in-pass : (x : ℕ) → InPass (of x) answers 0

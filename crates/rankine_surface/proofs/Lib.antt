@@ -7,6 +7,7 @@ pub mod Hardening
 pub mod Archive
 pub mod Over
 pub mod Update
+pub mod Left
 pub mod Places
 pub mod Passes
 pub mod Records

@@ -6,11 +6,15 @@ use native.Mathlib.Omega.{arith}
 use lib.ListN.{length, length-set}
 use lib.Ieee.{Float, nan}
 use Rattle.tensor.specs.Axes.{entries}
-use Rattle.plasticity.specs.declared.State.{State}
-use Rattle.record.specs.Layout.{floats, placeF, placeSigma, placePhase, placePlasticHardening, placeDeterminant, stateAt, putRows, putBare, putShape, putPlasticHardening, putPhase}
+use Rattle.plasticity_rankine.specs.declared.RankineArguments.{RankineArguments}
+use Rattle.model.specs.declared.Model.the-variants.{Rankine}
+use Rattle.record.specs.Layout.{floats, placeF, placeSigma, placePhase, placePlasticHardening, placeDeterminant, stateAt, putRows, putBare, putShape, putPhase}
 use Rattle.record.proofs.Places.{Row64, row-f64, same, row-other, row-same}
 use Rattle.rankine_surface.specs.Axes.{Each}
+use Rattle.particles.specs.Plain.{putState}
 use Rattle.rankine_surface.specs.Surface.{F64}
+use Rattle.rankine_surface.specs.Record.{solid}
+use Rattle.rankine_surface.proofs.Left.{Puts}
 
 row-of : (v : List Float) → Each F64 v → Row64 v
 row-of [] f i = row-f64 [] [] tt i
@@ -18,15 +22,14 @@ row-of (x ∷ v) f zero = f .0
 row-of (x ∷ v) f (suc i) = row-of v (f .1) i
 
 -- F, sigma, the determinant and the plastic hardening
-module _ (r : List ℕ) (s : State) (h : length r ≡ floats) where
-  pub stored-sigma : length (s .sigma) ≡ 3 → Each F64 (s .sigma) → stateAt (putPlasticHardening (putShape r s) (s .scalars .«plastic_hardening»)) .sigma ≡ s .sigma
-  stored-sigma k f =
-      row-other (putShape r s) placePlasticHardening placeSigma _ (omega arith) ∙ row-other (putBare r s) placeDeterminant placeSigma _ (omega arith)
-      ∙ row-same (putRows r placeF (s .f)) placeSigma (s .sigma) (simp length-set (omega arith)) (row-of (s .sigma) f) ∙ entries nan (s .sigma) k
-
-  pub stored-hardening : F64 (s .scalars .«plastic_hardening»)
-      → stateAt (putPlasticHardening (putShape r s) (s .scalars .«plastic_hardening»)) .scalars .«plastic_hardening» ≡ s .scalars .«plastic_hardening»
-  stored-hardening f = same (putShape r s) placePlasticHardening (s .scalars .«plastic_hardening») (simp length-set (omega arith)) f
+pub puts : (a : RankineArguments) → Puts solid (putState (Rankine a))
+puts a =
+    record {
+      sigma = λ r s h k f.
+          row-other (putShape r s) placePlasticHardening placeSigma _ (omega arith) ∙ row-other (putBare r s) placeDeterminant placeSigma _ (omega arith)
+          ∙ row-same (putRows r placeF (s .f)) placeSigma (s .sigma) (simp length-set (omega arith)) (row-of (s .sigma) f) ∙ entries nan (s .sigma) k;
+      hardening = λ r s h f. same (putShape r s) placePlasticHardening (s .scalars .«plastic_hardening») (simp length-set (omega arith)) f;
+    }
 
 -- a verdict's phase changes no sigma
 pub phase-sigma : (r : List ℕ) (x : Float) → stateAt (putPhase r x) .sigma ≡ stateAt r .sigma

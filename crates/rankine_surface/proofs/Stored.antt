@@ -1,59 +1,41 @@
 -- Where the update stores, the archive is on the surface: of an update, a record, a pass, a pass with failure and a sheet that is run
-use mathlib.Core.Path.{_≡_, sym, ap, _∙_, subst}
-use mathlib.Core.Bool.{Bool, true, false, not}
+use mathlib.Core.Path.{_≡_, sym, subst}
+use mathlib.Core.Bool.{Bool, true, false}
 use mathlib.Core.List.{List}
 use Prim.Native.Nat.{ℕ}
-use native.Mathlib.Omega.{arith}
-use lib.Dec.{T}
 use lib.ListN.{length}
 use lib.Ieee.{Float}
-use Rattle.plasticity.specs.declared.Outcome.{Outcome}
-use Rattle.plasticity.specs.declared.Outcome.the-variants.{Stored}
 use Rattle.plasticity.specs.declared.State.{State}
-use Rattle.plasticity.specs.declared.Updated.{Updated}
 use Rattle.tensor.specs.Matrix.{zero}
 use Rattle.record.specs.Layout.{floats}
 use Rattle.failure_maximum_stress.specs.declared.MaximumStressFailure.{MaximumStressFailure}
 use Rattle.elasticity_corotated_linear.specs.declared.CorotatedLinearElasticity.{CorotatedLinearElasticity}
 use Rattle.plasticity_rankine.specs.declared.RankineArguments.{RankineArguments}
 use Rattle.plasticity_rankine.specs.Law.{lawOf}
-use Rattle.plasticity_rankine.specs.Rankine.{argumentsUpdate}
 use Rattle.model.specs.declared.Model.the-variants.{Rankine}
 use Rattle.particles.specs.Plain.{recordLaw}
-use Rattle.particles.specs.Pass.{codeOf, recordAt}
+use Rattle.particles.specs.Pass.{recordAt}
 use Rattle.particles.specs.Judged.{failureLaw}
-use Rattle.rankine_surface.specs.Surface.{TakenBy, Archived, Archives, softened, firstTest, logStrains}
-use Rattle.rankine_surface.specs.Record.{Premises, Found, foundOf, Demand3At, ArchivesAt, softenedAt, firstTestAt, InPass, passFound, markedBy}
+use Rattle.rankine_surface.specs.Surface.{threeAxes, TakenBy, Archived, Archives}
+use Rattle.rankine_surface.specs.Record.{solid, Premises, Found, foundOf, ArchivesAt, softenedAt, InPass, passFound, markedBy}
 use Rattle.rankine_surface.specs.Sheet.{argumentsIn, recordIn, InSheet, SheetPremises, sheetFound}
-use Rattle.rankine_surface.proofs.Update.{demand-3-by}
+use Rattle.rankine_surface.proofs.Update.{arguments-3}
+use Rattle.rankine_surface.proofs.Left.{archives, found-archived}
 use Rattle.rankine_surface.proofs.Places.{phase-sigma}
 use Rattle.rankine_surface.proofs.Records.{record-3, pass-3, pass-with-failure-3}
 use Rattle.rankine_surface.proofs.Sheets.{sheet-3}
 
--- untouched is not stored
-by-test : (b : Bool) (c : ℕ) {G : Type 0} → c ≡ 1 → (T b → c ≡ 0) → (T (not b) → G) → G
-by-test true c h f g = absurd (let z = f tt in omega arith)
-by-test false c h f g = g tt
-
-pub update-archived : {a : RankineArguments} {u vt : List (List Float)} {st : State} → TakenBy a u vt st → Archives a u vt st
-update-archived {a} {u} {vt} {st} g h q =
-    let d = demand-3-by g in
-    let code : Updated → ℕ = λ v. codeOf (v .outcome) in
-    by-test (firstTest (lawOf a) (logStrains st) (softened (lawOf a) st)) (code (argumentsUpdate a u vt st)) (ap codeOf q)
-    (λ t. ap code (d .update ∙ d .law .holds t .untouched))
-    (λ t. subst (λ (v : Updated). Archived (lawOf a) (softened (lawOf a) st) (v .state .sigma)) (sym (d .update)) (d .law .fails t .archive))
-
-pub found-archived : {a : RankineArguments} {r : List ℕ} {f : Found} → Demand3At a r f → ArchivesAt a r f
-found-archived {a} {r} {f} d q = by-test (firstTestAt a r) (f .code) q (λ t. d .holds t .answer .0) (λ t. d .fails t .archive)
+pub update-archived : {a : RankineArguments} (u vt : List (List Float)) {st : State} → TakenBy a u vt st → Archives a u vt st
+update-archived u vt g = archives threeAxes (arguments-3 u vt g)
 
 pub record-archived : {a : RankineArguments} {r : List ℕ} → length r ≡ floats → Premises a r (recordLaw (Rankine a) r .outcome)
     → ArchivesAt a r (foundOf (recordLaw (Rankine a) r))
-record-archived k g = found-archived (record-3 k g)
+record-archived k g = found-archived solid (record-3 k g)
 
 pub pass-archived : {a : RankineArguments} {xs out : List ℕ} {i : ℕ} → InPass xs out i
     → Premises a (recordAt xs i) (recordLaw (Rankine a) (recordAt xs i) .outcome)
     → ArchivesAt a (recordAt xs i) (passFound (recordLaw (Rankine a)) xs out i)
-pass-archived w g = found-archived (pass-3 w g)
+pass-archived w g = found-archived solid (pass-3 w g)
 
 -- phase changes no sigma
 pub marked-archived : (a : RankineArguments) (r : List ℕ) (b : Bool) (f : Found) → ArchivesAt a r f → ArchivesAt a r (markedBy b f)
@@ -65,7 +47,7 @@ pub pass-with-failure-archived : (l : MaximumStressFailure) (e : CorotatedLinear
     → ArchivesAt a (recordAt xs i) (passFound (failureLaw (Rankine a) l e) xs out i)
 pass-with-failure-archived l e {a} {xs} {out} {i} w g =
     let d = pass-with-failure-3 l e w g in
-    subst (ArchivesAt a (recordAt xs i)) (sym (d .found)) (marked-archived a (recordAt xs i) (failureLaw (Rankine a) l e (recordAt xs i) .failed) _ (found-archived (d .law)))
+    subst (ArchivesAt a (recordAt xs i)) (sym (d .found)) (marked-archived a (recordAt xs i) (failureLaw (Rankine a) l e (recordAt xs i) .failed) _ (found-archived solid (d .law)))
 
 pub sheet-archived : {s xs out : List ℕ} {i : ℕ} → InSheet s xs out i → SheetPremises s i → ArchivesAt (argumentsIn s) (recordIn s i) (sheetFound s xs out i)
-sheet-archived w g = found-archived (sheet-3 w g)
+sheet-archived w g = found-archived solid (sheet-3 w g)

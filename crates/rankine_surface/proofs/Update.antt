@@ -5,48 +5,41 @@ use mathlib.Core.Bool.{Bool, true, false, not, cond, _&&_}
 use Prim.Native.Nat.{ℕ}
 use lib.Dec.{T}
 use lib.ListN.{length, getD}
-use lib.Ieee.{Float, nan, binary64, fits}
-use lib.Ieee.Fits.{and-l, and-r, sub-fits, div-fits}
-use Rattle.exact.specs.Units.{Fin64}
+use lib.Ieee.{Float, nan}
+use lib.Ieee.Fits.{and-l}
 use Rattle.numbers.specs.Floats.{finite}
-use Rattle.numbers.proofs.Laws.{finite-is}
-use Rattle.physics.specs.Physics.{lambdaOf, shearModulusOf}
 use Rattle.tensor.specs.Axes.{allOf, entries}
 use Rattle.tensor.specs.Matrix.{three}
 use Rattle.tensor.specs.Finite.{rowFinite}
 use Rattle.plasticity.specs.State as state
-use Rattle.plasticity.specs.State.{inputsFinite}
 use Rattle.plasticity.specs.declared.State.{State}
 use Rattle.plasticity.specs.declared.Updated.{Updated}
 use Rattle.walk.specs.Expr.{num, values}
 use Rattle.walk.specs.Walk.{_then_, Ended, given, refused, result}
 use Rattle.walk.specs.Exact.{andThen, result-then}
 use Rattle.walk.specs.Matrix.{values-nums}
-use Rattle.walk.specs.Update.{inThree, updatedOf}
 use Rattle.plasticity_rankine.specs.declared.RankineArguments.{RankineArguments}
 use Rattle.plasticity_rankine.specs.declared.RankinePlasticity.{RankinePlasticity}
-use Rattle.plasticity_rankine.specs.Law.{lawOf, parametersOf, elasticFinite, parametersFinite, moduliFinite}
+use Rattle.plasticity_rankine.specs.Law.{lawOf, parametersOf, elasticFinite, moduliFinite}
 use Rattle.plasticity_rankine.specs.Projection.{Moved, projectWalk, returnedWalk, callFloats, projectCall, movedOf, vectorOf, projectOf}
 use Rattle.plasticity_rankine.specs.Over as over
-use Rattle.plasticity_rankine.specs.Rankine.{strainedWalk, rankineWalk, rankineUpdate, argumentsUpdate}
+use Rattle.plasticity_rankine.specs.Rankine.{rankineUpdate, argumentsUpdate}
 use Rattle.plasticity_rankine.proofs.Laws.{arguments-law}
 use Rattle.plasticity_rankine.proofs.Reason.{vector-given}
 use Rattle.rankine_surface.specs.Axes.{Each}
-use Rattle.rankine_surface.specs.Surface.{Accepted, numbersOf, logsOf, expsOf, logStrains, softened, projectedStrains, demanded, Below, RangesIn, FairIn, Fair, Strain, Taken, TakenBy, firstTest, Inside, OnSurface, Archived, Returned, Demand3, Demand3By, Settled, Projects}
+use Rattle.rankine_surface.specs.Surface.{Accepted, demanded, Below, Fair, Strain, Taken, TakenBy, firstTest, OnSurface, threeAxes, Demand3In, Demand3, Demand3By, Settled, Projects}
 use Rattle.rankine_surface.proofs.Indexed.{Given, Returns, inside, outside, same}
-use Rattle.rankine_surface.proofs.Archive.{archive}
-use Rattle.rankine_surface.proofs.Strains.{logs-sized, strained}
 use Rattle.rankine_surface.proofs.Hardening.{passed, by}
-use Rattle.rankine_surface.proofs.Over.{Read, Stays, Strained, runs, log-holds, log-fails}
+use Rattle.rankine_surface.proofs.Over.{Made, Stays, Strained, demand-over, demand-by}
 
 -- three axes
-abbrev readThree : Read inThree
-readThree = record { state = λ v. v .state; state-in = λ s o. refl; sigma-made = λ f sigma x. refl; scalars-made = λ f sigma x. refl }
+madeThree : Made threeAxes
+madeThree = record { state-in = λ s o. refl; sigma-made = λ f sigma x. refl; scalars-made = λ f sigma x. refl }
 
 of-three : (P : List Float → Type 0) → ((x y z : Float) → P (three x y z)) → (e : List Float) → length e ≡ 3 → P e
 of-three P f e h = subst P (entries nan e h) (f (getD e 0 nan) (getD e 1 nan) (getD e 2 nan))
 
-strained-three : {law : RankinePlasticity} {s : Float} → Fair law s → Strained 3 projectWalk (λ e. firstTest law e s) (λ x. movedOf x .strains) law s
+strained-three : {law : RankinePlasticity} {s : Float} → Fair law s → Strained threeAxes law s
 strained-three {law} {s} g =
     record {
       worth = λ q. refl;
@@ -55,55 +48,16 @@ strained-three {law} {s} g =
       outside = λ e m. of-three (λ l. Each Strain l → T (not (firstTest law l s)) → Given (result (projectWalk law l (num s))) → Returns law s (result (projectWalk law l (num s)))) (λ x y z i h k. outside g x y z i h k) e m;
     }
 
-update-runs : (law : RankinePlasticity) (u vt : List (List Float)) (st : State) → Accepted (rankineUpdate law u vt st .outcome)
-    → T (parametersFinite law && inputsFinite u vt st) × T (moduliFinite law) × (result (rankineWalk law u vt st) ≡ andThen (logsOf (st .sigma)) (λ e. result (strainedWalk law e u vt st)))
-unfolding over.rankineWalk
-update-runs law u vt st a = runs inThree readThree 3 projectWalk law u vt st (parametersOf law) a
-
 -- ---- the theorem
-pub demand-3 : {law : RankinePlasticity} {u vt : List (List Float)} {st : State} → Taken law u vt st → Demand3 law u vt st
-demand-3 {law} {u} {vt} {st} g = record { holds = held; fails = failed }
-  where
-    ran : T (parametersFinite law && inputsFinite u vt st) × T (moduliFinite law) × (result (rankineWalk law u vt st) ≡ andThen (logsOf (st .sigma)) (λ e. result (strainedWalk law e u vt st)))
-    ran = update-runs law u vt st (g .accepted)
+pub demand-3 : {law : RankinePlasticity} (u vt : List (List Float)) {st : State} → Taken law u vt st → Demand3 law u vt st
+unfolding over.rankineWalk
+demand-3 {law} u vt {st} g =
+    demand-over threeAxes madeThree law u vt st (parametersOf law) (λ h. and-l (finite (law .«tensile_strength»)) (finite (law .«softening_rate»)) h) strained-three g
 
-    f : T (finite (law .«tensile_strength»))
-    f = and-l (finite (law .«tensile_strength»)) (finite (law .«softening_rate»)) (and-l (parametersFinite law) (inputsFinite u vt st) (ran .0))
-
-    update : rankineUpdate law u vt st ≡ updatedOf st (andThen (logsOf (st .sigma)) (λ e. result (strainedWalk law e u vt st)))
-    update = ap (updatedOf st) (ran .2)
-
-    took : Accepted (updatedOf st (andThen (logsOf (st .sigma)) (λ e. result (strainedWalk law e u vt st))) .outcome)
-    took = by (λ (v : Updated). Accepted (v .outcome)) update (g .accepted)
-
-    strains : Each Strain (logStrains st)
-    strains = strained st (g .sigma) (g .strains)
-
-    held : T (firstTest law (logStrains st) (softened law st)) → Inside law u vt st
-    held h =
-        let k =
-        log-holds inThree readThree 3 projectWalk law u vt st f (λ e. firstTest law e (softened law st)) (λ x. movedOf x .strains) (strained-three (g .fair))
-        (logsOf (st .sigma)) (logs-sized (st .sigma) 3 (g .axes)) took strains h in
-        record { untouched = update ∙ k .0; below = k .1 }
-
-    failed : T (not (firstTest law (logStrains st) (softened law st))) → Returned law u vt st
-    failed h =
-        let k =
-        log-fails inThree readThree 3 projectWalk law u vt st f (λ e. firstTest law e (softened law st)) (λ x. movedOf x .strains) (strained-three (g .fair))
-        (logsOf (st .sigma)) (logs-sized (st .sigma) 3 (g .axes)) took strains h in
-        let d = k .0 in
-        let shape : rankineUpdate law u vt st .state .sigma ≡ numbersOf (expsOf (projectedStrains law st)) = ap (λ v. v .state .sigma) update ∙ d .shape in
-        record {
-          hardening = d .hardening;
-          stored = ap (λ v. v .outcome) update ∙ d .stored;
-          written = ap (λ v. v .state .scalars .«plastic_hardening») update ∙ d .written;
-          capped = d .capped .0;
-          f64 = d .capped .1;
-          sigma = shape;
-          axes = d .axes;
-          on-surface = k .1 .on-surface;
-          archive = subst (Archived law (softened law st)) (sym shape) (archive (g .fair) (projectedStrains law st) (k .1));
-        }
+-- the same of the law that `new` makes
+pub arguments-3 : {a : RankineArguments} (u vt : List (List Float)) {st : State} → TakenBy a u vt st → Demand3In threeAxes (lawOf a) st (argumentsUpdate a u vt st)
+unfolding over.argumentsWalk
+arguments-3 {a} u vt {st} g = demand-by threeAxes madeThree a u vt st strained-three g
 
 -- an accepted update by the arguments of `new` is the update by the law that they make
 by-arguments : (a : RankineArguments) (u vt : List (List Float)) (st : State) → Accepted (argumentsUpdate a u vt st .outcome)
@@ -113,27 +67,10 @@ by-arguments a u vt st h =
     let q = arguments-law a u vt st in
     q ∙ passed F (elasticFinite a) (rankineUpdate (lawOf a) u vt st) (state.refused 1 st) (λ x. x) (by F q h) .1
 
-pub fine : (x : Float) → T (finite x) → T (fits binary64 x) → Fin64 x
-fine x f t = (rw (finite-is x) at f, t)
-
-pub fair-by : {d : ℕ} (a : RankineArguments) (s : Float) → T (moduliFinite (lawOf a)) → Fin64 s → RangesIn d (lawOf a) s → FairIn d (lawOf a) s
-unfolding lambdaOf shearModulusOf
-fair-by a s m f r =
-    let law = lawOf a in
-    record {
-      mu-fine = fine (law .mu) (and-r (finite (law .lambda)) (finite (law .mu)) m) (div-fits binary64 _ _);
-      la-fine = fine (law .lambda) (and-l (finite (law .lambda)) (finite (law .mu)) m) (div-fits binary64 _ _);
-      s-fine = f;
-      ranges = r;
-    }
-
-pub demand-3-by : {a : RankineArguments} {u vt : List (List Float)} {st : State} → TakenBy a u vt st → Demand3By a u vt st
-demand-3-by {a} {u} {vt} {st} g =
+pub demand-3-by : {a : RankineArguments} (u vt : List (List Float)) {st : State} → TakenBy a u vt st → Demand3By a u vt st
+demand-3-by {a} u vt {st} g =
     let q = by-arguments a u vt st (g .accepted) in
-    let ok = by (λ (v : Updated). Accepted (v .outcome)) q (g .accepted) in
-    let s = softened (lawOf a) st in
-    let f = fair-by a s (update-runs (lawOf a) u vt st ok .1) (fine s (g .s-finite) (sub-fits binary64 _ _)) (g .ranges) in
-    record { update = q; law = demand-3 (record { accepted = ok; fair = f; axes = g .axes; sigma = g .sigma; strains = g .strains }) }
+    record { update = q; law = by (Demand3In threeAxes (lawOf a) st) q (arguments-3 u vt g) }
 
 -- ---- the projection as a call by itself
 abbrev Answered : Ended (List Float) → Type 0

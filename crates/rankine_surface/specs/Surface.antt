@@ -18,14 +18,17 @@ use Rattle.tensor.specs.declared.VectorAnswer.{VectorAnswer}
 use Rattle.plasticity.specs.declared.Outcome.{Outcome}
 use Rattle.plasticity.specs.declared.Outcome.the-variants.{Untouched, Stored, Refused}
 use Rattle.plasticity.specs.declared.State.{State}
-use Rattle.walk.specs.Expr.{num, value}
-use Rattle.walk.specs.Walk.{exp, ln, asks, end, Ended, given, refused, result}
+use Rattle.plasticity.specs.declared.Updated.{Updated}
+use Rattle.walk.specs.Expr.{Expr, num, value}
+use Rattle.walk.specs.Walk.{Walk, exp, ln, asks, end, Ended, given, refused, result}
+use Rattle.walk.specs.Body.{Body}
+use Rattle.walk.specs.Update.{inThree}
 use Rattle.plasticity_rankine.specs.declared.RankineArguments.{RankineArguments}
 use Rattle.plasticity_rankine.specs.declared.RankinePlasticity.{RankinePlasticity}
 use Rattle.plasticity_rankine.specs.Law.{lawOf}
 use Rattle.plasticity_rankine.specs.Sorting.{orderOf, arrangeOf}
-use Rattle.plasticity_rankine.specs.Projection.{firstSide, projectedOf, projectOf}
-use Rattle.plasticity_rankine.specs.Rankine.{untouchedOf, rankineUpdate, argumentsUpdate}
+use Rattle.plasticity_rankine.specs.Projection.{Moved, firstSide, projectWalk, movedOf, projectOf}
+use Rattle.plasticity_rankine.specs.Rankine.{rankineUpdate, argumentsUpdate}
 use Rattle.rankine_surface.specs.Axes.{Each, Some, total}
 
 -- ---- exact stresses
@@ -120,42 +123,6 @@ logsOf sigma = result (asks 2 ln sigma (λ e. end e))
 unfoldable pub expsOf : List Float → Ended (List Float)
 expsOf e = result (asks 9 exp e (λ sigma. end sigma))
 
--- our logarithms of sigma
-abbrev pub logStrains : State → List Float
-logStrains st = numbersOf (logsOf (st .sigma))
-
--- the softened strength, as the update works it: s = strength - (hardening - 1)
-abbrev pub softened : RankinePlasticity → State → Float
-softened p st = sub (p .«tensile_strength») (sub (st .scalars .«plastic_hardening») one)
-
--- not refused, the ranges of the moduli and of s, three f64 as sigma, as the code's array is, and log strains in -4 to 4: that these are
--- finite f64 is the logarithm's own law
-pub record Taken (p : RankinePlasticity) (u vt : List (List Float)) (st : State) : Type 0 where
-  pub accepted : Accepted (rankineUpdate p u vt st .outcome)
-  pub fair : Fair p (softened p st)
-  pub axes : length (st .sigma) ≡ 3
-  pub sigma : Each F64 (st .sigma)
-  pub strains : Each Small (logStrains st)
-
--- the same of the law that `new` makes: its moduli are f64, and finite where nothing is refused
-pub record TakenBy (a : RankineArguments) (u vt : List (List Float)) (st : State) : Type 0 where
-  pub accepted : Accepted (argumentsUpdate a u vt st .outcome)
-  pub s-finite : T (finite (softened (lawOf a) st))
-  pub ranges : Ranges (lawOf a) (softened (lawOf a) st)
-  pub axes : length (st .sigma) ≡ 3
-  pub sigma : Each F64 (st .sigma)
-  pub strains : Each Small (logStrains st)
-
--- the first yield test: lambda S + 2mu a <= s in floats
-abbrev pub firstTest : RankinePlasticity → List Float → Float → Bool
-firstTest p e s = Ieee.le (value (firstSide p (num (sumOf e)) (num (arrangeOf (orderOf e) e .high)))) s
-
--- ---- what is promised
--- where the test holds: the state is handed back as it came, and no stress is above
-pub record Inside (p : RankinePlasticity) (u vt : List (List Float)) (st : State) : Type 0 where
-  pub untouched : rankineUpdate p u vt st ≡ untouchedOf st
-  pub below : Each (Below demanded p (softened p st) (logStrains st)) (logStrains st)
-
 -- finite strains whose largest stress lies within (2mu + d lambda) / 2 ^ k of s, above or below (`val` is 0 at a NaN or an infinity)
 pub record OnSurfaceIn (d k : ℕ) (p : RankinePlasticity) (s : Float) (e : List Float) : Type 0 where
   pub fine : Each Fin64 e
@@ -170,36 +137,123 @@ pub record ArchivedIn (d : ℕ) (p : RankinePlasticity) (s : Float) (sigma : Lis
   pub axes : length strains ≡ d
   pub on-surface : OnSurfaceIn d archived p s strains
 
--- in three axes
+-- ---- Rankine's law in some number of axes: its state S and what it hands back, R; the largest of so many strains; the projection, and the
+-- strains of its answer
+pub record Axes (S R : Type 0) : Type 0 where
+  pub count : ℕ
+  pub body : Body S R
+  pub state : R → S
+  pub largest : List Float → Float
+  pub project : RankinePlasticity → List Float → Expr → Walk Moved
+  pub strainsIn : Ended Moved → List Float
+
+module _ {S R : Type 0} (ax : Axes S R) where
+  -- our logarithms of sigma
+  abbrev pub logStrainsIn : S → List Float
+  logStrainsIn st = numbersOf (logsOf (ax .body .sigma st))
+
+  -- the softened strength, as the update works it: s = strength - (hardening - 1)
+  abbrev pub softenedIn : RankinePlasticity → S → Float
+  softenedIn p st = sub (p .«tensile_strength») (sub (ax .body .scalars st .«plastic_hardening») one)
+
+  -- the first yield test: lambda S + 2mu a <= s in floats
+  abbrev pub firstTestIn : RankinePlasticity → List Float → Float → Bool
+  firstTestIn p e s = Ieee.le (value (firstSide p (num (sumOf e)) (num (ax .largest e)))) s
+
+  abbrev pub projectedIn : RankinePlasticity → S → List Float
+  projectedIn p st = ax .strainsIn (result (ax .project p (logStrainsIn st) (num (softenedIn p st))))
+
+-- ---- of an update of the state st by the law p that hands back v
+-- taken: not refused, the ranges of the moduli and of s, an f64 for each axis as sigma, as the code's array is, and log strains in -4 to 4: that
+-- these are finite f64 is the logarithm's own law
+pub record TakenIn {S R : Type 0} (ax : Axes S R) (p : RankinePlasticity) (st : S) (v : R) : Type 0 where
+  pub accepted : Accepted (ax .body .outcomeIn v)
+  pub fair : FairIn (ax .count) p (softenedIn ax p st)
+  pub axes : length (ax .body .sigma st) ≡ ax .count
+  pub sigma : Each F64 (ax .body .sigma st)
+  pub strains : Each Small (logStrainsIn ax st)
+
+-- the same of the law that `new` makes: its moduli are f64, and finite where nothing is refused
+pub record TakenByIn {S R : Type 0} (ax : Axes S R) (a : RankineArguments) (st : S) (v : R) : Type 0 where
+  pub accepted : Accepted (ax .body .outcomeIn v)
+  pub s-finite : T (finite (softenedIn ax (lawOf a) st))
+  pub ranges : RangesIn (ax .count) (lawOf a) (softenedIn ax (lawOf a) st)
+  pub axes : length (ax .body .sigma st) ≡ ax .count
+  pub sigma : Each F64 (ax .body .sigma st)
+  pub strains : Each Small (logStrainsIn ax st)
+
+-- promised where the test holds: the state is handed back as it came, and no stress is above
+pub record InsideIn {S R : Type 0} (ax : Axes S R) (p : RankinePlasticity) (st : S) (v : R) : Type 0 where
+  pub untouched : v ≡ ax .body .handed st Untouched
+  pub below : Each (BelowIn (ax .count) demanded p (softenedIn ax p st) (logStrainsIn ax st)) (logStrainsIn ax st)
+
+-- where it fails: sigma becomes the exponentials of the projected strains, which lie on the surface, and the hardening is stored, capped
+pub record ReturnedIn {S R : Type 0} (ax : Axes S R) (p : RankinePlasticity) (st : S) (v : R) : Type 0 where
+  pub hardening : Float
+  pub stored : ax .body .outcomeIn v ≡ Stored hardening
+  pub written : ax .body .scalars (ax .state v) .«plastic_hardening» ≡ hardening
+  pub capped : T (Ieee.le hardening (p .«tensile_strength»))
+  pub f64 : F64 (p .«tensile_strength») → F64 hardening
+  pub sigma : ax .body .sigma (ax .state v) ≡ numbersOf (expsOf (projectedIn ax p st))
+  pub axes : length (numbersOf (expsOf (projectedIn ax p st))) ≡ ax .count
+  pub on-surface : OnSurfaceIn (ax .count) demanded p (softenedIn ax p st) (projectedIn ax p st)
+  pub archive : ArchivedIn (ax .count) p (softenedIn ax p st) (ax .body .sigma (ax .state v))
+
+pub record Demand3In {S R : Type 0} (ax : Axes S R) (p : RankinePlasticity) (st : S) (v : R) : Type 0 where
+  pub holds : T (firstTestIn ax p (logStrainsIn ax st) (softenedIn ax p st)) → InsideIn ax p st v
+  pub fails : T (not (firstTestIn ax p (logStrainsIn ax st) (softenedIn ax p st))) → ReturnedIn ax p st v
+
+-- the archive by itself, where the update stores
+abbrev pub ArchivesIn : {S R : Type 0} → Axes S R → RankinePlasticity → S → R → Type 0
+ArchivesIn ax p st v = (hardening : Float) → ax .body .outcomeIn v ≡ Stored hardening → ArchivedIn (ax .count) p (softenedIn ax p st) (ax .body .sigma (ax .state v))
+
+-- ---- in three axes
+abbrev pub threeAxes : Axes State Updated
+threeAxes =
+    record {
+      count = 3;
+      body = inThree;
+      state = λ v. v .state;
+      largest = λ e. arrangeOf (orderOf e) e .high;
+      project = projectWalk;
+      strainsIn = λ x. movedOf x .strains;
+    }
+
 abbrev pub OnSurface : ℕ → RankinePlasticity → Float → List Float → Type 0
 OnSurface k p s e = OnSurfaceIn 3 k p s e
 
 abbrev pub Archived : RankinePlasticity → Float → List Float → Type 0
 Archived p s sigma = ArchivedIn 3 p s sigma
 
+abbrev pub logStrains : State → List Float
+logStrains st = logStrainsIn threeAxes st
+
+abbrev pub softened : RankinePlasticity → State → Float
+softened p st = softenedIn threeAxes p st
+
+abbrev pub firstTest : RankinePlasticity → List Float → Float → Bool
+firstTest p e s = firstTestIn threeAxes p e s
+
 abbrev pub projectedStrains : RankinePlasticity → State → List Float
-projectedStrains p st = projectedOf p (logStrains st) (softened p st) .strains
+projectedStrains p st = projectedIn threeAxes p st
 
--- where it fails: sigma becomes the exponentials of the projected strains, which lie on the surface, and the hardening is stored, capped
-pub record Returned (p : RankinePlasticity) (u vt : List (List Float)) (st : State) : Type 0 where
-  pub hardening : Float
-  pub stored : rankineUpdate p u vt st .outcome ≡ Stored hardening
-  pub written : rankineUpdate p u vt st .state .scalars .«plastic_hardening» ≡ hardening
-  pub capped : T (Ieee.le hardening (p .«tensile_strength»))
-  pub f64 : F64 (p .«tensile_strength») → F64 hardening
-  pub sigma : rankineUpdate p u vt st .state .sigma ≡ numbersOf (expsOf (projectedStrains p st))
-  pub axes : length (numbersOf (expsOf (projectedStrains p st))) ≡ 3
-  pub on-surface : OnSurface demanded p (softened p st) (projectedStrains p st)
-  pub archive : Archived p (softened p st) (rankineUpdate p u vt st .state .sigma)
+abbrev pub Taken : RankinePlasticity → List (List Float) → List (List Float) → State → Type 0
+Taken p u vt st = TakenIn threeAxes p st (rankineUpdate p u vt st)
 
-pub record Demand3 (p : RankinePlasticity) (u vt : List (List Float)) (st : State) : Type 0 where
-  pub holds : T (firstTest p (logStrains st) (softened p st)) → Inside p u vt st
-  pub fails : T (not (firstTest p (logStrains st) (softened p st))) → Returned p u vt st
+abbrev pub TakenBy : RankineArguments → List (List Float) → List (List Float) → State → Type 0
+TakenBy a u vt st = TakenByIn threeAxes a st (argumentsUpdate a u vt st)
 
--- the archive by itself, where the update stores
+abbrev pub Inside : RankinePlasticity → List (List Float) → List (List Float) → State → Type 0
+Inside p u vt st = InsideIn threeAxes p st (rankineUpdate p u vt st)
+
+abbrev pub Returned : RankinePlasticity → List (List Float) → List (List Float) → State → Type 0
+Returned p u vt st = ReturnedIn threeAxes p st (rankineUpdate p u vt st)
+
+abbrev pub Demand3 : RankinePlasticity → List (List Float) → List (List Float) → State → Type 0
+Demand3 p u vt st = Demand3In threeAxes p st (rankineUpdate p u vt st)
+
 abbrev pub Archives : RankineArguments → List (List Float) → List (List Float) → State → Type 0
-Archives a u vt st = (hardening : Float) → argumentsUpdate a u vt st .outcome ≡ Stored hardening
-    → Archived (lawOf a) (softened (lawOf a) st) (argumentsUpdate a u vt st .state .sigma)
+Archives a u vt st = ArchivesIn threeAxes (lawOf a) st (argumentsUpdate a u vt st)
 
 pub record Demand3By (a : RankineArguments) (u vt : List (List Float)) (st : State) : Type 0 where
   pub update : argumentsUpdate a u vt st ≡ rankineUpdate (lawOf a) u vt st

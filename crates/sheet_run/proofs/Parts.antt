@@ -11,7 +11,7 @@ use lib.ListN.{length, take, drop, getD, length-take, length-drop, List·getD-ap
 use lib.Seq.{take-at, take-append-le, drop-append-le}
 use Rattle.numbers.proofs.Laws.{and-both}
 use Rattle.record.specs.Layout.{floats}
-use Rattle.particles.specs.Pass.{recordAt, worked, answers, wellSized, passRecords, passAnswers}
+use Rattle.particles.specs.Pass.{recordOver, recordAt, worked, answers, wellSized, passRecords, passAnswers}
 use Rattle.particles.proofs.PassLaws.{record-keeps, worked-length, answers-length}
 use Rattle.sheet.specs.declared.Header.{Header}
 use Rattle.sheet.specs.Sheet.{refusedBy, headerOf, readOf, roomOf, recordsOf}
@@ -40,11 +40,9 @@ module _ (xs out : List ℕ) where
       let b = eq-eqb (length xs / floats * 2) (length out) (omega arith) in
       rw (a, b)
 
--- a record of the front list
-pub record-front : (q s : List ℕ) (i : ℕ) → i * floats + floats ≤ length q → recordAt (q ++ s) i ≡ recordAt q i
-record-front q s i h =
-    ap (take floats) (drop-append-le (i * floats) q s (omega arith))
-    ∙ take-append-le floats (drop (i * floats) q) s (simp length-drop (omega arith))
+-- a record of the front list, of w floats
+pub record-front : (w : ℕ) (q s : List ℕ) (i : ℕ) → i * w + w ≤ length q → recordOver w (q ++ s) i ≡ recordOver w q i
+record-front w q s i h = ap (take w) (drop-append-le (i * w) q s (omega arith)) ∙ take-append-le w (drop (i * w) q) s (simp length-drop (omega arith))
 
 -- ---- a run that refuses nothing: neither the rooms nor the sheet
 rooms-kept : (b : Bool) (x : Ran) → cond b x (stopped 8) .refusal ≡ 0 → (b ≡ true) × (x .refusal ≡ 0)
@@ -116,7 +114,7 @@ module _ (s xs out : List ℕ) (w : wellSized xs out ≡ true) (e : readOf s (le
       ∙ worked-length floats (lawOf h) (record-keeps _) a k (omega arith) in
       let q = quotient a b (h .count) (parts .0) in
       ap (λ (t : List ℕ). recordAt t i) (opened (frontRecords h (roomOf s xs) out) (roomOf s xs) xs)
-      ∙ record-front p (drop (h .count * floats) (roomOf s xs)) i (omega arith)
+      ∙ record-front floats p (drop (h .count * floats) (roomOf s xs)) i (omega arith)
 
   pub answer-found : (j : ℕ) → j < h .count * 2 → getD (ranAnswers s xs out) j 0 ≡ getD (passAnswers (lawOf h) a b) j 0
   unfolding frontAnswers

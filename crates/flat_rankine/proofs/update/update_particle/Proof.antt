@@ -1,7 +1,9 @@
 -- The inputs, the moduli, and then the steps.
 use borrow.Author.Needs.{needs}
 use Rattle.plasticity_rankine.specs.Over as over
-use Rattle.flat_rankine.proofs.Laws.{inputs-law, hardening-finite}
+use Rattle.plasticity_rankine.proofs.Laws.{inputs-law}
+use Rattle.flat.specs.Update.{inTwo}
+use Rattle.flat_rankine.proofs.Laws.{hardening-finite}
 use Rattle.flat_rankine.proofs.update.update_particle.Statement.{statement}
 use Rattle.flat_rankine.proofs.update.update_particle.Tie as tie
 
@@ -26,7 +28,7 @@ returns c =
     let c7 = c6 .before in
     let t0 = simp (c6 .inputs-finite .ensures, c7 .parameters-finite .ensures) at (c5 .if1 .taken) in
     let t1 = simp (c3 .moduli-finite .ensures, c4 .law .ensures) at (c2 .if2 .taken) in
-    simp (c .run .ensures, c4 .law .ensures, t0, t1, inputs-law)
+    simp (c .run .ensures, c4 .law .ensures, t0, t1, inputs-law inTwo)
 
 returns-2 : tie.Need-returns-2
 unfolding over.argumentsWalk
@@ -39,7 +41,7 @@ returns-2 c =
     let c6 = c5 .before in
     let t0 = simp (c5 .inputs-finite .ensures, c6 .parameters-finite .ensures) at (c4 .if1 .taken) in
     let t1 = simp (c2 .moduli-finite .ensures, c3 .law .ensures) at (c1 .if2 .left) in
-    simp (c .refuse .ensures, t0, t1, inputs-law)
+    simp (c .refuse .ensures, t0, t1, inputs-law inTwo)
 
 returns-3 : tie.Need-returns-3
 unfolding over.argumentsWalk
@@ -48,7 +50,7 @@ returns-3 c =
     let c2 = c1 .before in
     let c3 = c2 .before in
     let t0 = simp (c2 .inputs-finite .ensures, c3 .parameters-finite .ensures) at (c1 .if1 .left) in
-    simp (c .refuse2 .ensures, t0, inputs-law)
+    simp (c .refuse2 .ensures, t0, inputs-law inTwo)
 
 pub update-particle-spec : {M : Type 1} → statement M
 update-particle-spec =

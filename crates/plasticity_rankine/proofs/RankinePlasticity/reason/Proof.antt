@@ -4,6 +4,7 @@ use mathlib.Core.Path.{_≡_, _∙_}
 use Rattle.reason.specs.Why.{why-of}
 use Rattle.plasticity_rankine.specs.Over as over
 use Rattle.plasticity_rankine.specs.Rankine.{rankineWalk}
+use Rattle.walk.specs.Update.{inThree}
 use Rattle.plasticity_rankine.proofs.Laws.{inputs-law}
 use Rattle.plasticity_rankine.proofs.RankinePlasticity.reason.Statement.{statement}
 use Rattle.plasticity_rankine.proofs.RankinePlasticity.reason.Tie as tie
@@ -27,7 +28,7 @@ returns c =
     let t1 = simp (c3 .moduli-finite .ensures, c5 .inputs-finite .ensures, c6 .parameters-finite .ensures) at (c2 .if2 .taken) in
     let c7 = c6 .before in
     let a = c7 .args in
-    (simp (c .run-reason .ensures, c3 .moduli-finite .ensures, c5 .inputs-finite .ensures, c6 .parameters-finite .ensures, t0, t1, inputs-law)) ∙ why-of (rankineWalk (a .self) (a .u) (a .vt) (a .s))
+    (simp (c .run-reason .ensures, c3 .moduli-finite .ensures, c5 .inputs-finite .ensures, c6 .parameters-finite .ensures, t0, t1, inputs-law inThree)) ∙ why-of (rankineWalk (a .self) (a .u) (a .vt) (a .s))
 
 returns-2 : tie.Need-returns-2
 unfolding over.rankineWalk
@@ -40,7 +41,7 @@ returns-2 c =
     let t1 = simp (c1 .moduli-finite .ensures, c3 .inputs-finite .ensures, c4 .parameters-finite .ensures) at (c .if2 .left) in
     let c5 = c4 .before in
     let a = c5 .args in
-    (simp (c1 .moduli-finite .ensures, c3 .inputs-finite .ensures, c4 .parameters-finite .ensures, t0, t1, inputs-law)) ∙ why-of (rankineWalk (a .self) (a .u) (a .vt) (a .s))
+    (simp (c1 .moduli-finite .ensures, c3 .inputs-finite .ensures, c4 .parameters-finite .ensures, t0, t1, inputs-law inThree)) ∙ why-of (rankineWalk (a .self) (a .u) (a .vt) (a .s))
 
 returns-3 : tie.Need-returns-3
 unfolding over.rankineWalk
@@ -50,7 +51,7 @@ returns-3 c =
     let t0 = simp (c1 .inputs-finite .ensures, c2 .parameters-finite .ensures) at (c .if1 .left) in
     let c3 = c2 .before in
     let a = c3 .args in
-    (simp (c1 .inputs-finite .ensures, c2 .parameters-finite .ensures, t0, inputs-law)) ∙ why-of (rankineWalk (a .self) (a .u) (a .vt) (a .s))
+    (simp (c1 .inputs-finite .ensures, c2 .parameters-finite .ensures, t0, inputs-law inThree)) ∙ why-of (rankineWalk (a .self) (a .u) (a .vt) (a .s))
 
 pub reason-spec : {M : Type 1} → statement M
 reason-spec =

@@ -1,6 +1,7 @@
 -- The inputs, the moduli, and then the steps.
 use borrow.Author.Needs.{needs}
 use Rattle.plasticity_rankine.specs.Over as over
+use Rattle.walk.specs.Update.{inThree}
 use Rattle.plasticity_rankine.proofs.Laws.{inputs-law}
 use Rattle.plasticity_rankine.proofs.RankinePlasticity.update_particle.Statement.{statement}
 use Rattle.plasticity_rankine.proofs.RankinePlasticity.update_particle.Tie as tie
@@ -22,7 +23,7 @@ returns c =
     let c6 = c5 .before in
     let t0 = simp (c5 .inputs-finite .ensures, c6 .parameters-finite .ensures) at (c4 .if1 .taken) in
     let t1 = simp (c3 .moduli-finite .ensures) at (c2 .if2 .taken) in
-    simp (c .run .ensures, t0, t1, inputs-law)
+    simp (c .run .ensures, t0, t1, inputs-law inThree)
 
 returns-2 : tie.Need-returns-2
 unfolding over.rankineWalk
@@ -34,7 +35,7 @@ returns-2 c =
     let c5 = c4 .before in
     let t0 = simp (c4 .inputs-finite .ensures, c5 .parameters-finite .ensures) at (c3 .if1 .taken) in
     let t1 = simp (c2 .moduli-finite .ensures) at (c1 .if2 .left) in
-    simp (c .refuse .ensures, t0, t1, inputs-law)
+    simp (c .refuse .ensures, t0, t1, inputs-law inThree)
 
 returns-3 : tie.Need-returns-3
 unfolding over.rankineWalk
@@ -43,7 +44,7 @@ returns-3 c =
     let c2 = c1 .before in
     let c3 = c2 .before in
     let t0 = simp (c2 .inputs-finite .ensures, c3 .parameters-finite .ensures) at (c1 .if1 .left) in
-    simp (c .refuse2 .ensures, t0, inputs-law)
+    simp (c .refuse2 .ensures, t0, inputs-law inThree)
 
 pub update-particle-spec : {M : Type 1} → statement M
 update-particle-spec =
