@@ -32,7 +32,7 @@ PAIRS = {
 MOST = {
     "flat": 5,
     "flat_snow": 0,
-    "flat_rankine": 3,
+    "flat_rankine": 4,
     "flat_drucker_prager": 2,
     "flat_nacc": 1,
     "flat_particles": 3,
