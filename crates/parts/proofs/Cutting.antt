@@ -1,7 +1,7 @@
 -- A sheet may be cut anywhere: bytes one after the other give what the joined bytes give; and after a fault or the end nothing changes.
 -- Assumes nothing.
 use mathlib.Core.Path.{_≡_, refl, sym, ap, _∙_}
-use mathlib.Core.Bool.{true}
+use mathlib.Core.Bool.{true, false}
 use mathlib.Core.List.{List, [], _∷_, _++_}
 use Prim.Native.Nat.{ℕ}
 use borrow.Author.Tests.{ne-eqb}
@@ -36,3 +36,12 @@ module _ (w : Work) (n : w .arrival .refusal ≡ 0 → ⊥) where
   -- and so does an end
   pub end-again : lent (w .records) (w .answers) ≡ true → endAnswer (w .arrival) (w .records) (w .answers) ≡ told (w .arrival .refusal) (w .arrival)
   end-again t = rw (t, ne-eqb (w .arrival .refusal) 0 n)
+
+-- a call in lists that don't fit is refused by 8, which is no fault
+module _ (w : Work) (f : lent (w .records) (w .answers) ≡ false) where
+  pub part-amiss : (l : List ℕ) → (partAnswer w l ≡ told 8 (w .arrival)) × (parted w l ≡ w)
+  unfolding parted
+  part-amiss l = (rw f, rw f)
+
+  pub end-amiss : endAnswer (w .arrival) (w .records) (w .answers) ≡ told 8 (w .arrival)
+  end-amiss = rw f

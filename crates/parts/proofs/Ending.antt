@@ -7,8 +7,8 @@ use Prim.Native.Nat.{ℕ, suc, _+_, _*_, _-_, _≤_, _<_}
 use native.Mathlib.Omega.{arith}
 use native.Mathlib.Nat.{mul-le-mul-right}
 use lib.ListN.{length, drop, length-drop}
-use lib.Dec.{ltb}
-use borrow.Author.Tests.{ltb-true, ltb-false, lt-ltb, le-ltb}
+use lib.Dec.{ltb, eqb}
+use borrow.Author.Tests.{ltb-true, ltb-false, lt-ltb, le-ltb, eqb-true, eqb-false, ne-eqb}
 use Rattle.record.specs.Layout.{floats}
 use Rattle.particles.specs.Pass.{worked, answers}
 use Rattle.sheet.specs.Records.{sheetFloats}
@@ -20,8 +20,8 @@ use Rattle.sheet.proofs.Preambles.{Closes, closes}
 use Rattle.sheet_run.specs.Run.{lawOf, ranOf}
 use Rattle.parts.specs.declared.Arrival.{Arrival}
 use Rattle.parts.specs.declared.Told.{Told}
-use Rattle.parts.specs.Parts.{Work, works, after, begun, stopped, lent, Lent, parted, told, ended, endAnswer, partedAll, joined}
-use Rattle.parts.specs.Whole.{Stand, none, some, firstRecords, EndsAs}
+use Rattle.parts.specs.Parts.{Work, works, after, begun, stopped, lent, Lent, parted, told, partAnswer, missing, ended, endAnswer, partedAll, joined}
+use Rattle.parts.specs.Whole.{Stand, none, some, firstRecords, EndsAs, soFar, afterwards}
 use Rattle.parts.proofs.Cases.{lists-lent, end-again, end-short, end-good}
 use Rattle.parts.proofs.Cutting.{after-append}
 use Rattle.parts.proofs.Held.{shut-refusal}
@@ -179,6 +179,36 @@ module _ (xs₀ out₀ : List ℕ) (lists : Lent xs₀ out₀) (s : List ℕ) (w
       omega arith
   not-ended (bytes-after p) q = let e = p .told in omega arith
 
+  -- and none by 4
+  not-short : Stands xs₀ out₀ s w → w .arrival .refusal ≡ 4 → ⊥
+  not-short (in-preamble p) q = let e = p .going in omega arith
+  not-short (in-records p) q = let e = p .going in omega arith
+  not-short (bad-preamble p) q = p .other (sym (p .told) ∙ q)
+  not-short (bytes-after p) q = let e = p .told in omega arith
+
+-- an end, whatever it tells
+ended-cases : (P : ℕ → Told → Type 0) (a : Arrival) → P 0 (told 4 (stopped a 4)) → P 0 (told 0 (stopped a 15))
+    → ((a .refusal ≡ 0 → ⊥) → P (a .refusal) (told (a .refusal) a)) → P (a .refusal) (ended a)
+ended-cases P a short good again = tested (eqb (a .refusal) 0) refl
+  where
+    lacking : a .refusal ≡ 0 → (m : Bool) → missing a ≡ m → P (a .refusal) (ended a)
+    lacking z true m = subst (λ (n : ℕ). P n (ended a)) (sym z) (subst (P 0) (end-short a z m) short)
+    lacking z false m = subst (λ (n : ℕ). P n (ended a)) (sym z) (subst (P 0) (end-good a z m) good)
+
+    tested : (c : Bool) → eqb (a .refusal) 0 ≡ c → P (a .refusal) (ended a)
+    tested true t = lacking (eqb-true (a .refusal) 0 t) (missing a) refl
+    tested false t = let n = eqb-false (a .refusal) 0 t in subst (P (a .refusal)) (end-again a n) (again n)
+
+-- a state's own number is that of its end, but for a shortage
+before-end : (a : Arrival) → (a .refusal ≡ 4 → ⊥) → a .refusal ≡ soFar (ended a .refusal)
+before-end a n = ended-cases (λ (k : ℕ) (t : Told). k ≡ soFar (t .refusal)) a refl refl (λ z. rw (ne-eqb (a .refusal) 4 n))
+
+-- and the number after it is what it told, or 15
+pub after-end : (a : Arrival) → (ended a .arrival .refusal ≡ afterwards (ended a .refusal)) × (ended a .arrival .refusal ≡ 0 → ⊥)
+after-end a =
+    ended-cases (λ (k : ℕ) (t : Told). (t .arrival .refusal ≡ afterwards (t .refusal)) × (t .arrival .refusal ≡ 0 → ⊥)) a
+    (refl, λ z. omega (arith, z)) (refl, λ z. omega (arith, z)) (λ n. (rw (ne-eqb (a .refusal) 0 n), n))
+
 -- ---- the parts, one call after the other
 module _ (xs₀ out₀ : List ℕ) (lists : Lent xs₀ out₀) where
   parts-join : (s : List ℕ) (ps : List (List ℕ)) → Below 256 (s ++ joined ps) → (w : Work) → Stands xs₀ out₀ s w → partedAll w ps ≡ after w (joined ps)
@@ -203,6 +233,17 @@ module _ (xs₀ out₀ : List ℕ) (lists : Lent xs₀ out₀) where
 
   pub parts-stand : (ps : List (List ℕ)) → Below 256 (joined ps) → Stands xs₀ out₀ (joined ps) (partedAll start ps)
   parts-stand ps b = rw (cut-anywhere ps b) (after-stands xs₀ out₀ lists [] (joined ps) b start (at-start xs₀ out₀))
+
+  -- A SHORTAGE IS TOLD ONLY AT THE END: a part is answered by what the run of the bytes so far tells, and by 0 where that is 4
+  pub part-told : (ps : List (List ℕ)) (l : List ℕ) → Below 256 (joined ps ++ l) → partAnswer (partedAll start ps) l .refusal ≡ soFar (ranOf (joined ps ++ l) xs₀ out₀ .refusal)
+  part-told ps l b =
+      let w = partedAll start ps in
+      let c = below-front 256 (joined ps) l b in
+      let h = parts-stand ps c in
+      let k = after-stands xs₀ out₀ lists (joined ps) l b w h in
+      let t = lists-lent (w .records) (w .answers) (stands-lent xs₀ out₀ lists (joined ps) w h) in
+      let e = before-end (after w l .arrival) (not-short xs₀ out₀ lists (joined ps ++ l) (after w l) k) in
+      rw t (e ∙ ap soFar (ends xs₀ out₀ lists (joined ps ++ l) (after w l) k .refusal))
 
   -- AND GIVE WHAT THE WHOLE GIVES: parts, then the end, against the run of the joined bytes
   pub ends-as-run : (ps : List (List ℕ)) → Below 256 (joined ps) → let w = partedAll start ps in EndsAs (joined ps) xs₀ out₀ (endAnswer (w .arrival) (w .records) (w .answers)) (w .records) (w .answers)

@@ -1,9 +1,12 @@
 -- What a sheet that came in parts and was ended leaves, by the run of the whole sheet.
 use mathlib.Core.Path.{_≡_}
 use mathlib.Core.Logic.{_⊎_}
+use mathlib.Core.Bool.{cond}
 use mathlib.Core.List.{List, _++_}
 use Prim.Native.Nat.{ℕ, suc, _*_, _≤_, _<_}
 use lib.ListN.{length, drop}
+use lib.Dec.{eqb}
+use Rattle.answers.specs.Refusals.{endsEarly, afterEnd}
 use Rattle.record.specs.Layout.{floats}
 use Rattle.particles.specs.Pass.{worked, answers}
 use Rattle.sheet.specs.Records.{sheetFloats, listWords}
@@ -24,6 +27,14 @@ pub data Stand (s xs₀ out₀ : List ℕ) (k : ℕ) (xs out : List ℕ) : Type 
       → xs ≡ worked (lawOf (asHeader (Open model bits count at))) (firstRecords model k (drop at s)) k ++ drop (k * floats) xs₀
       → out ≡ answers (lawOf (asHeader (Open model bits count at))) (firstRecords model k (drop at s)) k ++ drop (k * 2) out₀
       → Stand s xs₀ out₀ k xs out
+
+-- What a part is answered by, from what the run of the bytes so far tells: a shortage is told only at the end.
+abbrev pub soFar : ℕ → ℕ
+soFar n = cond (eqb n endsEarly) 0 n
+
+-- what every call after an end is answered by, from what the end told
+abbrev pub afterwards : ℕ → ℕ
+afterwards n = cond (eqb n 0) afterEnd n
 
 -- The end's answer, and the lists then.
 pub record EndsAs (s xs₀ out₀ : List ℕ) (t : Told) (xs out : List ℕ) : Type 0 where
