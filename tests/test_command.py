@@ -347,6 +347,13 @@ class Proved(InFolder):
         ran = self.run_command(SLOPE, "--explain", sheet=bytes(given), PASOLETU_SLOPE=proved_program())
         self.ended(ran, 0, "particles 1\n0 stored 41aaccad8523d10b\nend\n", "slope: standard input: particle 0 is stored, but turned inside out: sigma -0.9\n")
 
+    def test_the_guides_reason(self):
+        """GUIDE's block under `--why=5` is what is printed."""
+        guide = (TOP / "docs" / "GUIDE.md").read_text()
+        shown = re.search(r"`bin/slope --why=5 samples/rankine.sheet` answers.*?\n\n((?:    .*\n)+)", guide)[1]
+        want = "".join(line[4:] + "\n" for line in shown.splitlines())
+        self.ended(self.run_command(SLOPE, "--why=5", TOP / "samples" / "rankine.sheet", PASOLETU_SLOPE=proved_program()), 0, want)
+
     def test_the_documents_example(self):
         sheet = TOP / "samples" / "snow.sheet"
         self.ended(self.run_command(SLOPE, sheet, PASOLETU_SLOPE=proved_program()), 0, ANSWER)
