@@ -7,6 +7,7 @@ answer what a test needs. What tools/built does is tried in a repository of two 
 import os
 import pathlib
 import random
+import re
 import shutil
 import struct
 import subprocess
