@@ -2,3 +2,4 @@ pub mod Laws
 pub mod First
 pub mod Within
 pub mod Branch
+pub mod Back
