@@ -59,7 +59,7 @@ pub pass-3 : {a : RankineArguments} {xs out : List ℕ} {i : ℕ} → InPass xs 
 pass-3 {a} {xs} {out} {i} w g =
     let law = recordLaw (Rankine a) in
     let k = record-keeps (Rankine a) in
-    subst (Demand3At a (recordAt xs i)) (sym (found floats law k xs out i w)) (record-3 (in-pass floats law k xs out i w) g)
+    subst (Demand3At a (recordAt xs i)) (sym (found law k xs out i w)) (record-3 (in-pass law k xs out i w) g)
 
 -- ---- the pass with failure: the law meets the record as it came, and phase is set after it
 module _ (a : RankineArguments) (l : MaximumStressFailure) (e : CorotatedLinearElasticity) (r : List ℕ) where
@@ -71,7 +71,7 @@ module _ (a : RankineArguments) (l : MaximumStressFailure) (e : CorotatedLinearE
   step-found true (verdict.Refused n) h = absurd h
   step-found false v h = absurd h
 
-  law-found : Accepted (failureLaw (Rankine a) l e r .outcome)
+  pub law-found : Accepted (failureLaw (Rankine a) l e r .outcome)
       → (foundOf (failureLaw (Rankine a) l e r) ≡ markedBy (failureLaw (Rankine a) l e r .failed) (foundOf (recordLaw (Rankine a) r))) × Accepted (recordLaw (Rankine a) r .outcome)
   unfolding failureLaw
   law-found h = step-found (judgeFinite l e) (judgedAt (Rankine a) l e r) h
@@ -84,7 +84,7 @@ pass-with-failure-3 l e {a} {xs} {out} {i} w g =
     let k = failure-keeps (Rankine a) l e in
     let f = law-found a l e (recordAt xs i) (g .accepted) in
     record {
-      law = record-3 (in-pass floats law k xs out i w)
+      law = record-3 (in-pass law k xs out i w)
           (record { accepted = f .1; ranges = g .ranges; s-finite = g .s-finite; strains = g .strains; strength = g .strength });
-      found = found floats law k xs out i w ∙ f .0;
+      found = found law k xs out i w ∙ f .0;
     }
