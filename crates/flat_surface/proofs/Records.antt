@@ -12,8 +12,8 @@ use Rattle.model.specs.declared.Model.the-variants.{Rankine}
 use Rattle.rankine_surface.specs.Axes.{Each}
 use Rattle.rankine_surface.specs.Surface.{F64}
 use Rattle.rankine_surface.specs.Record.{foundOf, InPassOver, passFoundOver}
-use Rattle.rankine_surface.proofs.Left.{Puts, read-f64, left-3, found-archived}
-use Rattle.rankine_surface.proofs.Passes.{in-pass, found}
+use Rattle.rankine_surface.proofs.Left.{Puts, read-f64, left-3, archives-at}
+use Rattle.rankine_surface.proofs.Passes.{in-pass-over, found-over}
 use Rattle.particles.specs.Pass.{recordOver}
 use Rattle.flat.specs.declared.State.{State}
 use Rattle.flat.specs.State.{ofRows}
@@ -64,13 +64,13 @@ pub flat-pass-3 : {a : RankineArguments} {xs out : List ℕ} {i : ℕ} → InPas
 flat-pass-3 {a} {xs} {out} {i} w g =
     let law = flatLaw (Rankine a) in
     let k = flat-keeps (Rankine a) in
-    subst (Demand3At a (recordOver floats xs i)) (sym (found floats law k xs out i w)) (flat-record-3 (in-pass floats law k xs out i w) g)
+    subst (Demand3At a (recordOver floats xs i)) (sym (found-over floats law k xs out i w)) (flat-record-3 (in-pass-over floats law k xs out i w) g)
 
 pub flat-record-archived : {a : RankineArguments} {r : List ℕ} → length r ≡ floats → Premises a r (flatLaw (Rankine a) r .outcome)
     → ArchivesAt a r (foundOf (flatLaw (Rankine a) r))
-flat-record-archived k g = found-archived flat (flat-record-3 k g)
+flat-record-archived k g = archives-at flat (flat-record-3 k g)
 
 pub flat-pass-archived : {a : RankineArguments} {xs out : List ℕ} {i : ℕ} → InPassOver floats xs out i
     → Premises a (recordOver floats xs i) (flatLaw (Rankine a) (recordOver floats xs i) .outcome)
     → ArchivesAt a (recordOver floats xs i) (passFoundOver floats (flatLaw (Rankine a)) xs out i)
-flat-pass-archived w g = found-archived flat (flat-pass-3 w g)
+flat-pass-archived w g = archives-at flat (flat-pass-3 w g)

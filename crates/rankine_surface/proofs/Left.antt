@@ -80,5 +80,5 @@ archives ax {p} {st} {v} d h q =
     (λ t. ap codeOf (ap (ax .body .outcomeIn) (d .holds t .untouched) ∙ ax .body .outcome-in st outcome.Untouched)) (λ t. d .fails t .archive)
 
 -- and where a record's answer says that it does
-pub found-archived : {S R : Type 0} (k : Records S R) {a : RankineArguments} {r : List ℕ} {f : Found} → Demand3AtIn k a r f → ArchivesAtIn k a r f
-found-archived k {a} {r} {f} d q = by-test (firstTestAtIn k a r) (f .code) q (λ t. d .holds t .answer .0) (λ t. d .fails t .archive)
+pub archives-at : {S R : Type 0} (k : Records S R) {a : RankineArguments} {r : List ℕ} {f : Found} → Demand3AtIn k a r f → ArchivesAtIn k a r f
+archives-at k {a} {r} {f} d q = by-test (firstTestAtIn k a r) (f .code) q (λ t. d .holds t .answer .0) (λ t. d .fails t .archive)

@@ -10,10 +10,11 @@ use lib.Dec.{T, eqb, ltb, ltb→lt, nltb→le}
 use lib.ListN.{length, take, getD, length-take, length-drop, List·getD-append}
 use lib.Seq.{drop-at, take-all, getD-append-add}
 use lib.Ieee.Fits.{and-l}
-use Rattle.particles.specs.Pass.{Worked, codeOf, valueOf, recordOver, wellSizedOver, workedOver, answersOver}
+use Rattle.record.specs.Layout.{floats}
+use Rattle.particles.specs.Pass.{Worked, codeOf, valueOf, recordAt, recordOver, wellSizedOver, workedOver, answersOver}
 use Rattle.particles.proofs.PassLaws.{Keeps, worked-length, answers-length}
 use Rattle.sheet_run.proofs.Parts.{record-front}
-use Rattle.rankine_surface.specs.Record.{Found, foundOf, InPassOver, passFoundOver}
+use Rattle.rankine_surface.specs.Record.{Found, foundOf, InPassOver, InPass, passFoundOver, passFound}
 use Rattle.rankine_surface.proofs.Hardening.{is-true}
 
 -- i below n + 1 is below n, or n
@@ -76,11 +77,11 @@ module _ (w : ℕ) (law : List ℕ → Worked) (k : Keeps law) (l : List ℕ) wh
   all-whole : (out : List ℕ) (i : ℕ) → InPassOver w l out i → length l / w * w ≡ length l
   all-whole out i g = eqb-true (length l / w * w) (length l) (is-true (eqb (length l / w * w) (length l)) (and-l (eqb (length l / w * w) (length l)) (eqb (length l / w * 2) (length out)) (g .sized)))
 
-  pub in-pass : (out : List ℕ) (i : ℕ) → InPassOver w l out i → length (recordOver w l i) ≡ w
-  in-pass out i g = record-long i (let e = all-whole out i g in let h = within w i (length l / w) (g .index) in omega arith)
+  pub in-pass-over : (out : List ℕ) (i : ℕ) → InPassOver w l out i → length (recordOver w l i) ≡ w
+  in-pass-over out i g = record-long i (let e = all-whole out i g in let h = within w i (length l / w) (g .index) in omega arith)
 
-  pub found : (out : List ℕ) (i : ℕ) → InPassOver w l out i → passFoundOver w law l out i ≡ foundOf (law (recordOver w l i))
-  found out i g =
+  pub found-over : (out : List ℕ) (i : ℕ) → InPassOver w l out i → passFoundOver w law l out i ≡ foundOf (law (recordOver w l i))
+  found-over out i g =
       let n = length l / w in
       let a = answers-at n i (g .index) in
       let c = worked-at n i (let e = all-whole out i g in omega arith) (g .index) in
@@ -91,3 +92,11 @@ module _ (w : ℕ) (law : List ℕ → Worked) (k : Keeps law) (l : List ℕ) wh
       sure : (b : Bool) (x y : List ℕ) → T b → cond b x y ≡ x
       sure true x y t = refl
       sure false x y t = absurd t
+
+-- ---- in three axes
+module _ (law : List ℕ → Worked) (k : Keeps law) (l out : List ℕ) (i : ℕ) (g : InPass l out i) where
+  pub in-pass : length (recordAt l i) ≡ floats
+  in-pass = in-pass-over floats law k l out i g
+
+  pub found : passFound law l out i ≡ foundOf (law (recordAt l i))
+  found = found-over floats law k l out i g

@@ -59,7 +59,7 @@ pub pass-3 : {a : RankineArguments} {xs out : List ℕ} {i : ℕ} → InPass xs 
 pass-3 {a} {xs} {out} {i} w g =
     let law = recordLaw (Rankine a) in
     let k = record-keeps (Rankine a) in
-    subst (Demand3At a (recordAt xs i)) (sym (found floats law k xs out i w)) (record-3 (in-pass floats law k xs out i w) g)
+    subst (Demand3At a (recordAt xs i)) (sym (found law k xs out i w)) (record-3 (in-pass law k xs out i w) g)
 
 -- ---- the pass with failure: the law meets the record as it came, and phase is set after it
 module _ (a : RankineArguments) (l : MaximumStressFailure) (e : CorotatedLinearElasticity) (r : List ℕ) where
@@ -84,7 +84,7 @@ pass-with-failure-3 l e {a} {xs} {out} {i} w g =
     let k = failure-keeps (Rankine a) l e in
     let f = law-found a l e (recordAt xs i) (g .accepted) in
     record {
-      law = record-3 (in-pass floats law k xs out i w)
+      law = record-3 (in-pass law k xs out i w)
           (record { accepted = f .1; ranges = g .ranges; s-finite = g .s-finite; strains = g .strains; strength = g .strength });
-      found = found floats law k xs out i w ∙ f .0;
+      found = found law k xs out i w ∙ f .0;
     }

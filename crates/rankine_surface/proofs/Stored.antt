@@ -17,10 +17,10 @@ use Rattle.particles.specs.Plain.{recordLaw}
 use Rattle.particles.specs.Pass.{recordAt}
 use Rattle.particles.specs.Judged.{failureLaw}
 use Rattle.rankine_surface.specs.Surface.{threeAxes, TakenBy, Archived, Archives}
-use Rattle.rankine_surface.specs.Record.{solid, Premises, Found, foundOf, ArchivesAt, softenedAt, InPass, passFound, markedBy}
+use Rattle.rankine_surface.specs.Record.{solid, Premises, Found, foundOf, Demand3At, ArchivesAt, softenedAt, InPass, passFound, markedBy}
 use Rattle.rankine_surface.specs.Sheet.{argumentsIn, recordIn, InSheet, SheetPremises, sheetFound}
 use Rattle.rankine_surface.proofs.Update.{arguments-3}
-use Rattle.rankine_surface.proofs.Left.{archives, found-archived}
+use Rattle.rankine_surface.proofs.Left.{archives, archives-at}
 use Rattle.rankine_surface.proofs.Places.{phase-sigma}
 use Rattle.rankine_surface.proofs.Records.{record-3, pass-3, pass-with-failure-3}
 use Rattle.rankine_surface.proofs.Sheets.{sheet-3}
@@ -28,14 +28,17 @@ use Rattle.rankine_surface.proofs.Sheets.{sheet-3}
 pub update-archived : {a : RankineArguments} (u vt : List (List Float)) {st : State} → TakenBy a u vt st → Archives a u vt st
 update-archived u vt g = archives threeAxes (arguments-3 u vt g)
 
+pub found-archived : {a : RankineArguments} {r : List ℕ} {f : Found} → Demand3At a r f → ArchivesAt a r f
+found-archived d = archives-at solid d
+
 pub record-archived : {a : RankineArguments} {r : List ℕ} → length r ≡ floats → Premises a r (recordLaw (Rankine a) r .outcome)
     → ArchivesAt a r (foundOf (recordLaw (Rankine a) r))
-record-archived k g = found-archived solid (record-3 k g)
+record-archived k g = found-archived (record-3 k g)
 
 pub pass-archived : {a : RankineArguments} {xs out : List ℕ} {i : ℕ} → InPass xs out i
     → Premises a (recordAt xs i) (recordLaw (Rankine a) (recordAt xs i) .outcome)
     → ArchivesAt a (recordAt xs i) (passFound (recordLaw (Rankine a)) xs out i)
-pass-archived w g = found-archived solid (pass-3 w g)
+pass-archived w g = found-archived (pass-3 w g)
 
 -- phase changes no sigma
 pub marked-archived : (a : RankineArguments) (r : List ℕ) (b : Bool) (f : Found) → ArchivesAt a r f → ArchivesAt a r (markedBy b f)
@@ -47,7 +50,7 @@ pub pass-with-failure-archived : (l : MaximumStressFailure) (e : CorotatedLinear
     → ArchivesAt a (recordAt xs i) (passFound (failureLaw (Rankine a) l e) xs out i)
 pass-with-failure-archived l e {a} {xs} {out} {i} w g =
     let d = pass-with-failure-3 l e w g in
-    subst (ArchivesAt a (recordAt xs i)) (sym (d .found)) (marked-archived a (recordAt xs i) (failureLaw (Rankine a) l e (recordAt xs i) .failed) _ (found-archived solid (d .law)))
+    subst (ArchivesAt a (recordAt xs i)) (sym (d .found)) (marked-archived a (recordAt xs i) (failureLaw (Rankine a) l e (recordAt xs i) .failed) _ (found-archived (d .law)))
 
 pub sheet-archived : {s xs out : List ℕ} {i : ℕ} → InSheet s xs out i → SheetPremises s i → ArchivesAt (argumentsIn s) (recordIn s i) (sheetFound s xs out i)
-sheet-archived w g = found-archived solid (sheet-3 w g)
+sheet-archived w g = found-archived (sheet-3 w g)
