@@ -1,9 +1,10 @@
 #!/usr/bin/env python3
 """Shows that the square root is worked out one binary digit at a time: in its sources, in the built library, and by a run.
 
-    tools/no_division.py [ARCHIVE]
+    tools/no_division.py [--sources | ARCHIVE]
 
-ARCHIVE is the static library; with none it is the one that `tools/built archive` has, and the sources and the run are looked at too.
+With --sources the sources alone are looked at: the gate does that, and it needs nothing built. ARCHIVE is the static library; with neither it is the one
+that `tools/built archive` has, and the sources and the run are looked at too.
 Sources (crates/square_root/src, less comments and contracts). Wrong is a `*`; a `/` or `%` but by a constant power of two; an array; a call of another
 crate's function, but for those of `answers`, which work nothing out.
 Library. It is disassembled (objdump for x86-64, of binutils). Looked at are pasoletu_sqrt, every function of the crate `square_root` that the compiler
@@ -251,12 +252,17 @@ def main(words):
         print(__doc__.strip())
         return 0 if len(words) < 2 else 1
     try:
-        archive = pathlib.Path(words[0]) if words else library()
-        parts = [checked(disassembled(archive))]
-        if not words:
-            parts = [sources(SOURCES), *parts]
+        if words == ["--sources"]:
+            parts = [sources(SOURCES)]
+        elif words:
+            parts = [checked(disassembled(words[0]))]
+        else:
+            archive = library()
+            parts = [sources(SOURCES), checked(disassembled(archive))]
             if platform.machine() == "x86_64":
                 parts.append(run(archive))
+            else:
+                print("no_division: left out: the run, which steps through code for x86-64; this is %s" % platform.machine(), file=sys.stderr)
     except shell.Wrong as e:
         print("no_division: %s" % e, file=sys.stderr)
         return 1

@@ -2,7 +2,7 @@
 //! the determinant along the first row, `recompose` scaling U's columns first, the inverse as cofactors over the determinant.
 //! Factors are those that the caller brings, principal stresses those that the harness works of the lower triangle. Elementary functions are asked of the harness.
 //! No std here: with it, the inherent `f64::ln` and its like would win over `ComplexField`, silently.
-//! With the feature `machine` there is std, its functions win, and nothing is told to the harness: build 3, for times.
+//! With the feature `quiet` nothing is told to the harness of what was worked where, and with `machine` there is std besides, whose functions win: builds 4 and 3, for times.
 #![cfg_attr(not(feature = "machine"), no_std)]
 
 use core::ops::{Add, AddAssign, Div, Index, IndexMut, Mul, Neg, Sub};
@@ -57,7 +57,7 @@ pub mod hooks {
 use hooks::{Function, Op};
 
 fn site(op: Op, at: &'static Location<'static>, input: &[f64], output: &[f64]) {
-    if cfg!(not(feature = "machine")) {
+    if cfg!(not(feature = "quiet")) {
         unsafe { hooks::beside_site(op, at, input, output) }
     }
 }

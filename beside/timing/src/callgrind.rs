@@ -36,7 +36,7 @@ pub fn count(name: &str, run: impl FnOnce()) {
 
 /// Runs this program with `--count` under callgrind; the instructions of each name, or nothing where there is no valgrind.
 pub fn counted(work: &str) -> Option<BTreeMap<String, f64>> {
-    let folder = format!("{work}/callgrind");
+    let folder = format!("{work}/callgrind{}", if cfg!(feature = "our_root") { "4" } else { "" });
     let _ = fs::remove_dir_all(&folder);
     fs::create_dir_all(&folder).unwrap();
     let done = Command::new("valgrind")

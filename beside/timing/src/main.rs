@@ -1,7 +1,8 @@
 //! Times of ours beside the Rust, in one run: medians of interleaved rounds, CPU time; and instructions, by callgrind.
 //! timing WORK [--count | --growth | --drawn]: WORK is the folder with libuntouched.so, and speed.tsv is left there; --count is how the
 //! program runs itself under callgrind; --growth tells besides how a pass grows with its list, and leaves the records in WORK/drawn0 to 3
-//! and 100 sheets of them in WORK/sheets; --drawn leaves the records alone.
+//! and 100 sheets of them in WORK/sheets; --drawn leaves the records alone. Built with `our_root` it times the laws alone, beside the rival
+//! that takes our root, and adds that to speed.tsv.
 mod callgrind;
 #[path = "../../calls.rs"]
 #[allow(dead_code)]
@@ -15,6 +16,8 @@ mod growth;
 #[path = "../../library.rs"]
 mod library;
 mod records;
+#[cfg(feature = "our_root")]
+mod root;
 mod sides;
 
 use calls::{BARE, FLOATS};
@@ -50,6 +53,16 @@ fn laws(work: &str) -> Vec<Row> {
         }
     }
     rows
+}
+
+/// The laws again, ours beside the fair rival alone: of build 4.
+fn rooted() -> Vec<Row> {
+    let row = |model: usize| {
+        let (p, records) = (bits(LAWS[model].parameters), drawn(model, 4096));
+        let sides = vec![some(OurPass::new(model, &p, &records)), some(FairPass::new(model, &p, &records))];
+        Row { name: format!("{}, 4096", LAWS[model].name), units: 4096, sides }
+    };
+    (0..LAWS.len()).map(row).collect()
 }
 
 /// Our factors of a law's records beside nalgebra's, the values the same.
@@ -306,9 +319,28 @@ fn load() -> String {
     std::fs::read_to_string("/proc/loadavg").unwrap_or_default().split(' ').take(3).collect::<Vec<_>>().join(" ")
 }
 
+/// What build 4 tells: the rival's root is ours. Its lines are added to those of build 3.
+fn tell_rooted(work: &str, counting: bool) {
+    let mut rows = rooted();
+    if counting {
+        return rows.iter_mut().for_each(count);
+    }
+    let counts = callgrind::counted(work);
+    rows.iter_mut().for_each(agree);
+    let mut told = String::new();
+    let title = "A record of a law's pass, factors given, beside the fair rival with our root in it";
+    table(title, &["ours, again", "our root"], &mut rows, &counts, &mut told);
+    let file = format!("{work}/speed.tsv");
+    let before = std::fs::read_to_string(&file).unwrap_or_default();
+    std::fs::write(file, before + &told).unwrap();
+}
+
 fn main() {
     let args: Vec<String> = std::env::args().collect();
     let work = &args[1];
+    if cfg!(feature = "our_root") {
+        return tell_rooted(work, args.iter().any(|a| a == "--count"));
+    }
     if args.iter().any(|a| a == "--drawn") {
         return write_drawn(work, 0);
     }
