@@ -22,6 +22,7 @@ enum {
     OTHER_U,      // a bit of U changed where a flat record is stored
     LAST_KEPT,    // the last flat record of a pass as it came
     OFF_SURFACE,  // a flat sigma of Rankine's a little off, with its F
+    TOLD_LATE,    // the progress written by a part after a fault or the end
 };
 
 static int fault_is(int kind) {
@@ -176,6 +177,10 @@ static uint8_t broken_part(const uint8_t *s, size_t ns, uint64_t *state, size_t 
         return 4;
     if (fault_is(FORGOTTEN) && n && n != 8 && before)
         return 0;
+    if (fault_is(TOLD_LATE) && n != 8 && before) {
+        p[0] = state[5];
+        p[1] = state[3];
+    }
     if (fault_is(HELD_BYTE) && n == 0 && state[6] > 8)
         state[15] ^= 1;
     return spoiled(n, r, nr, p, np);

@@ -523,10 +523,11 @@ static uint64_t *lent_state(void) {
 
 static void want_told(const struct came *c, uint8_t got, uint8_t want, const char *what) {
     check(got == want, what, got, want);
-    uint64_t *p = wanted(&progress_room, 2);
-    p[0] = c->complete;
-    p[1] = c->count;
-    uint64_t *state = lent_state(), *held = wanted(&state_room, STATE);
+    uint64_t *p = wanted(&progress_room, 2), *state = lent_state(), *held = wanted(&state_room, STATE);
+    if (!c->fault) {
+        p[0] = c->complete;
+        p[1] = c->count;
+    }
     if (c->fault)
         check(memcmp(state, held, 8 * STATE) == 0, "a call after a fault or the end changed the state: number", want, 0);
     memcpy(held, state, 8 * STATE);
@@ -550,7 +551,9 @@ static void wrong_lengths(const struct came *c, const uint8_t *b, size_t n) {
     want_lists(c);
 }
 
-static uint8_t handed(struct came *c, const uint8_t *b, size_t from, size_t n, uint64_t *state, uint64_t *r, uint64_t *a, uint64_t *p) {
+// Every call lends another list of progress, so that one that is written after a fault or the end is seen.
+static uint8_t handed(struct came *c, const uint8_t *b, size_t from, size_t n, uint64_t *state, uint64_t *r, uint64_t *a) {
+    uint64_t *p = lend(&progress_room, NULL, 2);
     uint8_t refusal = 0;
     if (!c->fault)
         c->complete = whole_in(b, from + n, &c->count, &refusal);
@@ -562,7 +565,8 @@ static uint8_t handed(struct came *c, const uint8_t *b, size_t from, size_t n, u
     return want;
 }
 
-static void ended(struct came *c, const uint8_t *b, size_t n, uint64_t *state, uint64_t *r, uint64_t *a, uint64_t *p) {
+static void ended(struct came *c, const uint8_t *b, size_t n, uint64_t *state, uint64_t *r, uint64_t *a) {
+    uint64_t *p = lend(&progress_room, NULL, 2);
     uint8_t want = c->fault, refusal = 0;
     if (!want) {
         whole_in(b, n, &c->count, &refusal);
@@ -577,22 +581,22 @@ static void ended(struct came *c, const uint8_t *b, size_t n, uint64_t *state, u
 // The longest part of a style, so that some sheets come byte by byte, some whole.
 static void one_cutting(const uint8_t *b, size_t n, size_t longest) {
     struct came c = {0, 0, 0};
-    uint64_t *state = lend(&state_room, NULL, STATE), *r = lend(&records_room, NULL, ROOM), *a = lend(&answers_room, NULL, 2 * MOST), *p = lend(&progress_room, NULL, 2);
+    uint64_t *state = lend(&state_room, NULL, STATE), *r = lend(&records_room, NULL, ROOM), *a = lend(&answers_room, NULL, 2 * MOST);
     uint8_t got = pasoletu_begin_parts(state, STATE);
     check(got == 0, "begin_parts: answer", got, 0);
     memcpy(wanted(&state_room, STATE), state, 8 * STATE);
     for (size_t at = 0; at < n;) {
         size_t k = below(8) ? 1 + below(longest) : 0;
         k = k > n - at ? n - at : k;
-        handed(&c, b, at, k, state, r, a, p);
+        handed(&c, b, at, k, state, r, a);
         at += k;
         if (!below(16))
             wrong_lengths(&c, b, k);
     }
-    ended(&c, b, n, state, r, a, p);
-    handed(&c, b, 0, n ? below(n) : 0, state, r, a, p);
-    handed(&c, b, 0, 0, state, r, a, p);
-    ended(&c, b, n, state, r, a, p);
+    ended(&c, b, n, state, r, a);
+    handed(&c, b, 0, n ? below(n) : 0, state, r, a);
+    handed(&c, b, 0, 0, state, r, a);
+    ended(&c, b, n, state, r, a);
 }
 
 // The run of the whole: of a sheet that is refused for its length, of its whole records alone.

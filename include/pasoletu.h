@@ -3,7 +3,8 @@
  * THE RULES OF EVERY CALL
  *
  * What comes back. Every call returns 0, or the number of its refusal (below; pasoletu_refusal_text says it in words).
- * A refused call writes nothing: every list that was lent holds the bits it held.
+ * A refused call writes nothing: every list that was lent holds the bits it held. One kind of call does: where
+ * pasoletu_part or pasoletu_end_parts meets a fault, it leaves in its lists how far the sheet came.
  *
  * Lists. A list is two arguments, a pointer and the number of its entries (not of its bytes). Lists are lent for the
  * time of the call: the library keeps no pointer, allocates nothing, holds no state, and frees nothing. The caller
@@ -719,16 +720,18 @@ uint8_t pasoletu_begin_parts(uint64_t *state, size_t state_length);
  * room in every call of a sheet. progress: PASOLETU_PARTS_COMPLETE and the other. A sheet that is short so far is
  * not refused. For every cutting, parts and end give what pasoletu_run_sheet gives of the whole.
  * Refusals: 8 for a list of another length, before all else, with nothing written, and no fault; 5, 6 and 7 as soon
- * as the fault is there; a fault's own number again after it, and 15 after the end, with nothing changed. Here a
- * refused call does write: the records complete before the fault stand worked, state and progress tell them. */
+ * as the fault is there: that call does write, the records complete before the fault stand worked, and state and
+ * progress tell them; after it the fault's own number again, and 15 after the end, with nothing written, progress
+ * too. */
 uint8_t pasoletu_part(const uint8_t *bytes, size_t bytes_length, uint64_t *state, size_t state_length, double *records,
                       size_t records_length, uint64_t *answers, size_t answers_length, uint64_t *progress,
                       size_t progress_length);
 
 /* state: 52; progress: 2. The sheet has ended. The lists are lent as to pasoletu_part, and records and answers are
  * only looked at for their lengths.
- * Refusals: 8 as pasoletu_part; a fault's own number; 15 after an end; 4 where something is missing, told only here
- * and again by every later call. progress is written beside all but 8. */
+ * Refusals: 8 as pasoletu_part, a fault's own number after it, and 15 after an end, all with nothing written; 4
+ * where something is missing, told only here and again by every later call: the first time state and progress are
+ * written. */
 uint8_t pasoletu_end_parts(const double *records, size_t records_length, const uint64_t *answers, size_t answers_length,
                            uint64_t *state, size_t state_length, uint64_t *progress, size_t progress_length);
 

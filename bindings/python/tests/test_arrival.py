@@ -183,6 +183,19 @@ class Lengths(unittest.TestCase):
         arrival.feed(whole[100:])
         self.assertEqual(bits(arrival.finish()), bits(pasoletu.run(whole)))
 
+    def test_after_the_end_and_after_a_fault_nothing_is_written(self):
+        whole = small()
+        for data, number in ((whole, AFTER_END), (whole + b"\0", TOO_MANY), (whole[:-1], ENDS_EARLY)):
+            state, records, answers, progress = made = self.lists()
+            ask("begin_parts", state)
+            ask("part", (ctypes.c_uint8 * len(data)).from_buffer_copy(data), state, records, answers, progress)
+            ask("end_parts", records, answers, state, progress)
+            progress[:] = [7, 9]
+            before = [bytes(held) for held in made]
+            self.assertEqual(ask("part", (ctypes.c_uint8 * 1)(9), state, records, answers, progress), number)
+            self.assertEqual(ask("end_parts", records, answers, state, progress), number)
+            self.assertEqual([bytes(held) for held in made], before)
+
     def test_any_words_answer(self):
         rng = random.Random(3)
         for _ in range(2000):

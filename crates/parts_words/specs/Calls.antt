@@ -26,9 +26,13 @@ pub record Lists : Type 0 where
 abbrev pub lists : List ℕ → List ℕ → List ℕ → List ℕ → Lists
 lists state xs out p = record { state = state; records = xs; answers = out; progress = p }
 
--- 8 before all else; nothing is written then
+-- 8 before all else
 abbrev pub fits : Lists → Bool
 fits c = eqb (length (c .state)) stateLength && eqb (length (c .progress)) progressLength && lent (c .records) (c .answers)
+
+-- Beside 8, after a fault and after the end nothing is written.
+abbrev pub goes : Lists → Bool
+goes c = fits c && eqb (arrivalAt (c .state) .refusal) 0
 
 abbrev pub workAt : Lists → Work
 workAt c = works (arrivalAt (c .state)) (c .records) (c .answers)
@@ -52,7 +56,7 @@ partCode c l = cond (fits c) (partTold c l .refusal) wrongLength
 
 abbrev pub partLists : Lists → List ℕ → Lists
 partLists c l =
-    cond (fits c)
+    cond (goes c)
     (lists (stateWords (partTold c l .arrival)) (partWork c l .records) (partWork c l .answers) (progressOf (partTold c l)))
     c
 
@@ -65,18 +69,38 @@ endCode c = cond (fits c) (endTold c .refusal) wrongLength
 
 abbrev pub endLists : Lists → Lists
 endLists c =
-    cond (fits c) (lists (stateWords (endTold c .arrival)) (c .records) (c .answers) (progressOf (endTold c))) c
+    cond (goes c) (lists (stateWords (endTold c .arrival)) (c .records) (c .answers) (progressOf (endTold c))) c
 
--- ---- parts handed in, one call after the other
-unfoldable pub handed : Lists → List (List ℕ) → Lists
+-- ---- calls, one after the other: a part in the host's own lists; a part or an end in lists that don't fit, which keep their bits
+pub data Call : Type 0 where
+  Part : List ℕ → Call
+  Amiss : List ℕ → Lists → Call
+  AmissEnd : Lists → Call
+
+abbrev pub stepOf : Lists → Call → Lists
+stepOf c (Part l) = partLists c l
+stepOf c (Amiss l d) = c
+stepOf c (AmissEnd d) = c
+
+unfoldable pub handed : Lists → List Call → Lists
 handed c [] = c
-handed c (l ∷ ls) = handed (partLists c l) ls
+handed c (k ∷ ks) = handed (stepOf c k) ks
+
+-- the parts among the calls
+unfoldable pub partsIn : List Call → List (List ℕ)
+partsIn [] = []
+partsIn (Part l ∷ ks) = l ∷ partsIn ks
+partsIn (Amiss l d ∷ ks) = partsIn ks
+partsIn (AmissEnd d ∷ ks) = partsIn ks
 
 -- how far a sheet has come, in a host's lists
 abbrev pub carried : Work → List ℕ → Lists
 carried w p = lists (stateWords (w .arrival)) (w .records) (w .answers) p
 
--- the progress after them
+-- the progress after a part, and after several
+abbrev pub progressBy : Work → List ℕ → List ℕ → List ℕ
+progressBy w l p = cond (eqb (w .arrival .refusal) 0) (progressOf (partAnswer w l)) p
+
 unfoldable pub progressAfter : Work → List (List ℕ) → List ℕ → List ℕ
 progressAfter w [] p = p
-progressAfter w (l ∷ ls) p = progressAfter (parted w l) ls (progressOf (partAnswer w l))
+progressAfter w (l ∷ ls) p = progressAfter (parted w l) ls (progressBy w l p)

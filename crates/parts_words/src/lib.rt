@@ -151,7 +151,7 @@ pub fn begin(state: &mut [u64]) -> u8
     0
 }
 
-// A part: 8 where a list has another length, before all else and with nothing written.
+// A part: 8 where a list has another length, before all else. Beside it, after a fault and after the end nothing is written.
 pub fn part(
     bytes: &[u8],
     state: &mut [u64],
@@ -167,14 +167,17 @@ pub fn part(
 {
     let fits = fit(state.len(), progress.len(), records.len(), answers.len());
     if fits {
-        let a = arrival_at(state);
-        let t = parts::part(a, bytes, records, answers);
+        let came = arrival_at(state);
+        if came.refusal != 0 {
+            return came.refusal;
+        }
+        let t = parts::part(came, bytes, records, answers);
         return put_told(t, state, progress);
     }
     answers::LENGTH
 }
 
-// The end is declared. The lists are lent as to a part, and keep their bits.
+// The end is declared. The lists are lent as to a part; those of records and answers keep their bits.
 pub fn end(records: &[u64], answers: &[u64], state: &mut [u64], progress: &mut [u64]) -> u8
     ensures { λ r. ⌜ r ≡ endCode (lists (now (state .entry)) (now (records .entry)) (now (answers .entry)) (now (progress .entry))) ⌝ }
     ensures { λ r. ⌜ now (state .exit) ≡ endLists (lists (now (state .entry)) (now (records .entry)) (now (answers .entry)) (now (progress .entry))) .state ⌝ }
@@ -183,6 +186,9 @@ pub fn end(records: &[u64], answers: &[u64], state: &mut [u64], progress: &mut [
     let fits = fit(state.len(), progress.len(), records.len(), answers.len());
     if fits {
         let a = arrival_at(state);
+        if a.refusal != 0 {
+            return a.refusal;
+        }
         let t = parts::end(a, records, answers);
         return put_told(t, state, progress);
     }
