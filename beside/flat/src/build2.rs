@@ -1,4 +1,5 @@
 //! Build 2 run and watched in two dimensions: the hooks that the crate nalgebra beside here asks, and the outcome that RULES section 6 gives.
+use crate::flags::{flags, set_flags, ALL, NAN_AROSE};
 use crate::law::{self, *};
 use crate::ours;
 use nalgebra::hooks::{Function, Op};
@@ -40,19 +41,6 @@ static WATCH: Cell = Cell(UnsafeCell::new(None));
 pub fn watch() -> &'static mut Watch {
     unsafe { &mut *WATCH.0.get() }.get_or_insert_with(Watch::default)
 }
-
-/// The processor's sticky flags; bit 0 is set where a NaN arose from numbers.
-fn flags() -> u32 {
-    let mut x = 0u32;
-    unsafe { std::arch::asm!("stmxcsr [{}]", in(reg) &mut x) };
-    x
-}
-
-fn set_flags(x: u32) {
-    unsafe { std::arch::asm!("ldmxcsr [{}]", in(reg) &x) };
-}
-
-const NAN_AROSE: u32 = 1;
 
 fn machine(which: Function, x: f64) -> f64 {
     match which {
@@ -124,7 +112,7 @@ pub fn run(model: usize, p: &[f64], r: &Record, machine: bool) -> Record {
     w.factors[..10].copy_from_slice(&r[U..PHASE]);
     let mut o = *r;
     let was = flags();
-    set_flags(was & !0x3f);
+    set_flags(was & !ALL);
     law::update(model, p, &mut o);
     let after = flags();
     set_flags(was);
@@ -142,7 +130,7 @@ pub fn made(p: &[f64]) -> Result<String, u8> {
     let w = watch();
     *w = Watch::default();
     let was = flags();
-    set_flags(was & !0x3f);
+    set_flags(was & !ALL);
     let law = law::by_angle(p);
     let after = flags();
     set_flags(was);

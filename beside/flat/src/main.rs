@@ -1,6 +1,8 @@
 //! Our flat laws beside the Rust built for two dimensions. See ../../README.md.
 #[path = "../law.rs"]
 mod law;
+#[path = "../../flags.rs"]
+mod flags;
 #[path = "../../library.rs"]
 mod library;
 

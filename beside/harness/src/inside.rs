@@ -1,5 +1,6 @@
 //! Build 2 run and watched: the hooks that the crate nalgebra of this folder asks, what each call of the text did on its way,
 //! and the outcome that RULES section 6 gives for it.
+use crate::flags::{flags, set_flags, ALL, NAN_AROSE};
 use crate::calls::{self, *};
 use crate::ours;
 use crate::principal;
@@ -75,19 +76,6 @@ pub fn watch() -> &'static mut Watch {
         asked: Vec::new(),
     })
 }
-
-/// The processor's sticky flags; bit 0 is set where a NaN arose from numbers.
-fn flags() -> u32 {
-    let mut x = 0u32;
-    unsafe { std::arch::asm!("stmxcsr [{}]", in(reg) &mut x) };
-    x
-}
-
-fn set_flags(x: u32) {
-    unsafe { std::arch::asm!("ldmxcsr [{}]", in(reg) &x) };
-}
-
-const NAN_AROSE: u32 = 1;
 
 /// What an elementary function says of an argument inside a law: a NaN is the law's 3, an infinity lies on its side of the range.
 fn on_path(status: u8, x: f64) -> u8 {
@@ -226,7 +214,7 @@ pub fn run(n: usize, i: &[u64], o: &mut [u64], mode: Mode) {
     w.met.clear();
     w.asked.clear();
     let was = flags();
-    set_flags(was & !0x3f);
+    set_flags(was & !ALL);
     calls::call(n, i, o);
     let after = flags();
     set_flags(was);

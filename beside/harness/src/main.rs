@@ -7,6 +7,8 @@ mod elementary;
 mod examples;
 mod far;
 mod inside;
+#[path = "../../flags.rs"]
+mod flags;
 #[path = "../../library.rs"]
 mod library;
 mod listed;
