@@ -14,4 +14,4 @@ returns-2 c =
     simp (t0)
 
 pub answered-spec : {M : Type 1} → statement M
-answered-spec = tie.close (tie.spec (λ c κs. search needs) returns returns-2)
+answered-spec = tie.close (tie.spec (λ c κs. search needs) (λ c. search needs) (λ c. search needs) returns returns-2)
