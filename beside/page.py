@@ -18,7 +18,7 @@ TARGET = 1.2
 HEAD = """# Speed
 
 Made by `beside/speed --page` and not by hand: ours beside the Rust in one run on one machine. Instructions are counted (callgrind) and stay; times sway
-with the machine's load, {load} here. {processor}. [beside/README.md](../beside/README.md) says what is timed.
+with the machine's load, {load} here. {processor}. [beside/README.md](../beside/README.md) says what is timed.{other}
 
 **The fair rival** is the Rust less its SVD with the duties of ours around each update: 1 over parameters and all 37 floats, 11, the record put back where a result
 isn't finite, the determinant of the new F stored, answers and counts written (`beside/timing/src/fair.rs`). The untouched Rust tests nothing.
@@ -145,6 +145,14 @@ def processor():
     return "Processor: " + platform.machine()
 
 
+def other_processor():
+    """What is said where the library, which is for x86-64, was timed elsewhere."""
+    if platform.machine() == "x86_64":
+        return ""
+    return (f"\n\nThe library is for x86-64. What is timed here is its own proved code, as the toolchain hands it to the compiler, compiled for {platform.machine()}: "
+            "the ratios are of this processor, and the bytes at the end are too.")
+
+
 def code_bytes(archive):
     told = subprocess.run(["size", "-t", archive], capture_output=True, text=True)
     return int(told.stdout.splitlines()[-1].split()[0]) if told.returncode == 0 else None
@@ -178,7 +186,7 @@ def picture(rows):
 def main():
     work = pathlib.Path(sys.argv[1])
     rows, grown, hosts, night, load = read(work / "speed.tsv")
-    text = HEAD.format(load=load, processor=processor())
+    text = HEAD.format(load=load, processor=processor(), other=other_processor())
     text += "\n## A record of a law's pass, factors given, beside the fair rival with our root\n"
     text += table(["", *heads("fair"), "target"], rooted(rows))
     text += "\n## The same beside the fair rival with the processor's root\n"
