@@ -9,7 +9,6 @@ use Rattle.plasticity.specs.declared.Outcome.{Outcome}
 use Rattle.plasticity.specs.declared.Outcome.the-variants.{Untouched, Stored, Refused}
 use Rattle.failure_maximum_stress.specs.declared.MaximumStressFailure.{MaximumStressFailure}
 use Rattle.elasticity_corotated_linear.specs.declared.CorotatedLinearElasticity.{CorotatedLinearElasticity}
-use Rattle.record.specs.Layout.{floats}
 use Rattle.plasticity_rankine.specs.declared.RankineArguments.{RankineArguments}
 use Rattle.model.specs.declared.Model.the-variants.{Rankine}
 use Rattle.model.specs.Model.{modelFinite}
@@ -21,11 +20,10 @@ use Rattle.particles.proofs.PassLaws.{record-keeps}
 use Rattle.particles.proofs.JudgedLaws.{failure-keeps}
 use Rattle.particles.proofs.FactoredLaws.{factors-length, factored-keeps}
 use Rattle.rankine_surface.specs.Surface.{Accepted}
-use Rattle.rankine_surface.specs.Record.{solid, Premises, Found, foundOf, Demand3At, ArchivesAt, InPass, passFound, LawStep}
+use Rattle.rankine_surface.specs.Record.{Premises, Found, foundOf, Demand3At, ArchivesAt, InPass, passFound, LawStep}
 use Rattle.rankine_surface.proofs.Passes.{same, in-pass, found}
 use Rattle.rankine_surface.proofs.Records.{record-3, law-found}
-use Rattle.rankine_surface.proofs.Left.{found-archived}
-use Rattle.rankine_surface.proofs.Stored.{marked-archived}
+use Rattle.rankine_surface.proofs.Stored.{found-archived, marked-archived}
 
 held : (o : Outcome) (old new : List ℕ) → Accepted o → heldBy o old new ≡ new
 held Untouched old new h = refl
@@ -61,8 +59,8 @@ pub pass-factored-3 : {a : RankineArguments} {xs out : List ℕ} {i : ℕ} → I
 pass-factored-3 {a} {xs} {out} {i} w g =
     let k = factored-keeps (modelFinite (Rankine a)) (recordLaw (Rankine a)) (record-keeps (Rankine a)) in
     let f = factored-found (modelFinite (Rankine a)) (recordLaw (Rankine a)) (recordAt xs i) (g .accepted) in
-    subst (Demand3At a (withFactors (recordAt xs i))) (sym (found floats (plainFirst a) k xs out i w ∙ f .0))
-    (record-3 (factors-length (recordAt xs i) ∙ in-pass floats (plainFirst a) k xs out i w) (of-outcome g (f .1)))
+    subst (Demand3At a (withFactors (recordAt xs i))) (sym (found (plainFirst a) k xs out i w ∙ f .0))
+    (record-3 (factors-length (recordAt xs i) ∙ in-pass (plainFirst a) k xs out i w) (of-outcome g (f .1)))
 
 pub pass-factored-with-failure-3 : (l : MaximumStressFailure) (e : CorotatedLinearElasticity) {a : RankineArguments} {xs out : List ℕ} {i : ℕ} → InPass xs out i
     → Premises a (withFactors (recordAt xs i)) (judgedFirst a l e (recordAt xs i) .outcome)
@@ -73,15 +71,15 @@ pass-factored-with-failure-3 l e {a} {xs} {out} {i} w g =
     let f = factored-found own (failureLaw (Rankine a) l e) (recordAt xs i) (g .accepted) in
     let h = law-found a l e (withFactors (recordAt xs i)) (f .1) in
     record {
-      law = record-3 (factors-length (recordAt xs i) ∙ in-pass floats (judgedFirst a l e) k xs out i w) (of-outcome g (h .1));
-      found = found floats (judgedFirst a l e) k xs out i w ∙ f .0 ∙ h .0;
+      law = record-3 (factors-length (recordAt xs i) ∙ in-pass (judgedFirst a l e) k xs out i w) (of-outcome g (h .1));
+      found = found (judgedFirst a l e) k xs out i w ∙ f .0 ∙ h .0;
     }
 
 -- ---- in the archive
 pub pass-factored-archived : {a : RankineArguments} {xs out : List ℕ} {i : ℕ} → InPass xs out i
     → Premises a (withFactors (recordAt xs i)) (plainFirst a (recordAt xs i) .outcome)
     → ArchivesAt a (withFactors (recordAt xs i)) (passFound (plainFirst a) xs out i)
-pass-factored-archived w g = found-archived solid (pass-factored-3 w g)
+pass-factored-archived w g = found-archived (pass-factored-3 w g)
 
 pub pass-factored-with-failure-archived : (l : MaximumStressFailure) (e : CorotatedLinearElasticity) {a : RankineArguments} {xs out : List ℕ} {i : ℕ} → InPass xs out i
     → Premises a (withFactors (recordAt xs i)) (judgedFirst a l e (recordAt xs i) .outcome)
@@ -89,4 +87,4 @@ pub pass-factored-with-failure-archived : (l : MaximumStressFailure) (e : Corota
 pass-factored-with-failure-archived l e {a} {xs} {out} {i} w g =
     let d = pass-factored-with-failure-3 l e w g in
     let r = withFactors (recordAt xs i) in
-    subst (ArchivesAt a r) (sym (d .found)) (marked-archived a r (failureLaw (Rankine a) l e r .failed) _ (found-archived solid (d .law)))
+    subst (ArchivesAt a r) (sym (d .found)) (marked-archived a r (failureLaw (Rankine a) l e r .failed) _ (found-archived (d .law)))
