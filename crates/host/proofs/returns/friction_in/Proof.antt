@@ -1,5 +1,6 @@
 -- `host::returns::friction_in` answers `naccFriction axes angle`.
 use borrow.Author.Needs.{needs}
+use borrow.Author.Tests.{ne-eqb}
 use Rattle.host.specs.Calls.{naccFriction}
 use Rattle.host.proofs.returns.friction_in.Statement.{statement}
 use Rattle.host.proofs.returns.friction_in.Tie as tie
@@ -14,15 +15,14 @@ returns-2 : tie.Need-returns-2
 unfolding naccFriction
 returns-2 c =
     let t0 = c .before .if2 .taken in
-    let t1 = c .before .before .if1 .left in
-    simp (c .friction-of2 .ensures, t0, t1)
+    simp (c .friction-of2 .ensures, t0)
 
 returns-3 : tie.Need-returns-3
 unfolding naccFriction
 returns-3 c =
-    let t0 = c .if2 .left in
-    let t1 = c .before .if1 .left in
-    simp (t0, t1)
+    let t0 = ne-eqb _ 3 (c .if2 .left) in
+    let t1 = ne-eqb _ 2 (c .before .if1 .left) in
+    simp (t1, t0)
 
 pub friction-in-spec : {M : Type 1} → statement M
 friction-in-spec = tie.close (tie.spec (λ c κs. search needs) (λ c κs. search needs) returns returns-2 returns-3)
