@@ -5,6 +5,7 @@ import dataclasses
 import math
 import os
 import pathlib
+import re
 import struct
 import subprocess
 import sys
@@ -139,7 +140,8 @@ class Document(Tests):
             lines.append("particles %d" % len(passed.outcomes))
             lines += ["%d %s" % (k, printed(outcome)) for k, outcome in enumerate(passed.outcomes)]
             lines.append("end")
-        self.assertEqual(lines, (CASES / "stdout").read_text().splitlines())
+        told = re.split("^(?=-- )", (CASES / "stdout").read_text(), flags=re.M)  # a part a heading: an answer, or its reasons
+        self.assertEqual(lines, [line for part in told if not part.partition("\n")[0].endswith(" why") for line in part.splitlines()])
 
 
 class Laws(Tests):

@@ -102,7 +102,15 @@ fn the_program_s_sheets() {
         lines.push("end".to_string());
     }
     let printed = std::fs::read_to_string(format!("{cases}/stdout")).unwrap();
-    assert!(lines.iter().map(String::as_str).eq(printed.lines()));
+    // Under each heading that ends with `why` stand reasons.
+    let mut reasons = false;
+    let answers = printed.lines().filter(|line| {
+        if line.starts_with("-- ") {
+            reasons = line.ends_with(" why");
+        }
+        !reasons
+    });
+    assert!(lines.iter().map(String::as_str).eq(answers));
 }
 
 #[test]
