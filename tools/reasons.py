@@ -345,7 +345,7 @@ def check(args):
         sheets = [pathlib.Path(s) for s in args.sheets] or sorted((shell.TOP / "samples").glob("*.sheet")) + cases.SHEETS
         for s in sheets:
             data = s.read_bytes()
-            answer = subprocess.run([program, "--why"], input=data, stdout=subprocess.PIPE, check=True).stdout.decode()
+            answer = subprocess.run([*shell.words(program), "--why"], input=data, stdout=subprocess.PIPE, check=True).stdout.decode()
             counts.append(compare(data, answer, s.name))
     passed, failed = (sum(column) for column in zip(*counts))
     print("%d passed, %d failed" % (passed, failed))
