@@ -57,9 +57,9 @@ fn preamble(held: &[u8], kept: usize) -> Header
     ensures { λ r. ⌜ r ≡ asHeader (preambleOf (take kept (now (held .entry)))) ⌝ }
 {
     if kept <= held.len() {
-        return sheet::read_preamble(&held[..kept]);
+        return sheet::preamble_at(&held[..kept], 0);
     }
-    sheet::read_preamble(held)
+    sheet::preamble_at(held, 0)
 }
 
 // A byte more before the records.
