@@ -18,6 +18,9 @@ MADE = (
     "beside/table.rs",
     "beside/externs.rs",
     "fuzz/calls.h",
+    "README.md",
+    "docs/GUIDE.md",
+    "docs/RULES.md",
 )
 READ = ("VERSION", "calls.toml", "tools/table", "tools/making", "crates/answers/src", "crates/model/specs", "crates/host/src", "crates/replay/src")
 
@@ -59,7 +62,7 @@ class Check(Copy):
     def test_each_stale_file_is_told(self):
         for name in MADE:
             was = (self.top / name).read_text()
-            (self.top / name).write_text(re.sub(r"1\.0\.0|37|pasoletu_exp\(|\"exp\"", "7.7.7", was))
+            (self.top / name).write_text(re.sub(r"1\.0\.0|37|pasoletu_exp\(|\"exp\"|A NaN arose", "7.7.7", was))
             with self.subTest(name):
                 self.told(name + " is stale")
             (self.top / name).write_text(was)
@@ -71,6 +74,14 @@ class Check(Copy):
     def test_a_header_without_its_marks_is_told(self):
         self.edit("include/pasoletu.h", "/* ==== End of", "/* ==== Finish of")
         self.told("include/pasoletu.h: it must have each of these lines once")
+
+    def test_a_page_without_its_marks_is_told(self):
+        self.edit("docs/GUIDE.md", "<!-- made by tools/table: desk -->", "")
+        self.told("docs/GUIDE.md: its marked tables are ['host'], not ['desk', 'host']")
+
+    def test_a_refusal_without_its_words_is_told(self):
+        self.edit("calls.toml", 'when = "the sheet ends early"\n', "")
+        self.told("refusal 4: it lacks when")
 
     def test_a_manifest_without_its_version_is_told(self):
         self.edit("bindings/rust/Cargo.toml", 'version = "', 'edition = "')
@@ -124,12 +135,16 @@ number = 250
 name = "UPSIDE_DOWN"
 what = "the sheet is upside down"
 remedy = "turn it"
+when = "its last byte comes first"
+host = "turn it"
 
 # ---- Models:""")
         self.assertEqual(self.run_table().returncode, 0)
-        for name in ("include/pasoletu.h", "bindings/python/pasoletu/_table.py", "bindings/rust/src/table.rs"):
+        self.assertIn("| 250 | its last byte comes first |", (self.top / "docs/RULES.md").read_text())
+        for name in ("include/pasoletu.h", "bindings/python/pasoletu/_table.py", "bindings/rust/src/table.rs", "README.md", "docs/GUIDE.md"):
             text = (self.top / name).read_text()
-            self.assertTrue("UPSIDE_DOWN" in text and "turn it" in text, name)
+            self.assertIn("turn it", text, name)
+            self.assertTrue("UPSIDE_DOWN" in text or name.endswith(".md"), name)
         self.told("crates/answers: UPSIDE_DOWN is None, in the table 250")
 
     def test_a_reserved_refusal_needs_no_row_and_may_have_none(self):

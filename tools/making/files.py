@@ -1,5 +1,5 @@
 """Which files are made, and from what."""
-from . import fuzz, header, python, rust
+from . import fuzz, header, pages, python, rust
 from .rows import BadTable
 
 MANIFESTS = ("bindings/rust/Cargo.toml", "bindings/rust/Cargo.lock", "bindings/rust/parallel/Cargo.toml")
@@ -23,4 +23,5 @@ def made(top, table):
         "beside/externs.rs": rust.beside_externs(table),
         "fuzz/calls.h": fuzz.made(table),
         **{name: renewed(name, rust.versioned) for name in MANIFESTS},
+        **{name: renewed(name, pages.made(name)) for name in pages.PAGES},
     }

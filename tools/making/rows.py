@@ -65,12 +65,15 @@ class Section:
 
 @dataclass(frozen=True)
 class Refusal:
-    """Why something is refused, and what to do about it."""
+    """Why something is refused, and what to do about it: in a few words; exactly; for a dispatcher, who sees not all of them; for a host's programmer."""
 
     number: int
     name: str
     what: str
     remedy: str
+    when: str
+    host: str
+    desk: str = ""
 
 
 @dataclass(frozen=True)
@@ -166,6 +169,13 @@ def call(row):
     return made
 
 
+def refusal(row):
+    lacking = {"number", "name", "what", "remedy", "when", "host"} - row.keys()
+    if lacking:
+        raise BadTable(f"refusal {row.get('number', '(without a number)')}: it lacks {', '.join(sorted(lacking))}")
+    return Refusal(**row)
+
+
 def model(row):
     parameters = (
         Parameter(p["name"], p.get("flag", False), p.get("default"), p.get("meaning", "")) for p in row["parameters"]
@@ -204,7 +214,7 @@ class Table:
     def __init__(self, top):
         rows = tomllib.loads((top / "calls.toml").read_text())
         self.version = (top / "VERSION").read_text().strip()
-        self.refusals = [Refusal(**row) for row in rows["refusal"]]
+        self.refusals = [refusal(row) for row in rows["refusal"]]
         self.reserved = rows.get("reserved", [])
         self.retired = rows.get("retired", [])
         self.models = [model(row) for row in rows["model"]]
