@@ -530,7 +530,7 @@ uint8_t pasoletu_drucker_prager_alpha(const double *fields, size_t fields_length
  * above it. */
 uint8_t pasoletu_nacc_friction(uint64_t axes, double friction_angle, double *out, size_t out_length);
 
-/* ---- One particle ------------------------------------------------------------------------------------------------ */
+/* ---- One particle (sections 5 and 7) ----------------------------------------------------------------------------- */
 
 /* record: 37; answer: 2. The plastic law on one record (sections 5 and 7). parameters: as many as the model has.
  * Returns 0: answer is (PASOLETU_UNTOUCHED, 0) and the record keeps its bits, or (PASOLETU_STORED, the amount's

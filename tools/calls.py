@@ -1,46 +1,52 @@
 #!/usr/bin/env python3
-"""Every call that a crate hands out, with its contract: docs/CALLS.md, made from crates.txt and crates/, and docs/EXCEPTIONS.md's tables.
+"""Makes what pages repeat of the sources, and holds the pages to them: every call with its contract, the crates, the tools, numbers of things.
 
-  tools/calls.py            writes docs/CALLS.md, and the tables of docs/EXCEPTIONS.md between their markers
-  tools/calls.py --check    holds the documents to the sources; the last line is 'N passed, M failed', and the status is 1 on a failure
+  tools/calls.py            writes docs/CALLS.md, docs/TOOLS.md, the tables of docs/EXCEPTIONS.md and docs/HOUSE.md between their marks, and the numbers that pages tell
+  tools/calls.py --check    holds the pages to the sources; the last line is 'N passed, M failed', and the status is 1 on a failure
+  tools/calls.py --words    prints how many words of each page are kept by hand, and how many there may be
   tools/calls.py --open     prints the calls with a `requires`, or with no `ensures`
 
---check fails where either page is not what this makes, where a call has no contract, where a call that requires something or takes a float has
-no row below that says what (REQUIRES, NANS or FIRST), where a row names no such call, and where docs/PROMISES.md, DECISIONS.md or EXCEPTIONS.md cites what isn't there:
-`crate/specs/File: name, name` (a definition or a theorem, in crates/crate/specs/File.antt), `crate/must-fail: name, name` (wrong builds) and
-`crate::call`.
+--check fails where a page or a table is not what this makes; where a call has no contract, no section or no words of its own (a C call's are calls.toml's, another's
+the source's or, where that has none, calls.toml's [words]); where a call that requires something or takes a float has no row below that says what (REQUIRES, NANS or
+FIRST), or a row names no such call; where a page cites what isn't there: `crate/specs/File: name, name` (a definition or a theorem, in crates/crate/specs/File.antt),
+`crate/must-fail: name, name` (wrong builds), `crate::call`, a file, an option, a name in a code span; where a line is shown that no program of the gate prints;
+where a number of things is another; and where there are too many words (tools/making/prose.py).
 """
 import argparse
+import ast
 import collections
 import fnmatch
 import functools
 import pathlib
 import re
 import sys
+import tomllib
+
+from making import prose
 
 HERE = pathlib.Path(__file__).resolve().parent.parent
 PAGE = "docs/CALLS.md"
 HEAD = """# Every public call
 
 Made by `tools/calls.py` from the sources: don't edit. A call stands with the path by which another crate names it; a C call with its own name.
-The section is [RULES.md](RULES.md)'s, the words are the source's, where the name doesn't say it all.
+The section is [RULES.md](RULES.md)'s; the words of a C call are the header's first sentence, of another the source's or calls.toml's.
 The contract names definitions, and below each table stands where these are. `r` is the result, `now (x .entry)` and `now (x .exit)` a lent list before and
 after. An *inner* call is public for the project's own crates alone: it requires something, which they prove, or it is no part of what a host is given ([EXCEPTIONS.md](EXCEPTIONS.md)).
 """
 
 Call = collections.namedtuple("Call", "crate path name words takes gives requires ensures definitions")
 
-# The section of a call: by its name where the crate's would be wrong, else by its crate's (or the crate's first words). Of any other call it is the
-# one that the definitions' pages cite.
+# The section of a call: a C call's is that of its heading in calls.toml; of another by its name where the crate's would be wrong, else by its crate's (or the
+# crate's first words). Of any other call it is the one that the definitions' pages cite.
 SECTIONS = [
-    ("numbers", "3", "in_range outside powi"),
+    ("numbers", "3", "powi"),
     ("numbers", "4", "max min"),
     ("numbers", "7", "float_of bits_of"),
     ("numbers", "6", ""),
     ("fixed_point exponential logarithm sine thirds square_root", "3", ""),
-    ("tensor", "1", "DecomposedTensor::decompose DecomposedTensor::recompose DecomposedTensor::add DecomposedTensor::times"),
+    ("tensor", "1", "DecomposedTensor::decompose DecomposedTensor::recompose DecomposedTensor::add DecomposedTensor::add_assign DecomposedTensor::times"),
     ("tensor", "1", "plain::decompose plain::recompose plain::add plain::times plain::add_assign plain::zero plain::spherical_part plain::deviatoric_part"),
-    ("tensor", "6", "refused_matrix refused_vector answered answered_vector tensor_finite row_finite mat_finite rows_finite row_number mat_number"),
+    ("tensor", "6", "refused_matrix refused_vector answered answered_vector row_finite mat_finite rows_finite row_number mat_number"),
     ("tensor", "4", ""),
     ("physics", "4", "norm_on_path"),
     ("physics", "1", ""),
@@ -51,13 +57,6 @@ SECTIONS = [
     ("nearness factors record particles reader lines why_lines", "7", ""),
     ("sheet writer", "6, 7", ""),
     ("host_lists", "6", ""),
-    ("host", "3", "exp sinh ln sin sqrt cbrt inv_cbrt cbrt_squared inv_cbrt_squared"),
-    ("host", "5, 7", "flat_update flat_pass"),
-    ("host", "7", "update factor factor_list pass pass_with_failure pass_factored pass_factored_with_failure read_sheet run_sheet write_sheet why fill_determinants"),
-    ("host", "7", "begin_parts part end_parts report join_reports clear_tallies move_particle pass_by_zone pass_with_failure_by_zone"),
-    ("host", "1", "inv_exact shear_modulus bulk_modulus shear_modulus_from_lame bulk_modulus_from_lame lame_lambda_mu solve_quadratic"),
-    ("host", "1", "spin_tensor strain_rate deviatoric_part spherical_part decomposed_times"),
-    ("host", "5", ""),
 ]
 
 # docs/EXCEPTIONS.md's tables. A row: of which calls, each crate's by their names inside it, and what a reader is told of them.
@@ -189,6 +188,7 @@ FIRST = [
 FLOATS, LISTS = r"\bf64\b", r"\[u64"
 REFUSAL = r"\bRefused\(|\brefusal: u8|^u8$"
 MADE = re.compile(r"(<!-- made by tools/calls.py: (\w+) -->\n)(.*?)(<!-- end -->)", re.S)
+HALF = re.compile(r"(?:The same|And|Its|Their|Of it|Likewise)\b")
 HEADING = re.compile(r"^( *)pub (?:extern \"C\" )?fn (\w+)((?:.|\n)*?)\n\1\{|^( *)pub fn (\w+)([^\n]*)\{$", re.M)
 CITED = re.compile(r"`(\w+)/((?:specs|proofs)/[\w/]+|must-fail)(?:: ([^`]+))?`")
 CALLED = re.compile(r"`(\w+)::([\w:]+)`")
@@ -200,6 +200,32 @@ def crates(top):
         name, colon, rest = line.partition(":")
         if colon and "#" not in name:
             yield name.strip(), rest.partition("#")[2].strip()
+
+
+@functools.lru_cache(maxsize=None)
+def told_of(top):
+    """What calls.toml tells: of each C call its section and words, of each other call that it names its words; and how many C calls there are."""
+    path = top / "calls.toml"
+    if not path.exists():
+        return {}, {}
+    rows = tomllib.loads(path.read_text())
+    c = {}
+    for section in rows.get("section", []):
+        numbers = re.findall(r"\d+", (re.search(r"sections? ([\d, and]+)", section["title"]) or re.match("()", "")).group(1))
+        for call in section["call"]:
+            text = " ".join(call["text"].split())
+            c["pasoletu_" + call["name"]] = ", ".join(numbers), re.split(r"(?<=[.]) (?=[A-Z])", text)[0]
+    return c, rows.get("words", {})
+
+
+def dependencies(top):
+    """Each crate's name and the crates that it knows."""
+    found = {}
+    for line in (top / "crates.txt").read_text().splitlines():
+        name, colon, rest = line.partition(":")
+        if colon and "#" not in name:
+            found[name.strip()] = rest.partition("#")[0].split()
+    return found
 
 
 def first_sentence(before):
@@ -293,10 +319,19 @@ def calls_of(top, crate):
             requires = re.findall(r"requires(?: \w+)? \{ ⌜ (.*) ⌝ \}", rest)
             used = {w: named[w] for w in re.findall(r"[^\s()]+", " ".join(ensures)) if w in named}
             takes, gives = signature(rest, owner(text[:m.start()]))
-            yield Call(crate, public, name, first_sentence(text[:m.start()]), takes, gives, requires, ensures, used)
+            yield Call(crate, public, name, call_words(top, public, text[:m.start()]), takes, gives, requires, ensures, used)
+
+
+def call_words(top, public, before):
+    """A C call's words are the header's, another's its comment's or, where there is none, calls.toml's."""
+    c, others = told_of(top)
+    return c[public][1] if public in c else others.get(public) or first_sentence(before)
 
 
 def section_of(top, call):
+    c, _ = told_of(top)
+    if call.path in c:
+        return c[call.path][0]
     within = re.sub(r"^(?:%s::|pasoletu_)" % call.crate, "", call.path)
     for of, number, names in SECTIONS:
         if any(call.crate == c or call.crate.startswith(c + "_") for c in of.split()) and (not names or within in names.split()):
@@ -437,6 +472,10 @@ def contract_fault(top, known, call):
         return "%s has no contract (docs/RULES.md, section 9)" % call.path
     if not section_of(top, call):
         return "%s has no section: name it in SECTIONS of tools/calls.py" % call.path
+    if not call.words:
+        return "%s has no words: give its source a comment, or calls.toml's [words] a row" % call.path
+    if HALF.match(call.words):
+        return "%s: its words, %r, are half a sentence" % (call.path, call.words)
     if call.requires and not words_of(REQUIRES, call):
         return "%s requires something: make it the crate's own, or say in REQUIRES of tools/calls.py what" % call.path
     if words_of(NANS, call):
@@ -461,26 +500,132 @@ def row_faults(listed):
                 yield None
 
 
+def name_rows(top, listed):
+    """SECTIONS and calls.toml's [words] name crates and calls that are there."""
+    crate_names, paths = {crate for crate, _ in crates(top)}, {c.path for c in listed}
+    for of, _, names in SECTIONS:
+        for crate in of.split():
+            there = [c for c in listed if c.crate == crate or c.crate.startswith(crate + "_")]
+            yield None if there or crate in crate_names else "tools/calls.py: SECTIONS names %s, which is no crate" % crate
+            inside_them = {re.sub(r"^%s::" % c.crate, "", c.path) for c in there}
+            for name in names.split():
+                yield None if name in inside_them else "tools/calls.py: SECTIONS names %s of %s, which hands out no such call" % (name, crate)
+    for path in told_of(top)[1]:
+        yield None if path in paths else "calls.toml: [words] names %s, which no crate hands out" % path
+
+
+# ---- the house and the tools
+
+TOOLS_HEAD = """# Every command
+
+Made by `tools/calls.py` from the first sentence of each: don't edit. `COMMAND --help` or the head of its file says the rest.
+"""
+COMMANDS = (
+    ("For people", "bin/slope tools/sheet.py tools/draw.py tools/night tools/report.py tools/arrive.py install.sh"),
+    ("For hosts and for the build", "tools/built tools/shared tools/samples.py"),
+    ("The gate's parts", "tools/table tools/calls.py tools/no_division.py tools/reasons.py tools/twice.py tools/edits-check"),
+    ("Tests", "tests/all tests/test_command.py tests/test_install.py tests/test_night.py bindings/test bindings/guide.py tools/test_tools.py tools/test_table.py tools/cases.py tools/faults.py fuzz/run"),
+    ("Beside the Rust, and measured", "beside/run beside/flat/run beside/factors/run beside/speed beside/page.py beside/waits tools/measure/accuracy.py tools/measure/surface.py "
+     "tools/measure/flat_surface.py tools/measure/replayed.py tools/measure/roots.c"),
+)
+
+
+def what_it_does(path):
+    """The first sentence of a command's own text."""
+    text = path.read_text()
+    if "python" in text.split("\n")[0] or path.suffix == ".py":
+        told = ast.get_docstring(ast.parse(text)) or ""
+    elif path.suffix == ".c":
+        told = re.sub(r"^ ?\*? ?", "", (re.match(r"/\*(.*?)\*/", text, re.S) or re.match(r"(?://(.*)\n)+", text)).group(1), flags=re.M)
+    else:
+        told = "\n".join(line.lstrip("# ") if line.strip("# ") else "" for line in re.match(r"#![^\n]*\n((?:#[^\n]*\n)*)", text).group(1).split("\n"))
+    return re.split(r"(?<=[.])\s|:\s+(?=tools/|tests/)|\n\n", " ".join(told.strip().split("\n\n")[0].split()) + " ")[0].strip().rstrip(".")
+
+
+def tools_page(top):
+    lines = [TOOLS_HEAD]
+    for title, names in COMMANDS:
+        lines += ["## " + title, "", "| command | does |", "|---|---|"]
+        lines += ["| [`%s`](../%s) | %s |" % (name, name, cell(what_it_does(top / name))) for name in names.split()]
+        lines.append("")
+    return "\n".join(lines)
+
+
+def tools_faults(top):
+    """docs/TOOLS.md is what is made, and every command of tools/ and tests/ is on it."""
+    stale = "docs/TOOLS.md is not what the commands say: run tools/calls.py and commit it"
+    yield None if document(top, "TOOLS.md") == tools_page(top) else stale
+    named_ones = {name for _, names in COMMANDS for name in names.split()}
+    for folder in ("tools", "tests", "bin"):
+        for path in sorted((top / folder).iterdir()):
+            name = "%s/%s" % (folder, path.name)
+            if path.is_file() and path.stat().st_mode & 0o100:
+                yield None if name in named_ones else "tools/calls.py: COMMANDS lacks %s" % name
+
+
+def house_table(top):
+    """The crates, each after those that it knows, in crates.txt's order else."""
+    knows, about = dependencies(top), dict(crates(top))
+    rows, left = [], list(knows)
+    while left:
+        crate = next(c for c in left if not any(d in left for d in knows[c]))
+        left.remove(crate)
+        code = "" if any((top / "crates" / crate / "src").glob("*.rt")) else ": no code"
+        rows.append("| `%s` | %s |" % (crate, cell(about[crate] + ("" if "no code" in about[crate] else code))))
+    return "\n".join(["| crate | holds |", "|---|---|"] + rows) + "\n"
+
+
+def house(top, text):
+    return MADE.sub(lambda m: m.group(1) + "\n" + house_table(top) + "\n" + m.group(4) if m.group(2) == "crates" else m.group(), text)
+
+
+def house_fault(top):
+    text = document(top, "HOUSE.md")
+    if [m.group(2) for m in MADE.finditer(text)] != ["crates"]:
+        return "docs/HOUSE.md has not its made table of crates"
+    return None if text == house(top, text) else "docs/HOUSE.md's table is not what crates.txt says: run tools/calls.py and commit the page"
+
+
+def numbers_of(top):
+    return prose.counts(top, dependencies(top), len(told_of(top)[0]))
+
+
 def cited_faults(top, listed, page):
-    """For each place that a document cites, and in PROMISES each call, its fault, or nothing."""
-    text = document(top, page)
-    if not text:
-        yield "there is no docs/%s" % page
+    """For each place that a page cites, and in PROMISES each call, its fault, or nothing."""
+    text = prose.pages(top)[page]
     for crate, place, names in CITED.findall(text):
         for fault in citation_faults(top, crate, place, names.split(", ") if names else []) or [None]:
-            yield fault and "docs/%s: %s" % (page, fault)
+            yield fault and "%s: %s" % (page, fault)
     paths, known = {c.path for c in listed}, {crate for crate, _ in crates(top)}
-    for crate, rest in CALLED.findall(text) if page == "PROMISES.md" else []:
+    for crate, rest in CALLED.findall(text) if page == "docs/PROMISES.md" else []:
         path = "%s::%s" % (crate, rest)
         if crate in known:
-            yield None if path in paths else "docs/%s: no crate hands out %s" % (page, path)
+            yield None if path in paths else "%s: no crate hands out %s" % (page, path)
+
+
+PAGES = ["README.md", "CONTRIBUTING.md", "CHANGELOG.md"] + ["docs/%s.md" % name for name in (
+    "DECISIONS DIFFERENCES EXCEPTIONS FACTORS GUIDE HOUSE LANDINGS PROMISES REQUESTS RULES SITES STEPS".split())]
+
+
+def page_faults(top, listed):
+    """What is wrong with the pages that are written by hand: each fault, or nothing for what is right."""
+    there = prose.pages(top)
+    yield from (None if page in there else "there is no %s" % page for page in PAGES)
+    for page in there:
+        if page not in prose.HISTORY:
+            yield from cited_faults(top, listed, page)
+    yield from prose.name_faults(top, dependencies(top))
+    yield from prose.printed_faults(top)
+    yield from prose.count_faults(top, numbers_of(top))
+    yield from prose.held_faults(top)
+    yield from prose.length_faults(top)
 
 
 def check(top, listed):
     known = types(top)
-    faults = [page_fault(top, listed), exceptions_fault(top)] + [contract_fault(top, known, c) for c in listed] + list(row_faults(listed))
-    faults += [fault for page in ("PROMISES.md", "DECISIONS.md", "EXCEPTIONS.md") for fault in cited_faults(top, listed, page)]
-    for fault in filter(None, faults):
+    faults = [page_fault(top, listed), exceptions_fault(top), house_fault(top), *tools_faults(top)]
+    faults += [contract_fault(top, known, c) for c in listed] + list(row_faults(listed)) + list(name_rows(top, listed)) + list(page_faults(top, listed))
+    for fault in dict.fromkeys(filter(None, faults)):
         print(fault)
     failed = sum(1 for fault in faults if fault)
     print("%d passed, %d failed" % (len(faults) - failed, failed))
@@ -491,19 +636,34 @@ def main():
     parser = argparse.ArgumentParser(description=__doc__, formatter_class=argparse.RawDescriptionHelpFormatter)
     parser.add_argument("--check", action="store_true", help="hold the documents to the sources")
     parser.add_argument("--open", action="store_true", help="print the calls with a requires, or with no ensures")
+    parser.add_argument("--words", action="store_true", help="print how many words of each page are kept by hand")
     parser.add_argument("--top", type=pathlib.Path, default=HERE, help="the repository; default: the one that this tool is in")
     options = parser.parse_args()
     if not (options.top / "crates.txt").exists():
         parser.error("%s is no repository of crates (it has no crates.txt): name one by --top" % options.top)
+    if options.words:
+        print("\n".join(prose.told_words(options.top)))
+        return 0
     listed = [c for crate, _ in crates(options.top) for c in calls_of(options.top, crate)]
     if options.check:
         return check(options.top, listed)
     if options.open:
         print("\n".join("%s: %s" % (c.path, contract(c)) for c in listed if c.requires or not c.ensures))
     else:
-        (options.top / PAGE).write_text(page(options.top, listed))
-        (options.top / "docs/EXCEPTIONS.md").write_text(exceptions(document(options.top, "EXCEPTIONS.md")))
+        write(options.top, listed)
     return 0
+
+
+def write(top, listed):
+    """Makes anew what is made."""
+    (top / PAGE).write_text(page(top, listed))
+    (top / "docs/TOOLS.md").write_text(tools_page(top))
+    (top / "docs/EXCEPTIONS.md").write_text(exceptions(document(top, "EXCEPTIONS.md")))
+    (top / "docs/HOUSE.md").write_text(house(top, document(top, "HOUSE.md")))
+    numbers = numbers_of(top)
+    for name, text in prose.pages(top).items():
+        if prose.counted(text, numbers) != text:
+            (top / name).write_text(prose.counted(text, numbers))
 
 
 if __name__ == "__main__":

@@ -221,8 +221,9 @@ pub fn doubled(%s) -> %s%s
         room = tempfile.TemporaryDirectory()
         self.addCleanup(room.cleanup)
         self.top = pathlib.Path(room.name)
-        for name in ("crates.txt", "crates", "docs"):
-            (self.top / name).symlink_to(TOP / name)
+        for path in TOP.iterdir():
+            if path.name not in (".git", "target", ".built"):
+                (self.top / path.name).symlink_to(path)
 
     def run_calls(self, *words):
         return subprocess.run([TOP / "tools/calls.py", "--top", self.top, *words], capture_output=True, text=True)
@@ -241,7 +242,7 @@ pub fn doubled(%s) -> %s%s
         with (self.top / "crates/physics/src/lib.rt").open("a") as file:
             file.write(call)
         self.own("docs")
-        for name in ("CALLS.md", "EXCEPTIONS.md"):
+        for name in ("CALLS.md", "EXCEPTIONS.md", "TOOLS.md", "HOUSE.md"):
             (self.top / "docs" / name).unlink()
             shutil.copy(TOP / "docs" / name, self.top / "docs" / name)
         self.assertEqual(self.run_calls().returncode, 0)
