@@ -5,6 +5,8 @@ A word is kept by hand unless it stands between marks as made (by tools/calls.py
 (`<!-- held by FILE -->` to `<!-- end -->`), in a fence that a test runs or holds to its file, or in a place that PROMISES cites.
 """
 import functools
+import os
+import pathlib
 import re
 import struct
 
@@ -92,12 +94,14 @@ def sources(top):
     """The text of each source by its path below the top: what is not a page."""
     found = {}
     for folder in SOURCES:
-        for path in sorted((top / folder).rglob("*")) if (top / folder).exists() else []:
-            if path.suffix in TEXT and path.is_file() and "target" not in path.parts and "corpus" not in path.parts and path.stat().st_size < 2000000:
-                try:
-                    found[str(path.relative_to(top))] = path.read_text()
-                except UnicodeDecodeError:
-                    pass
+        for here, folders, names in os.walk(top / folder, followlinks=True):
+            folders[:] = [name for name in folders if name not in ("target", "corpus", "__pycache__")]
+            for path in (pathlib.Path(here, name) for name in names):
+                if path.suffix in TEXT and path.stat().st_size < 2000000:
+                    try:
+                        found[str(path.relative_to(top))] = path.read_text()
+                    except UnicodeDecodeError:
+                        pass
     for name in FILES:
         if (top / name).is_file():
             found[name] = (top / name).read_text()
