@@ -277,6 +277,32 @@ def steps():
     return [{**rows["The record's own"], **rows[law]} for law in ("Snow", "Rankine", "Drucker-Prager", "NACC")]
 
 
+def printed_steps():
+    """The words of every step as the program has them, crates/why_lines: the record's own, then a law's."""
+    text = (shell.TOP / "crates" / "why_lines" / "src" / "steps.rt").read_text()
+    lists = [re.search(r'fn %s_step\(.*?b": ",\s*b"(.*?)",' % name, text, re.S)[1] for name in ("record", "snow", "rankine", "drucker_prager", "nacc")]
+    return [words.split("\\n")[:-1] for words in lists]
+
+
+def page_faults():
+    """For each step of docs/STEPS.md and each branch that it names, what is wrong with it or None: the words are the program's, the branches those of BRANCHES."""
+    record, *laws = printed_steps()
+    for law, (told, printed) in enumerate(zip(steps(), laws)):
+        there = {0: told[0], **dict(enumerate(printed, 1)), **dict(enumerate(record, STORED_DETERMINANT))}
+        for step in sorted(there.keys() | told.keys()):
+            same = there.get(step) == told.get(step)
+            yield None if same else "docs/STEPS.md, law %d, step %d: %r, and the program has %r" % (law, step, told.get(step), there.get(step))
+    text = (shell.TOP / "docs" / "STEPS.md").read_text()
+    for law, name in enumerate(("Rankine", "Drucker-Prager", "NACC"), 1):
+        part = re.search(r"^## %s\n(.*?)(?=^## |\Z)" % name, text, re.M | re.S)[1]
+        for row in re.findall(r"^\| (\d+) \|.*?\|[^|]*\|([^|]*)\|([^|]*)\|$", part, re.M):
+            for held, cell in zip((True, False), row[1:]):
+                named = re.search(r"branch (\d+)", cell)
+                found = BRANCHES.get((law, int(row[0]), held))
+                same = (None if named is None else int(named[1])) == found
+                yield None if same else "docs/STEPS.md, %s, test %s: %r, and the branch is %s" % (name, row[0], cell.strip(), found)
+
+
 @functools.lru_cache
 def calls():
     return tomllib.loads((shell.TOP / "calls.toml").read_text())
@@ -347,6 +373,10 @@ def check(args):
             data = s.read_bytes()
             answer = subprocess.run([*shell.words(program), "--why"], input=data, stdout=subprocess.PIPE, check=True).stdout.decode()
             counts.append(compare(data, answer, s.name))
+    faults = list(page_faults())
+    for fault in filter(None, faults):
+        print(fault)
+    counts.append((faults.count(None), len(faults) - faults.count(None)))
     passed, failed = (sum(column) for column in zip(*counts))
     print("%d passed, %d failed" % (passed, failed))
     return failed != 0
