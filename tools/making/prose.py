@@ -2,7 +2,8 @@
 there are not more words than can be read before a landing.
 
 A word is kept by hand unless it stands between marks as made (by tools/calls.py or tools/table) or as held by a test that reads the page
-(`<!-- held by FILE -->` to `<!-- end -->`), in a fence that a test runs or holds to its file, or in a place that PROMISES cites.
+(`<!-- held by FILE -->` to `<!-- end -->`), in a fence that a test runs or holds to its file, or in a place that is cited and held. A word has a letter or a digit:
+the bars of a table are none.
 """
 import functools
 import os
@@ -53,7 +54,7 @@ def by_hand(text):
 
 def words(top):
     """How many words of each page are kept by hand."""
-    return {name: len(by_hand(text).split()) for name, text in pages(top).items()}
+    return {name: sum(1 for word in by_hand(text).split() if re.search(r"\w", word)) for name, text in pages(top).items()}
 
 
 def told_words(top):
