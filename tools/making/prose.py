@@ -2,8 +2,8 @@
 there are not more words than can be read before a landing.
 
 A word is kept by hand unless it stands between marks as made (by tools/calls.py or tools/table) or as held by a test that reads the page
-(`<!-- held by FILE -->` to `<!-- end -->`), in a fence that a test runs or holds to its file, or in a place that is cited and held. A word has a letter or a digit:
-the bars of a table are none.
+(`<!-- held by FILE -->` to `<!-- end -->`), in a fence that a test runs or holds to its file, or in a code span, which is held here. A word has a letter or a digit: the bars of a
+table are none.
 """
 import functools
 import os
@@ -45,16 +45,16 @@ def pages(top):
     return {name: (top / name).read_text() for name in named if name not in MADE_PAGES and (top / name).exists()}
 
 
-def by_hand(text):
+def by_hand(name, text):
     """What of a page is kept by hand."""
     text = BLOCK.sub("", text)
     text = FENCE.sub(lambda m: "" if TRIED.search(m.group(1)) else m.group(), text)
-    return CITED.sub("", text)
+    return text if name in HISTORY else SPAN.sub("", text)
 
 
 def words(top):
     """How many words of each page are kept by hand."""
-    return {name: sum(1 for word in by_hand(text).split() if re.search(r"\w", word)) for name, text in pages(top).items()}
+    return {name: sum(1 for word in by_hand(name, text).split() if re.search(r"\w", word)) for name, text in pages(top).items()}
 
 
 def told_words(top):
