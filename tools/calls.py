@@ -372,22 +372,20 @@ def refuses(known, call):
 
 
 def table(rows, head):
-    """A table of EXCEPTIONS: several calls of one crate stand behind its name."""
-    lines = ["| Call | %s |" % head, "|---|---|"]
+    """A table of EXCEPTIONS, a row a crate: its calls, and what is told of each."""
+    told = collections.defaultdict(list)
     for calls, words in rows:
-        cells = []
         for part in calls.split("; "):
             crate, _, names = part.partition(": ")
-            names = names.split()
-            alone = ["`%s`" % (names[0] if names[0].startswith("pasoletu_") else "%s::%s" % (crate, names[0]))]
-            cells.append(", ".join(alone if len(names) == 1 else ["`%s`: `%s`" % (crate, names[0])] + ["`%s`" % n for n in names[1:]]))
-        lines.append("| %s | %s |" % ("; ".join(cells), words))
+            told[crate].append("%s: %s" % (", ".join("`%s`" % name for name in names.split()), words))
+    lines = ["| Crate | %s |" % head, "|---|---|"]
+    lines += ["| `%s` | %s |" % (crate, ". ".join(cells)) for crate, cells in sorted(told.items())]
     return "\n".join(lines) + "\n"
 
 
 def exceptions(text):
     """docs/EXCEPTIONS.md with its tables made anew."""
-    tables = {"requires": (REQUIRES, "Requires"), "inner": (INNER, "What it is, and who asks it"), "nan": (NANS, "Of a NaN")}
+    tables = {"requires": (REQUIRES, "Call, and what it requires"), "inner": (INNER, "Call, what it is, and who asks it"), "nan": (NANS, "Call, and what comes of a NaN")}
     return MADE.sub(lambda m: m.group(1) + "\n" + table(*tables[m.group(2)]) + "\n" + m.group(4), text)
 
 
