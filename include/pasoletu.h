@@ -176,11 +176,11 @@ static inline const char *pasoletu_refusal_text(uint64_t refusal)
 #define PASOLETU_SIGMA 18                /* 3: singular values */
 #define PASOLETU_VT 21                   /* 9: V^T, row by row */
 #define PASOLETU_PHASE 30                /* 1.0 whole, 0.0 failed */
-#define PASOLETU_PLASTIC_DETERMINANT 31
-#define PASOLETU_PLASTIC_HARDENING 32
-#define PASOLETU_ELASTIC_HARDENING 33
-#define PASOLETU_LOG_GAIN 34
-#define PASOLETU_ALPHA 35
+#define PASOLETU_PLASTIC_DETERMINANT 31  /* at first 1 */
+#define PASOLETU_PLASTIC_HARDENING 32    /* at first 1 */
+#define PASOLETU_ELASTIC_HARDENING 33    /* at first 1 */
+#define PASOLETU_LOG_GAIN 34             /* at first 0 */
+#define PASOLETU_ALPHA 35                /* NACC's alpha */
 #define PASOLETU_DETERMINANT 36          /* of the F that stands there, in every bit (pasoletu_fill_determinants) */
 
 /* The Rust's defaults of the laws that are no models. */
@@ -246,7 +246,7 @@ static inline const char *pasoletu_refusal_text(uint64_t refusal)
 /* Why (section 7): the entries of a reason. Tests, steps and branches are numbered in docs/STEPS.md. */
 #define PASOLETU_REASON 11         /* entries of a reason */
 #define PASOLETU_REASON_KIND 0     /* 0 a test of two numbers, 1 of three zeros, 2 a flag, 3 Snow's bounds, 4 a refusal */
-#define PASOLETU_REASON_REFUSAL 1  /* its number, else 0 */
+#define PASOLETU_REASON_REFUSAL 1  /* the refusal's number, else 0 */
 #define PASOLETU_REASON_STEP 2     /* the step that refused, else 0 */
 #define PASOLETU_REASON_OF 3       /* for 1 whose place: 1 a parameter's, 2 the record's; else 0 */
 #define PASOLETU_REASON_PLACE 4    /* that place, from 0 */

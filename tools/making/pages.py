@@ -1,4 +1,4 @@
-"""The tables of refusals in README.md, docs/GUIDE.md and docs/RULES.md, each between its marks."""
+"""The tables of README.md, docs/GUIDE.md, docs/RULES.md and docs/STEPS.md that repeat calls.toml, each between its marks."""
 import re
 
 MARKED = re.compile(r"(<!-- made by tools/table: (\w+) -->\n).*?(<!-- end -->)", re.S)
@@ -14,19 +14,32 @@ def rows(head, lines):
     yield from ("| " + " | ".join(str(cell) for cell in line) + " |" for line in lines)
 
 
-# Each table by its name: its head, and a refusal's cells (nothing: no row).
+def refusals(head, cells):
+    """A table with a row for each refusal of which `cells` tells something."""
+    return lambda table: rows(head, filter(None, map(cells, table.refusals)))
+
+
+def record(table):
+    """The record's parts, each with its first place."""
+    return rows(("place", "doubles", "C", "Rust and Python", ""), ((p.at, p.length, f"`PASOLETU_{p.name}`", f"`{p.field}`", p.meaning) for p in table.record))
+
+
+def reason(table):
+    """The words of a reason, which calls.toml has as constants."""
+    words = [c for group in table.constants for c in group.rows if c.name.startswith("REASON_")]
+    ends = [c.value for c in words[1:]] + [next(c.value for group in table.constants for c in group.rows if c.name == "REASON")]
+    return rows(("Word", "Holds"), ((c.value if end == c.value + 1 else f"{c.value} to {end - 1}", c.meaning) for c, end in zip(words, ends)))
+
+
 TABLES = {
-    "numbers": (("R", "why", "what to do"), lambda r: (r.number, r.what, r.remedy)),
-    "when": (("No", "When, and only then"), lambda r: (r.number, r.when)),
-    "desk": (("Number", "What is wrong", "Who mends it, and how"), lambda r: r.desk and (r.number, capital(r.what), r.desk)),
-    "host": (("number", "what", "what to do"), lambda r: (r.number, r.what, r.host)),
+    "numbers": refusals(("R", "why", "what to do"), lambda r: (r.number, r.what, r.remedy)),
+    "when": refusals(("No", "When, and only then"), lambda r: (r.number, r.when)),
+    "desk": refusals(("Number", "What is wrong", "Who mends it, and how"), lambda r: r.desk and (r.number, capital(r.what), r.desk)),
+    "host": refusals(("number", "what", "what to do"), lambda r: (r.number, r.what, r.host)),
+    "record": record,
+    "reason": reason,
 }
-PAGES = {"README.md": ["numbers"], "docs/RULES.md": ["when"], "docs/GUIDE.md": ["desk", "host"]}
-
-
-def table_of(table, name):
-    head, cells = TABLES[name]
-    return "\n".join(rows(head, filter(None, map(cells, table.refusals))))
+PAGES = {"README.md": ["numbers"], "docs/RULES.md": ["when"], "docs/GUIDE.md": ["desk", "record", "host"], "docs/STEPS.md": ["reason"]}
 
 
 def made(page):
@@ -36,6 +49,6 @@ def made(page):
         found = [m.group(2) for m in MARKED.finditer(text)]
         if found != PAGES[page]:
             raise ValueError(f"its marked tables are {found}, not {PAGES[page]}")
-        return MARKED.sub(lambda m: f"{m.group(1)}\n{table_of(table, m.group(2))}\n\n{m.group(3)}", text)
+        return MARKED.sub(lambda m: "{}\n{}\n\n{}".format(m.group(1), "\n".join(TABLES[m.group(2)](table)), m.group(3)), text)
 
     return renewed

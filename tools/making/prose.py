@@ -14,7 +14,7 @@ import struct
 MADE_PAGES = ("docs/CALLS.md", "docs/SPEED.md", "docs/TOOLS.md")
 # Notes of their day, and what a user of an older version sees: they name what is gone.
 HISTORY = ("CHANGELOG.md", "docs/LANDINGS.md")
-MOST = {"README.md lines": 90, "docs/LANDINGS.md words": 6000, "all words": 41000}
+MOST = {"README.md lines": 90, "docs/LANDINGS.md words": 6000, "all words": 25000}
 SOURCES = ("crates", "bindings", "tools", "beside", "fuzz", "bin", "tests", "include", "packaging", "man", ".ci", "samples")
 FILES = ("calls.toml", "crates.txt", "install.sh", "VERSION", ".gitignore")
 TEXT = {".rt", ".antt", ".edit", ".rs", ".py", ".c", ".h", ".toml", ".lock", ".md", ".1", ".txt", ".in", ".cmake", ".pc", ".sh", ".hpp", ".cpp", ""}

@@ -260,7 +260,7 @@ REPORT_NOT_FINITE = 5  # how many are NaN or infinite
 # Why (section 7): the entries of a reason. Tests, steps and branches are numbered in docs/STEPS.md.
 REASON = 11  # entries of a reason
 REASON_KIND = 0  # 0 a test of two numbers, 1 of three zeros, 2 a flag, 3 Snow's bounds, 4 a refusal
-REASON_REFUSAL = 1  # its number, else 0
+REASON_REFUSAL = 1  # the refusal's number, else 0
 REASON_STEP = 2  # the step that refused, else 0
 REASON_OF = 3  # for 1 whose place: 1 a parameter's, 2 the record's; else 0
 REASON_PLACE = 4  # that place, from 0
