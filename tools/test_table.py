@@ -1,5 +1,5 @@
 """Tests of tools/table: a stale file, a call of another kind in the proved crates and a row that makes no sense are each told. And of tools/calls.py: a public
-call that takes a NaN or requires something, and a row that is untrue, are told."""
+call that takes a NaN or requires something, a row that is untrue, a page that names what isn't there or shows what isn't printed, and too many words, are told."""
 import pathlib
 import re
 import shutil
@@ -277,6 +277,44 @@ pub fn doubled(%s) -> %s%s
     def test_a_call_of_its_own_crate_is_not(self):
         self.add((self.CALL % ("x: f64", "f64", "")).replace("pub fn", "pub(crate) fn"))
         self.assertEqual(self.run_calls("--check").returncode, 0)
+
+    # What readers once found untrue while every check passed: the page, what stood there, what it says, and what --check says of it.
+    UNTRUE = (
+        ("docs/DECISIONS.md", "enum `model::Model`", "enum `particles::Model`", "docs/DECISIONS.md: crates/particles declares no Model"),
+        ("docs/DECISIONS.md", "`refusals/specs/Enums: verdictNumber, verdictFailed`", "`verdictCodeOf`", "docs/DECISIONS.md: no source has `verdictCodeOf`"),
+        ("docs/GUIDE.md", "c077f76051bf1a34", "c077f76051bf52c8", "docs/GUIDE.md: no program of the gate prints '5 yielded, test 5"),
+        ("docs/PROMISES.md", "<!-- count: replayed -->", "<!-- count: replayed -->2,413 ", "docs/PROMISES.md tells 2,413 "),
+        ("docs/PROMISES.md", "`walk/specs/Walk`", "`law/specs/Walk`", "docs/PROMISES.md: there is no crates/law/specs/Walk.antt"),
+        ("docs/FACTORS.md", "`beside/factors/run`", "`beside/factors/runs`", "docs/FACTORS.md: there is no beside/factors/runs"),
+        ("docs/HOUSE.md", "| `rankine_surface` |", "| `surface` |", "docs/HOUSE.md's table is not what crates.txt says"),
+        ("docs/STEPS.md", "<!-- held by tools/reasons.py -->", "<!-- held by tools/twice.py -->", "docs/STEPS.md: tools/twice.py, which is said to hold a part of it"),
+        ("docs/EXCEPTIONS.md", "`update_particle`", "`update_finite`", "docs/EXCEPTIONS.md: no source has `update_finite`"),
+        ("docs/CALLS.md", "| `pasoletu_why` | 7 |", "| `pasoletu_why` | 5 |", "docs/CALLS.md is not what the sources say"),
+        ("docs/TOOLS.md", "Works a night of sheets", "Works a day of sheets", "docs/TOOLS.md is not what the commands say"),
+    )
+
+    def test_what_was_untrue_is_told(self):
+        self.own("docs")
+        for page, old, new, _ in self.UNTRUE:
+            text = (self.top / page).read_text()
+            self.assertIn(old, text, page)
+            (self.top / page).unlink()
+            (self.top / page).write_text(text.replace(old, new, 1))
+        done = self.run_calls("--check")
+        for page, _, new, words in self.UNTRUE:
+            self.assertIn(words, done.stdout, (page, new))
+        self.assertRegex(done.stdout, r"\n\d+ passed, %d failed\n$" % len(self.UNTRUE))
+
+    def test_too_many_words_are_told(self):
+        self.own("docs")
+        text = (self.top / "docs/LANDINGS.md").read_text()
+        (self.top / "docs/LANDINGS.md").unlink()
+        (self.top / "docs/LANDINGS.md").write_text(text + "word " * 6000)
+        (self.top / "README.md").unlink()
+        (self.top / "README.md").write_text((TOP / "README.md").read_text() + "\n" * 90)
+        done = self.run_calls("--check")
+        for words in ("README.md lines kept by hand", "docs/LANDINGS.md words kept by hand", "all words kept by hand"):
+            self.assertIn(words, done.stdout)
 
     def test_a_table_that_is_not_made_is_told(self):
         self.own("docs")
