@@ -1132,6 +1132,12 @@ plastic hardening
   NaN or infinite          1
 """)
 
+    def test_the_guides_table(self):
+        guide = (shell.TOP / "docs" / "GUIDE.md").read_text()
+        shown = guide.split("    $ tools/report.py samples\n")[1].split("\n\n")[0]
+        ended = quiet(report.main, "--second", shell.TOP / "samples")
+        self.assertEqual([line[4:] for line in shown.splitlines()], ended[1].split("elastic hardening")[0].splitlines())
+
     def test_decimals_are_exact(self):
         d = random.Random(7)
         for k in [0, 1, -1, 2 ** 30, -2 ** 30, 5, -2 ** 62, 2 ** 62] + [d.randrange(-2 ** 62, 2 ** 62) >> d.randrange(60) for _ in range(1000)]:
