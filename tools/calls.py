@@ -601,6 +601,33 @@ def cited_faults(top, listed, page):
             yield None if path in paths else "%s: no crate hands out %s" % (page, path)
 
 
+# The functions of the Rust that are held (docs/RULES.md, sections 1 and 2), by file: each has its row in PROMISES.
+RUST_FUNCTIONS = {
+    "lib.rs": "decompose zero recompose add add_assign mul",
+    "physics.rs": "inv_exact lame_lambda_mu shear_modulus bulk_modulus shear_modulus_from_lame bulk_modulus_from_lame solve_quadratic spin_tensor strain_rate deviatoric_part spherical_part",
+    "plasticity_snow.rs": "new project_deformation_gradient update_particle",
+    "plasticity_rankine.rs": "new update_particle",
+    "plasticity_drucker_prager.rs": "new project_deformation_gradient alpha update_particle",
+    "plasticity_nacc.rs": "new with_m project_deformation_gradient update_particle",
+    "elasticity_neo_hookean.rs": "new fpk_stress kirchhoff_stress phase_coeff elastic_energy_density pos_energy",
+    "elasticity_corotated_linear.rs": "new kirchhoff_stress elastic_energy_density pos_energy",
+    "eos_monaghan_sph.rs": "new pressure kirchhoff_stress timestep_bound",
+    "failure_maximum_stress.rs": "new particle_failed",
+}
+
+
+def rust_faults(top):
+    """Each held function of the Rust has its row, below its file's name, with a place that defines it."""
+    part = re.search(r"^## The Rust's functions\n(.*?)(?=^## |\Z)", prose.pages(top).get("docs/PROMISES.md", ""), re.M | re.S)
+    told, file = collections.defaultdict(set), None
+    for first, _, place in re.findall(r"^\| (.*?) \|(.*?)\| (.*?) \|$", part.group(1) if part else "", re.M):
+        file = (re.match(r"\w+\.rs", first) or re.match("()", "")).group() or file
+        told[file].update(re.findall(r"`(\w+)`", first) if CITED.search(place) else [])
+    for file, names in RUST_FUNCTIONS.items():
+        for name in names.split():
+            yield None if name in told[file] else "docs/PROMISES.md, The Rust's functions: there is no row with a definition of %s, %s" % (file, name)
+
+
 PAGES = ["README.md", "CONTRIBUTING.md", "CHANGELOG.md"] + ["docs/%s.md" % name for name in (
     "DECISIONS DIFFERENCES EXCEPTIONS FACTORS GUIDE HOUSE LANDINGS PROMISES REQUESTS RULES SITES STEPS".split())]
 
@@ -612,6 +639,7 @@ def page_faults(top, listed):
     for page in there:
         if page not in prose.HISTORY:
             yield from cited_faults(top, listed, page)
+    yield from rust_faults(top)
     yield from prose.name_faults(top, dependencies(top))
     yield from prose.printed_faults(top)
     yield from prose.count_faults(top, numbers_of(top))

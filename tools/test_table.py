@@ -290,6 +290,7 @@ pub fn doubled(%s) -> %s%s
         ("docs/STEPS.md", "<!-- held by tools/reasons.py -->", "<!-- held by tools/twice.py -->", "docs/STEPS.md: tools/twice.py, which is said to hold a part of it"),
         ("docs/EXCEPTIONS.md", "`update_particle`", "`update_finite`", "docs/EXCEPTIONS.md: no source has `update_finite`"),
         ("docs/CALLS.md", "| `pasoletu_why` | 7 |", "| `pasoletu_why` | 5 |", "docs/CALLS.md is not what the sources say"),
+        ("docs/PROMISES.md", "| `alpha` | 61 |", "| alpha | 61 |", "there is no row with a definition of plasticity_drucker_prager.rs, alpha"),
         ("docs/TOOLS.md", "Works a night of sheets", "Works a day of sheets", "docs/TOOLS.md is not what the commands say"),
     )
 
