@@ -87,6 +87,14 @@ def held_faults(top):
                 yield None
 
 
+def link_faults(top):
+    """Every link of a page, made or not, leads to a file."""
+    for path in [top / "README.md", top / "CONTRIBUTING.md", top / "CHANGELOG.md", *sorted((top / "docs").glob("*.md")), *sorted((top / "docs/landings").glob("*.md"))]:
+        for link in re.findall(r"\]\(([^)#\s]+)", path.read_text() if path.exists() else ""):
+            if not re.match(r"[a-z]+:", link):
+                yield None if (path.parent / link).exists() else "%s: the link to %s leads nowhere" % (path.relative_to(top), link)
+
+
 # ---- names in code spans
 
 
