@@ -642,6 +642,7 @@ def page_faults(top, listed):
     yield from rust_faults(top)
     yield from prose.name_faults(top, dependencies(top))
     yield from prose.link_faults(top)
+    yield from prose.request_faults(top)
     yield from prose.printed_faults(top)
     yield from prose.count_faults(top, numbers_of(top))
     yield from prose.held_faults(top)

@@ -195,6 +195,16 @@ def name_faults(top, crates):
             yield fault and "%s: %s" % (page, fault)
 
 
+def request_faults(top):
+    """Every ticket that a source names is one of docs/REQUESTS.md's, and these are numbered without a gap."""
+    told = [int(n) for n in re.findall(r"^(\d+)\. \*\*", pages(top).get("docs/REQUESTS.md", ""), re.M)]
+    yield None if told and told == list(range(1, len(told) + 1)) else "docs/REQUESTS.md's numbers are not 1 and on: %s" % told
+    for path, text in sources(top).items():
+        if path.startswith("crates/"):
+            for number in set(re.findall(r"\b[Tt]icket (\d+)", text)):
+                yield None if int(number) in told else "%s names ticket %s, which docs/REQUESTS.md does not tell" % (path, number)
+
+
 # ---- shown lines
 
 
