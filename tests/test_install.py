@@ -95,7 +95,6 @@ class Install(InFolder):
         ran = self.run_command(self.prefix / "bin" / "slope-arrive", "--quiet", SNOW)
         self.ended(ran, 0, ANSWER)
 
-    @unittest.skipUnless(shutil.which("parallel"), "there is no GNU parallel")
     def test_the_installed_night(self):
         self.installed()
         (self.folder / "sheets").mkdir()

@@ -34,6 +34,7 @@ import shell  # noqa: E402
 NIGHT = TOP / "tools" / "night"
 WELL = "particles 2\n0 untouched\n1 stored 3ff0000000000000\nend\n"
 CHROMIUM = shutil.which("chromium")
+PATIENCE = 1200  # seconds after which a night is taken for one that never ends, on however slow a machine
 
 
 def library_here():
@@ -85,10 +86,14 @@ class Night(InFolder):
     def setUp(self):
         super().setUp()
         self.sheets, self.out, self.worked = self.folder / "in", self.folder / "out", self.folder / "worked"
+        self.hold = self.folder / "hold"  # while it is there, no more sheets are worked than it says
         self.sheets.mkdir()
         self.program = script(self.folder / "program", """\
-            #!%s
-            import hashlib, os, struct, sys, time
+            #!%(python)s
+            import contextlib, hashlib, os, struct, sys, time
+            def held():
+                with contextlib.suppress(FileNotFoundError):
+                    return len(open(%(worked)r).readlines()) > int(open(%(hold)r).read())
             number = 0
             while True:
                 head = sys.stdin.buffer.read(8)
@@ -96,16 +101,18 @@ class Night(InFolder):
                     break
                 sheet = sys.stdin.buffer.read(struct.unpack("<Q", head)[0])
                 if sheet:
-                    with open(%r, "a") as worked:
+                    with open(%(worked)r, "a") as worked:
                         worked.write(hashlib.sha256(sheet).hexdigest() + "\\n")
                     time.sleep(float(os.environ.get("PAUSE", "0")))
+                    while held():
+                        time.sleep(0.02)
                 answer = sheet[1:] or b"sheet refused 4\\n"
                 if answer == b"fall":
                     os.abort()
                 sys.stdout.buffer.write(b"==> %%d <==\\n%%b" %% (number, answer))
                 sys.stdout.buffer.flush()
                 number += 1
-            """ % (sys.executable, str(self.worked)))
+            """ % {"python": sys.executable, "worked": str(self.worked), "hold": str(self.hold)})
 
     def sheet(self, name, answer=WELL):
         """A sheet with this answer."""
@@ -153,7 +160,7 @@ class Night(InFolder):
         return html.unescape(re.sub("<[^>]*>", "", re.search(r'<p id="verdict".*?</p>', self.page()).group()))
 
     def wait_until(self, told):
-        until = time.monotonic() + 300
+        until = time.monotonic() + PATIENCE
         while not told():
             self.assertLess(time.monotonic(), until, "the night does not get on")
             time.sleep(0.02)
@@ -465,12 +472,14 @@ class Ended(Night):
         self.holds_every_answer()
 
     def begun_and_ended(self, end):
-        """A night that is ended once a batch has its answers; those of two cores are four."""
+        """A night that is ended once a batch has its answers; those of two cores are four, of which two are held."""
         self.numbered(self.COUNT)
-        night = self.begun("--jobs", "2", PAUSE="0.05")
+        self.hold.write_text("%d" % (self.COUNT * 2 // 3))
+        night = self.begun("--jobs", "2")
         self.wait_until(self.done)
         end(night)
         night.wait()
+        self.hold.unlink()
         self.wait_until(lambda: not of_session(night.pid))  # its jobs end with it
 
     def test_ended_by_force(self):
@@ -492,9 +501,16 @@ class Ended(Night):
         self.numbered(20)
         first = self.begun(PAUSE="0.05")
         self.wait_for(2)
-        self.ended(self.night(), 0, says="20 sheets, 20 of them done before")
+        self.ended(self.patient(), 0, says="20 sheets, 20 of them done before")
         self.assertEqual(first.wait(), 0)
         self.assertEqual(self.times_worked(), collections.Counter(self.digests()))
+
+    def patient(self):
+        """A night that waits for the other one of its folder however long that takes."""
+        words = ("import importlib.machinery, importlib.util, sys; there = importlib.machinery.SourceFileLoader('night', sys.argv[1]); "
+                 "night = importlib.util.module_from_spec(importlib.util.spec_from_loader('night', there)); there.exec_module(night); "
+                 "night.PATIENCE = int(sys.argv[2]); sys.exit(night.main(sys.argv[3:]))")
+        return self.run_command(sys.executable, "-B", "-c", words, NIGHT, PATIENCE, self.sheets, self.out, PASOLETU_SLOPE=self.program)
 
 
 def of_session(session):

@@ -4,12 +4,13 @@
   tools/faults.py [--program PROGRAM] [--command bin/slope]
 
 PROGRAM is the proved program, as a file that can be run; without the option the one that PASOLETU_SLOPE names, else the one that was built
-of the sources here. The command is given the same one. A case is right where the program ends in time and either prints its whole answer, or prints no more than the start of it
+of the sources here. The command is given the same one. A case is right where the program ends and either prints its whole answer, or prints no more than the start of it
 (never `end`) and says on standard error which of its two streams failed. The language has no exit status, so the program itself always ends
 with 0; bin/slope, which people run, must end with its own: 0 all well, 1 no whole answer, 2 no such sheet, 3 something was refused.
 The last line is 'N cases, M wrong'; the exit status is 0 where M is 0.
 """
 import argparse
+import array
 import fcntl
 import os
 import pathlib
@@ -18,6 +19,7 @@ import signal
 import subprocess
 import sys
 import tempfile
+import termios
 import threading
 import time
 
@@ -25,7 +27,7 @@ sys.path.insert(0, str(pathlib.Path(__file__).resolve().parent))
 import shell  # noqa: E402
 
 TOP = shell.TOP
-LONGEST = 20  # seconds
+LONGEST = 1200  # seconds after which a program is taken for one that never ends, on however slow a machine
 NO_ANSWER, NO_SHEET, SOME_REFUSED = 1, 2, 3
 
 
@@ -77,6 +79,13 @@ def ignoring(number):
 
 def nonblocking(fd):
     fcntl.fcntl(fd, fcntl.F_SETFL, fcntl.fcntl(fd, fcntl.F_GETFL) | os.O_NONBLOCK)
+
+
+def waiting(p):
+    """Whether the program has taken all of its input so far and sleeps."""
+    left = array.array("i", [0])
+    fcntl.ioctl(p.stdin, termios.FIONREAD, left)
+    return left[0] == 0 and pathlib.Path("/proc/%d/stat" % p.pid).read_text().rpartition(")")[2].split()[0] == "S"
 
 
 class Cases:
@@ -143,12 +152,13 @@ class Cases:
         p = run(self.program, stdin=subprocess.PIPE, stdout=subprocess.PIPE, stderr=subprocess.PIPE)
         p.stdin.write(one)
         p.stdin.flush()
-        time.sleep(0.3)
+        while p.poll() is None and not waiting(p):
+            time.sleep(0.01)
         early = p.poll()
         r = finish(p)
         if early is not None:
             r.status = "ended before the input did"
-        self.tell("input whole, closed 0.3 s later", r, whole=self.good(TOP / "samples" / "snow.sheet"))
+        self.tell("input whole, closed once the program waits for more", r, whole=self.good(TOP / "samples" / "snow.sheet"))
 
     def output_cases(self):
         p, good = self.program, self.good(self.big)

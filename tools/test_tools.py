@@ -39,6 +39,7 @@ LINES = (HERE.parent / "crates" / "slope_cases" / "stdout").read_text()
 TOOLS = [HERE / name for name in ("sheet.py", "draw.py", "samples.py", "cases.py", "faults.py", "no_division.py", "report.py", "arrive.py", "measure/accuracy.py", "measure/surface.py", "measure/replayed.py")]
 NUMPY = importlib.util.find_spec("numpy")
 NOT_FINITE = (math.nan, math.inf, -math.inf)
+PATIENCE = 1200  # seconds after which a tool is taken for one that never ends, on however slow a machine
 
 
 def found(look, named):
@@ -73,7 +74,7 @@ def quiet(main, *arguments):
 
 def ran(tool, *arguments, **how):
     """A tool as its own process; its output is bytes."""
-    how = {"stdout": subprocess.PIPE, "stderr": subprocess.PIPE, "timeout": 20} | how
+    how = {"stdout": subprocess.PIPE, "stderr": subprocess.PIPE, "timeout": PATIENCE} | how
     return subprocess.run([sys.executable, HERE / tool, *map(str, arguments)], **how)
 
 
@@ -766,7 +767,7 @@ class Pictures(Drawn):
             file.write_bytes(head)
             words = words.encode()
             done = subprocess.run([sys.executable, "-c", only, HERE, HERE.parent / "bindings" / "python", file, SAMPLES[0], out],
-                                  stdout=subprocess.PIPE, stderr=subprocess.PIPE, env=env, timeout=20)
+                                  stdout=subprocess.PIPE, stderr=subprocess.PIPE, env=env, timeout=PATIENCE)
             self.assertEqual(done.returncode, 0, done)
             self.assertIn(words, done.stderr)
             self.assertIn(words.split(b":")[0].split(b" (")[0], out.read_bytes())
@@ -1095,14 +1096,16 @@ class ByLibrary(InFolder):
             self.assertNotIn("second implementation", out.read_text())
 
     def test_measurements(self):
-        process = ran("measure/surface.py", 200, timeout=300)
+        process = ran("measure/surface.py", 200)
         self.assertEqual(process.returncode, 0, process)
         self.assertIn(b"200 records in the premises, 0 do not keep the promise", process.stdout)
         self.assertEqual(process.stdout.count(b" below; in the archive "), 3)  # the branches that store
-        if importlib.util.find_spec("mpmath"):
-            process = ran("measure/accuracy.py", 20, timeout=300)
-            self.assertEqual(process.returncode, 0, process)
-            self.assertEqual(process.stdout.count(b" 20 points"), 9)
+
+    @unittest.skipUnless(importlib.util.find_spec("mpmath"), "there is no mpmath; on Debian: apt-get install -y python3-mpmath")
+    def test_accuracy(self):
+        process = ran("measure/accuracy.py", 20)
+        self.assertEqual(process.returncode, 0, process)
+        self.assertEqual(process.stdout.count(b" 20 points"), 9)
 
 
 class Reports(InFolder):
@@ -1262,7 +1265,7 @@ class Arriving(InFolder):
                 records[1], records[count - 1] = cases.record((1.0, -0.9, 1.0)), cases.record((0.0, 1.0, 1.0))
                 path = self.folder / "in.sheet"
                 path.write_bytes(cases.sheet(records, model=model))
-                done = ran("arrive.py", "--quiet", "--explain", path, timeout=120)
+                done = ran("arrive.py", "--quiet", "--explain", path)
                 self.assertEqual((done.returncode, done.stderr.decode().splitlines()), (0, [
                     "arrive.py: %s: particle 1 is stored, but turned inside out: sigma -0.9" % path,
                     "arrive.py: %s: particle %d is stored, but pressed flat: sigma 0" % (path, count - 1)]))
@@ -1415,9 +1418,9 @@ class Tools(InFolder):
         self.assertFalse((self.folder / "proved").exists(), "a tool has called the prover")
         super().tearDown()
 
-    def test_help_answers_at_once(self):
+    def test_help(self):
         for tool in TOOLS:
-            process = ran(tool, "--help", env=self.env, timeout=10)
+            process = ran(tool, "--help", env=self.env)
             self.assertEqual((process.returncode, process.stderr), (0, b""), tool.name)
             self.assertIn("  tools/%s" % tool.relative_to(HERE), process.stdout.decode())
 

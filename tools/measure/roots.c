@@ -4,11 +4,11 @@
    so that the machine that draws need not be the one that the library is for:
 
      cc -O2 -o roots tools/measure/roots.c -I include "$(tools/built archive)" -lm     (the library is for x86-64)
-     ./roots draw 10000000 | ./roots check
+     ./roots draw 100000000 | ./roots check
      cc -O2 -DDRAW -o roots tools/measure/roots.c -lm                                   (a machine of another kind can draw)
 
-   A quarter of what is drawn is below the least normal number; the ends of every binade and their neighbours come first; then squares and their
-   neighbours, half as many as are left; then any bits of a number from 0 up. */
+   First come the ends of every binade, those below the least normal number among them: its first, second, third, last and last but one number. A
+   quarter of what is drawn then is below the least normal number, a quarter squares and their neighbours, the rest any bits of a number from 0 up. */
 #include <math.h>
 #include <stdint.h>
 #include <stdio.h>
@@ -38,9 +38,12 @@ static uint64_t near_square(void) {
     return bits + drawn() % 3 - 1;
 }
 
+enum { NORMAL = 2047 * 5, SMALL = 51 * 5 };
+
 /* The i-th number. */
 static uint64_t number(uint64_t i) {
-    if (i < 2047 * 5) return (i / 5 << 52) + (i % 5 < 3 ? i % 5 : one - (i % 5 - 2));
+    if (i < NORMAL) return (i / 5 << 52) + (i % 5 < 3 ? i % 5 : one - (i % 5 - 2));
+    if (i < NORMAL + SMALL) return ((uint64_t)2 << (i - NORMAL) / 5) + i % 5 - 2;
     if (i % 4 == 0) return drawn() >> (12 + drawn() % 52);
     if (i % 2 == 0) return near_square();
     return drawn() % infinity;
