@@ -195,6 +195,13 @@ class Pages:
         self.by, self.page, self.total, self.count = by, EMPTY, EMPTY, 0
         self.pages, self.left_out = tempfile.TemporaryFile(), tempfile.TemporaryFile("w+", errors="surrogateescape", newline="")
 
+    def __enter__(self):
+        return self
+
+    def __exit__(self, *_):
+        self.pages.close()
+        self.left_out.close()
+
     def add(self, particles, columns):
         if self.page.particles + particles > MOST:
             self._over()
@@ -294,18 +301,19 @@ def read(path):
 
 def morning(args):
     by, note = worker(args.second)
-    pages, refused = Pages(by), 0
-    for path in files_of(args.names):
-        try:
-            pages.add(*by.of_sheet(read(path), args.updated))
-        except SheetRefused as e:
-            pages.leave_out(refused_line(path, e.args[0]))
-            refused += 1
-    pages.end()
-    if note:
-        print("report.py: " + note, file=sys.stderr)
-    for part in pages.told():
-        shell.say(part)
+    refused = 0
+    with Pages(by) as pages:
+        for path in files_of(args.names):
+            try:
+                pages.add(*by.of_sheet(read(path), args.updated))
+            except SheetRefused as e:
+                pages.leave_out(refused_line(path, e.args[0]))
+                refused += 1
+        pages.end()
+        if note:
+            print("report.py: " + note, file=sys.stderr)
+        for part in pages.told():
+            shell.say(part)
     return SOME_REFUSED if refused else 0
 
 
