@@ -203,6 +203,8 @@ class Answers(Night):
         self.ended(self.night("--zones", self.folder / "zones"), 0, says="--zones: nosuch.sheet of zone 3 never came")
         self.assertEqual(self.zones_told()[1:], ["3,0,0,0,0,0,not judged,0,1", "7,1,2,1,1,0,not judged,0,0"])
         self.assertIn("<li>nosuch.sheet: zone 3</li>", self.page())
+        self.assertTrue(self.verdict().endswith(": All that came is well: nothing was refused, 1 sheet never came"), self.verdict())
+        self.assertIn("All that came may go out; what never came is in none of these numbers.", self.page())
 
     def test_jobs_that_are_no_number(self):
         self.sheet("a.sheet")
@@ -435,6 +437,7 @@ class Answers(Night):
         ran = self.ended(self.run_command(*words, NIGHT, self.sheets, self.out, PASOLETU_SLOPE=self.program), 1, says="5 sheets without an answer")
         for line in ("pipe.sheet is no plain file", "dangling.sheet is a link to nothing", "closed.sheet cannot be read (Permission denied)", "shut/ cannot be read (Permission denied)", "passed over: folder.sheet: a folder"):
             self.assertIn("night: " + line, ran.stderr.decode())
+        self.assertIn("is a link to nothing: mend that or have it sent again, then run the night again", self.page())
         summary = self.summary()
         self.assertEqual({name: row["sheet_refused"] for name, row in summary.items() if row["sheet_refused"]}, {"empty.sheet": "4"})
         self.assertEqual([name for name, row in summary.items() if not row["answer"]], ["closed.sheet", "dangling.sheet", "long.sheet", "pipe.sheet", "shut/"])

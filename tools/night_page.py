@@ -231,7 +231,7 @@ dt { color: var(--faint); font-size: .9rem } dd { margin: 0; font-size: 1.5rem; 
 table { border-collapse: collapse; width: 100% }
 th, td { text-align: left; padding: .35rem .75rem .35rem 0; border-bottom: 1px solid var(--line); vertical-align: top }
 th { font-weight: 600; border-bottom-width: 2px } td.n, th.n { text-align: right; font-variant-numeric: tabular-nums }
-td.name, li { overflow-wrap: anywhere } td.name { min-width: 15rem } th, td.short { white-space: nowrap }
+td.name, li { overflow-wrap: anywhere } td.name { min-width: 19rem } th, td.short { white-space: nowrap }
 .picture { display: none; position: fixed; inset: 0; overflow: auto; background: rgba(0, 0, 0, .8); text-align: center; padding: 1rem }
 .picture:target { display: block } .picture img { max-width: 100%; background: white }
 pre { overflow-x: auto; font-variant-numeric: tabular-nums }
@@ -240,7 +240,7 @@ summary { cursor: pointer; font-size: 1.1rem; margin-top: 2rem }
   body { padding: 1rem } #verdict { font-size: 1.5rem } dl div { min-width: 5rem; padding: .4rem .7rem }
   table, tbody, tr { display: block } thead { display: none }
   tr { border-bottom: 1px solid var(--line); padding: .5rem 0 } td, td.n { display: flex; gap: .5rem; border: 0; padding: .1rem 0; text-align: left }
-  td::before { content: attr(data-head); flex: 0 0 7rem; color: var(--faint); font-weight: normal } td.name { font-weight: 600; min-width: 0 } td.short { white-space: normal }
+  td::before { content: attr(data-head); flex: 0 0 7rem; color: var(--faint); font-weight: normal } td.name { font-weight: 600; min-width: 0 } td.short { white-space: normal } td.zero { display: none }
 }
 """
 
@@ -273,17 +273,17 @@ def verdict_line(kind, when, words):
     return '<p id="verdict" class="%s"><time>%s:</time> %s</p>' % (kind, when, html.escape(words))
 
 
-def verdict(t, passed):
+def verdict(t, passed, missing):
     bad = [counted(n, what) + " " + told for n, what, told in (
         (t.unanswered, "sheet", "without an answer"), (sum(t.sheets_refused.values()), "sheet", "refused"), (sum(t.refused.values()), "particle", "refused")) if n]
-    over = ", %s turned inside out" % counted(t.turned, "particle") if t.turned else ""
-    over += ", %s passed over" % counted(passed.count, "file") if passed.count else ""
+    over = "".join(", %s %s" % (counted(n, what), told) for n, what, told in (
+        (t.turned, "particle", "turned inside out"), (missing.count, "sheet", "never came"), (passed.count, "file", "passed over")) if n)
     if not bad:
-        return verdict_line("good", now(), "All well: nothing was refused" + over)
+        return verdict_line("wait" if t.turned or missing.count else "good", now(), "%s: nothing was refused" % ("All that came is well" if missing.count else "All well") + over)
     return verdict_line("bad", now(), ", ".join(bad) + over)
 
 
-def rest(t):
+def rest(t, missing):
     """Whether what is not refused may go out, in one sentence."""
     worked = t.sheets - t.not_worked
     if t.unanswered:
@@ -292,7 +292,7 @@ def rest(t):
         return "Look first at the %s that came turned inside out and %s worked all the same; then the rest may go out." % (
             several(t.turned, "particle"), "was" if t.turned == 1 else "were")
     if not (t.refused or t.not_worked):
-        return "All of it may go out."
+        return "All that came may go out; what never came is in none of these numbers." if missing.count else "All of it may go out."
     if t.particles == sum(t.refused.values()):
         return "Nothing may go out: every particle and every sheet is refused."
     without = ["the refused particles"] * bool(t.refused) + ["the %s refused whole" % several(t.not_worked, "sheet")] * bool(t.not_worked)
@@ -328,7 +328,7 @@ def folders(held):
     if len(held) < 2:
         return ""
     bad = sorted((name for name, f in held.items() if any(f.badness)), key=lambda name: ([-n for n in held[name].badness], name))
-    rows = [[cell(shown(name or "."), "name"), *(cell(grouped(n), "n") for n in (f.sheets, f.unanswered, f.sheets_refused, f.particles, f.refused))]
+    rows = [[cell(shown(name or "."), "name"), *(cell(grouped(n), "n" if n else "n zero") for n in (f.sheets, f.unanswered, f.sheets_refused, f.particles, f.refused))]
             for name, f in ((name, held[name]) for name in bad[:LISTED])]
     listed = folded("folders", ["folder", "#sheets", "#without an answer", "#sheets refused", "#particles", "#refused"], (len(bad), rows), IN_SUMMARY)
     well = len(held) - len(bad)
@@ -366,7 +366,8 @@ def named(number, particles):
 def why(r):
     """What is to be said of a sheet that is not well."""
     if not r.answered:
-        return "%s: run the night again; joblog beside this page tells what was worked where" % html.escape(r.why or "no whole answer")
+        ours = r.why.startswith("has no")  # and nothing that whoever sent it can mend
+        return "%s: %s" % (html.escape(r.why), "run the night again; joblog beside this page tells what was worked where" if ours else "mend that or have it sent again, then run the night again")
     if r.sheet_refused:
         return "the sheet is refused by %d: %s" % (r.sheet_refused, html.escape(TABLE.REFUSALS[r.sheet_refused].what))
     if r.refused_particles == r.particles and len(r.refused) == 1:
@@ -403,7 +404,7 @@ class Rows:
             yield '<a href="%s">answer</a>' % r.sheet.answer
 
     def row(self, r, *more):
-        law = r.sheet.model.title if r.sheet.model else "unknown"
+        law = r.sheet.model.title if r.sheet.model else "-" if r.sheet.number is None else "unknown"
         return [cell(shown(r.sheet.name), "name"), cell(law, "short"), cell(grouped(r.particles) if r.worked else "-", "n"), *more, cell(" ".join(self.links(r)), "short")]
 
     def worst(self, count, bad):
@@ -468,8 +469,8 @@ def page_parts(night, out, pages, note, passed, missing, drawing):
     rows = Rows(out, held_pictures)
     told = list(reasons(t))
     yield "<h1>The night's sheets</h1>"
-    yield verdict(t, passed)
-    yield '<p id="rest">%s</p>' % html.escape(rest(t))
+    yield verdict(t, passed, missing)
+    yield '<p id="rest">%s</p>' % html.escape(rest(t, missing))
     yield figures(t)
     if drawing:
         yield '<p class="faint">%s being drawn; this page is then made once more.</p>' % ("A picture is" if drawing == 1 else "%s pictures are" % grouped(drawing))

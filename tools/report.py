@@ -229,8 +229,8 @@ class Pages:
 
     def lines_left_out(self):
         self.left_out.seek(0)
-        for line in self.left_out:
-            yield "\n" + line
+        for k, line in enumerate(self.left_out):
+            yield line if k else "\n" + line
 
     def parts(self):
         self.pages.seek(0)
