@@ -86,6 +86,8 @@ NARROW = """<!DOCTYPE html><body><iframe width="420" height="900" src="%s"></ifr
 class Night(InFolder):
     def setUp(self):
         super().setUp()
+        if not shutil.which("parallel"):
+            self.skipTest("there is no GNU parallel: on Debian: apt-get install -y parallel")
         self.sheets, self.out, self.worked = self.folder / "in", self.folder / "out", self.folder / "worked"
         self.sheets.mkdir()
         self.program = script(self.folder / "program", """\
