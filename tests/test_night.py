@@ -28,6 +28,8 @@ import unittest.mock
 from test_command import TOP, InFolder, proved_program, script
 
 sys.path.insert(0, str(TOP / "tools"))
+import night_job  # noqa: E402
+import night_sheets  # noqa: E402
 import night_work  # noqa: E402
 import shell  # noqa: E402
 
@@ -85,6 +87,8 @@ NARROW = """<!DOCTYPE html><body><iframe width="420" height="900" src="%s"></ifr
 class Night(InFolder):
     def setUp(self):
         super().setUp()
+        if not shutil.which("parallel"):
+            self.skipTest("there is no GNU parallel: on Debian: apt-get install -y parallel")
         self.sheets, self.out, self.worked = self.folder / "in", self.folder / "out", self.folder / "worked"
         self.hold = self.folder / "hold"  # while it is there, no more sheets are worked than it says
         self.sheets.mkdir()
@@ -208,6 +212,8 @@ class Answers(Night):
         self.ended(self.night("--zones", self.folder / "zones"), 0, says="--zones: nosuch.sheet of zone 3 never came")
         self.assertEqual(self.zones_told()[1:], ["3,0,0,0,0,0,not judged,0,1", "7,1,2,1,1,0,not judged,0,0"])
         self.assertIn("<li>nosuch.sheet: zone 3</li>", self.page())
+        self.assertTrue(self.verdict().endswith(": All that came is well: nothing was refused, 1 sheet never came"), self.verdict())
+        self.assertIn("All that came may go out; what never came is in none of these numbers.", self.page())
 
     def test_jobs_that_are_no_number(self):
         self.sheet("a.sheet")
@@ -281,19 +287,120 @@ class Answers(Night):
         self.assertEqual(self.times_worked(), collections.Counter(self.digests()))
 
     def test_batches_are_by_bytes_and_the_last_ones_short(self):
-        sizes = [night_work.LONGEST] * 10000
-        queue, batches = night_work.Queue(sizes, 4), []
-        while True:
-            batch = queue.take()
-            if not batch:
-                break
-            batches.append(batch)
-            queue.over([])
-        self.assertEqual([k for batch in batches for k in batch], list(range(10000)))
-        self.assertTrue(all(sum(sizes[k] for k in batch) <= night_work.MOST_BYTES for batch in batches))
-        self.assertGreater(len(batches[0]), 200)
-        self.assertLess(len(batches[-1]), 30)
+        longest = night_sheets.LONGEST
+        batches = list(night_work.batches([longest] * 10000, 4))
+        self.assertEqual(sum(batches), 10000)
+        self.assertLessEqual(max(batches) * longest, night_work.MOST_BYTES)
+        self.assertGreater(batches[0], 200)
+        self.assertLess(batches[-1], 30)
         self.assertLess(len(batches), 100)
+        self.assertEqual(list(night_work.batches([longest, 0, 0, 2 * night_work.MOST_BYTES, 1, 1], 1)), [3, 1, 2])
+        self.assertEqual(list(night_work.batches([], 3)), [])
+
+    def test_sheets_are_found_in_the_order_of_their_names(self):
+        names = ["a.sheet", "a/b.sheet", "a/b/c.sheet", "a-b/x.sheet", "a.d/x.sheet", "ab.sheet", "a0.sheet", "\u00e9/z.sheet", "Z.sheet", "a b/c.sheet"]
+        for name in names:
+            self.sheet(name)
+        found = list(night_sheets.find(self.sheets, self.out, night_sheets.First()))
+        self.assertEqual(found, sorted(names))
+
+    def test_answers_are_told_apart_wherever_they_are_cut(self):
+        answers = [WELL.encode(), b"sheet refused 4\n", b"particles 1\n", b"particles 0\nend\n"]
+        text = b"".join(b"==> %d <==\n%b" % one for one in enumerate(answers))
+        for size in (1, 2, 3, 7, 1000):
+            told = night_job.Answers()
+            taken = [one for at in range(0, len(text), size) for one in told.of(text[at:at + size])] + told.last()
+            self.assertEqual(taken, list(enumerate(answers)))
+        told = night_job.Answers()
+        self.assertEqual(told.of(b"") + told.last(), [])
+        self.assertEqual(told.of(b"no heading\n") + told.last(), [])
+
+    def test_a_line_that_a_job_was_ended_at(self):
+        """A batch that is tried again takes over the whole lines of the try before."""
+        here = os.getcwd()
+        os.chdir(self.folder)
+        self.addCleanup(os.chdir, here)
+        lines = [night_sheets.result(night_sheets.Sheet("\udcff%d.sheet" % k, "00", 0), answer).line(k)
+                 for k, answer in enumerate([b"particles 2\n0 refused 3\n1 untouched\nend\n", b"sheet refused 6\n"])]
+        (self.folder / "rows.0").write_text("".join(lines) + lines[0][:20])
+        with unittest.mock.patch.object(night_job, "tell"):
+            rows = night_job.Rows(0)
+            self.addCleanup(rows.file.close)
+            self.assertEqual(rows.done, {0, 1})
+            rows.write([night_sheets.Result(night_sheets.Sheet("c.sheet", "", None), False, why="x").line(2)])
+        (first, one), (_, other), (_, third) = map(night_sheets.of_line, (self.folder / "rows.0").read_text().splitlines())
+        self.assertEqual((first, one.sheet.name, one.refused, one.untouched, one.sheet.model.name), (0, "\udcff0.sheet", {3: [0]}, 1, "snow"))
+        self.assertEqual((other.sheet_refused, third.why, third.answered), (6, "x", False))
+
+    def test_no_gnu_parallel(self):
+        self.numbered(1)
+        for name in ("sh", "bash", "env", "readlink", "python3", "uname", "dirname"):
+            (self.folder / "path" / name).parent.mkdir(exist_ok=True)
+            (self.folder / "path" / name).symlink_to(shutil.which(name) if name != "python3" else sys.executable)
+        self.ended(self.night(PATH=self.folder / "path"), 1, says="GNU parallel is missing: on Debian: apt-get install -y parallel")
+        self.assertIn("not finished: GNU parallel is missing", self.verdict())
+        other = script(self.folder / "path" / "parallel", "#!/bin/sh\necho parallel: there is no such option >&2\nexit 1\n")
+        self.ended(self.night(PATH=other.parent), 1, says="GNU parallel worked nothing (on Debian: apt-get install -y parallel): parallel: there is no such option")
+
+    def test_a_folder_of_any_name(self):
+        self.sheets, self.out = self.folder / "in \"d' {} $HOME", self.folder / "out 'e\" {} $HOME"
+        self.numbered(40)
+        self.ended(self.night(), 0)
+        self.holds_every_answer()
+
+    def held_of(self, count):
+        """The most bytes that a morning of so many sheets holds: counted, written and told as a page."""
+        ran = self.run_command(sys.executable, "-c", """if True:
+            import io, pathlib, sys, tracemalloc
+            sys.path.insert(0, %r)
+            import night_page, night_sheets, report
+            class Nowhere(io.TextIOBase):
+                def write(self, text):
+                    return len(text)
+            def results():
+                for k in range(%d):
+                    sheet = night_sheets.Sheet("outpost%%02d/%%06d.sheet" %% (k %% 50, k), "%%064x" %% k, k %% 4)
+                    if k %% 5 == 0:
+                        yield night_sheets.Result(sheet, True, 4)
+                    elif k %% 5 == 1:
+                        yield night_sheets.Result(sheet, False, why="has no answer")
+                    else:
+                        refused = {1: list(range(k %% 7))} if k %% 5 == 2 else {}
+                        yield night_sheets.Result(sheet, True, None, 200, 100, 100 - k %% 7, refused, columns=[200, 1, 2, 300, 0, 0] * 3, turned=((3, (-0.5,)),) * (k %% 5 == 3))
+            tracemalloc.start()
+            night, pages = night_page.Counting(100), report.Pages(report.Second())
+            summary = night_page.Summary(Nowhere())
+            for r in results():
+                night.add(r)
+                summary.add(r)
+                pages.add(r.particles, report.columns_of(r.columns)) if r.columns else pages.leave_out(r.sheet.name + "\\n")
+            pages.end()
+            first = night_sheets.First()
+            size = sum(map(len, night_page.page(night, pathlib.Path("/none"), pages, None, first, first)))
+            for part in pages.told():
+                pass
+            print(tracemalloc.get_traced_memory()[1], size, night.sheets, pages.total.particles)
+            """ % (str(TOP / "tools"), count))
+        held, size, sheets, particles = map(int, self.ended(ran, 0).stdout.split())
+        self.assertEqual((sheets, particles), (count, 200 * (count * 3 // 5)))
+        return held, size
+
+    def test_a_longer_night_takes_no_more_memory(self):
+        (held, size), (more, larger) = self.held_of(6000), self.held_of(30000)
+        self.assertLess(more, 1.05 * held + 100000)
+        self.assertLess(larger, 1.05 * size)
+
+    def test_the_page_of_a_long_night_is_folded(self):
+        for k in range(1101):
+            self.sheet("outpost%d/%04d.sheet" % (k % 2, k), "particles 1\n0 untouched\nend\n")
+        for k in range(150):
+            self.sheet("north/%04d.sheet" % k, "particles 1\n0 refused 1\nend\n")
+        self.ended(self.night("--pictures", "0"), 3)
+        rows = {name: [re.findall(r"<td[^>]*>(.*?)</td>", row) for row in re.findall("<tr>(.*?)</tr>", self.page().split('id="%s"' % name)[1].split("</table>")[0])][1:]
+                for name in ("well", "worst", "worst-more", "folders")}
+        self.assertEqual(rows["well"], [["outpost0", "551", "551", "551", "0"], ["outpost1", "550", "550", "550", "0"]])
+        self.assertEqual([len(rows[name]) for name in ("worst", "worst-more", "folders")], [100, 50, 1])
+        self.assertIn("<details><summary>The next 50</summary>", self.page())
 
     def test_an_answer_that_is_not_whole_is_worked_again(self):
         """Emptied, cut, with a line too few, with other words."""
@@ -339,6 +446,7 @@ class Answers(Night):
         ran = self.ended(self.run_command(*words, NIGHT, self.sheets, self.out, PASOLETU_SLOPE=self.program), 1, says="5 sheets without an answer")
         for line in ("pipe.sheet is no plain file", "dangling.sheet is a link to nothing", "closed.sheet cannot be read (Permission denied)", "shut/ cannot be read (Permission denied)", "passed over: folder.sheet: a folder"):
             self.assertIn("night: " + line, ran.stderr.decode())
+        self.assertIn("is a link to nothing: mend that or have it sent again, then run the night again", self.page())
         summary = self.summary()
         self.assertEqual({name: row["sheet_refused"] for name, row in summary.items() if row["sheet_refused"]}, {"empty.sheet": "4"})
         self.assertEqual([name for name, row in summary.items() if not row["answer"]], ["closed.sheet", "dangling.sheet", "long.sheet", "pipe.sheet", "shut/"])
@@ -359,12 +467,16 @@ class Answers(Night):
 
     def test_answers_are_synced_before_their_names_stand(self):
         seen = []
-        (self.folder / "answers").mkdir()
-        with unittest.mock.patch.object(night_work, "sync", lambda folder: seen.append(sorted(path.name.split(".")[-1] for path in (folder / "answers").iterdir()))):
-            night_work.keep(self.folder, [("answers/a.txt", b"x"), ("answers/b.txt", b"y")])
+        answers = self.folder / "answers"
+        answers.mkdir()
+        with unittest.mock.patch.object(night_job, "sync", lambda folder: seen.append(sorted(path.name.split(".")[-1] for path in answers.iterdir()))):
+            night_job.keep(str(self.folder), {"answers/a.txt": b"x", "answers/b.txt": b"y"})
         self.assertEqual(seen, [["part", "part"]])
-        self.assertEqual(sorted(path.name for path in (self.folder / "answers").iterdir()), ["a.txt", "b.txt"])
-        night_work.sync(self.folder)
+        self.assertEqual({path.name: path.read_bytes() for path in answers.iterdir()}, {"a.txt": b"x", "b.txt": b"y"})
+        night_job.sync(self.folder)
+        with unittest.mock.patch.object(night_job, "sync", unittest.mock.Mock(side_effect=OSError)), self.assertRaises(OSError):
+            night_job.keep(str(self.folder), {"answers/c.txt": b"z"})
+        self.assertEqual(sorted(path.name for path in answers.iterdir()), ["a.txt", "b.txt"])
 
     def test_a_sheet_that_changes_while_it_is_read(self):
         path, asked = self.sheet("a.sheet"), []
@@ -377,13 +489,13 @@ class Answers(Night):
             asked.append(count)
             return really(file, count)
 
-        with unittest.mock.patch.object(os, "read", growing), self.assertRaisesRegex(night_work.Unreadable, "changed while it was read"):
-            night_work.read(path)
-        data, digest = night_work.read(path)
+        with unittest.mock.patch.object(os, "read", growing), self.assertRaisesRegex(night_sheets.Unreadable, "changed while it was read"):
+            night_sheets.read(path)
+        data, digest = night_sheets.read(path)
         self.assertEqual((data, digest), (path.read_bytes(), hashlib.sha256(path.read_bytes()).hexdigest()))
         path.write_bytes(bytes(200000))
-        data, digest = night_work.read(path)
-        self.assertEqual((len(data), digest), (night_work.LONGEST + 1, hashlib.sha256(bytes(200000)).hexdigest()))
+        data, digest = night_sheets.read(path)
+        self.assertEqual((len(data), digest), (night_sheets.LONGEST + 1, hashlib.sha256(bytes(200000)).hexdigest()))
 
     def test_the_page_of_a_night_that_is_worked(self):
         """Yesterday's page does not stand while tonight's is worked, nor where that fails."""
@@ -679,8 +791,8 @@ class Frames(InFolder):
     def test_every_kind_of_sheet_in_one_run(self):
         told = re.findall(r"-- (\d\d)\n(.*?)(?=-- \d\d|\Z)", (self.CASES / "stdout").read_text(), re.S)
         want = "".join("==> %d <==\n%s" % (k, answer) for k, (_, answer) in enumerate(told))
-        sheets = [(self.CASES / "data" / name).read_bytes()[:night_work.LONGEST + 1] for name, _ in told]  # as the night reads them
-        self.ended(self.framed(night_work.framed(sheets)), 0, want)
+        sheets = [(self.CASES / "data" / name).read_bytes()[:night_sheets.LONGEST + 1] for name, _ in told]  # as the night reads them
+        self.ended(self.framed(b"".join(map(night_job.frame, sheets))), 0, want)
 
     def test_no_frame(self):
         self.assertEqual(self.ended(self.framed(b""), 0, "").stderr, b"")
@@ -688,8 +800,8 @@ class Frames(InFolder):
     def test_a_frame_that_is_cut_or_too_long(self):
         first = (TOP / "crates" / "slope" / "stdin").read_bytes()
         answer = "==> 0 <==\n" + (TOP / "crates" / "slope" / "stdout").read_text()
-        whole = night_work.framed([first])
-        too_long = night_work.framed([bytes(night_work.LONGEST + 2)])
+        whole = night_job.frame(first)
+        too_long = night_job.frame(bytes(night_sheets.LONGEST + 2))
         for rest in (b"\0", whole[:7], whole[:8], whole[:-1], too_long, b"\xff" * 16):
             self.ended(self.framed(whole + rest + whole), 0, answer, "standard input: this is no whole frame") if rest == too_long else None
             self.ended(self.framed(whole + rest), 0, answer, "standard input: this is no whole frame")

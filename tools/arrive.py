@@ -24,7 +24,7 @@ import sys
 sys.path.insert(0, str(pathlib.Path(__file__).resolve().parent))
 import sheet  # noqa: E402
 import shell  # noqa: E402
-from night_page import TABLE  # noqa: E402
+from night_sheets import TABLE  # noqa: E402
 
 ALL_WELL, NO_SHEET, SOME_REFUSED = 0, 2, 3
 SIGMA = 18  # its place in a record

@@ -1,135 +1,45 @@
-"""What a night of sheets came to: the answers counted, the summary as a CSV, and the page for the morning. The words are those of calls.toml."""
+"""What a night of sheets came to: the answers counted as they come, the summary as a CSV, and the page for the morning. The words are those of
+calls.toml. Of a night of any length no more is held than the page shows."""
 import base64
+import bisect
 import collections
 import csv
 import html
-import importlib.util
 import io
-import pathlib
 import re
 import time
-from typing import NamedTuple, Optional
+from typing import NamedTuple
 
-TOP = pathlib.Path(__file__).resolve().parent.parent
-DIGITS = 16  # of the digest in a name
+from night_sheets import LISTED, TABLE, First, turned_words
+
 EMBEDDED = 100  # pictures that the page holds itself; it leads to the files of the others
 NAMED = 6  # refused particles of a sheet that the page names
-LISTED = 1000  # sheets with nothing refused that the page lists; all stand in summary.csv
+SHOWN = 100  # rows of a table that stand open; up to LISTED are folded away below them
 PARTS = 100  # parts of the report that the page folds away; more stand in report.txt alone
-
-
-def _table():
-    """The table's module by itself: the package would look for the library."""
-    spec = importlib.util.spec_from_file_location("pasoletu_table", TOP / "bindings" / "python" / "pasoletu" / "_table.py")
-    module = importlib.util.module_from_spec(spec)
-    spec.loader.exec_module(module)
-    return module
-
-
-TABLE = _table()
 NUMBERS = sorted(TABLE.REFUSALS)
-
-
-def law(number):
-    """The law that a model's number names, with determinants or without; nothing for an unknown one."""
-    return TABLE.MODELS[number % len(TABLE.MODELS)] if number < TABLE.WITH_DETERMINANT + len(TABLE.MODELS) else None
-
-
-class Sheet(NamedTuple):
-    """A sheet: its name below the folder of sheets, the SHA-256 of its bytes, the law that it names."""
-
-    name: str
-    digest: str
-    model: Optional[TABLE.Model]
-
-    def _file(self, folder, ending):
-        """A file of this sheet's bytes. Its characters need no quoting anywhere; of two sheets that share it the bytes are the same."""
-        plain = re.sub(r"[^A-Za-z0-9._-]", "_", self.name[:-len(".sheet")])[-150:]
-        return "%s/%s.%s.%s" % (folder, plain, self.digest[:DIGITS], ending)
-
-    @property
-    def answer(self):
-        return self._file("answers", "txt")
-
-    @property
-    def picture(self):
-        return self._file("pictures", "svg")
-
-
-class Result(NamedTuple):
-    """What a sheet came to. `answered`: there is a whole answer. `sheet_refused`: the number by which the whole sheet was refused.
-    `refused`: which particles by each number. `why`: why there is no answer. `failed`: how many failed, where they were judged.
-    `columns`: its part of the report, as tools/report.py packs it. `turned`: particles that were worked although a sigma of theirs came as 0 or
-    below: their numbers and those sigmas."""
-
-    sheet: Sheet
-    answered: bool
-    sheet_refused: Optional[int] = None
-    particles: int = 0
-    untouched: int = 0
-    stored: int = 0
-    refused: dict[int, list[int]] = {}
-    why: str = ""
-    failed: int = 0
-    columns: bytes = b""
-    turned: tuple = ()
-
-    @property
-    def refused_particles(self):
-        return sum(map(len, self.refused.values()))
-
-    @property
-    def worked(self):
-        return self.answered and self.sheet_refused is None
-
-    @property
-    def well(self):
-        return self.worked and not self.refused_particles
-
-
-WHOLE = re.compile(rb"particles (0|[1-9][0-9]*)\n((?:[0-9]+ (?:untouched|stored [0-9a-f]{16}|refused [0-9]+)\n)*)end\n")
-SHEET_REFUSED = re.compile(rb"sheet refused ([0-9]+)\n")
-PARTICLE_REFUSED = re.compile(rb"^([0-9]+) refused ([0-9]+)$", re.M)
-
-
-def is_whole(answer):
-    """Whether an answer is whole: the count, as many lines and `end`; or one line that the sheet is refused."""
-    told = WHOLE.fullmatch(answer)
-    return int(told.group(1)) == told.group(2).count(b"\n") if told else bool(SHEET_REFUSED.fullmatch(answer))
-
-
-def result(sheet, answer):
-    """A whole answer, counted."""
-    told = SHEET_REFUSED.fullmatch(answer)
-    if told:
-        return Result(sheet, True, int(told.group(1)))
-    refused = collections.defaultdict(list)
-    if b" refused " in answer:
-        for particle, number in PARTICLE_REFUSED.findall(answer):
-            refused[int(number)].append(int(particle))
-    return Result(sheet, True, None, answer.count(b"\n") - 2, answer.count(b" untouched\n"), answer.count(b" stored "), dict(refused))
-
-
-SIGMA = next(part.at for part in TABLE.RECORD if part.field == "singular_values")
-
-
-def turned_in(records, floats, r):
-    """The worked particles that came turned inside out or pressed flat: Snow works them all the same."""
-    sigmas = [records[SIGMA + k::floats].tolist() for k in range(3)]
-    if all(min(column, default=1.0) > 0.0 for column in sigmas):
-        return ()
-    refused = {k for particles in r.refused.values() for k in particles}
-    return tuple((k, tuple(sorted(x for x in sigma if x <= 0.0))) for k, sigma in enumerate(zip(*sigmas)) if min(sigma) <= 0.0 and k not in refused)
-
-
-def turned_words(particle, sigmas):
-    return "particle %d is worked, but %s: sigma %s" % (particle, "turned inside out" if sigmas[0] < 0.0 else "pressed flat", " ".join("%g" % x for x in sigmas))
 
 
 def badness(result):
     """Worst first: no answer, the whole sheet refused, many particles refused, a larger part of them; then by name."""
     share = result.refused_particles / max(1, result.particles)
     return result.answered, result.sheet_refused is None, -result.refused_particles, -share, result.sheet.name
+
+
+class Worst:
+    """The worst of many results, the worst first; all where no number is given."""
+
+    def __init__(self, most=None):
+        self.most, self.held = most, []
+
+    def add(self, r):
+        key = badness(r)
+        if self.most is None or len(self.held) < self.most or (self.most and key < self.held[-1][0]):
+            bisect.insort(self.held, (key, r))
+            if self.most is not None:
+                del self.held[self.most:]
+
+    def results(self):
+        return [r for _, r in self.held]
 
 
 class Totals(NamedTuple):
@@ -158,15 +68,70 @@ class Totals(NamedTuple):
         return self.unanswered + sum(self.sheets_refused.values())
 
 
-def totals(results):
-    refused = collections.Counter()
-    sheets_with = collections.Counter()
-    for r in results:
-        refused.update({n: len(particles) for n, particles in r.refused.items()})
-        sheets_with.update(r.refused.keys())
-    return Totals(len(results), sum(not r.answered for r in results), collections.Counter(r.sheet_refused for r in results if r.sheet_refused),
-                  sum(r.particles for r in results), sum(r.untouched for r in results), sum(r.stored for r in results), refused, sheets_with,
-                  sum(len(r.turned) for r in results))
+class Folder:
+    """What the sheets of a folder, an outpost's, came to; of those with nothing refused also by themselves."""
+
+    __slots__ = ("sheets", "unanswered", "sheets_refused", "particles", "refused", "well", "well_particles", "untouched", "stored")
+
+    def __init__(self):
+        for name in self.__slots__:
+            setattr(self, name, 0)
+
+    def add(self, r):
+        self.sheets += 1
+        self.unanswered += not r.answered
+        self.sheets_refused += r.sheet_refused is not None
+        self.particles += r.particles
+        self.refused += r.refused_particles
+        if r.well:
+            self.well += 1
+            self.well_particles += r.particles
+            self.untouched += r.untouched
+            self.stored += r.stored
+
+    @property
+    def badness(self):
+        return self.unanswered, self.sheets_refused, self.refused
+
+
+class Counting:
+    """A night's results, counted as they come in the order of their names. `pictures`: how many of the worst sheets are to be drawn; all where it is none."""
+
+    def __init__(self, pictures=0):
+        self.sheets = self.unanswered = self.particles = self.untouched = self.stored = self.turned_particles = self.before = 0
+        self.sheets_refused, self.refused, self.sheets_with = collections.Counter(), collections.Counter(), collections.Counter()
+        self.bad, self.worst, self.drawable, self.every_picture = 0, Worst(LISTED), Worst(pictures), pictures is None
+        self.well, self.turned, self.lost, self.folders = First(), First(), First(), collections.defaultdict(Folder)
+
+    def add(self, r):
+        self.sheets += 1
+        self.unanswered += not r.answered
+        self.particles += r.particles
+        self.untouched += r.untouched
+        self.stored += r.stored
+        self.before += r.before
+        if r.sheet_refused:
+            self.sheets_refused[r.sheet_refused] += 1
+        for number, particles in r.refused.items():
+            self.refused[number] += len(particles)
+            self.sheets_with[number] += 1
+        self.turned_particles += len(r.turned)
+        for one in r.turned:
+            self.turned.add((r.sheet.name, turned_words(*one)))
+        if not r.answered:
+            self.lost.add((r.sheet.name, r.why))
+        self.folders[r.sheet.name.rpartition("/")[0]].add(r)
+        if r.well:
+            self.well.add(r)
+        else:
+            self.bad += 1
+            self.worst.add(r)
+        if r.particles and (self.every_picture or r.refused):
+            self.drawable.add(r)
+
+    @property
+    def totals(self):
+        return Totals(self.sheets, self.unanswered, self.sheets_refused, self.particles, self.untouched, self.stored, self.refused, self.sheets_with, self.turned_particles)
 
 
 def counted(n, what):
@@ -182,15 +147,18 @@ def grouped(n):
     return "{:,}".format(n)
 
 
-def summary(results):
-    """The CSV. `refused_N` counts particles; `sheet_refused` is the number by which the whole sheet was refused. A sheet without an answer has empty cells."""
-    out = io.StringIO()
-    lines = csv.writer(out, lineterminator="\n")
-    lines.writerow(["sheet", "model", "particles", "untouched", "stored", *("refused_%d" % n for n in NUMBERS), "sheet_refused", "answer"])
-    for r in results:
-        counts = [r.particles, r.untouched, r.stored, *(len(r.refused.get(n, [])) for n in NUMBERS), r.sheet_refused or "", r.sheet.answer]
-        lines.writerow([r.sheet.name, r.sheet.model.name if r.sheet.model else "", *(counts if r.answered else [""] * len(counts))])
-    return out.getvalue()
+class Summary:
+    """The CSV, written as the results come. `refused_N` counts particles; `sheet_refused` is the number by which the whole sheet was refused. A sheet
+    without an answer has empty cells."""
+
+    def __init__(self, file):
+        self.lines = csv.writer(file, lineterminator="\n")
+        self.lines.writerow(["sheet", "model", "particles", "untouched", "stored", *("refused_%d" % n for n in NUMBERS), "sheet_refused", "answer"])
+
+    def add(self, r):
+        counts = [r.particles, r.untouched, r.stored, *(len(r.refused.get(n, ())) for n in NUMBERS), r.sheet_refused or "", r.sheet.answer]
+        model = r.sheet.model
+        self.lines.writerow([r.sheet.name, model.name if model else "", *(counts if r.answered else [""] * len(counts))])
 
 
 ZONE_LINE = re.compile(r"\s*([0-9]+)\s*[\s,]\s*(\S.*?)\s*")
@@ -216,29 +184,33 @@ def zones_of(text):
 NOT_JUDGED = "not judged"
 
 
-def never_came(results, zones):
-    """The sheets of the zones that are not there: zone and name."""
-    here = {r.sheet.name for r in results}
-    return sorted((zone, name) for name, zone in zones.items() if name not in here)
-
-
-def by_zone(results, zones, judged=False):
+class ByZone:
     """The table for the phone: a line a zone, with what its sheets came to. A sheet that is in no zone stands under an empty one;
     `not_worked` are sheets refused whole or without an answer, `never_came` those that are not there; `failed` is told where it was judged."""
-    out = io.StringIO()
-    lines = csv.writer(out, lineterminator="\n")
-    lines.writerow(["zone", "sheets", "particles", "untouched", "stored", "refused", "failed", "not_worked", "never_came"])
-    rows = collections.defaultdict(lambda: [0] * 8)
-    for r in results:
-        row = rows[zones.get(r.sheet.name, "")]
+
+    def __init__(self, zones, judged=False):
+        self.left, self.judged = dict(zones), judged
+        self.rows = collections.defaultdict(lambda: [0] * 8)
+
+    def add(self, r):
+        row = self.rows[self.left.pop(r.sheet.name, "")]
         for k, n in enumerate([1, r.particles, r.untouched, r.stored, r.refused_particles, r.failed, 0] if r.worked else [1, 0, 0, 0, 0, 0, 1]):
             row[k] += n
-    for zone, _ in never_came(results, zones):
-        rows[zone][7] += 1
-    for zone in sorted(rows, key=lambda z: (z == "", z)):
-        *counts, failed, not_worked, missing = rows[zone]
-        lines.writerow([zone, *counts, failed if judged else NOT_JUDGED, not_worked, missing])
-    return out.getvalue()
+
+    def never_came(self):
+        """The sheets of the zones that are not there: zone and name."""
+        return sorted((zone, name) for name, zone in self.left.items())
+
+    def table(self):
+        for zone, _ in self.never_came():
+            self.rows[zone][7] += 1
+        out = io.StringIO()
+        lines = csv.writer(out, lineterminator="\n")
+        lines.writerow(["zone", "sheets", "particles", "untouched", "stored", "refused", "failed", "not_worked", "never_came"])
+        for zone in sorted(self.rows, key=lambda z: (z == "", z)):
+            *counts, failed, not_worked, missing = self.rows[zone]
+            lines.writerow([zone, *counts, failed if self.judged else NOT_JUDGED, not_worked, missing])
+        return out.getvalue()
 
 
 # ---- the page
@@ -259,7 +231,7 @@ dt { color: var(--faint); font-size: .9rem } dd { margin: 0; font-size: 1.5rem; 
 table { border-collapse: collapse; width: 100% }
 th, td { text-align: left; padding: .35rem .75rem .35rem 0; border-bottom: 1px solid var(--line); vertical-align: top }
 th { font-weight: 600; border-bottom-width: 2px } td.n, th.n { text-align: right; font-variant-numeric: tabular-nums }
-td.name, li { overflow-wrap: anywhere } td.name { min-width: 15rem } th, td.short { white-space: nowrap }
+td.name, li { overflow-wrap: anywhere } td.name { min-width: 19rem } th, td.short { white-space: nowrap }
 .picture { display: none; position: fixed; inset: 0; overflow: auto; background: rgba(0, 0, 0, .8); text-align: center; padding: 1rem }
 .picture:target { display: block } .picture img { max-width: 100%; background: white }
 pre { overflow-x: auto; font-variant-numeric: tabular-nums }
@@ -268,7 +240,7 @@ summary { cursor: pointer; font-size: 1.1rem; margin-top: 2rem }
   body { padding: 1rem } #verdict { font-size: 1.5rem } dl div { min-width: 5rem; padding: .4rem .7rem }
   table, tbody, tr { display: block } thead { display: none }
   tr { border-bottom: 1px solid var(--line); padding: .5rem 0 } td, td.n { display: flex; gap: .5rem; border: 0; padding: .1rem 0; text-align: left }
-  td::before { content: attr(data-head); flex: 0 0 7rem; color: var(--faint); font-weight: normal } td.name { font-weight: 600; min-width: 0 } td.short { white-space: normal }
+  td::before { content: attr(data-head); flex: 0 0 7rem; color: var(--faint); font-weight: normal } td.name { font-weight: 600; min-width: 0 } td.short { white-space: normal } td.zero { display: none }
 }
 """
 
@@ -301,17 +273,17 @@ def verdict_line(kind, when, words):
     return '<p id="verdict" class="%s"><time>%s:</time> %s</p>' % (kind, when, html.escape(words))
 
 
-def verdict(t, passed):
+def verdict(t, passed, missing):
     bad = [counted(n, what) + " " + told for n, what, told in (
         (t.unanswered, "sheet", "without an answer"), (sum(t.sheets_refused.values()), "sheet", "refused"), (sum(t.refused.values()), "particle", "refused")) if n]
-    over = ", %s turned inside out" % counted(t.turned, "particle") if t.turned else ""
-    over += ", %s passed over" % counted(len(passed), "file") if passed else ""
+    over = "".join(", %s %s" % (counted(n, what), told) for n, what, told in (
+        (t.turned, "particle", "turned inside out"), (missing.count, "sheet", "never came"), (passed.count, "file", "passed over")) if n)
     if not bad:
-        return verdict_line("good", now(), "All well: nothing was refused" + over)
+        return verdict_line("wait" if t.turned or missing.count else "good", now(), "%s: nothing was refused" % ("All that came is well" if missing.count else "All well") + over)
     return verdict_line("bad", now(), ", ".join(bad) + over)
 
 
-def rest(t):
+def rest(t, missing):
     """Whether what is not refused may go out, in one sentence."""
     worked = t.sheets - t.not_worked
     if t.unanswered:
@@ -320,7 +292,7 @@ def rest(t):
         return "Look first at the %s that came turned inside out and %s worked all the same; then the rest may go out." % (
             several(t.turned, "particle"), "was" if t.turned == 1 else "were")
     if not (t.refused or t.not_worked):
-        return "All of it may go out."
+        return "All that came may go out; what never came is in none of these numbers." if missing.count else "All of it may go out."
     if t.particles == sum(t.refused.values()):
         return "Nothing may go out: every particle and every sheet is refused."
     without = ["the refused particles"] * bool(t.refused) + ["the %s refused whole" % several(t.not_worked, "sheet")] * bool(t.not_worked)
@@ -335,34 +307,45 @@ def figures(t):
     return '<dl id="figures">%s</dl>%s' % ("".join("<div><dt>%s</dt><dd>%s</dd></div>" % (name, grouped(n)) for name, n in shown), left)
 
 
-def folder_of(r):
-    return r.sheet.name.rpartition("/")[0]
+def folded(identity, heads, rows, more):
+    """A table: the first rows open, those up to LISTED folded away below them, and a sentence where there are still more. `rows` is as many as there
+    are in all, and the first of them."""
+    count, first = rows
+    if not count:
+        return ""
+    below = table(identity + "-more", heads, first[SHOWN:LISTED]) if len(first) > SHOWN else ""
+    left = '<p class="faint">and %s more: %s</p>' % (grouped(count - LISTED), more) if count > LISTED else ""
+    if below:
+        below = "<details><summary>The next %s</summary>\n%s%s\n</details>" % (grouped(min(count, LISTED) - SHOWN), below, left)
+    return table(identity, heads, first[:SHOWN]) + (below or left)
 
 
-def folders(results):
+IN_SUMMARY = 'they stand in <a href="summary.csv">summary.csv</a>'
+
+
+def folders(held):
     """A row for each folder, an outpost's, in which something is not well, the worst first; nothing where all sheets lie in one."""
-    held = collections.defaultdict(list)
-    for r in results:
-        held[folder_of(r)].append(r)
     if len(held) < 2:
         return ""
-    counts = {name: (len(rs), sum(not r.answered for r in rs), sum(r.sheet_refused is not None for r in rs), sum(r.particles for r in rs),
-                     sum(r.refused_particles for r in rs)) for name, rs in held.items()}
-    bad = sorted((name for name, c in counts.items() if c[1] or c[2] or c[4]), key=lambda name: ([-counts[name][k] for k in (1, 2, 4)], name))
-    rows = [[cell(shown(name or "."), "name"), *(cell(grouped(n), "n") for n in counts[name])] for name in bad]
-    listed = table("folders", ["folder", "#sheets", "#without an answer", "#sheets refused", "#particles", "#refused"], rows) if bad else ""
-    well = len(counts) - len(bad)
+    bad = sorted((name for name, f in held.items() if any(f.badness)), key=lambda name: ([-n for n in held[name].badness], name))
+    rows = [[cell(shown(name or "."), "name"), *(cell(grouped(n), "n" if n else "n zero") for n in (f.sheets, f.unanswered, f.sheets_refused, f.particles, f.refused))]
+            for name, f in ((name, held[name]) for name in bad[:LISTED])]
+    listed = folded("folders", ["folder", "#sheets", "#without an answer", "#sheets refused", "#particles", "#refused"], (len(bad), rows), IN_SUMMARY)
+    well = len(held) - len(bad)
     more = '<p class="faint">Nothing is refused in %s.</p>' % ("the other " + several(well, "folder") if bad else "any of the " + counted(well, "folder")) if well else ""
     return "<h2>By folder</h2>\n%s%s" % (listed, more)
 
 
 def named_list(identity, title, entries):
     """Files with what is to be said of each."""
-    if not entries:
+    if not entries.count:
         return ""
-    items = "\n".join("<li>%s: %s</li>" % (shown(name), html.escape(why)) for name, why in entries[:LISTED])
-    more = '<p class="faint">and %s more</p>' % grouped(len(entries) - LISTED) if len(entries) > LISTED else ""
-    return '<h2>%s</h2>\n<ul id="%s">\n%s\n</ul>%s' % (title, identity, items, more)
+    items = ["<li>%s: %s</li>" % (shown(name), html.escape(why)) for name, why in entries.kept]
+    left = '<p class="faint">and %s more</p>' % grouped(entries.count - len(items)) if entries.count > len(items) else ""
+    below = items[SHOWN:]
+    if below:
+        left = "<details><summary>The next %s</summary>\n<ul>\n%s\n</ul>%s</details>" % (grouped(len(below)), "\n".join(below), left)
+    return '<h2>%s</h2>\n<ul id="%s">\n%s\n</ul>%s' % (title, identity, "\n".join(items[:SHOWN]), left)
 
 
 def reasons(t):
@@ -383,7 +366,8 @@ def named(number, particles):
 def why(r):
     """What is to be said of a sheet that is not well."""
     if not r.answered:
-        return "%s: run the night again; joblog beside this page tells what was worked where" % html.escape(r.why or "no whole answer")
+        ours = r.why.startswith("has no")  # and nothing that whoever sent it can mend
+        return "%s: %s" % (html.escape(r.why), "run the night again; joblog beside this page tells what was worked where" if ours else "mend that or have it sent again, then run the night again")
     if r.sheet_refused:
         return "the sheet is refused by %d: %s" % (r.sheet_refused, html.escape(TABLE.REFUSALS[r.sheet_refused].what))
     if r.refused_particles == r.particles and len(r.refused) == 1:
@@ -420,38 +404,50 @@ class Rows:
             yield '<a href="%s">answer</a>' % r.sheet.answer
 
     def row(self, r, *more):
-        law = r.sheet.model.title if r.sheet.model else "unknown"
+        law = r.sheet.model.title if r.sheet.model else "-" if r.sheet.number is None else "unknown"
         return [cell(shown(r.sheet.name), "name"), cell(law, "short"), cell(grouped(r.particles) if r.worked else "-", "n"), *more, cell(" ".join(self.links(r)), "short")]
 
-    def worst(self, bad):
-        rows = [self.row(r, cell(grouped(r.refused_particles) if r.worked else "all" if r.answered else "-", "n"), cell(why(r))) for r in bad[:LISTED]]
-        more = '<p class="faint">and %s more: they stand in summary.csv</p>' % counted(len(bad) - LISTED, "sheet") if len(bad) > LISTED else ""
-        return "<h2>Sheets to look at, the worst first</h2>\n" + table("worst", ["sheet", "law", "#particles", "#refused", "why", ""], rows) + more
+    def worst(self, count, bad):
+        rows = [self.row(r, cell(grouped(r.refused_particles) if r.worked else "all" if r.answered else "-", "n"), cell(why(r))) for r in bad]
+        return "<h2>Sheets to look at, the worst first</h2>\n" + folded("worst", ["sheet", "law", "#particles", "#refused", "why", ""], (count, rows), IN_SUMMARY)
 
-    def well(self, good):
-        rows = [self.row(r, cell(grouped(r.untouched), "n"), cell(grouped(r.stored), "n")) for r in good[:LISTED]]
-        listed = table("well", ["sheet", "law", "#particles", "#untouched", "#stored", ""], rows)
-        more = '<p class="faint">and %s more: they stand in summary.csv</p>' % counted(len(good) - LISTED, "sheet") if len(good) > LISTED else ""
-        return "<details><summary>%s with nothing refused</summary>\n%s%s\n</details>" % (counted(len(good), "sheet"), listed, more)
+    def well(self, good, folders_held):
+        """The sheets with nothing refused, folded away: each by itself, or by folder where they are many."""
+        if good.count <= LISTED:
+            rows = [self.row(r, cell(grouped(r.untouched), "n"), cell(grouped(r.stored), "n")) for r in good.kept]
+            listed = table("well", ["sheet", "law", "#particles", "#untouched", "#stored", ""], rows)
+        else:
+            named = sorted(name for name, f in folders_held.items() if f.well)
+            rows = [[cell(shown(name or "."), "name"), *(cell(grouped(n), "n") for n in (f.well, f.well_particles, f.untouched, f.stored))]
+                    for name, f in ((name, folders_held[name]) for name in named[:LISTED])]
+            listed = folded("well", ["folder", "#sheets", "#particles", "#untouched", "#stored"], (len(named), rows), IN_SUMMARY)
+            listed += '<p class="faint">One by one %s.</p>' % IN_SUMMARY
+        return "<details><summary>%s with nothing refused</summary>\n%s\n</details>" % (counted(good.count, "sheet"), listed)
 
 
-def whole_numbers(report, note):
+def whole_numbers(pages, note):
     """The night in whole numbers: the total, then its parts, folded."""
-    if not report:
-        return ""
-    total, _, parts = report.partition("\npart 1 of ")
-    folded = ""
-    if parts:
-        parts, count = "part 1 of " + parts, int(parts.split(":")[0])
-        folded = ('<details><summary>Its %d parts</summary>\n<pre id="parts">%s</pre></details>' % (count, html.escape(parts)) if count <= PARTS
-                  else '<p>Its %s parts stand in <a href="report.txt">report.txt</a>.</p>' % grouped(count))
-    told = '<p class="faint">%s</p>' % html.escape(note[0].upper() + note[1:]) if note else ""
-    return '<h2>The night in whole numbers</h2>\n<pre id="report">%s</pre>%s%s' % (html.escape(total), told, folded)
+    lines = First()
+    for line in pages.lines_left_out():
+        lines.add(line)
+    yield '<h2>The night in whole numbers</h2>\n<pre id="report">%s%s</pre>' % (html.escape(pages.whole()), html.escape("".join(lines.kept)))
+    if lines.count > len(lines.kept):
+        yield '<p class="faint">and %s more that are in no table: they stand in <a href="report.txt">report.txt</a></p>' % counted(lines.count - len(lines.kept), "sheet")
+    if note:
+        yield '<p class="faint">%s</p>' % html.escape(note[0].upper() + note[1:])
+    if 1 < pages.count <= PARTS:
+        yield '<details><summary>Its %d parts</summary>\n<pre id="parts">%s</pre></details>' % (pages.count, html.escape("".join(pages.parts()).lstrip("\n")))
+    elif pages.count > 1:
+        yield '<p>Its %s parts stand in <a href="report.txt">report.txt</a>.</p>' % grouped(pages.count)
 
 
 def document(parts):
     head = '<meta charset="utf-8"><meta name="viewport" content="width=device-width, initial-scale=1"><title>The night\'s sheets</title><style>%s</style>' % STYLE
-    return '<!DOCTYPE html>\n<html lang="en"><head>%s</head><body>\n%s\n</body></html>\n' % (head, "\n".join(p for p in parts if p))
+    yield '<!DOCTYPE html>\n<html lang="en"><head>%s</head><body>\n' % head
+    for part in parts:
+        if part:
+            yield part + "\n"
+    yield "</body></html>\n"
 
 
 def unfinished(kind, words, what_next):
@@ -460,29 +456,35 @@ def unfinished(kind, words, what_next):
                      '<p class="faint">The other files in this folder may still be those of an earlier night.</p>'])
 
 
-def page(results, out, report="", note=None, passed=(), missing=(), drawing=0):
-    """The page of results that are sorted, the worst first, with the night in whole numbers last. It needs no other file but for the answers
-    and for pictures beyond the first. `passed`: files that were passed over and why; `missing`: sheets of the zones that never came."""
-    t = totals(results)
-    held_pictures = held(results, out)
+def page(night, out, pages, note, passed, missing, drawing=0):
+    """The page of a night that is counted, part after part, with the night in whole numbers last. It needs no other file but for the answers and for
+    pictures beyond the first. `passed`: files that were passed over and why; `missing`: sheets of the zones that never came."""
+    return document(page_parts(night, out, pages, note, passed, missing, drawing))
+
+
+def page_parts(night, out, pages, note, passed, missing, drawing):
+    t = night.totals
+    worst = night.worst.results()
+    held_pictures = held(worst + night.well.kept, out)
     rows = Rows(out, held_pictures)
     told = list(reasons(t))
-    bad, good = [r for r in results if not r.well], [r for r in results if r.well]
-    return document([
-        "<h1>The night's sheets</h1>",
-        verdict(t, passed),
-        '<p id="rest">%s</p>' % html.escape(rest(t)),
-        figures(t),
-        '<p class="faint">%s being drawn; this page is then made once more.</p>' % ("A picture is" if drawing == 1 else "%s pictures are" % grouped(drawing)) if drawing else "",
-        "<h2>What was refused, and why</h2>\n" + table("why", ["#number", "how many", "#in sheets", "why", "what to do"], told) if told else "",
-        folders(results),
-        rows.worst(bad) if bad else "",
-        named_list("turned", "Worked, but turned inside out or pressed flat", [(r.sheet.name, turned_words(*one)) for r in results for one in r.turned]),
-        named_list("passed", "Passed over", passed),
-        named_list("missing", "Sheets of the zones that never came", [(name, "zone %d" % zone) for zone, name in missing]),
-        rows.well(good) if good else "",
-        '<p class="faint">A refused particle keeps every bit that it had: leave it out of the field, put no number in its place. '
-        'Every sheet stands in <a href="summary.csv">summary.csv</a>; a picture of one that has none: <code>tools/draw.py X.sheet OUT.svg</code>.</p>',
-        whole_numbers(report, note),
-        *boxes(held_pictures, out),
-    ])
+    yield "<h1>The night's sheets</h1>"
+    yield verdict(t, passed, missing)
+    yield '<p id="rest">%s</p>' % html.escape(rest(t, missing))
+    yield figures(t)
+    if drawing:
+        yield '<p class="faint">%s being drawn; this page is then made once more.</p>' % ("A picture is" if drawing == 1 else "%s pictures are" % grouped(drawing))
+    if told:
+        yield "<h2>What was refused, and why</h2>\n" + table("why", ["#number", "how many", "#in sheets", "why", "what to do"], told)
+    yield folders(night.folders)
+    if worst:
+        yield rows.worst(night.bad, worst)
+    yield named_list("turned", "Worked, but turned inside out or pressed flat", night.turned)
+    yield named_list("passed", "Passed over", passed)
+    yield named_list("missing", "Sheets of the zones that never came", missing)
+    if night.well.count:
+        yield rows.well(night.well, night.folders)
+    yield ('<p class="faint">A refused particle keeps every bit that it had: leave it out of the field, put no number in its place. '
+           'Every sheet stands in <a href="summary.csv">summary.csv</a>; a picture of one that has none: <code>tools/draw.py X.sheet OUT.svg</code>.</p>')
+    yield from whole_numbers(pages, note)
+    yield from boxes(held_pictures, out)

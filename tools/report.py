@@ -17,7 +17,6 @@ The numbers are those of the proved library: the file that PASOLETU_LIB names, e
 none Python's whole numbers work them, to the same digits, and it is said on standard error.
 Exit status: 0 all well; 3 a sheet was refused; 1 something is wrong; 2 there is no sheet, or the command was misspelled.
 """
-import argparse
 import math
 import os
 import pathlib
@@ -27,7 +26,7 @@ from typing import NamedTuple
 
 sys.path.insert(0, str(pathlib.Path(__file__).resolve().parent))
 import shell  # noqa: E402
-from night_page import TABLE  # noqa: E402
+from night_sheets import TABLE  # noqa: E402
 from shell import Wrong  # noqa: E402
 
 PLACE = {part.field: part.at for part in TABLE.RECORD}
@@ -94,6 +93,8 @@ class SheetRefused(Exception):
 class Second:
     """Reports by Python's whole numbers."""
 
+    library = None
+
     def of_sheet(self, data, updated=False):
         """How many particles a sheet has, and its columns. Raises SheetRefused."""
         import cases  # only here: it reads the gate's sheets
@@ -122,6 +123,11 @@ class Proved:
 
     def __init__(self, pasoletu):
         self.pasoletu = pasoletu
+
+    @property
+    def library(self):
+        """The library's file."""
+        return self.pasoletu.raw.file()
 
     def of_sheet(self, data, updated=False):
         try:
@@ -161,39 +167,76 @@ def worker(second):
 
 # ---- sheets into pages
 
-PACKED = struct.Struct("<%dq" % (len(COLUMNS) * len(Column._fields)))
+ENTRIES = len(Column._fields)
+PACKED = struct.Struct("<%dq" % (2 + len(COLUMNS) * ENTRIES))
 
 
-def packed(columns):
-    """A sheet's columns as bytes: a night keeps them of every sheet."""
-    return PACKED.pack(*(entry for column in columns for entry in column))
+def entries(columns):
+    """A sheet's columns as one list of whole numbers."""
+    return [entry for column in columns for entry in column]
 
 
-def unpacked(data):
-    entries, size = PACKED.unpack(data), len(Column._fields)
-    return tuple(Column(*entries[k:k + size]) for k in range(0, len(entries), size))
+def columns_of(told):
+    return tuple(Column(*told[k:k + ENTRIES]) for k in range(0, len(told), ENTRIES))
 
 
-def add(page, columns, particles, by):
-    return Page(page.sheets + 1, page.particles + particles, by.joined(page.columns, columns))
+def added(total, page):
+    """A page added to all before it: over MOST particles this is no report of the library, but the same whole numbers are added."""
+    return Page(total.sheets + page.sheets, total.particles + page.particles, tuple(map(put_together, total.columns, page.columns)))
 
 
-def pages_of(sheets, by):
-    """The pages of sheets in their order, each its particles and its columns; a page has at most MOST particles."""
-    pages = []
-    for particles, columns in sheets:
-        if not pages or pages[-1].particles + particles > MOST:
-            pages.append(EMPTY)
-        pages[-1] = add(pages[-1], columns, particles, by)
-    return pages or [EMPTY]
+class Pages:
+    """The pages of sheets that come in their order, each of at most MOST particles, and lines of what is in no table. They stand in files without a
+    name: a night of any length takes no more memory."""
 
+    def __init__(self, by):
+        import tempfile  # only here: a night's job has no use for it
 
-def whole(pages):
-    """All pages together: over MOST particles this is no report of the library, but the same whole numbers are added."""
-    total = EMPTY
-    for page in pages:
-        total = Page(total.sheets + page.sheets, total.particles + page.particles, tuple(map(put_together, total.columns, page.columns)))
-    return total
+        self.by, self.page, self.total, self.count = by, EMPTY, EMPTY, 0
+        self.pages, self.left_out = tempfile.TemporaryFile(), tempfile.TemporaryFile("w+", errors="surrogateescape", newline="")
+
+    def __enter__(self):
+        return self
+
+    def __exit__(self, *_):
+        self.pages.close()
+        self.left_out.close()
+
+    def add(self, particles, columns):
+        if self.page.particles + particles > MOST:
+            self._over()
+        self.page = Page(self.page.sheets + 1, self.page.particles + particles, self.by.joined(self.page.columns, columns))
+
+    def leave_out(self, line):
+        self.left_out.write(line)
+
+    def _over(self):
+        self.pages.write(PACKED.pack(self.page.sheets, self.page.particles, *entries(self.page.columns)))
+        self.total, self.page, self.count = added(self.total, self.page), EMPTY, self.count + 1
+
+    def end(self):
+        if self.page.sheets or not self.count:
+            self._over()
+
+    def told(self):
+        """The whole table: all together, lines of what is in no table, then the parts."""
+        yield self.whole()
+        yield from self.lines_left_out()
+        yield from self.parts()
+
+    def whole(self):
+        return text(self.total, "the night in whole numbers")
+
+    def lines_left_out(self):
+        self.left_out.seek(0)
+        for k, line in enumerate(self.left_out):
+            yield line if k else "\n" + line
+
+    def parts(self):
+        self.pages.seek(0)
+        for k in range(1, self.count + 1 if self.count > 1 else 1):
+            sheets, particles, *told = PACKED.unpack(self.pages.read(PACKED.size))
+            yield "\n" + text(Page(sheets, particles, columns_of(told)), "part %d of %d" % (k, self.count))
 
 
 # ---- words
@@ -233,12 +276,6 @@ def refused_line(name, number):
     return "%s: refused %d, in no table: %s\n" % (name, number, TABLE.REFUSALS[number].what)
 
 
-def told(pages, left_out):
-    """The whole table: all together, lines of what is in no table, then the parts."""
-    parts = [text(page, "part %d of %d" % (k, len(pages))) for k, page in enumerate(pages, 1)] if len(pages) > 1 else []
-    return "\n".join([text(whole(pages), "the night in whole numbers"), *left_out, *parts])
-
-
 # ---- the command
 
 
@@ -264,23 +301,25 @@ def read(path):
 
 def morning(args):
     by, note = worker(args.second)
-    refused = []
-
-    def sheets():
+    refused = 0
+    with Pages(by) as pages:
         for path in files_of(args.names):
             try:
-                yield by.of_sheet(read(path), args.updated)
+                pages.add(*by.of_sheet(read(path), args.updated))
             except SheetRefused as e:
-                refused.append(refused_line(path, e.args[0]))
-
-    pages = pages_of(sheets(), by)
-    if note:
-        print("report.py: " + note, file=sys.stderr)
-    shell.say(told(pages, refused))
+                pages.leave_out(refused_line(path, e.args[0]))
+                refused += 1
+        pages.end()
+        if note:
+            print("report.py: " + note, file=sys.stderr)
+        for part in pages.told():
+            shell.say(part)
     return SOME_REFUSED if refused else 0
 
 
 def main(argv=None):
+    import argparse  # only here: a night's job has no use for it
+
     about = argparse.ArgumentParser(description=shell.named(__doc__), formatter_class=argparse.RawDescriptionHelpFormatter, usage=argparse.SUPPRESS)
     about.add_argument("names", nargs="+", metavar="FOLDER_OR_SHEET")
     about.add_argument("--updated", action="store_true")

@@ -26,6 +26,7 @@ sys.path.insert(0, str(HERE))
 import cases  # noqa: E402
 import draw  # noqa: E402
 import night_page  # noqa: E402
+import night_sheets  # noqa: E402
 import no_division  # noqa: E402
 import report  # noqa: E402
 import samples  # noqa: E402
@@ -1154,7 +1155,7 @@ plastic hardening
         finite = [fractions.Fraction(x) for x in edges + drawn if math.isfinite(x)]
         wholes = [math.floor(x * 2 ** 30) for x in finite if abs(x) <= 2 ** 20]
         self.assertEqual(report.column_of(edges + drawn), (len(wholes), min(wholes), max(wholes), sum(wholes), len(finite) - len(wholes), len(NOT_FINITE)))
-        self.assertEqual(report.unpacked(report.packed([report.column_of(drawn)] * 3)), (report.column_of(drawn),) * 3)
+        self.assertEqual(report.columns_of(report.entries([report.column_of(drawn)] * 3)), (report.column_of(drawn),) * 3)
 
     def test_over_4096_particles_are_told_in_parts(self):
         self.sheets(*[[float(k)] * 200 for k in range(21)])
@@ -1284,7 +1285,13 @@ class ByZone(unittest.TestCase):
     """The night's table for the phone."""
 
     def result(self, name, *counts):
-        return night_page.Result(night_page.Sheet(name, "", None), *counts)
+        return night_sheets.Result(night_sheets.Sheet(name, "", None), *counts)
+
+    def table(self, results, *words):
+        table = night_page.ByZone(*words)
+        for r in results:
+            table.add(r)
+        return table.table().splitlines()
 
     def test_table(self):
         zones = night_page.zones_of("7 a.sheet\n7 b.sheet\n\n0 far/c.sheet\n")
@@ -1294,10 +1301,10 @@ class ByZone(unittest.TestCase):
             self.result("far/c.sheet", True, 4),
             self.result("lost.sheet", False),
         ]
-        self.assertEqual(night_page.by_zone(results, zones).splitlines()[1:], ["0,1,0,0,0,0,not judged,1,0", "7,2,6,1,4,1,not judged,0,0", ",1,0,0,0,0,not judged,1,0"])
-        judged = night_page.by_zone([r._replace(failed=3) if r.sheet.name == "a.sheet" else r for r in results], {**zones, "gone.sheet": 3}, True)
-        self.assertEqual(judged.splitlines(), ["zone,sheets,particles,untouched,stored,refused,failed,not_worked,never_came",
-                                               "0,1,0,0,0,0,0,1,0", "3,0,0,0,0,0,0,0,1", "7,2,6,1,4,1,3,0,0", ",1,0,0,0,0,0,1,0"])
+        self.assertEqual(self.table(results, zones)[1:], ["0,1,0,0,0,0,not judged,1,0", "7,2,6,1,4,1,not judged,0,0", ",1,0,0,0,0,not judged,1,0"])
+        judged = self.table([r._replace(failed=3) if r.sheet.name == "a.sheet" else r for r in results], {**zones, "gone.sheet": 3}, True)
+        self.assertEqual(judged, ["zone,sheets,particles,untouched,stored,refused,failed,not_worked,never_came",
+                                  "0,1,0,0,0,0,0,1,0", "3,0,0,0,0,0,0,0,1", "7,2,6,1,4,1,3,0,0", ",1,0,0,0,0,0,1,0"])
 
     def test_what_stands_between(self):
         for text in ("7 a b.sheet\n0\tc.sheet", "7,a b.sheet\n0 , c.sheet\n", '7,"a b.sheet"\r\n\n0;c.sheet'.replace(";", "\t"), " 7\t a b.sheet \n0,c.sheet"):
