@@ -1,6 +1,6 @@
 // The pass over a lent list of flat records.
 use crate::answer;
-use crate::parts;
+use crate::flat_record;
 use crate::step;
 use model::Model;
 use particles::Counts;
@@ -21,8 +21,8 @@ fn one(m: Model, xs: &mut [u64], out: &mut [u64], i: usize) -> Outcome
     ensures record { λ o. ⌜ now (xs .exit) ≡ replacedOver floats (now (xs .entry)) i (flatLaw m (recordOver floats (now (xs .entry)) i) .after) ⌝ }
     ensures answer { λ o. ⌜ now (out .exit) ≡ answered (now (out .entry)) i o ⌝ }
 {
-    let a = i * parts::FLOATS;
-    let b = a + parts::FLOATS;
+    let a = i * flat_record::FLOATS;
+    let b = a + flat_record::FLOATS;
     let o = step::step(m, &mut xs[a..b]);
     answer::write_answer(out, i, o);
     o
@@ -53,8 +53,8 @@ fn pass_all(m: Model, xs: &mut [u64], out: &mut [u64], n: usize) -> Counts
 pub fn well_sized(words: usize, places: usize) -> bool
     ensures { λ r. ⌜ r ≡ sizedOver floats words places ⌝ }
 {
-    let n = words / parts::FLOATS;
-    (n * parts::FLOATS == words) & (n * 2 == places)
+    let n = words / flat_record::FLOATS;
+    (n * flat_record::FLOATS == words) & (n * 2 == places)
 }
 
 // The pass by the model's law in two axes, with two answers a record in another list. A list that is no whole number of flat records, or an
@@ -65,7 +65,7 @@ pub fn pass(m: Model, xs: &mut [u64], out: &mut [u64]) -> Passed
     ensures { λ r. ⌜ now (out .exit) ≡ listOver floats (flatLaw m) (now (xs .entry)) (now (out .entry)) ⌝ }
 {
     if well_sized(xs.len(), out.len()) {
-        let n = xs.len() / parts::FLOATS;
+        let n = xs.len() / flat_record::FLOATS;
         Passed::Done(pass_all(m, xs, out, n))
     } else {
         Passed::Refused(answers::LENGTH)

@@ -1,6 +1,6 @@
 // One flat record by its law.
 use crate::choice;
-use crate::parts;
+use crate::flat_record;
 use crate::stored;
 use flat::Updated;
 use model::Model;
@@ -13,8 +13,8 @@ ghost use Rattle.flat_particles.specs.Law.{updatedAt, kept, flatLaw, rec
 fn updated(m: Model, r: &[u64]) -> Updated
     ensures { λ x. ⌜ x ≡ updatedAt m (now (r .entry)) ⌝ }
 {
-    let s = parts::read_state(r);
-    choice::update(m, parts::read_u(r), parts::read_vt(r), s)
+    let s = flat_record::read_state(r);
+    choice::update(m, flat_record::read_u(r), flat_record::read_vt(r), s)
 }
 
 // What the law leaves of the record: one that is refused or untouched keeps its bits.
@@ -47,7 +47,7 @@ pub fn update_record(m: Model, r: &mut [u64]) -> Outcome
     ensures { λ x. ⌜ x ≡ recordOutcome m (now (r .entry)) ⌝ }
     ensures { λ x. ⌜ now (r .exit) ≡ recordAfter m (now (r .entry)) ⌝ }
 {
-    if r.len() == parts::FLOATS {
+    if r.len() == flat_record::FLOATS {
         return step(m, r);
     }
     Outcome::Refused(answers::LENGTH)

@@ -1,5 +1,5 @@
 // What a flat law that stores writes into the record.
-use crate::parts;
+use crate::flat_record;
 use flat::State;
 use model::Model;
 ghost use mathlib.Core.Path.{_≡_};
@@ -11,31 +11,31 @@ fn write_snow(r: &mut [u64], s: State)
     requires { ⌜ length (now r) ≡ floats ⌝ }
     ensures { λ _. ⌜ now (r .exit) ≡ snowScalars (now (r .entry)) s ⌝ }
 {
-    r[parts::PLASTIC_DETERMINANT] = numbers::bits_of(s.scalars.plastic_determinant);
-    r[parts::ELASTIC_HARDENING] = numbers::bits_of(s.scalars.elastic_hardening);
+    r[flat_record::PLASTIC_DETERMINANT] = numbers::bits_of(s.scalars.plastic_determinant);
+    r[flat_record::ELASTIC_HARDENING] = numbers::bits_of(s.scalars.elastic_hardening);
 }
 
 fn write_rankine(r: &mut [u64], s: State)
     requires { ⌜ length (now r) ≡ floats ⌝ }
     ensures { λ _. ⌜ now (r .exit) ≡ rankineScalars (now (r .entry)) s ⌝ }
 {
-    r[parts::PLASTIC_HARDENING] = numbers::bits_of(s.scalars.plastic_hardening);
+    r[flat_record::PLASTIC_HARDENING] = numbers::bits_of(s.scalars.plastic_hardening);
 }
 
 fn write_drucker_prager(r: &mut [u64], s: State)
     requires { ⌜ length (now r) ≡ floats ⌝ }
     ensures { λ _. ⌜ now (r .exit) ≡ druckerPragerScalars (now (r .entry)) s ⌝ }
 {
-    r[parts::PLASTIC_DETERMINANT] = numbers::bits_of(s.scalars.plastic_determinant);
-    r[parts::PLASTIC_HARDENING] = numbers::bits_of(s.scalars.plastic_hardening);
-    r[parts::LOG_GAIN] = numbers::bits_of(s.scalars.log_gain);
+    r[flat_record::PLASTIC_DETERMINANT] = numbers::bits_of(s.scalars.plastic_determinant);
+    r[flat_record::PLASTIC_HARDENING] = numbers::bits_of(s.scalars.plastic_hardening);
+    r[flat_record::LOG_GAIN] = numbers::bits_of(s.scalars.log_gain);
 }
 
 fn write_nacc(r: &mut [u64], s: State)
     requires { ⌜ length (now r) ≡ floats ⌝ }
     ensures { λ _. ⌜ now (r .exit) ≡ naccScalars (now (r .entry)) s ⌝ }
 {
-    r[parts::ALPHA] = numbers::bits_of(s.scalars.alpha);
+    r[flat_record::ALPHA] = numbers::bits_of(s.scalars.alpha);
 }
 
 // Of the six scalars those that the law names.
@@ -63,6 +63,6 @@ pub fn write_state(m: Model, r: &mut [u64], s: State)
     requires { ⌜ length (now r) ≡ floats ⌝ }
     ensures { λ _. ⌜ now (r .exit) ≡ putState m (now (r .entry)) s ⌝ }
 {
-    parts::write_shape(r, s);
+    flat_record::write_shape(r, s);
     write_scalars(m, r, s);
 }

@@ -1,7 +1,7 @@
 use crate::Term;
+use crate::carries;
 use crate::float;
 use crate::multiply;
-use crate::walk;
 ghost use mathlib.Core.Path.{_≡_};
 ghost use Rattle.exact.specs.Units.{mag};
 ghost use Rattle.nearness.specs.Near.{near};
@@ -21,7 +21,7 @@ fn triple(a: f64, b: f64, c: f64) -> Term
 pub fn near(u: [f64; 3], s: [f64; 3], v: [f64; 3], f: f64, m: f64) -> bool
     ensures { λ r. ⌜ r ≡ near u s v f (mag m) ⌝ }
 {
-    walk::within(
+    carries::within(
         triple(u[0], s[0], v[0]),
         triple(u[1], s[1], v[1]),
         triple(u[2], s[2], v[2]),

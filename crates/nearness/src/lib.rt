@@ -1,10 +1,10 @@
 // Whether sums of products of three floats are near the entries of a matrix, decided exactly in whole numbers (ticket 6).
 mod all;
+mod carries;
 mod entry;
 mod float;
 mod multiply;
 mod quick;
-mod walk;
 
 pub use all::near_all;
 pub use all::orthogonal;

@@ -2,9 +2,9 @@
 // input; the calls of the same names here refuse by RULES, section 6.
 mod moduli;
 mod norm;
-mod parts;
 pub mod plain;
 mod quadratic;
+mod tensors;
 
 pub use moduli::bulk_modulus;
 pub use moduli::bulk_modulus_from_lame;
@@ -13,11 +13,11 @@ pub use moduli::lame_lambda_mu;
 pub use moduli::shear_modulus;
 pub use moduli::shear_modulus_from_lame;
 pub use norm::norm_on_path;
-pub use parts::deviatoric_part;
-pub use parts::spherical_part;
-pub use parts::spin_tensor;
-pub use parts::strain_rate;
 pub use quadratic::solve_quadratic;
+pub use tensors::deviatoric_part;
+pub use tensors::spherical_part;
+pub use tensors::spin_tensor;
+pub use tensors::strain_rate;
 
 // The Lamé parameters.
 pub struct Lame {

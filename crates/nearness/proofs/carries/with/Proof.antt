@@ -1,8 +1,8 @@
--- `nearness::walk::with` meets its contract. Assumes nothing.
+-- `nearness::carries::with` meets its contract. Assumes nothing.
 use Rattle.nearness.proofs.Steps.{taken, given}
 use borrow.Author.Needs.{needs}
-use Rattle.nearness.proofs.walk.with.Statement.{statement}
-use Rattle.nearness.proofs.walk.with.Tie as tie
+use Rattle.nearness.proofs.carries.with.Statement.{statement}
+use Rattle.nearness.proofs.carries.with.Tie as tie
 
 returns : tie.Need-returns
 returns c = taken _ _ _ _ (c .before .cell .ensures) (c .before .before .pre .1) (c .if1 .taken)

@@ -1,10 +1,10 @@
--- `flat_particles::parts::write_row` answers `putRowOver 2 (now (r .entry)) at v`.
+-- `flat_particles::flat_record::write_row` answers `putRowOver 2 (now (r .entry)) at v`.
 use borrow.Author.Needs.{needs}
 use native.Mathlib.Nat.{add-zero}
 use lib.ListN.{length-set}
 use native.Mathlib.Omega.{arith}
-use Rattle.flat_particles.proofs.parts.write_row.Statement.{statement}
-use Rattle.flat_particles.proofs.parts.write_row.Tie as tie
+use Rattle.flat_particles.proofs.flat_record.write_row.Statement.{statement}
+use Rattle.flat_particles.proofs.flat_record.write_row.Tie as tie
 
 slice-write-r-2 : tie.Need-slice-write-r-2
 slice-write-r-2 c = simp length-set (omega arith)

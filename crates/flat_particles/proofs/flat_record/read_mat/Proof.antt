@@ -1,8 +1,8 @@
--- `flat_particles::parts::read_mat` answers `matOver 2 (now (r .entry)) at`.
+-- `flat_particles::flat_record::read_mat` answers `matOver 2 (now (r .entry)) at`.
 use borrow.Author.Needs.{needs}
 use native.Mathlib.Nat.{add-zero}
-use Rattle.flat_particles.proofs.parts.read_mat.Statement.{statement}
-use Rattle.flat_particles.proofs.parts.read_mat.Tie as tie
+use Rattle.flat_particles.proofs.flat_record.read_mat.Statement.{statement}
+use Rattle.flat_particles.proofs.flat_record.read_mat.Tie as tie
 
 returns : tie.Need-returns
 returns c =

@@ -1,4 +1,4 @@
--- `nearness::walk::within` meets its contract. Assumes nothing.
+-- `nearness::carries::within` meets its contract. Assumes nothing.
 use mathlib.Core.Path.{_≡_, ap₂, _∙_}
 use mathlib.Core.Bool.{_&&_}
 use lib.Dec.{leb}
@@ -6,8 +6,8 @@ use Prim.Native.Nat.{ℕ, _-_, _^_, _<_}
 use native.Mathlib.Omega.{arith}
 use borrow.Author.Needs.{needs}
 use Rattle.nearness.proofs.Steps.{upAt, downAt, begins, up-next, down-next, ends}
-use Rattle.nearness.proofs.walk.within.Statement.{statement}
-use Rattle.nearness.proofs.walk.within.Tie as tie
+use Rattle.nearness.proofs.carries.within.Statement.{statement}
+use Rattle.nearness.proofs.carries.within.Tie as tie
 
 abbrev Inv-loop : tie.InvT-loop
 Inv-loop a b c d m i₀ last up₀ down₀ i up down = (up ≡ upAt a b c d m i) × (down ≡ downAt a b c d m i) × (up < 2 ^ 32) × (down < 2 ^ 32)

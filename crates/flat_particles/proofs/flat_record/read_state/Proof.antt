@@ -1,7 +1,7 @@
--- `flat_particles::parts::read_state` answers `stateAt (now (r .entry))`.
+-- `flat_particles::flat_record::read_state` answers `stateAt (now (r .entry))`.
 use borrow.Author.Needs.{needs}
-use Rattle.flat_particles.proofs.parts.read_state.Statement.{statement}
-use Rattle.flat_particles.proofs.parts.read_state.Tie as tie
+use Rattle.flat_particles.proofs.flat_record.read_state.Statement.{statement}
+use Rattle.flat_particles.proofs.flat_record.read_state.Tie as tie
 
 returns : tie.Need-returns
 returns c =

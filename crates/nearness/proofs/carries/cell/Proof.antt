@@ -1,9 +1,9 @@
--- `nearness::walk::cell` meets its contract. Assumes nothing.
+-- `nearness::carries::cell` meets its contract. Assumes nothing.
 use Rattle.nearness.proofs.Steps.{cell-below, cell-in, cell-past}
 use native.Mathlib.Omega.{arith}
 use borrow.Author.Needs.{needs}
-use Rattle.nearness.proofs.walk.cell.Statement.{statement}
-use Rattle.nearness.proofs.walk.cell.Tie as tie
+use Rattle.nearness.proofs.carries.cell.Statement.{statement}
+use Rattle.nearness.proofs.carries.cell.Tie as tie
 
 returns : tie.Need-returns
 returns c = cell-below _ _ (c .if1 .taken)

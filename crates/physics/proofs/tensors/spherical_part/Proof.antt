@@ -1,7 +1,7 @@
--- `physics::parts::spherical_part` answers `given (matFinite m) (answeredOf (sphericalOf m))`.
+-- `physics::tensors::spherical_part` answers `given (matFinite m) (answeredOf (sphericalOf m))`.
 use borrow.Author.Needs.{needs}
-use Rattle.physics.proofs.parts.spherical_part.Statement.{statement}
-use Rattle.physics.proofs.parts.spherical_part.Tie as tie
+use Rattle.physics.proofs.tensors.spherical_part.Statement.{statement}
+use Rattle.physics.proofs.tensors.spherical_part.Tie as tie
 
 returns : tie.Need-returns
 returns c =

@@ -1,7 +1,7 @@
--- `flat_particles::parts::write_shape` answers `putShape (now (r .entry)) s`.
+-- `flat_particles::flat_record::write_shape` answers `putShape (now (r .entry)) s`.
 use borrow.Author.Needs.{needs}
-use Rattle.flat_particles.proofs.parts.write_shape.Statement.{statement}
-use Rattle.flat_particles.proofs.parts.write_shape.Tie as tie
+use Rattle.flat_particles.proofs.flat_record.write_shape.Statement.{statement}
+use Rattle.flat_particles.proofs.flat_record.write_shape.Tie as tie
 
 returns : tie.Need-returns
 returns c =

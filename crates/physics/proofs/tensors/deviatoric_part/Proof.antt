@@ -1,7 +1,7 @@
--- `physics::parts::deviatoric_part` answers `givenMatrix (matFinite m) (answered (deviatoricOf m))`.
+-- `physics::tensors::deviatoric_part` answers `givenMatrix (matFinite m) (answered (deviatoricOf m))`.
 use borrow.Author.Needs.{needs}
-use Rattle.physics.proofs.parts.deviatoric_part.Statement.{statement}
-use Rattle.physics.proofs.parts.deviatoric_part.Tie as tie
+use Rattle.physics.proofs.tensors.deviatoric_part.Statement.{statement}
+use Rattle.physics.proofs.tensors.deviatoric_part.Tie as tie
 
 returns : tie.Need-returns
 returns c =

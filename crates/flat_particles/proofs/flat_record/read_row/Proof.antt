@@ -1,8 +1,8 @@
--- `flat_particles::parts::read_row` answers `rowOver 2 (now (r .entry)) at`.
+-- `flat_particles::flat_record::read_row` answers `rowOver 2 (now (r .entry)) at`.
 use borrow.Author.Needs.{needs}
 use native.Mathlib.Nat.{add-zero}
-use Rattle.flat_particles.proofs.parts.read_row.Statement.{statement}
-use Rattle.flat_particles.proofs.parts.read_row.Tie as tie
+use Rattle.flat_particles.proofs.flat_record.read_row.Statement.{statement}
+use Rattle.flat_particles.proofs.flat_record.read_row.Tie as tie
 
 returns : tie.Need-returns
 returns c =
