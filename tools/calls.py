@@ -519,10 +519,10 @@ TOOLS_HEAD = """# Every command
 Made by `tools/calls.py` from the first sentence of each: don't edit. `COMMAND --help` or the head of its file says the rest.
 """
 COMMANDS = (
-    ("For people", "bin/slope tools/sheet.py tools/draw.py tools/night tools/report.py tools/arrive.py install.sh"),
+    ("For people", "bin/slope tools/sheet.py tools/draw.py tools/night tools/night_job.py tools/report.py tools/arrive.py install.sh"),
     ("For hosts and for the build", "tools/built tools/shared tools/samples.py"),
-    ("The gate's parts", "tools/table tools/calls.py tools/no_division.py tools/reasons.py tools/twice.py tools/edits-check"),
-    ("Tests", "tests/all tests/test_command.py tests/test_install.py tests/test_night.py bindings/test bindings/guide.py tools/test_tools.py tools/test_table.py tools/cases.py tools/faults.py fuzz/run"),
+    ("The gate's parts", "tools/table tools/calls.py tools/no_division.py tools/reasons.py tools/twice.py tools/believe.py tools/joint tools/edits-check"),
+    ("Tests", "tests/all tests/test_all.py tests/test_command.py tests/test_install.py tests/test_night.py bindings/test bindings/guide.py tools/test_tools.py tools/test_table.py tools/cases.py tools/faults.py fuzz/run"),
     ("Beside the Rust, and measured", "beside/run beside/flat/run beside/factors/run beside/speed beside/page.py beside/waits tools/measure/accuracy.py tools/measure/surface.py "
      "tools/measure/flat_surface.py tools/measure/replayed.py tools/measure/roots.c"),
 )

@@ -11,7 +11,7 @@ import pathlib
 import re
 import struct
 
-MADE_PAGES = ("docs/CALLS.md", "docs/SPEED.md", "docs/TOOLS.md")
+MADE_PAGES = ("docs/BELIEVE.md", "docs/CALLS.md", "docs/SPEED.md", "docs/TOOLS.md")
 # Notes of their day, and what a user of an older version sees: they name what is gone.
 HISTORY = ("CHANGELOG.md", "docs/LANDINGS.md")
 MOST = {"README.md lines": 90, "docs/LANDINGS.md words": 6000, "all words": 25000}
