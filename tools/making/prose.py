@@ -57,11 +57,17 @@ def words(top):
     return {name: sum(1 for word in by_hand(name, text).split() if re.search(r"\w", word)) for name, text in pages(top).items()}
 
 
+def plain_words(text):
+    """As `wc -w` counts, of all that no command makes: held parts, tried fences, code spans and the bars of tables too."""
+    return len(BLOCK.sub(lambda m: "" if m.group(1) == "made by" else m.group(), text).split())
+
+
 def told_words(top):
-    """The table of --words."""
-    kept = words(top)
+    """The table of --words: words kept by hand, and beside them all that no command makes."""
+    kept, plain = words(top), {name: plain_words(text) for name, text in pages(top).items()}
     for name, number in kept.items():
-        yield "%6d %s" % (number, name)
+        yield "%6d %6d %s" % (number, plain[name], name)
+    yield "%6d %6d in all: kept by hand and held by nothing; all that no command makes, as wc counts" % (sum(kept.values()), sum(plain.values()))
     yield "%6d in all, of at most %d; docs/LANDINGS.md of at most %d; README.md has %d lines of at most %d" % (
         sum(kept.values()), MOST["all words"], MOST["docs/LANDINGS.md words"], lines_of_readme(top), MOST["README.md lines"])
 
