@@ -135,6 +135,10 @@ class Twice(InFolder):
         two = "abbrev pub runOf : State → State\nrunOf s = over.run inTwo s\n"
         self.assertEqual(self.counted(two, two.replace("inTwo", "inThree")), 0)
         self.assertEqual(self.counted(two.replace("over.run inTwo s", "s"), two.replace("over.run inTwo s", "s")), 1)
+        by_number = "abbrev pub uAt : List → List\nuAt r = uOver 2 r\n"
+        self.assertEqual(self.counted(by_number, by_number.replace("uOver 2", "uOver 3")), 0)
+        lemma = "pub law : (r : List) → uOver 2 r ≡ r\nlaw r = refl\n"
+        self.assertEqual(self.counted(lemma, lemma.replace("uOver 2", "uOver 3")), 1)
 
     def test_a_local_lemma_is_none(self):
         text = "pub {0} : {1}\n{0} = go\n  where\n    go : (x : ℕ) → x ≡ x\n    go x = refl\n"

@@ -2,20 +2,18 @@
 use mathlib.Core.Bool.{Bool}
 use mathlib.Core.List.{List}
 use mathlib.Core.Path.{refl}
+use Prim.Native.Nat.{ℕ}
 use lib.Ieee.{Float}
+use Rattle.plasticity.specs.declared.Outcome.the-variants.{Untouched, Refused}
 use Rattle.plasticity.specs.declared.Scalars.{Scalars}
 use Rattle.walk.specs.Walk.{Ended}
 use Rattle.walk.specs.Axes.{recomposeOver, recomposedOver, recomposed-worth}
 use Rattle.walk.specs.Body as body
 use Rattle.walk.specs.Body.{Body}
-pub use Rattle.walk.specs.Body.{untouched, stored}
+pub use Rattle.walk.specs.Body.{Change}
 use Rattle.flat.specs.declared.State.{State}
 use Rattle.flat.specs.declared.Updated.{Updated}
 use Rattle.flat.specs.State.{ofRows, rowsOf}
-
--- F, sigma and scalars are new
-abbrev pub stateOf : List (List Float) → List Float → Scalars → State
-stateOf f sigma x = record { f = rowsOf f; sigma = sigma; scalars = x }
 
 abbrev pub inTwo : Body State Updated
 inTwo =
@@ -23,8 +21,12 @@ inTwo =
       f = λ s. ofRows (s .f);
       sigma = λ s. s .sigma;
       scalars = λ s. s .scalars;
-      made = stateOf;
+      made = λ f sigma x. record { f = rowsOf f; sigma = sigma; scalars = x };
+      sigma-made = λ m l x. refl;
+      scalars-made = λ m l x. refl;
       handed = λ s o. record { state = s; outcome = o };
+      stateIn = λ v. v .state;
+      state-in = λ s o. refl;
       outcomeIn = λ v. v .outcome;
       outcome-in = λ s o. refl;
       recomposed = recomposeOver 2;
@@ -32,10 +34,18 @@ inTwo =
       formulas-worth = recomposed-worth 2;
     }
 
-abbrev pub Change : Type 0
-Change = body.Change State
+-- no float of the record is a NaN or an infinity
+abbrev pub inputsFinite : List (List Float) → List (List Float) → State → Bool
+inputsFinite u vt s = body.inputsFinite inTwo u vt s
 
-abbrev pub updatedOf : State → Ended Change → Updated
+-- a refused call hands the state back as it came, and so does one that leaves it untouched
+abbrev pub refused : ℕ → State → Updated
+refused n s = inTwo .handed s (Refused n)
+
+abbrev pub untouchedOf : State → Updated
+untouchedOf s = inTwo .handed s Untouched
+
+abbrev pub updatedOf : State → Ended (Change State) → Updated
 updatedOf s x = body.updatedOf inTwo s x
 
 -- stored where F, sigma and the scalars that the law names are finite, else 3

@@ -5,8 +5,7 @@ use crate::matrix;
 use plasticity::Outcome;
 use plasticity::Scalars;
 ghost use mathlib.Core.Path.{_≡_};
-ghost use Rattle.flat.specs.State.{inputsFinite, refused, untouchedOf};
-ghost use Rattle.flat.specs.Update.{keptOf};
+ghost use Rattle.flat.specs.Update.{inputsFinite, refused, untouchedOf, keptOf};
 
 // Whether every float of a flat record is finite.
 pub fn inputs_finite(u: [[f64; 2]; 2], vt: [[f64; 2]; 2], s: State) -> bool

@@ -17,7 +17,8 @@ use Rattle.walk.specs.Exact.{andThen, result-then}
 use Rattle.walk.specs.Matrix.{values-nums}
 use Rattle.plasticity_drucker_prager.specs.declared.DruckerPragerPlasticity.{DruckerPragerPlasticity}
 use Rattle.plasticity_drucker_prager.specs.Projection.{Way, isotropic, expanding, inside, surface, Returned, strain, tipWalk, surfaceWalk, yieldWalk, strainedWalk, projectWalk, returnedWalk}
-use Rattle.flat_drucker_prager.specs.DruckerPrager.{dim, outcomeOf, projectedOf, refusedProjection}
+use Rattle.plasticity_drucker_prager.specs.Over.{outcomeOf}
+use Rattle.flat_drucker_prager.specs.DruckerPrager.{dim, projectedOf, refusedProjection}
 use Rattle.flat_drucker_prager.specs.Project.{returnedOf}
 
 -- ---- dq where the walk ends

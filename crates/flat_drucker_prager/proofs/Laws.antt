@@ -1,34 +1,23 @@
 -- What is handed from one piece of the walk to the next, as the code hands it on.
-use mathlib.Core.Bool.{_&&_}
 use mathlib.Core.List.{List, [], _∷_}
 use mathlib.Core.Path.{_≡_, refl, ap, _∙_}
 use native.Mathlib.Omega.{arith}
 use lib.ListN.{length}
 use lib.Ieee.{Float, nan}
-use Rattle.numbers.specs.Floats.{finite}
 use Rattle.answers.specs.declared.Answer.{Answer}
 use Rattle.answers.specs.declared.Answer.the-variants as answers
-use Rattle.tensor.specs.Axes.{allOf}
 use Rattle.tensor.specs.Matrix.{one}
 use Rattle.physics.specs.Norm.{normOf}
 use Rattle.walk.specs.Expr.{num}
 use Rattle.walk.specs.Walk.{Walk, exp, asks, end, _then_, Ended, given, refused, answerOf, asked, result}
-use Rattle.walk.specs.Exact.{andThen, result-then}
 use Rattle.walk.specs.Matrix.{value-dot}
-use Rattle.walk.specs.Body.{inputs-finite}
 use Rattle.plasticity_drucker_prager.specs.declared.DruckerPragerPlasticity.{DruckerPragerPlasticity}
-use Rattle.plasticity_drucker_prager.specs.Law.{parametersOf, parametersFinite}
-use Rattle.plasticity_drucker_prager.specs.Projection.{Way, isotropic, expanding, inside, surface, Returned, tipWalk, surfaceWalk}
-use Rattle.plasticity_drucker_prager.specs.Over as over
-use Rattle.flat.specs.State.{inputsFinite}
+use Rattle.plasticity_drucker_prager.specs.Projection.{Way, isotropic, expanding, surface, Returned, tipWalk, surfaceWalk}
+use Rattle.plasticity_drucker_prager.specs.Over.{outcomeOf}
+use Rattle.plasticity_drucker_prager.proofs.Laws.{byEnd, over-then}
 use Rattle.flat.specs.Update.{inTwo, updatedOf}
 use Rattle.flat.specs.declared.State.{State}
-use Rattle.flat_drucker_prager.specs.DruckerPrager.{wayWalk, outcomeOf, projectedOf, tipOf, surfacedOf, followedOf}
-
--- the inputs
-pub inputs-law : (p : DruckerPragerPlasticity) (u vt : List (List Float)) (s : State) → allOf finite (over.floats inTwo p u vt s) ≡ parametersFinite p && inputsFinite u vt s
-unfolding over.floats
-inputs-law p u vt s = inputs-finite inTwo (parametersOf p) u vt s
+use Rattle.flat_drucker_prager.specs.DruckerPrager.{wayWalk, projectedOf, tipOf, surfacedOf, followedOf}
 
 -- the tip, once the norm is known
 module _ (w : Way) (stores : (dq : Float) → outcomeOf w dq ≡ outcomeOf (expanding nan) dq) where
@@ -75,20 +64,11 @@ surface-law g norm b = surfaced g norm b (λ new. new)
 
 -- the projection is followed by its branch
 module _ (p : DruckerPragerPlasticity) (u vt : List (List Float)) (s : State) where
-  way-law : (w : Way) (sigma : List Float) (dq : Float) → updatedOf s (result (wayWalk p w sigma dq u vt s)) ≡ followedOf (outcomeOf w dq) p sigma u vt s
-  unfolding over.wayWalk
-  way-law (isotropic x) sigma dq = refl
-  way-law (expanding x) sigma dq = refl
-  way-law (inside x) sigma dq = refl
-  way-law (surface x norm) sigma dq = refl
-
-  follows : (x : Ended Returned)
-      → updatedOf s (andThen x (λ q. result (wayWalk p (q .way) (q .sigma) (q .dq) u vt s)))
-      ≡ followedOf (projectedOf x .outcome) p (projectedOf x .sigma) u vt s
-  follows (given q) = way-law (q .way) (q .sigma) (q .dq)
-  follows (refused n) = refl
+  handed : (x : Ended Returned) → byEnd inTwo p u vt s x ≡ followedOf (projectedOf x .outcome) p (projectedOf x .sigma) u vt s
+  handed (given q) = refl
+  handed (refused n) = refl
 
   pub way-then : (w : Walk Returned)
       → updatedOf s (result (w then (λ q. wayWalk p (q .way) (q .sigma) (q .dq) u vt s)))
       ≡ followedOf (projectedOf (result w) .outcome) p (projectedOf (result w) .sigma) u vt s
-  way-then w = ap (updatedOf s) (result-then w (λ q. wayWalk p (q .way) (q .sigma) (q .dq) u vt s)) ∙ follows (result w)
+  way-then w = over-then inTwo p u vt s w ∙ handed (result w)

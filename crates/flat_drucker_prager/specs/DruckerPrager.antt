@@ -9,12 +9,11 @@ use Rattle.plasticity.specs.declared.Outcome.{Outcome}
 use Rattle.plasticity.specs.declared.Outcome.the-variants as outcome
 use Rattle.walk.specs.Expr.{Expr}
 use Rattle.walk.specs.Constants.{two}
-use Rattle.walk.specs.Walk.{Walk, Ended, given, refused, result}
+use Rattle.walk.specs.Walk.{Walk, Ended, given, refused}
 use Rattle.plasticity_drucker_prager.specs.declared.DruckerPragerPlasticity.{DruckerPragerPlasticity}
-use Rattle.plasticity_drucker_prager.specs.Projection.{Way, isotropic, expanding, inside, surface, Returned}
+use Rattle.plasticity_drucker_prager.specs.Projection.{Way, Returned}
 use Rattle.plasticity_drucker_prager.specs.Over as over
-use Rattle.flat.specs.State as law
-use Rattle.flat.specs.Update.{inTwo, Change, updatedOf}
+use Rattle.flat.specs.Update.{inTwo, Change}
 use Rattle.flat.specs.declared.State.{State}
 use Rattle.flat.specs.declared.Updated.{Updated}
 use Rattle.flat_drucker_prager.specs.declared.Projected.{Projected}
@@ -23,33 +22,27 @@ use Rattle.flat_drucker_prager.specs.declared.Projected.{Projected}
 abbrev pub dim : Expr
 dim = two
 
-abbrev pub movedWalk : DruckerPragerPlasticity → List Float → Float → List (List Float) → List (List Float) → State → Walk Change
+abbrev pub movedWalk : DruckerPragerPlasticity → List Float → Float → List (List Float) → List (List Float) → State → Walk (Change State)
 movedWalk p sigma dq u vt s = over.movedWalk inTwo p sigma dq u vt s
 
-abbrev pub wayWalk : DruckerPragerPlasticity → Way → List Float → Float → List (List Float) → List (List Float) → State → Walk Change
+abbrev pub wayWalk : DruckerPragerPlasticity → Way → List Float → Float → List (List Float) → List (List Float) → State → Walk (Change State)
 wayWalk p w sigma dq u vt s = over.wayWalk inTwo p w sigma dq u vt s
 
-abbrev pub runWalk : DruckerPragerPlasticity → List (List Float) → List (List Float) → State → Walk Change
+abbrev pub runWalk : DruckerPragerPlasticity → List (List Float) → List (List Float) → State → Walk (Change State)
 runWalk p u vt s = over.runWalk inTwo dim p u vt s
 
-abbrev pub druckerWalk : DruckerPragerPlasticity → List (List Float) → List (List Float) → State → Walk Change
+abbrev pub druckerWalk : DruckerPragerPlasticity → List (List Float) → List (List Float) → State → Walk (Change State)
 druckerWalk p u vt s = over.druckerWalk inTwo dim p u vt s
 
 abbrev pub druckerUpdate : DruckerPragerPlasticity → List (List Float) → List (List Float) → State → Updated
-druckerUpdate p u vt s = updatedOf s (result (druckerWalk p u vt s))
+druckerUpdate p u vt s = over.druckerOver inTwo dim p u vt s
 
 -- ---- as the code hands it on: zeros stand beside a refusal
-abbrev pub outcomeOf : Way → Float → Outcome
-outcomeOf (isotropic d) dq = outcome.Stored dq
-outcomeOf (expanding x) dq = outcome.Stored dq
-outcomeOf (inside x) dq = outcome.Untouched
-outcomeOf (surface x norm) dq = outcome.Stored dq
-
 abbrev pub refusedProjection : ℕ → Projected
 refusedProjection n = record { outcome = outcome.Refused n; sigma = zero ∷ zero ∷ [] }
 
 abbrev pub projectedOf : Ended Returned → Projected
-projectedOf (given q) = record { outcome = outcomeOf (q .way) (q .dq); sigma = q .sigma }
+projectedOf (given q) = record { outcome = over.outcomeOf (q .way) (q .dq); sigma = q .sigma }
 projectedOf (refused n) = refusedProjection n
 
 abbrev pub tipOf : Answer → Projected
@@ -61,6 +54,4 @@ surfacedOf gamma (given sigma) = record { outcome = outcome.Stored gamma; sigma 
 surfacedOf gamma (refused n) = refusedProjection n
 
 abbrev pub followedOf : Outcome → DruckerPragerPlasticity → List Float → List (List Float) → List (List Float) → State → Updated
-followedOf outcome.Untouched p sigma u vt s = law.untouchedOf s
-followedOf (outcome.Stored dq) p sigma u vt s = updatedOf s (result (movedWalk p sigma dq u vt s))
-followedOf (outcome.Refused n) p sigma u vt s = law.refused n s
+followedOf o p sigma u vt s = over.followedOf inTwo o p sigma u vt s

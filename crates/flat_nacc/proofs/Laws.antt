@@ -1,6 +1,6 @@
 -- What is handed from one piece of the walk to the next, as the code hands it on; and the powers' range.
-use mathlib.Core.Bool.{Bool, true, false, cond, _&&_}
-use mathlib.Core.List.{List, [], _∷_}
+use mathlib.Core.Bool.{Bool, true, false, cond}
+use mathlib.Core.List.{List}
 use mathlib.Core.Path.{_≡_, refl, sym, ap, _∙_}
 use Prim.Native.Nat.{ℕ}
 use native.Mathlib.Omega.{arith}
@@ -13,38 +13,24 @@ use Rattle.answers.specs.Refusals.{noNumber}
 use Rattle.answers.specs.declared.Answer.{Answer}
 use Rattle.answers.specs.declared.Answer.the-variants as answers
 use Rattle.numbers.specs.Floats.{finite, isNumber, maxOf}
-use Rattle.tensor.specs.Axes.{allOf}
 use Rattle.tensor.specs.Matrix.{zero}
 use Rattle.walk.specs.Expr.{num, value}
 use Rattle.walk.specs.Walk.{Walk, root, itself, lowOf, highOf, answerOf, _then_, Ended, given, refused, result}
 use Rattle.walk.specs.Exact.{andThen, result-then}
-use Rattle.walk.specs.Every.{and-right}
 use Rattle.reason.specs.declared.Number.{Number}
 use Rattle.reason.specs.declared.Number.the-variants as number
 use Rattle.reason.specs.Traced.{Traced, reached, stopped, traced, untraced, numberAs}
 use Rattle.reason.proofs.Laws.{result-traced}
-use Rattle.plasticity_nacc.specs.declared.NaccArguments.{NaccArguments}
 use Rattle.plasticity_nacc.specs.declared.NaccPlasticity.{NaccPlasticity}
-use Rattle.plasticity_nacc.specs.Law.{argumentsFloats, argumentsFinite}
 use Rattle.plasticity_nacc.specs.declared.Trial.{Trial}
 use Rattle.plasticity_nacc.specs.Axes.{two-axes}
 use Rattle.plasticity_nacc.specs.Formulas.{low, half}
-use Rattle.plasticity_nacc.specs.Nacc.{Way, upper, lower, inside, surface, Shape, Landed, tipWalk, ends, pressWalk, stepsWalk, scalarsOf}
+use Rattle.plasticity_nacc.specs.Projection.{Way, upper, lower, surface, Shape, Landed, tipWalk, ends, pressWalk, stepsWalk}
+use Rattle.plasticity_nacc.specs.Over.{outcomeOf}
 use Rattle.plasticity_nacc.proofs.Laws as nacc
-use Rattle.walk.specs.Body.{inputs-finite, finite-scalars, store-law}
-use Rattle.flat.specs.State.{inputsFinite}
-use Rattle.flat.specs.Update.{inTwo, updatedOf, keptOf}
+use Rattle.flat.specs.Update.{inTwo, updatedOf}
 use Rattle.flat.specs.declared.State.{State}
-use Rattle.flat_nacc.specs.Nacc.{withinOf, storedWalk, wayWalk, runWalk, floats, shapedOf, outcomeOf, steppedOf, followedOf}
-
--- ---- the inputs
-pub inputs-law : (a : NaccArguments) (u vt : List (List Float)) (s : State) → allOf finite (floats a u vt s) ≡ argumentsFinite a && inputsFinite u vt s
-unfolding floats
-inputs-law a u vt s = inputs-finite inTwo (argumentsFloats a) u vt s
-
--- alpha is one of them
-pub run-alpha : (a : NaccArguments) (u vt : List (List Float)) (s : State) → argumentsFinite a && inputsFinite u vt s ≡ true → finite (s .scalars .alpha) ≡ true
-run-alpha a u vt s h = nacc.alpha-of (s .scalars) (finite-scalars inTwo u vt s (and-right (argumentsFinite a) (inputsFinite u vt s) h))
+use Rattle.flat_nacc.specs.Nacc.{withinOf, runWalk, shapedOf, steppedOf, followedOf}
 
 -- ---- what is answered within the range of powers is x itself
 abbrev answer-of : Bool → Bool → ℕ → Float → Answer
@@ -99,30 +85,15 @@ lower-law p t alpha x = lower-then (t .p) (value (low p (num (t .p0)))) (tipWalk
 pub surface-then : (x y : Float) (v : Walk Shape) → steppedOf (result (v then ends (surface x y))) ≡ shapedOf (result v)
 surface-then x y v = ap steppedOf (result-then v (ends (surface x y))) ∙ ended (surface x y) (λ alpha. refl) (result v)
 
+-- the steps are followed by their branch
 module _ (u vt : List (List Float)) (s : State) where
-  stores : (q : Shape) → updatedOf s (result (storedWalk q u vt s)) ≡ keptOf u (q .sigma) vt (finite (q .alpha)) (scalarsOf (q .alpha) (s .scalars)) (q .alpha) s
-  unfolding storedWalk
-  stores q = store-law inTwo 30 u (q .sigma) vt (num (q .alpha) ∷ []) (scalarsOf (q .alpha) (s .scalars)) (q .alpha) s
+  handed : (x : Ended Landed) → nacc.byEnd inTwo u vt s x ≡ followedOf (steppedOf x .outcome) (steppedOf x .sigma) u vt s
+  handed (given q) = refl
+  handed (refused n) = refl
 
-  way-law : (w : Way) (q : Shape) → updatedOf s (result (wayWalk w q u vt s)) ≡ followedOf (outcomeOf w (q .alpha)) (q .sigma) u vt s
-  unfolding wayWalk
-  way-law (upper x y) q = stores q
-  way-law (lower x y) q = stores q
-  way-law (inside x y) q = refl
-  way-law (surface x y) q = stores q
-
-  follows : (x : Ended Landed)
-      → updatedOf s (andThen x (λ q. result (wayWalk (q .way) (q .shape) u vt s))) ≡ followedOf (steppedOf x .outcome) (steppedOf x .sigma) u vt s
-  follows (given q) = way-law (q .way) (q .shape)
-  follows (refused n) = refl
-
-  pub run-law : (p : NaccPlasticity)
-      → updatedOf s (result (runWalk p u vt s))
-      ≡ followedOf (steppedOf (result (stepsWalk two-axes p (s .sigma) (s .scalars .alpha))) .outcome) (steppedOf (result (stepsWalk two-axes p (s .sigma) (s .scalars .alpha))) .sigma) u vt s
-  unfolding runWalk
-  run-law p =
-      let w = stepsWalk two-axes p (s .sigma) (s .scalars .alpha) in
-      ap (updatedOf s) (result-then w (λ q. wayWalk (q .way) (q .shape) u vt s)) ∙ follows (result w)
+  pub run-law : (p : NaccPlasticity) → let q = steppedOf (result (stepsWalk two-axes p (s .sigma) (s .scalars .alpha))) in
+      updatedOf s (result (runWalk p u vt s)) ≡ followedOf (q .outcome) (q .sigma) u vt s
+  run-law p = nacc.over-run inTwo u vt s two-axes p ∙ handed (result (stepsWalk two-axes p (s .sigma) (s .scalars .alpha)))
 
 -- the root of (6 - 2) / 2, which the hardening step takes
 pub half-root : answers.Value (ofBits binary64 0x3ff6_a09e_667f_3bcd) ≡ answerOf root (value (half (num (ofBits binary64 0x4000_0000_0000_0000))))

@@ -4,15 +4,14 @@ use mathlib.Core.Bool.{Bool, true, false, cond, _&&_, true≢false}
 use mathlib.Core.List.{List}
 use mathlib.Core.Logic.{_↔_, inl, inr}
 use mathlib.Core.Option.{none}
-use mathlib.Core.Path.{_≡_, refl, sym}
+use mathlib.Core.Path.{_≡_, refl, sym, ap}
 use native.Mathlib.Omega.{arith}
 use Prim.Native.Nat.{ℕ, _*_, _/_}
 use borrow.Author.Tests.{eqb-true, eqb-false}
 use lib.Dec.{eqb}
 use lib.ListN.{length}
 use Rattle.answers.specs.Refusals.{wrongLength}
-use Rattle.plasticity.specs.declared.Outcome.{Outcome}
-use Rattle.plasticity.specs.declared.Outcome.the-variants.{Untouched, Stored, Refused}
+use Rattle.plasticity.specs.declared.Outcome.the-variants.{Untouched, Refused}
 use Rattle.walk.specs.Exact.{path}
 use Rattle.walk.specs.Update.{refusalOf}
 use Rattle.walk.specs.Numbers.{refused-when, accepted-when, Stops, Clear}
@@ -20,11 +19,11 @@ use Rattle.model.specs.declared.Model.{Model}
 use Rattle.particles.specs.declared.list.Counts.{Counts}
 use Rattle.particles.specs.declared.list.Passed.{Passed}
 use Rattle.particles.specs.declared.list.Passed.the-variants as passed-variants
-use Rattle.particles.specs.Pass.{Worked}
-use Rattle.flat.specs.declared.State.{State}
+use Rattle.particles.specs.Pass.{Worked, codeOf}
+use Rattle.particles.proofs.PassLaws.{outcome-same}
 use Rattle.flat.specs.Update.{inTwo}
 use Rattle.flat_particles.specs.Layout.{floats, uAt, vtAt, stateAt}
-use Rattle.flat_particles.specs.Law.{walkOf, kept, updatedAt, flatLaw}
+use Rattle.flat_particles.specs.Law.{walkOf, putState, updatedAt, flatLaw}
 use Rattle.flat_particles.specs.Pass.{WrongLengths, threeOf, wellSizedOver, countsOver, passedOver}
 
 -- ---- one record
@@ -37,23 +36,13 @@ module _ (m : Model) (r : List ℕ) where
   unfolding flatLaw updatedAt
   record-accepted = accepted-when inTwo (stateAt r) (walkOf m (uAt r) (vtAt r) (stateAt r))
 
-kept-refused : (m : Model) (o : Outcome) (r : List ℕ) (s : State) (n : ℕ) → o ≡ Refused n → kept m o r s ≡ r
-kept-refused m Untouched r s n e = refl
-kept-refused m (Stored a) r s n e = absurd (let z : _≡_ {A = ℕ} 0 1 = cc in omega arith)
-kept-refused m (Refused k) r s n e = refl
-
-kept-untouched : (m : Model) (o : Outcome) (r : List ℕ) (s : State) → o ≡ Untouched → kept m o r s ≡ r
-kept-untouched m Untouched r s e = refl
-kept-untouched m (Stored a) r s e = absurd (let z : _≡_ {A = ℕ} 0 1 = cc in omega arith)
-kept-untouched m (Refused k) r s e = refl
-
 pub refused-bits : (m : Model) (r : List ℕ) (n : ℕ) → flatLaw m r .outcome ≡ Refused n → flatLaw m r .after ≡ r
 unfolding flatLaw
-refused-bits m r n e = kept-refused m (updatedAt m r .outcome) r (updatedAt m r .state) n e
+refused-bits m r n e = outcome-same (updatedAt m r .outcome) r (putState m r (updatedAt m r .state)) (λ c. let z = ap codeOf e in omega arith)
 
 pub untouched-bits : (m : Model) (r : List ℕ) → flatLaw m r .outcome ≡ Untouched → flatLaw m r .after ≡ r
 unfolding flatLaw
-untouched-bits m r e = kept-untouched m (updatedAt m r .outcome) r (updatedAt m r .state) e
+untouched-bits m r e = outcome-same (updatedAt m r .outcome) r (putState m r (updatedAt m r .state)) (λ c. let z = ap codeOf e in omega arith)
 
 -- ---- a list
 eight : (b : Bool) (c : Counts) → (cond b (passed-variants.Done c) (passed-variants.Refused wrongLength) ≡ passed-variants.Refused wrongLength) ↔ (b ≡ false)

@@ -12,20 +12,20 @@ use Rattle.walk.specs.Walk.{Walk, result}
 use Rattle.model.specs.declared.Model.{Model}
 use Rattle.model.specs.declared.Model.the-variants.{Snow, Rankine, DruckerPrager, Nacc}
 use Rattle.record.specs.Layout.{widths}
-use Rattle.particles.specs.Named.{snowNamed, rankineNamed, druckerPragerNamed, naccNamed, named, byOutcome}
+use Rattle.particles.specs.Named.{snowNamed, rankineNamed, druckerPragerNamed, naccNamed, named, storedOver, keptOver}
 use Rattle.particles.specs.Pass.{Worked}
 use Rattle.flat.specs.declared.State.{State}
 use Rattle.flat.specs.declared.Updated.{Updated}
-use Rattle.plasticity_snow.specs.Snow.{snowWalk}
-use Rattle.flat.specs.Update.{inTwo, Change, updatedOf}
+use Rattle.flat.specs.Update.{Change, updatedOf}
+use Rattle.flat_snow.specs.Snow.{snowWalk}
 use Rattle.flat_rankine.specs.Rankine.{argumentsWalk}
 use Rattle.flat_drucker_prager.specs.DruckerPrager.{druckerWalk}
 use Rattle.flat_nacc.specs.Nacc.{naccWalk}
 use Rattle.flat_particles.specs.Layout.{floats, uAt, vtAt, stateAt, putShape}
 
 -- the law that the model names, on two axes: 1 over its parameters and all the record's floats comes first in each
-unfoldable pub walkOf : Model → List (List Float) → List (List Float) → State → Walk Change
-walkOf (Snow p) u vt s = snowWalk inTwo p u vt s
+unfoldable pub walkOf : Model → List (List Float) → List (List Float) → State → Walk (Change State)
+walkOf (Snow p) u vt s = snowWalk p u vt s
 walkOf (Rankine a) u vt s = argumentsWalk a u vt s
 walkOf (DruckerPrager p) u vt s = druckerWalk p u vt s
 walkOf (Nacc a) u vt s = naccWalk a u vt s
@@ -50,11 +50,11 @@ abbrev pub putScalars : Model → List ℕ → State → List ℕ
 putScalars m r s = named (widths 2) m r (s .scalars)
 
 abbrev pub putState : Model → List ℕ → State → List ℕ
-putState m r s = putScalars m (putShape r s) s
+putState m r s = storedOver (widths 2) putShape (λ x. x .scalars) m r s
 
 -- a record that is untouched or refused holds its bits
 abbrev pub kept : Model → Outcome → List ℕ → State → List ℕ
-kept m o r s = byOutcome o r (putState m r s)
+kept m o r s = keptOver (widths 2) putShape (λ x. x .scalars) m o r s
 
 unfoldable pub updatedAt : Model → List ℕ → Updated
 updatedAt m r = flatUpdate m (uAt r) (vtAt r) (stateAt r)

@@ -5,7 +5,8 @@ use plasticity::Scalars;
 ghost use mathlib.Core.Path.{_≡_};
 ghost use Prim.Native.Nat.{_+_, _≤_, _<_, _^_};
 ghost use lib.ListN.{length};
-ghost use Rattle.flat_particles.specs.Layout.{floats, rowOver, matOver, putRowOver, putShape, uAt, vtAt, stateAt};
+ghost use Rattle.record.specs.Layout.{rowOver, matOver, putRowOver};
+ghost use Rattle.flat_particles.specs.Layout.{floats, putShape, uAt, vtAt, stateAt};
 
 const ROW: usize = 2;
 

@@ -19,8 +19,7 @@ use Rattle.plasticity_rankine.specs.Over.{softStrength}
 use Rattle.plasticity_rankine.proofs.Laws.{hardening-of, strained-over}
 use Rattle.flat.specs.declared.State.{State}
 use Rattle.flat.specs.Axes.{of-one}
-use Rattle.flat.specs.State.{inputsFinite}
-use Rattle.flat.specs.Update.{inTwo, updatedOf}
+use Rattle.flat.specs.Update.{inTwo, inputsFinite, updatedOf}
 use Rattle.flat_rankine.specs.declared.Sorted.{Sorted}
 use Rattle.flat_rankine.specs.Projection.{pair, indexesOf, sortedOf, branchOf, projectWalk, movedOf, projectedOf}
 use Rattle.flat_rankine.specs.Rankine.{expsWalk, strainedWalk, runWalk, followedOf}

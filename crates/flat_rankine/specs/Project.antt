@@ -7,25 +7,21 @@ use Rattle.answers.specs.Refusals.{noNumber}
 use Rattle.answers.specs.declared.Pair.{Pair}
 use Rattle.answers.specs.declared.Pair.the-variants as pair
 use Rattle.tensor.specs.Finite.{rowFinite}
-use Rattle.walk.specs.Expr.{num}
-use Rattle.walk.specs.Walk.{Walk, inputs, _then_, Ended, given, refused, result}
+use Rattle.walk.specs.Walk.{Ended, given, refused, result}
 use Rattle.plasticity_rankine.specs.declared.RankineArguments.{RankineArguments}
-use Rattle.plasticity_rankine.specs.Law.{lawOf, argumentsFloats, moduli}
-use Rattle.plasticity_rankine.specs.Projection.{returnedWalk, callFloats}
+use Rattle.plasticity_rankine.specs.Law.{lawOf, argumentsFloats}
+use Rattle.plasticity_rankine.specs.Projection.{callOver}
 use Rattle.flat_rankine.specs.declared.Branch.{Branch}
 use Rattle.flat_rankine.specs.declared.Branch.the-variants.{Untouched, Moved, Refused}
 use Rattle.flat_rankine.specs.Projection.{projectWalk}
-
--- by the law that `new` makes of the arguments
-unfoldable pub projectCall : RankineArguments → List Float → Float → Walk (List Float)
-projectCall a e s = inputs (callFloats (argumentsFloats a) e s) (moduli (lawOf a) (projectWalk (lawOf a) e (num s) then returnedWalk))
 
 abbrev pub strainsOf : Ended (List Float) → Pair
 strainsOf (given e) = pair.Values (getD e 0 nan) (getD e 1 nan)
 strainsOf (refused n) = pair.Refused n
 
+-- by the law that `new` makes of the arguments
 abbrev pub projectOf : RankineArguments → List Float → Float → Pair
-projectOf a e s = strainsOf (result (projectCall a e s))
+projectOf a e s = strainsOf (result (callOver projectWalk (argumentsFloats a) (lawOf a) e s))
 
 -- ---- as the code hands it on
 -- strains that are finite, else 3

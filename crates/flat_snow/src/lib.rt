@@ -7,11 +7,11 @@ use plasticity_snow::SnowPlasticity;
 ghost use mathlib.Core.Path.{_≡_};
 ghost use mathlib.Core.Bool.{true, _&&_};
 ghost use Rattle.numbers.specs.Floats.{finite};
-ghost use Rattle.plasticity_snow.specs.Snow.{clampedOf, parametersFinite, scalarsOf, runWalk};
+ghost use Rattle.plasticity_snow.specs.Clamp.{clampedOf, parametersFinite};
+ghost use Rattle.plasticity_snow.specs.Over.{scalarsOf};
 ghost use Rattle.walk.specs.Walk.{result};
-ghost use Rattle.flat.specs.State.{inputsFinite};
-ghost use Rattle.flat.specs.Update.{inTwo, keptOf, updatedOf};
-ghost use Rattle.flat_snow.specs.Snow.{flatSnow};
+ghost use Rattle.flat.specs.Update.{inputsFinite, keptOf, updatedOf};
+ghost use Rattle.flat_snow.specs.Snow.{runWalk, snowUpdate};
 
 // The bare clamp of each singular value, with no refusal.
 pub fn clamped(law: SnowPlasticity, sigma: [f64; 2]) -> [f64; 2]
@@ -46,7 +46,7 @@ fn store(
 // The steps in the law's order. Of finite inputs the clamp hides no NaN; one in the determinant is in what the exponential is given.
 fn run(law: SnowPlasticity, u: [[f64; 2]; 2], vt: [[f64; 2]; 2], s: State) -> Updated
     requires { ⌜ parametersFinite law && inputsFinite u vt s ≡ true ⌝ }
-    ensures { λ r. ⌜ r ≡ updatedOf s (result (runWalk inTwo law u vt s)) ⌝ }
+    ensures { λ r. ⌜ r ≡ updatedOf s (result (runWalk law u vt s)) ⌝ }
 {
     let sigma = s.sigma;
     let new = clamped(law, sigma);
@@ -65,7 +65,7 @@ pub fn update_particle(
     vt: [[f64; 2]; 2],
     s: State,
 ) -> Updated
-    ensures { λ r. ⌜ r ≡ flatSnow law u vt s ⌝ }
+    ensures { λ r. ⌜ r ≡ snowUpdate law u vt s ⌝ }
 {
     if law.parameters_finite() & flat::inputs_finite(u, vt, s) {
         run(law, u, vt, s)

@@ -5,7 +5,7 @@ use Prim.Native.Nat.{ℕ}
 use native.Mathlib.Omega.{arith}
 use lib.ListN.{length, getD, set, length-set}
 use lib.Ieee.{Float, nan}
-use Rattle.record.specs.Layout.{bits}
+use Rattle.record.specs.Layout.{bits, putMatOver}
 use Rattle.record.proofs.Places.{same, other}
 use Rattle.plasticity_rankine.specs.declared.RankineArguments.{RankineArguments}
 use Rattle.model.specs.declared.Model.the-variants.{Rankine}
@@ -18,7 +18,7 @@ use Rattle.particles.specs.Pass.{recordOver}
 use Rattle.flat.specs.declared.State.{State}
 use Rattle.flat.specs.State.{ofRows}
 use Rattle.flat_rankine.specs.Rankine.{argumentsUpdate}
-use Rattle.flat_particles.specs.Layout.{floats, uAt, vtAt, stateAt, putMatOver, putShape}
+use Rattle.flat_particles.specs.Layout.{floats, uAt, vtAt, stateAt, putShape}
 use Rattle.flat_particles.specs.Law.{walkOf, putState, updatedAt, flatLaw}
 use Rattle.flat_particles.proofs.PassLaws.{flat-keeps}
 use Rattle.flat_surface.specs.Record.{flat, Premises, Demand3At, ArchivesAt}

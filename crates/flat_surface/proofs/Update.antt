@@ -13,7 +13,7 @@ use Rattle.plasticity_rankine.specs.Over as over
 use Rattle.rankine_surface.specs.Axes.{Each}
 use Rattle.rankine_surface.specs.Surface.{demanded, BelowIn, FairIn, Strain}
 use Rattle.rankine_surface.proofs.Indexed.{Given, ReturnsIn}
-use Rattle.rankine_surface.proofs.Over.{Made, Stays, Strained, demand-by}
+use Rattle.rankine_surface.proofs.Over.{Stays, Strained, demand-by}
 use Rattle.rankine_surface.proofs.Hardening.{by}
 use Rattle.rankine_surface.proofs.Left.{archives}
 use Rattle.flat.specs.declared.State.{State}
@@ -23,9 +23,6 @@ use Rattle.flat_surface.specs.Surface.{twoAxes, firstTest, Taken, Demand
 use Rattle.flat_surface.proofs.Indexed.{inside, outside, same}
 
 -- two axes
-madeTwo : Made twoAxes
-madeTwo = record { state-in = λ s o. refl; sigma-made = λ f sigma x. refl; scalars-made = λ f sigma x. refl }
-
 of-pair : (P : List Float → Type 0) → ((x y : Float) → P (pair x y)) → (e : List Float) → length e ≡ 2 → P e
 of-pair P k e h = subst P (pair-entries nan e h) (k (getD e 0 nan) (getD e 1 nan))
 
@@ -40,7 +37,7 @@ strained-two {law} {s} g =
 
 pub demand-3 : {a : RankineArguments} (u vt : List (List Float)) {st : State} → Taken a u vt st → Demand3 a u vt st
 unfolding over.argumentsWalk
-demand-3 {a} u vt {st} g = demand-by twoAxes madeTwo a u vt st strained-two g
+demand-3 {a} u vt {st} g = demand-by twoAxes a u vt st strained-two g
 
 pub update-archived : {a : RankineArguments} (u vt : List (List Float)) {st : State} → Taken a u vt st → Archives a u vt st
 update-archived u vt g = archives twoAxes (demand-3 u vt g)

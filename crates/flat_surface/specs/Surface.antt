@@ -18,7 +18,6 @@ twoAxes =
     record {
       count = 2;
       body = inTwo;
-      state = λ v. v .state;
       largest = larger;
       project = projectWalk;
       strainsIn = λ x. movedOf x .strains;

@@ -8,6 +8,7 @@ use Rattle.numbers.proofs.Laws.{and-both}
 use Rattle.plasticity.specs.State.{inputsFinite}
 use Rattle.plasticity.specs.declared.State.{State}
 use Rattle.plasticity_snow.specs.declared.SnowPlasticity.{SnowPlasticity}
+use Rattle.plasticity_snow.specs.Over as snow-over
 use Rattle.plasticity_snow.specs.Snow as snow
 use Rattle.plasticity_snow.proofs.Laws as snow-laws
 use Rattle.plasticity_rankine.specs.declared.RankineArguments.{RankineArguments}
@@ -20,6 +21,7 @@ use Rattle.plasticity_drucker_prager.specs.DruckerPrager as drucker-prager
 use Rattle.plasticity_drucker_prager.proofs.Laws as drucker-prager-laws
 use Rattle.plasticity_nacc.specs.declared.NaccArguments.{NaccArguments}
 use Rattle.plasticity_nacc.specs.Law as nacc-law
+use Rattle.plasticity_nacc.specs.Over as nacc-over
 use Rattle.plasticity_nacc.specs.Nacc as nacc
 use Rattle.plasticity_nacc.proofs.Laws as nacc-laws
 use Rattle.plasticity_rankine.specs.Over as rankine-over
@@ -79,7 +81,7 @@ ready-parameters (Nacc a) =
 
 module _ (u vt : List (List Float)) (s : State) (h : inputsFinite u vt s ≡ true) where
   snow-ready : (p : SnowPlasticity) → readyUpdate (readyOf (Snow p)) u vt s ≡ snow.snowUpdate p u vt s
-  unfolding readyOf snow.snowWalk
+  unfolding readyOf snow-over.snowWalk
   snow-ready p = either-way (snow.parametersFinite p) (λ t. simp t) (λ f. simp (snow-laws.inputs-law inThree, f))
 
   rankine-ready : (a : RankineArguments) → readyUpdate (readyOf (Rankine a)) u vt s ≡ rankine.argumentsUpdate a u vt s
@@ -93,16 +95,16 @@ module _ (u vt : List (List Float)) (s : State) (h : inputsFinite u vt s ≡ tru
 
   drucker-prager-ready : (p : DruckerPragerPlasticity) → readyUpdate (readyOf (DruckerPrager p)) u vt s ≡ drucker-prager.druckerUpdate p u vt s
   unfolding readyOf drucker-over.druckerWalk
-  drucker-prager-ready p = either-way (drucker-prager-law.parametersFinite p) (λ t. simp t) (λ f. simp (drucker-prager-laws.inputs-law, f))
+  drucker-prager-ready p = either-way (drucker-prager-law.parametersFinite p) (λ t. simp t) (λ f. simp (drucker-prager-laws.inputs-law inThree, f))
 
   nacc-ready : (a : NaccArguments) → readyUpdate (readyOf (Nacc a)) u vt s ≡ nacc.argumentsUpdate a u vt s
-  unfolding readyOf nacc.argumentsWalk nacc.naccWalk
+  unfolding readyOf nacc-over.argumentsWalk nacc-over.naccWalk
   nacc-ready a =
       either-way (nacc-law.argumentsFinite a)
       (λ t. either-way (nacc-law.moduliFinite (nacc-law.lawOf a))
-      (λ l. simp (nacc-laws.inputs-law, t, l, h, nacc-parameters a t))
-      (λ l. simp (nacc-laws.inputs-law, t, l, h)))
-      (λ f. simp (nacc-laws.inputs-law, f))
+      (λ l. simp (nacc-laws.inputs-law inThree, t, l, h, nacc-parameters a t))
+      (λ l. simp (nacc-laws.inputs-law inThree, t, l, h)))
+      (λ f. simp (nacc-laws.inputs-law inThree, f))
 
   pub ready-update : (m : Model) → readyUpdate (readyOf m) u vt s ≡ modelUpdate m u vt s
   ready-update (Snow p) = snow-ready p

@@ -10,9 +10,8 @@ use lib.Ieee.{Float, nan, inf, fin}
 use Rattle.numbers.specs.Floats.{finite}
 use Rattle.numbers.proofs.Laws.{and-both}
 use Rattle.tensor.specs.Axes.{allOf}
-use Rattle.tensor.specs.Matrix.{add, recomposeOf, rowsOf}
-use Rattle.tensor.specs.Finite.{rowFinite, matFinite, rowsFinite}
-use Rattle.tensor.specs.declared.Rows.{Rows}
+use Rattle.tensor.specs.Matrix.{add, recomposeOf}
+use Rattle.tensor.specs.Finite.{rowFinite, matFinite}
 use Rattle.plasticity.specs.State.{scalarsFinite, stateFinite, inputsFinite}
 use Rattle.plasticity.specs.declared.Outcome.the-variants.{Stored}
 use Rattle.plasticity.specs.declared.Scalars.{Scalars}
@@ -20,10 +19,10 @@ use Rattle.plasticity.specs.declared.State.{State}
 use Rattle.plasticity.proofs.Parts.{state-parts, Scalars-finite, scalars-parts}
 use Rattle.walk.specs.Expr.{Expr, num, _+_, value, values, nums}
 use Rattle.walk.specs.Matrix.{product, value-entry, values-nums}
-use Rattle.walk.specs.Walk.{Walk, exp, ln, end, _then_, Ended, given, refused, result}
+use Rattle.walk.specs.Walk.{Walk, exp, ln, _then_, Ended, given, refused, result}
 use Rattle.walk.specs.Update.{inThree, Change, untouched, stored, updatedOf, recomposed}
 use Rattle.plasticity_snow.specs.declared.SnowPlasticity.{SnowPlasticity}
-use Rattle.plasticity_snow.specs.Snow as snow
+use Rattle.plasticity_snow.specs.Over as snow
 use Rattle.plasticity_rankine.specs.declared.RankinePlasticity.{RankinePlasticity}
 use Rattle.plasticity_rankine.specs.Projection as rankine-projection
 use Rattle.plasticity_rankine.specs.Rankine as rankine
@@ -33,7 +32,8 @@ use Rattle.plasticity_drucker_prager.specs.Projection as drucker-projection
 use Rattle.plasticity_drucker_prager.specs.DruckerPrager as drucker-prager
 use Rattle.plasticity_nacc.specs.declared.NaccPlasticity.{NaccPlasticity}
 use Rattle.plasticity_nacc.specs.Axes.{three-axes}
-use Rattle.plasticity_nacc.specs.Nacc as nacc
+use Rattle.plasticity_nacc.specs.Projection as nacc
+use Rattle.plasticity_nacc.specs.Over as nacc-over
 use Rattle.plasticity_rankine.specs.Over as rankine-over
 use Rattle.plasticity_drucker_prager.specs.Over as drucker-over
 use Rattle.walk.specs.Body as body
@@ -174,43 +174,25 @@ module _ (u vt : List (List Float)) (s : State) (q : stateFinite s ≡ true) whe
       )
 
   -- ---- NACC: inside the yield surface nothing is stored
-  abbrev Kept : nacc.Result → Type 0
-  Kept r = Finite (nacc.changeOf (r .way) (r .f) (r .shape) s)
-
-  nacc-stored : (f : Rows) (x : nacc.Shape) → rowsFinite f ≡ true → rowFinite (x .sigma) ≡ true → finite (x .alpha) ≡ true
-      → Finite (stored (nacc.stateOf f (x .sigma) (x .alpha) s) (x .alpha))
-  nacc-stored f x a b c =
-      let y = nacc.scalarsOf (x .alpha) (s .scalars) in
-      let scalars = scalars-whole y (record { phase = old .phase; determinant = old .determinant; hardening = old .hardening; elastic = old .elastic; gain = old .gain; alpha = c }) in
-      (three-whole (rowsFinite f) (rowFinite (x .sigma)) (scalarsFinite y) a b scalars, c)
-
-  nacc-kept : (w : nacc.Way) (f : Rows) (x : nacc.Shape) → rowsFinite f ≡ true → rowFinite (x .sigma) ≡ true → finite (x .alpha) ≡ true
-      → Kept (record { way = w; f = f; shape = x })
-  nacc-kept (nacc.upper y z) f x a b c = nacc-stored f x a b c
-  nacc-kept (nacc.lower y z) f x a b c = nacc-stored f x a b c
-  nacc-kept (nacc.inside y z) f x a b c = tt
-  nacc-kept (nacc.surface y z) f x a b c = nacc-stored f x a b c
-
-  nacc-recomposed : (w : nacc.Way) (x : nacc.Shape) → Ends Kept (nacc.recomposedWalk w u x vt)
-  unfolding nacc.recomposedWalk
-  nacc-recomposed w x =
+  nacc-stored : (x : nacc.Shape) → Ends Finite (nacc-over.storedWalk inThree x u vt s)
+  unfolding nacc-over.storedWalk body.storeWalk
+  nacc-stored x =
       λ t. let r = results-parts u (x .sigma) vt (num (x .alpha) ∷ []) t in
-      nacc-kept w (rowsOf (recomposeOf u (x .sigma) vt)) x (r .0) (r .1) (r .2)
+      let y = nacc-over.scalarsOf (x .alpha) (s .scalars) in
+      let scalars = scalars-whole y (record { phase = old .phase; determinant = old .determinant; hardening = old .hardening; elastic = old .elastic; gain = old .gain; alpha = r .2 }) in
+      (three-whole (matFinite (recomposeOf u (x .sigma) vt)) (rowFinite (x .sigma)) (scalarsFinite y) (r .0) (r .1) scalars, r .2)
 
-  nacc-way : (w : nacc.Way) (x : nacc.Shape) (f : Rows) → Ends Kept (nacc.wayWalk w x f u vt)
-  unfolding nacc.wayWalk
-  nacc-way (nacc.upper y z) x f = nacc-recomposed (nacc.upper y z) x
-  nacc-way (nacc.lower y z) x f = nacc-recomposed (nacc.lower y z) x
-  nacc-way (nacc.inside y z) x f = tt
-  nacc-way (nacc.surface y z) x f = nacc-recomposed (nacc.surface y z) x
+  nacc-way : (w : nacc.Way) (x : nacc.Shape) → Ends Finite (nacc-over.wayWalk inThree w x u vt s)
+  unfolding nacc-over.wayWalk
+  nacc-way (nacc.upper y z) x = nacc-stored x
+  nacc-way (nacc.lower y z) x = nacc-stored x
+  nacc-way (nacc.inside y z) x = tt
+  nacc-way (nacc.surface y z) x = nacc-stored x
 
-  nacc-ends : (p : NaccPlasticity) → Ends Finite (nacc.naccWalk p u vt s)
-  unfolding nacc.naccWalk nacc.runWalk nacc.projectWalk
+  nacc-ends : (p : NaccPlasticity) → Ends Finite (nacc-over.naccWalk inThree three-axes p u vt s)
+  unfolding nacc-over.naccWalk nacc-over.runWalk
   nacc-ends p =
-      λ t. ends-then Kept Finite (λ r. end (nacc.changeOf (r .way) (r .f) (r .shape) s)) (λ r h. h)
-      (nacc.projectWalk p (s .f) u (s .sigma) vt (s .scalars .alpha))
-      (ends-after Kept (λ x. nacc.wayWalk (x .way) (x .shape) (s .f) u vt) (λ x. nacc-way (x .way) (x .shape) (s .f))
-      (nacc.stepsWalk three-axes p (s .sigma) (s .scalars .alpha)))
+      λ t. ends-after Finite (λ x. nacc-over.wayWalk inThree (x .way) (x .shape) u vt s) (λ x. nacc-way (x .way) (x .shape)) (nacc.stepsWalk three-axes p (s .sigma) (s .scalars .alpha))
 
 given-finite : (s : State) (x : Ended Change) → Given Finite x → (a : Float) → updatedOf s x .outcome ≡ Stored a
     → (stateFinite (updatedOf s x .state) ≡ true) × (finite a ≡ true)
@@ -231,5 +213,5 @@ module _ (u vt : List (List Float)) (s : State) (q : inputsFinite u vt s ≡ tru
   stored-finite (Snow p) e = walked (snow.snowWalk inThree p u vt s) (snow-ends u vt s state p) e
   stored-finite (Rankine p) e = walked (rankine.rankineWalk p u vt s) (rankine-ends u vt s state p) e
   stored-finite (DruckerPrager p) e = walked (drucker-prager.druckerWalk p u vt s) (drucker-ends u vt s state p) e
-  stored-finite (Nacc p) e = walked (nacc.naccWalk p u vt s) (nacc-ends u vt s state p) e
+  stored-finite (Nacc p) e = walked (nacc-over.naccWalk inThree three-axes p u vt s) (nacc-ends u vt s state p) e
   stored-finite (Refused n) e = given-finite s (refused n) tt a e

@@ -6,7 +6,7 @@ use Rattle.plasticity.specs.declared.State.{State}
 use Rattle.plasticity.specs.declared.Updated.{Updated}
 use Rattle.walk.specs.Walk.{Walk}
 use Rattle.walk.specs.Exact.{path, last}
-use Rattle.walk.specs.Update.{inThree, Change}
+use Rattle.walk.specs.Update.{Change}
 use Rattle.reason.specs.declared.Reason.{Reason}
 use Rattle.reason.specs.Reason.{lastAs, reasonFrom, reasonOf}
 use Rattle.plasticity_snow.specs.Snow as snow
@@ -35,13 +35,13 @@ modelUpdate (Nacc a) u vt s = nacc.argumentsUpdate a u vt s
 
 -- ---- ticket 8: the law's walk, and what is read off its path
 abbrev pub modelWalk : Model → List (List Float) → List (List Float) → State → Walk Change
-modelWalk (Snow p) u vt s = snow.snowWalk inThree p u vt s
+modelWalk (Snow p) u vt s = snow.snowWalk p u vt s
 modelWalk (Rankine a) u vt s = rankine.argumentsWalk a u vt s
 modelWalk (DruckerPrager p) u vt s = drucker-prager.druckerWalk p u vt s
 modelWalk (Nacc a) u vt s = nacc.argumentsWalk a u vt s
 
 abbrev pub modelReason : Model → List (List Float) → List (List Float) → State → Reason
-modelReason (Snow p) u vt s = reasonFrom (snow-reason.boundsOf p (s .sigma)) (snow.snowWalk inThree p u vt s)
+modelReason (Snow p) u vt s = reasonFrom (snow-reason.boundsOf p (s .sigma)) (snow.snowWalk p u vt s)
 modelReason (Rankine a) u vt s = reasonOf (rankine.argumentsWalk a u vt s)
 modelReason (DruckerPrager p) u vt s = reasonOf (drucker-prager.druckerWalk p u vt s)
 modelReason (Nacc a) u vt s = reasonOf (nacc.argumentsWalk a u vt s)

@@ -29,7 +29,7 @@ use Rattle.model.specs.declared.Model.{Model}
 use Rattle.model.specs.Model.{modelFinite}
 use Rattle.model.proofs.KindLaws.{and-true}
 use Rattle.particles.specs.Pass.{Worked, codeOf}
-use Rattle.particles.specs.Plain.{updatedAt, kept, lawAt, keptBy, recordLaw}
+use Rattle.particles.specs.Plain.{putState, updatedAt, kept, lawAt, keptBy, recordLaw}
 use Rattle.particles.specs.Judged.{judgeFinite, verdictAfter, unlessRefused, judgedAt, refusedRecord, marked, failureLaw}
 use Rattle.particles.specs.Factored.{factorsAt, withFactors, factorRefusal, factorLaw, heldBy, orAsItCame, factoredLaw}
 use Rattle.particles.specs.Bare.{bareLaw, Unrefused}
@@ -39,6 +39,7 @@ use Rattle.particles.specs.declared.step.Step.the-variants.{Plain, Judge
 use Rattle.particles.specs.Step.{stepLaw}
 use Rattle.particles.proofs.NotFinite.{not-finite, last-finite, law-wrong}
 use Rattle.particles.proofs.FactoredLaws.{fine, factors-length}
+use Rattle.particles.proofs.PassLaws.{outcome-same}
 use Rattle.particles.proofs.Written.{kept-right, take-kept}
 
 -- not refused
@@ -157,9 +158,7 @@ fill-right r k = filled-right r (omega arith)
 
 -- ---- untouched and refused records keep all their bits
 kept-same : (m : Model) (o : Outcome) (r : List ℕ) (s : State) → (codeOf o ≡ 1 → ⊥) → kept m o r s ≡ r
-kept-same m outcome.Untouched r s h = refl
-kept-same m (outcome.Stored a) r s h = absurd (h refl)
-kept-same m (outcome.Refused n) r s h = refl
+kept-same m o r s h = outcome-same o r (putState m r s) h
 
 differ : {o p : Outcome} {G : Type 0} → o ≡ p → (codeOf o ≡ codeOf p → ⊥) → G
 differ e h = absurd (h (ap codeOf e))

@@ -16,7 +16,8 @@ use Rattle.physics.specs.Physics.{lambdaOf, shearModulusOf}
 use Rattle.tensor.specs.Matrix.{one, sumOf, dotOf, scaledRowOf}
 use Rattle.plasticity.specs.declared.Outcome.the-variants.{Untouched}
 use Rattle.walk.specs.Matrix.{total, sum, product, entry}
-use Rattle.plasticity_snow.specs.Snow.{defaults, snowWalk, floats, runWalk, hardenWalk}
+use Rattle.plasticity_snow.specs.Clamp.{defaults}
+use Rattle.plasticity_snow.specs.Over.{snowWalk, floats, runWalk, hardenWalk}
 use Rattle.plasticity_rankine.specs.Law.{argumentsOf}
 use Rattle.plasticity_rankine.specs.Sorting.{orderOf}
 use Rattle.plasticity_rankine.specs.Projection.{thirdWalk, secondWalk, firstWalk}

@@ -13,7 +13,7 @@ use Rattle.plasticity.specs.State.{inputsFinite, refused}
 use Rattle.plasticity.specs.declared.State.{State}
 use Rattle.plasticity.specs.declared.Updated.{Updated}
 use Rattle.record.specs.Layout.{placeDeterminant, floatAt, uAt, vtAt, stateAt, recordFinite, determinantRight}
-use Rattle.plasticity_snow.specs.Snow as snow
+use Rattle.plasticity_snow.specs.Over as snow
 use Rattle.plasticity_snow.proofs.Laws as snow-laws
 use Rattle.plasticity_rankine.proofs.Laws as rankine-laws
 use Rattle.plasticity_rankine.specs.Law as rankine-law
@@ -22,6 +22,8 @@ use Rattle.plasticity_drucker_prager.proofs.Laws as drucker-prager-laws
 use Rattle.plasticity_drucker_prager.specs.DruckerPrager as drucker-prager
 use Rattle.plasticity_nacc.proofs.Laws as nacc-laws
 use Rattle.plasticity_nacc.specs.Law as nacc-law
+use Rattle.plasticity_nacc.specs.Projection as nacc-projection
+use Rattle.plasticity_nacc.specs.Over as nacc-over
 use Rattle.plasticity_nacc.specs.Nacc as nacc
 use Rattle.plasticity_rankine.specs.Over as rankine-over
 use Rattle.plasticity_drucker_prager.specs.Over as drucker-over
@@ -43,15 +45,15 @@ module _ (u vt : List (List Float)) (s : State) where
   first w p q = ap (λ (t : Bool). updatedOf s (cond t w (walk.refused notFinite))) (p ∙ q)
 
   pub not-finite : (m : Model) → modelFinite m && inputsFinite u vt s ≡ false → modelUpdate m u vt s ≡ refused notFinite s
-  unfolding snow.snowWalk rankine-over.argumentsWalk drucker-over.druckerWalk nacc.argumentsWalk
+  unfolding snow.snowWalk rankine-over.argumentsWalk drucker-over.druckerWalk nacc-over.argumentsWalk
   not-finite (Snow p) q = first (walk.result (snow.runWalk inThree p u vt s)) (snow-laws.inputs-law inThree p u vt s) q
   not-finite (Rankine a) q =
       let p = rankine-law.lawOf a in
       first (walk.result (rankine-law.moduli p (rankine.runWalk p (s .sigma) u vt s))) (rankine-laws.inputs-law inThree (rankine-law.argumentsFloats a) u vt s) q
-  not-finite (DruckerPrager p) q = first (walk.result (drucker-prager.runWalk p u vt s)) (drucker-prager-laws.inputs-law p u vt s) q
+  not-finite (DruckerPrager p) q = first (walk.result (drucker-prager.runWalk p u vt s)) (drucker-prager-laws.inputs-law inThree p u vt s) q
   not-finite (Nacc a) q =
       let p = nacc-law.lawOf a in
-      first (walk.result (nacc.moduli p (nacc.runWalk p u vt s))) (nacc-laws.inputs-law (nacc-law.argumentsFloats a) u vt s) q
+      first (walk.result (nacc-projection.moduli p (nacc.runWalk p u vt s))) (nacc-laws.inputs-law inThree (nacc-law.argumentsFloats a) u vt s) q
 
 -- a finite record's determinant is finite
 pub last-finite : (r : List ℕ) → recordFinite r ≡ true → finite (floatAt r placeDeterminant) ≡ true

@@ -42,6 +42,12 @@ outcome-length Untouched r q h = refl
 outcome-length (Stored a) r q h = h
 outcome-length (Refused n) r q h = refl
 
+-- what is not stored keeps its bits
+pub outcome-same : (o : Outcome) (r q : List ℕ) → (codeOf o ≡ 1 → ⊥) → byOutcome o r q ≡ r
+outcome-same Untouched r q h = refl
+outcome-same (Stored a) r q h = absurd (h refl)
+outcome-same (Refused n) r q h = refl
+
 pub kept-length : (m : Model) (o : Outcome) (r : List ℕ) (s : State) → length (kept m o r s) ≡ length r
 kept-length m o r s = outcome-length o r (putState m r s) (named-length layout m (putShape r s) (s .scalars) ∙ simp length-set)
 

@@ -10,6 +10,12 @@ use Rattle.record.specs.Layout.{place, bits}
 use Rattle.model.specs.declared.Model.{Model}
 use Rattle.model.specs.declared.Model.the-variants.{Snow, Rankine, DruckerPrager, Nacc}
 
+-- a record r that is untouched or refused holds its bits; q is what is stored
+abbrev pub byOutcome : Outcome → List ℕ → List ℕ → List ℕ
+byOutcome Untouched r q = r
+byOutcome (Stored a) r q = q
+byOutcome (Refused n) r q = r
+
 -- ws is how many floats each part has
 module _ (ws : List ℕ) where
   -- part k is written
@@ -34,8 +40,10 @@ module _ (ws : List ℕ) where
   named (DruckerPrager p) r x = druckerPragerNamed r x
   named (Nacc a) r x = naccNamed r x
 
--- a record r that is untouched or refused holds its bits; q is what is stored
-abbrev pub byOutcome : Outcome → List ℕ → List ℕ → List ℕ
-byOutcome Untouched r q = r
-byOutcome (Stored a) r q = q
-byOutcome (Refused n) r q = r
+  -- what is stored: F and sigma by `shape`, and of the scalars those
+  module _ {S : Type 0} (shape : List ℕ → S → List ℕ) (scalars : S → Scalars) (m : Model) where
+    abbrev pub storedOver : List ℕ → S → List ℕ
+    storedOver r s = named m (shape r s) (scalars s)
+
+    abbrev pub keptOver : Outcome → List ℕ → S → List ℕ
+    keptOver o r s = byOutcome o r (storedOver r s)

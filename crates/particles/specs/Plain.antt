@@ -15,7 +15,7 @@ use Rattle.plasticity.specs.declared.Updated.{Updated}
 use Rattle.record.specs.Layout.{layout, floats, placeDeterminant, floatAt, uAt, vtAt, stateAt, recordFinite, determinantAt, determinantRight, putBare, putShape}
 use Rattle.model.specs.declared.Model.{Model}
 use Rattle.model.specs.Model.{modelFinite, modelUpdate}
-use Rattle.particles.specs.Named.{snowNamed, rankineNamed, druckerPragerNamed, naccNamed, named, byOutcome}
+use Rattle.particles.specs.Named.{snowNamed, rankineNamed, druckerPragerNamed, naccNamed, named, storedOver, keptOver}
 use Rattle.particles.specs.Pass.{Worked}
 
 -- ---- three axes
@@ -35,14 +35,14 @@ abbrev pub putScalars : Model → List ℕ → State → List ℕ
 putScalars m r s = named layout m r (s .scalars)
 
 abbrev pub putState : Model → List ℕ → State → List ℕ
-putState m r s = putScalars m (putShape r s) s
+putState m r s = storedOver layout putShape (λ x. x .scalars) m r s
 
 unfoldable pub updatedAt : Model → List ℕ → Updated
 updatedAt m r = modelUpdate m (uAt r) (vtAt r) (stateAt r)
 
 -- a record that is untouched or refused holds its bits
 abbrev pub kept : Model → Outcome → List ℕ → State → List ℕ
-kept m o r s = byOutcome o r (putState m r s)
+kept m o r s = keptOver layout putShape (λ x. x .scalars) m o r s
 
 -- the word beside an update is the determinant of the F that it stores, if it stores; what it stores is finite
 abbrev pub Beside : Outcome → List ℕ → State → ℕ → Type 0

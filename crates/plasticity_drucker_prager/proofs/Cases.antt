@@ -93,7 +93,7 @@ pub p12 :
     (l m a : Float) → finite l ≡ true → finite m ≡ true → lnOf one ≡ zero → sqrtOf zero ≡ zero → answerAs (result (alphaWalk (defaultsOf l m) one)) ≡ Value a →
     druckerUpdate (defaultsOf l m) identity identity rested .outcome ≡ Stored zero
 unfolding over.druckerWalk finite ofBits
-p12 l m a f g h k e = simp (inputs-law, f, g, run l m a h k e)
+p12 l m a f g h k e = simp (inputs-law inThree, f, g, run l m a h k e)
 
 -- the same walk on two axes: P12's projection there
 abbrev flat : Returned

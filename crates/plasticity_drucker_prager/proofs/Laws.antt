@@ -14,13 +14,12 @@ use Rattle.tensor.specs.Finite.{rowFinite}
 use Rattle.tensor.specs.Matrix.{one, productOf, recomposeOf}
 use Rattle.physics.specs.Norm.{normOf}
 use Rattle.plasticity.specs.State as law
-use Rattle.plasticity.specs.State.{inputsFinite}
 use Rattle.plasticity.specs.declared.Outcome.the-variants as outcome
 use Rattle.plasticity.specs.declared.Outcome.the-variants.{Stored}
 use Rattle.plasticity.specs.declared.Scalars.{Scalars}
 use Rattle.plasticity.specs.declared.State.{State}
 use Rattle.walk.specs.Expr.{Expr, value}
-use Rattle.walk.specs.Walk.{Function, Walk, asks, _then_, Ended, refused, result}
+use Rattle.walk.specs.Walk.{Function, Walk, asks, _then_, Ended, given, refused, result}
 use Rattle.walk.specs.Three.{answersOf, byThree, asks-by}
 use Rattle.walk.specs.Exact.{andThen, result-then}
 use Rattle.reason.specs.declared.Number.{Number}
@@ -37,14 +36,15 @@ use Rattle.plasticity_drucker_prager.specs.declared.DruckerPragerPlastic
 use Rattle.plasticity_drucker_prager.specs.declared.Measured.{Measured}
 use Rattle.plasticity_drucker_prager.specs.declared.Measured.the-variants as measured
 use Rattle.plasticity_drucker_prager.specs.Law.{parametersOf, parametersFinite}
-use Rattle.plasticity_drucker_prager.specs.Projection.{projectFloats, Way, isotropic, expanding, inside, surface, Returned, returnedWalk, tipWalk, branchOf, refusedProjection, walkedOf, projectedOf, tipOf, returnedOf, resultsOf}
+use Rattle.plasticity_drucker_prager.specs.Projection.{projectFloats, Way, isotropic, expanding, inside, surface, Returned, returnedWalk, tipWalk, branchOf, refusedProjection, walkedOf, projectedOf, tipOf, returnedOf, outcomeOf, resultsOf}
 use Rattle.plasticity_drucker_prager.specs.Over as over
 use Rattle.plasticity_drucker_prager.specs.DruckerPrager.{scalarsOf, stateOf, storeWalk, Measures, measureWalk, measuredAs, measuredOf, finiteResults, wayWalk, followedOf}
 
--- the inputs
-pub inputs-law : (p : DruckerPragerPlasticity) (u vt : List (List Float)) (s : State) → allOf finite (over.floats inThree p u vt s) ≡ parametersFinite p && inputsFinite u vt s
+-- the inputs, over any number of axes
+pub inputs-law : {S R : Type 0} (b : Body S R) (p : DruckerPragerPlasticity) (u vt : List (List Float)) (s : S)
+    → allOf finite (over.floats b p u vt s) ≡ parametersFinite p && body.inputsFinite b u vt s
 unfolding over.floats
-inputs-law p u vt s = inputs-finite inThree (parametersOf p) u vt s
+inputs-law b p u vt s = inputs-finite b (parametersOf p) u vt s
 
 leftwards : (a b c d : Bool) → a && (b && (c && d)) ≡ a && b && c && d
 leftwards true true c d = refl
@@ -110,26 +110,42 @@ module _ {B : Type 0} (g : Float → Ended B) where
 pub alpha-then : {B : Type 0} (w : Walk Float) (g : Float → Walk B) → result (w then g) ≡ numbered (λ a. result (g a)) (numberAs (traced w))
 alpha-then w g = then-traced w g ∙ stepped (λ a. result (g a)) (traced w)
 
--- the projection is followed by its branch
-module _ (p : DruckerPragerPlasticity) (u vt : List (List Float)) (s : State) where
-  way-law : (w : Way) (sigma : List Float) (dq : Float) → update.updatedOf s (result (wayWalk p w sigma dq u vt s)) ≡ followedOf (branchOf w) p sigma dq u vt s
+-- the projection is followed by its branch: over any number of axes
+module _ {S R : Type 0} (b : Body S R) (p : DruckerPragerPlasticity) (u vt : List (List Float)) (s : S) where
+  over-way : (w : Way) (sigma : List Float) (dq : Float) → updatedOf b s (result (over.wayWalk b p w sigma dq u vt s)) ≡ over.followedOf b (over.outcomeOf w dq) p sigma u vt s
   unfolding over.wayWalk
-  way-law (isotropic x) sigma dq = refl
-  way-law (expanding x) sigma dq = refl
-  way-law (inside x) sigma dq = refl
-  way-law (surface x norm) sigma dq = refl
+  over-way (isotropic x) sigma dq = refl
+  over-way (expanding x) sigma dq = refl
+  over-way (inside x) sigma dq = refl
+  over-way (surface x norm) sigma dq = refl
 
-  abbrev afterWay : Returned → Ended (Change State)
-  afterWay q = result (wayWalk p (q .way) (q .sigma) (q .dq) u vt s)
+  abbrev pub byEnd : Ended Returned → R
+  byEnd (given q) = over.followedOf b (over.outcomeOf (q .way) (q .dq)) p (q .sigma) u vt s
+  byEnd (refused n) = b .handed s (outcome.Refused n)
 
-  follows : (x : Traced Returned) → update.updatedOf s (andThen (untraced x) afterWay) ≡ followedOf (walkedOf x .branch) p (walkedOf x .sigma) (walkedOf x .dq) u vt s
-  follows (reached q) = way-law (q .way) (q .sigma) (q .dq)
-  follows (stopped n step) = refl
+  follows : (x : Ended Returned) → updatedOf b s (andThen x (λ q. result (over.wayWalk b p (q .way) (q .sigma) (q .dq) u vt s))) ≡ byEnd x
+  follows (given q) = over-way (q .way) (q .sigma) (q .dq)
+  follows (refused n) = refl
+
+  pub over-then : (w : Walk Returned) → updatedOf b s (result (w then (λ q. over.wayWalk b p (q .way) (q .sigma) (q .dq) u vt s))) ≡ byEnd (result w)
+  over-then w = ap (updatedOf b s) (result-then w (λ q. over.wayWalk b p (q .way) (q .sigma) (q .dq) u vt s)) ∙ follows (result w)
+
+-- in three axes the branch is told with it
+branch-outcome : (w : Way) (dq : Float) → over.outcomeOf w dq ≡ outcomeOf (branchOf w) dq
+branch-outcome (isotropic x) dq = refl
+branch-outcome (expanding x) dq = refl
+branch-outcome (inside x) dq = refl
+branch-outcome (surface x norm) dq = refl
+
+module _ (p : DruckerPragerPlasticity) (u vt : List (List Float)) (s : State) where
+  by-branch : (x : Traced Returned) → byEnd inThree p u vt s (untraced x) ≡ followedOf (walkedOf x .branch) p (walkedOf x .sigma) (walkedOf x .dq) u vt s
+  by-branch (reached q) = ap (λ o. over.followedOf inThree o p (q .sigma) u vt s) (branch-outcome (q .way) (q .dq))
+  by-branch (stopped n step) = refl
 
   pub way-then : (w : Walk Returned)
       → update.updatedOf s (result (w then (λ q. wayWalk p (q .way) (q .sigma) (q .dq) u vt s)))
       ≡ followedOf (walkedOf (traced w) .branch) p (walkedOf (traced w) .sigma) (walkedOf (traced w) .dq) u vt s
-  way-then w = ap (update.updatedOf s) (then-traced w (λ q. wayWalk p (q .way) (q .sigma) (q .dq) u vt s)) ∙ follows (traced w)
+  way-then w = over-then inThree p u vt s w ∙ ap (byEnd inThree p u vt s) (result-traced w) ∙ by-branch (traced w)
 
 -- the results as the code tests them
 pub store-law : (u : List (List Float)) (sigma : List Float) (vt : List (List Float)) (d h gain : Expr) (dq : Float) (s : State)

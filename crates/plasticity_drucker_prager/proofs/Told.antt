@@ -185,4 +185,4 @@ module _ (p : DruckerPragerPlasticity) (u vt : List (List Float)) (s : State) wh
 
   pub drucker-told : reasonOf (druckerWalk p u vt s) ≡ cond (parametersFinite p && inputsFinite u vt s) (reasonOf (runWalk p u vt s)) (Refused 1 0)
   unfolding over.druckerWalk
-  drucker-told = reason-inputs (over.floats inThree p u vt s) (runWalk p u vt s) ∙ ap (λ b. cond b (reasonOf (runWalk p u vt s)) (Refused 1 0)) (inputs-law p u vt s)
+  drucker-told = reason-inputs (over.floats inThree p u vt s) (runWalk p u vt s) ∙ ap (λ b. cond b (reasonOf (runWalk p u vt s)) (Refused 1 0)) (inputs-law inThree p u vt s)

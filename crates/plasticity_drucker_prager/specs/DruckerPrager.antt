@@ -4,16 +4,14 @@ use mathlib.Core.List.{List}
 use lib.Ieee.{Float}
 use Rattle.numbers.specs.Floats.{finite}
 use Rattle.tensor.specs.Finite.{rowFinite, matFinite}
-use Rattle.plasticity.specs.State.{refused}
-use Rattle.plasticity.specs.declared.Outcome.{Outcome}
 use Rattle.plasticity.specs.declared.Outcome.the-variants as outcome
 use Rattle.plasticity.specs.declared.Scalars.{Scalars}
 use Rattle.plasticity.specs.declared.State.{State}
 use Rattle.plasticity.specs.declared.Updated.{Updated}
 use Rattle.walk.specs.Expr.{Expr, num, _+_, _*_, value}
-use Rattle.walk.specs.Walk.{Walk, less, picked, result}
+use Rattle.walk.specs.Walk.{Walk, less, picked}
 use Rattle.walk.specs.Update as update
-use Rattle.walk.specs.Update.{inThree, Change, updatedOf}
+use Rattle.walk.specs.Update.{inThree, Change}
 use Rattle.reason.specs.Traced.{Traced, reached, stopped, traced}
 use Rattle.plasticity_drucker_prager.specs.declared.Branch.{Branch}
 use Rattle.plasticity_drucker_prager.specs.declared.DruckerPragerPlasticity.{DruckerPragerPlasticity}
@@ -61,13 +59,8 @@ abbrev pub untouchedOf : State → Updated
 untouchedOf s = record { state = s; outcome = outcome.Untouched }
 
 -- the outcome is that of the projection
-abbrev pub byOutcome : Outcome → DruckerPragerPlasticity → List Float → List (List Float) → List (List Float) → State → Updated
-byOutcome outcome.Untouched p sigma u vt s = untouchedOf s
-byOutcome (outcome.Stored dq) p sigma u vt s = updatedOf s (result (movedWalk p sigma dq u vt s))
-byOutcome (outcome.Refused n) p sigma u vt s = refused n s
-
 abbrev pub followedOf : Branch → DruckerPragerPlasticity → List Float → Float → List (List Float) → List (List Float) → State → Updated
-followedOf b p sigma dq u vt s = byOutcome (outcomeOf b dq) p sigma u vt s
+followedOf b p sigma dq u vt s = over.followedOf inThree (outcomeOf b dq) p sigma u vt s
 
 abbrev pub druckerUpdate : DruckerPragerPlasticity → List (List Float) → List (List Float) → State → Updated
-druckerUpdate p u vt s = updatedOf s (result (druckerWalk p u vt s))
+druckerUpdate p u vt s = over.druckerOver inThree dim p u vt s

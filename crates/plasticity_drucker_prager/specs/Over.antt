@@ -5,12 +5,14 @@ use mathlib.Core.List.{List, [], _∷_, _++_}
 use lib.Ieee as Ieee
 use lib.Ieee.{Float}
 use Rattle.tensor.specs.Matrix as tensor
+use Rattle.plasticity.specs.declared.Outcome.{Outcome}
+use Rattle.plasticity.specs.declared.Outcome.the-variants as outcome
 use Rattle.plasticity.specs.declared.Scalars.{Scalars}
 use Rattle.walk.specs.Expr.{Expr, num, _+_, _-_, _*_, _/_, value}
-use Rattle.walk.specs.Walk.{Walk, ln, less, flag, inputs, ask, work, either, branch, end, _then_}
+use Rattle.walk.specs.Walk.{Walk, ln, less, flag, inputs, ask, work, either, branch, end, _then_, result}
 use Rattle.walk.specs.Matrix.{product}
 use Rattle.walk.specs.Body as body
-use Rattle.walk.specs.Body.{Body, Change, untouched, floatsOf}
+use Rattle.walk.specs.Body.{Body, Change, untouched, updatedOf, floatsOf}
 use Rattle.plasticity_drucker_prager.specs.declared.DruckerPragerPlasticity.{DruckerPragerPlasticity}
 use Rattle.plasticity_drucker_prager.specs.Law.{parametersOf}
 use Rattle.plasticity_drucker_prager.specs.Alpha.{alphaWalk}
@@ -27,6 +29,13 @@ scalarsOf d h gain x =
       «log_gain» = gain;
       alpha = x .alpha;
     }
+
+-- whether the values are new; dq is the amount
+abbrev pub outcomeOf : Way → Float → Outcome
+outcomeOf (isotropic d) dq = outcome.Stored dq
+outcomeOf (expanding x) dq = outcome.Stored dq
+outcomeOf (inside x) dq = outcome.Untouched
+outcomeOf (surface x norm) dq = outcome.Stored dq
 
 -- plastic determinant, plastic hardening and log gain
 pub record Measures : Type 0 where
@@ -74,6 +83,12 @@ module _ {S R : Type 0} (b : Body S R) where
   wayWalk p (expanding x) sigma dq u vt s = movedWalk p sigma dq u vt s
   wayWalk p (surface x norm) sigma dq u vt s = movedWalk p sigma dq u vt s
 
+  -- as the code hands it on: by the outcome of the projection
+  abbrev pub followedOf : Outcome → DruckerPragerPlasticity → List Float → List (List Float) → List (List Float) → S → R
+  followedOf outcome.Untouched p sigma u vt s = b .handed s outcome.Untouched
+  followedOf (outcome.Stored dq) p sigma u vt s = updatedOf b s (result (movedWalk p sigma dq u vt s))
+  followedOf (outcome.Refused n) p sigma u vt s = b .handed s (outcome.Refused n)
+
   -- parameters first
   unfoldable pub floats : DruckerPragerPlasticity → List (List Float) → List (List Float) → S → List Float
   floats p u vt s = parametersOf p ++ floatsOf b u vt s
@@ -84,3 +99,6 @@ module _ {S R : Type 0} (b : Body S R) where
 
   unfoldable pub druckerWalk : Expr → DruckerPragerPlasticity → List (List Float) → List (List Float) → S → Walk (Change S)
   druckerWalk dim p u vt s = inputs (floats p u vt s) (runWalk dim p u vt s)
+
+  abbrev pub druckerOver : Expr → DruckerPragerPlasticity → List (List Float) → List (List Float) → S → R
+  druckerOver dim p u vt s = updatedOf b s (result (druckerWalk dim p u vt s))

@@ -1,7 +1,7 @@
 -- What is handed from one piece of the walk to the next, as the code hands it on; and the tests that meet no NaN.
 use mathlib.Core.Bool.{Bool, true, false, cond, _&&_}
 use mathlib.Core.List.{List, [], _∷_, _++_}
-use mathlib.Core.Path.{_≡_, refl, ap, _∙_}
+use mathlib.Core.Path.{_≡_, refl, sym, ap, _∙_}
 use lib.Ieee as Ieee
 use lib.Ieee.{Float, ofBits}
 use Rattle.numbers.specs.Floats.{finite, isNumber, maxOf}
@@ -12,6 +12,7 @@ use Rattle.tensor.specs.Finite.{rowFinite, matFinite}
 use Rattle.tensor.specs.declared.Rows.{Rows}
 use Rattle.plasticity.specs.State as law
 use Rattle.plasticity.specs.State.{inputsFinite, scalarsFinite}
+use Rattle.plasticity.specs.declared.Outcome.the-variants as outcome
 use Rattle.plasticity.specs.declared.Scalars.{Scalars}
 use Rattle.plasticity.specs.declared.State.{State}
 use Rattle.plasticity.specs.declared.Updated.{Updated}
@@ -21,22 +22,27 @@ use Rattle.walk.specs.Number.{finite-number, neg-number, add-number, sub-number
 use Rattle.walk.specs.Exact.{andThen, result-then}
 use Rattle.walk.specs.Every.{and-left, and-right, flat, all-append, all-flat}
 use Rattle.walk.specs.Matrix.{value-entry, values-nums}
-use Rattle.walk.specs.Body.{inputs-finite, finite-scalars}
+use Rattle.walk.specs.Body as body
+use Rattle.walk.specs.Body.{Body, keptOf, inputs-finite, finite-scalars, store-law}
 use Rattle.walk.specs.Update.{inThree, Change, updatedOf}
 use Rattle.reason.specs.declared.Number.{Number}
 use Rattle.reason.specs.declared.Number.the-variants as number
 use Rattle.reason.specs.Traced.{Traced, reached, stopped, traced, untraced, onwards, numberAs}
 use Rattle.reason.proofs.Laws.{most-traced, when-traced, traced-then, result-traced}
-use Rattle.plasticity_nacc.specs.declared.Branch.the-variants.{Lower}
+use Rattle.plasticity_nacc.specs.declared.Branch.{Branch}
+use Rattle.plasticity_nacc.specs.declared.Branch.the-variants.{Upper, Lower, Surface}
 use Rattle.plasticity_nacc.specs.declared.NaccArguments.{NaccArguments}
 use Rattle.plasticity_nacc.specs.declared.NaccPlasticity.{NaccPlasticity}
 use Rattle.plasticity_nacc.specs.declared.Projected.{Projected}
 use Rattle.plasticity_nacc.specs.declared.Stepped.{Stepped}
 use Rattle.plasticity_nacc.specs.declared.Trial.{Trial}
-use Rattle.plasticity_nacc.specs.Law.{small, lawOf, parametersOf, argumentsFloats, elasticFinite, argumentsFinite, parametersFinite}
+use Rattle.plasticity_nacc.specs.Law.{small, lawOf, parametersOf, argumentsFloats, elasticFinite, parametersFinite}
 use Rattle.plasticity_nacc.specs.Axes.{Axes, three-axes}
 use Rattle.plasticity_nacc.specs.Formulas as of
-use Rattle.plasticity_nacc.specs.Nacc.{Way, upper, lower, inside, surface, Shape, Landed, Result, sizeOf, tipWalk, hardenWalk, conditions, hardenedWalk, settled, ends, pressWalk, stepsWalk, recomposedWalk, wayWalk, projectWalk, moduli, projectInputs, projectFloats, changeOf, runWalk, floats, naccWalk, argumentsWalk, branchOf, asBranch, steppedOf, refusedProjection, walkedOf, projectedOf, resultsOf, recomposedOf, byBranch, storedBy, naccUpdate}
+use Rattle.plasticity_nacc.specs.Projection.{Way, upper, lower, inside, surface, Shape, Landed, Result, sizeOf, tipWalk, hardenWalk, conditions, hardenedWalk, settled, ends, pressWalk, stepsWalk, recomposedWalk, wayWalk, projectWalk, moduli, projectInputs, projectFloats, branchOf, asBranch, steppedOf, refusedProjection, walkedOf, projectedOf, resultsOf, recomposedOf, outcomeOf, byBranch}
+use Rattle.plasticity_nacc.specs.Over as over
+use Rattle.plasticity_nacc.specs.Over.{scalarsOf}
+use Rattle.plasticity_nacc.specs.Nacc.{stateOf, runWalk, argumentsWalk, byOutcome, storedBy, naccUpdate}
 
 pub small-finite : finite small ≡ true
 unfolding finite ofBits
@@ -140,38 +146,84 @@ handed-out (stopped n step) = refl
 pub results-law : (w : Walk Result) → resultsOf (projectedOf (result w)) ≡ resultsOf (walkedOf (traced w))
 results-law w = ap (λ x. resultsOf (projectedOf x)) (result-traced w) ∙ handed-out (traced w)
 
+-- ---- over any number of axes: the steps are followed by their branch, as the code hands it on
+module _ {S R : Type 0} (b : Body S R) (u vt : List (List Float)) (s : S) where
+  stores : (q : Shape) → body.updatedOf b s (result (over.storedWalk b q u vt s)) ≡ keptOf b u (q .sigma) vt (finite (q .alpha)) (scalarsOf (q .alpha) (b .scalars s)) (q .alpha) s
+  unfolding over.storedWalk
+  stores q = store-law b 30 u (q .sigma) vt (num (q .alpha) ∷ []) (scalarsOf (q .alpha) (b .scalars s)) (q .alpha) s
+
+  abbrev pub byWayOf : Way → Shape → R
+  byWayOf w q = over.followedOf b (over.outcomeOf w (q .alpha)) (q .sigma) u vt s
+
+  pub over-way : (w : Way) (q : Shape) → body.updatedOf b s (result (over.wayWalk b w q u vt s)) ≡ byWayOf w q
+  unfolding over.wayWalk
+  over-way (upper x y) q = stores q
+  over-way (lower x y) q = stores q
+  over-way (inside x y) q = refl
+  over-way (surface x y) q = stores q
+
+  abbrev pub byEnd : Ended Landed → R
+  byEnd (given q) = byWayOf (q .way) (q .shape)
+  byEnd (refused n) = b .handed s (outcome.Refused n)
+
+  follows : (x : Ended Landed) → body.updatedOf b s (andThen x (λ q. result (over.wayWalk b (q .way) (q .shape) u vt s))) ≡ byEnd x
+  follows (given q) = over-way (q .way) (q .shape)
+  follows (refused n) = refl
+
+  pub over-run : (axes : Axes) (p : NaccPlasticity) → body.updatedOf b s (result (over.runWalk b axes p u vt s)) ≡ byEnd (result (stepsWalk axes p (b .sigma s) (b .scalars s .alpha)))
+  unfolding over.runWalk
+  over-run axes p =
+      let w = stepsWalk axes p (b .sigma s) (b .scalars s .alpha) in
+      ap (body.updatedOf b s) (result-then w (λ q. over.wayWalk b (q .way) (q .shape) u vt s)) ∙ follows (result w)
+
+-- ---- three axes: the projection, and then the state is stored
 module _ (s : State) where
   abbrev pub byProjection : Projected → Updated
   byProjection q = storedBy (q .branch) (q .f) (q .sigma) (q .alpha) s
 
-  changed : (w : Way) (f : Rows) (q : Shape) → updatedOf s (given (changeOf w f q s)) ≡ storedBy (branchOf w) f (q .sigma) (q .alpha) s
-  changed (upper x y) f q = refl
-  changed (lower x y) f q = refl
-  changed (inside x y) f q = refl
-  changed (surface x y) f q = refl
+  stored-by : (b : Branch) (f : Rows) (sigma : List Float) (alpha : Float) → outcomeOf b alpha ≡ outcome.Stored alpha → (c : Bool)
+      → cond c (record { state = stateOf f sigma alpha s; outcome = outcome.Stored alpha }) (law.refused 3 s)
+      ≡ byProjection (cond c (record { branch = b; f = f; sigma = sigma; alpha = alpha }) (refusedProjection 3 30))
+  stored-by b f sigma alpha h true = sym (ap (λ o. byOutcome o f sigma s) h)
+  stored-by b f sigma alpha h false = refl
 
-  stores : (x : Traced Result) → updatedOf s (andThen (untraced x) (λ q. given (changeOf (q .way) (q .f) (q .shape) s))) ≡ byProjection (walkedOf x)
-  stores (reached q) = changed (q .way) (q .f) (q .shape)
-  stores (stopped n step) = refl
+  module _ (u vt : List (List Float)) where
+    abbrev finiteOf : Shape → Bool
+    finiteOf q = (matFinite (recomposeOf u (q .sigma) vt) && rowFinite (q .sigma)) && finite (q .alpha)
+
+    abbrev newOf : Shape → Rows
+    newOf q = rowsOf (recomposeOf u (q .sigma) vt)
+
+    way-stored : (w : Way) (q : Shape) → byWayOf inThree u vt s w q ≡ byProjection (byBranch (branchOf w) (q .sigma) (q .alpha) (s .f) u vt)
+    unfolding recomposedOf
+    way-stored (upper x y) q = stored-by (Upper x y) (newOf q) (q .sigma) (q .alpha) refl (finiteOf q)
+    way-stored (lower x y) q = stored-by (Lower x y) (newOf q) (q .sigma) (q .alpha) refl (finiteOf q)
+    way-stored (inside x y) q = refl
+    way-stored (surface x y) q = stored-by (Surface x y) (newOf q) (q .sigma) (q .alpha) refl (finiteOf q)
+
+    steps-stored : (x : Traced Landed) → byEnd inThree u vt s (untraced x) ≡ byProjection (byStep (s .f) u vt (steppedOf x))
+    steps-stored (reached q) = way-stored (q .way) (q .shape)
+    steps-stored (stopped n step) = refl
 
   pub run-law : (p : NaccPlasticity) (u vt : List (List Float)) → updatedOf s (result (runWalk p u vt s)) ≡ byProjection (walkedOf (traced (projectWalk p (s .f) u (s .sigma) vt (s .scalars .alpha))))
-  unfolding runWalk
   run-law p u vt =
-      let w = projectWalk p (s .f) u (s .sigma) vt (s .scalars .alpha) in
-      ap (updatedOf s) (result-then w (λ q. end (changeOf (q .way) (q .f) (q .shape) s)))
-      ∙ ap (λ x. updatedOf s (andThen x (λ q. given (changeOf (q .way) (q .f) (q .shape) s)))) (result-traced w) ∙ stores (traced w)
+      let w = stepsWalk three-axes p (s .sigma) (s .scalars .alpha) in
+      over-run inThree u vt s three-axes p ∙ ap (byEnd inThree u vt s) (result-traced w) ∙ steps-stored u vt (traced w)
+      ∙ sym (ap byProjection (project-law (s .f) u vt p (s .sigma) (s .scalars .alpha)))
 
--- ---- the inputs
-pub inputs-law : (l : List Float) (u vt : List (List Float)) (s : State) → allOf finite (floats l u vt s) ≡ allOf finite l && inputsFinite u vt s
-unfolding floats
-inputs-law l u vt s = inputs-finite inThree l u vt s
+-- ---- the inputs, over any number of axes
+pub inputs-law : {S R : Type 0} (b : Body S R) (l : List Float) (u vt : List (List Float)) (s : S)
+    → allOf finite (over.floats b l u vt s) ≡ allOf finite l && body.inputsFinite b u vt s
+unfolding over.floats
+inputs-law b l u vt s = inputs-finite b l u vt s
 
-pub alpha-of : (x : Scalars) → scalarsFinite x ≡ true → finite (x .alpha) ≡ true
+alpha-of : (x : Scalars) → scalarsFinite x ≡ true → finite (x .alpha) ≡ true
 alpha-of x h =
     and-right (finite (x .phase) && finite (x .«plastic_determinant») && finite (x .«plastic_hardening») && finite (x .«elastic_hardening») && finite (x .«log_gain»)) (finite (x .alpha)) h
 
-pub alpha-finite : (u vt : List (List Float)) (s : State) → inputsFinite u vt s ≡ true → finite (s .scalars .alpha) ≡ true
-alpha-finite u vt s h = alpha-of (s .scalars) (finite-scalars inThree u vt s h)
+-- alpha is one of them, beside parameters that are finite by c
+pub alpha-finite : {S R : Type 0} (b : Body S R) (c : Bool) (u vt : List (List Float)) (s : S) → c && body.inputsFinite b u vt s ≡ true → finite (b .scalars s .alpha) ≡ true
+alpha-finite b c u vt s h = alpha-of (b .scalars s) (finite-scalars b u vt s (and-right c (body.inputsFinite b u vt s) h))
 
 leftwards : (a b c d e f : Bool) → a && (b && (c && (d && (e && f)))) ≡ a && b && c && d && e && f
 leftwards true true true true e f = refl
@@ -201,9 +253,9 @@ twice s false n c x m i w = refl
 
 pub arguments-law : (a : NaccArguments) (u vt : List (List Float)) (s : State)
     → updatedOf s (result (argumentsWalk a u vt s)) ≡ cond (elasticFinite a) (naccUpdate (lawOf a) u vt s) (law.refused 1 s)
-unfolding argumentsWalk naccWalk
+unfolding over.argumentsWalk over.naccWalk
 arguments-law a u vt s =
-    rw (inputs-law (argumentsFloats a) u vt s, inputs-law (parametersOf (lawOf a)) u vt s)
+    rw (inputs-law inThree (argumentsFloats a) u vt s, inputs-law inThree (parametersOf (lawOf a)) u vt s)
     (twice s (finite (a .«young_modulus»)) (finite (a .«poisson_ratio»)) (finite (a .cohesion)) (finite (a .«hardening_factor»)) (finite (a .m)) (inputsFinite u vt s)
     (result (moduli (lawOf a) (runWalk (lawOf a) u vt s))))
 
@@ -211,9 +263,3 @@ arguments-law a u vt s =
 pub project-alpha : (p : NaccPlasticity) (f u : List (List Float)) (sigma : List Float) (vt : List (List Float)) (alpha : Float)
     → projectInputs p f u sigma vt alpha ≡ true → finite alpha ≡ true
 project-alpha p f u sigma vt alpha h = and-right (parametersFinite p && matFinite f && matFinite u && rowFinite sigma && matFinite vt) (finite alpha) h
-
-pub run-alpha : (p : NaccPlasticity) (u vt : List (List Float)) (s : State) → parametersFinite p && inputsFinite u vt s ≡ true → finite (s .scalars .alpha) ≡ true
-run-alpha p u vt s h = alpha-finite u vt s (and-right (parametersFinite p) (inputsFinite u vt s) h)
-
-pub arguments-alpha : (a : NaccArguments) (u vt : List (List Float)) (s : State) → argumentsFinite a && inputsFinite u vt s ≡ true → finite (s .scalars .alpha) ≡ true
-arguments-alpha a u vt s h = alpha-finite u vt s (and-right (argumentsFinite a) (inputsFinite u vt s) h)

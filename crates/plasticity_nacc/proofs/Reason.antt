@@ -8,13 +8,13 @@ use Prim.Native.Nat.{ℕ}
 use lib.ListN.{getD}
 use lib.Ieee.{Float, nan}
 use Rattle.exact.specs.RootOf.{sqrtOf}
-use Rattle.tensor.specs.declared.Rows.{Rows}
 use Rattle.plasticity.specs.declared.Outcome.the-variants.{Refused}
 use Rattle.plasticity.specs.declared.State.{State}
 use Rattle.walk.specs.Expr.{Expr, num, value}
 use Rattle.walk.specs.Walk.{Walk, root, less, end, branch, ask, _then_}
 use Rattle.walk.specs.Exact.{path, final, last, lastFrom, Reason}
-use Rattle.walk.specs.Update.{inThree, Change}
+use Rattle.walk.specs.Body.{Body, storeWalk}
+use Rattle.walk.specs.Update.{inThree}
 use Rattle.walk.specs.Reason.{final-then, last-then, Told, branch-told, Branchless, quiet, branchless-when, branchless-asks, branchless-then}
 use Rattle.walk.specs.Numbers.{Stops, refused-when}
 use Rattle.plasticity_nacc.specs.declared.NaccArguments.{NaccArguments}
@@ -24,7 +24,9 @@ use Rattle.plasticity_nacc.specs.Law.{lawOf}
 use Rattle.plasticity_nacc.specs.Axes.{Axes, two-axes, three-axes, dimOf}
 use Rattle.plasticity_nacc.specs.Formulas as of
 use Rattle.plasticity_nacc.specs.Formulas.{small}
-use Rattle.plasticity_nacc.specs.Nacc.{Way, upper, lower, inside, surface, Shape, Landed, Result, raiseWalk, tipWalk, growWalk, crossWalk, hardenWalk, conditions, hardenedWalk, rootsWalk, landWalk, surfaceWalk, ends, yieldWalk, lowerWalk, branchWalk, pressWalk, stepsWalk, recomposedWalk, wayWalk, projectWalk, changeOf, runWalk, naccWalk, argumentsWalk, naccUpdate, argumentsUpdate}
+use Rattle.plasticity_nacc.specs.Projection.{Way, upper, lower, inside, surface, Shape, Landed, raiseWalk, tipWalk, growWalk, crossWalk, hardenWalk, conditions, hardenedWalk, rootsWalk, landWalk, surfaceWalk, ends, yieldWalk, lowerWalk, branchWalk, pressWalk, stepsWalk}
+use Rattle.plasticity_nacc.specs.Over as over
+use Rattle.plasticity_nacc.specs.Nacc.{wayWalk, naccWalk, argumentsWalk, naccUpdate, argumentsUpdate}
 
 -- ---- the refusal
 pub nacc-refused : (p : NaccPlasticity) (u vt : List (List Float)) (s : State) (n : ℕ) → (naccUpdate p u vt s .outcome ≡ Refused n) ↔ Stops n (path (naccWalk p u vt s))
@@ -108,37 +110,31 @@ unfolding stepsWalk pressWalk
 steps-told two-axes p sigma alpha r = tests-told two-axes p _ _ sigma alpha r
 steps-told three-axes p sigma alpha r = tests-told three-axes p _ _ sigma alpha r
 
-way-branchless : (w : Way) (q : Shape) (f : Rows) (u vt : List (List Float)) → Branchless (wayWalk w q f u vt)
-unfolding wayWalk recomposedWalk
-way-branchless (upper x y) q f u vt = tt
-way-branchless (lower x y) q f u vt = tt
-way-branchless (inside x y) q f u vt = tt
-way-branchless (surface x y) q f u vt = tt
+way-branchless : {S R : Type 0} (b : Body S R) (w : Way) (q : Shape) (u vt : List (List Float)) (s : S) → Branchless (over.wayWalk b w q u vt s)
+unfolding over.wayWalk over.storedWalk storeWalk
+way-branchless b (upper x y) q u vt s = tt
+way-branchless b (lower x y) q u vt s = tt
+way-branchless b (inside x y) q u vt s = tt
+way-branchless b (surface x y) q u vt s = tt
 
 -- the last test and its numbers are the branch's
 pub nacc-reason : (p : NaccPlasticity) (u vt : List (List Float)) (s : State)
     → last (path (naccWalk p u vt s)) ≡ some (reasonOf (final (stepsWalk three-axes p (s .sigma) (s .scalars .alpha)) .way))
-unfolding naccWalk runWalk projectWalk
+unfolding over.naccWalk over.runWalk
 nacc-reason p u vt s =
     let w = stepsWalk three-axes p (s .sigma) (s .scalars .alpha) in
-    let g : Landed → Walk Result = λ q. wayWalk (q .way) (q .shape) (s .f) u vt in
-    let before = lastFrom none (path w) in
-    last-then (w then g) (λ q. end (changeOf (q .way) (q .f) (q .shape) s)) none ∙ last-then w g none
-    ∙ quiet (g (final w)) (way-branchless (final w .way) (final w .shape) (s .f) u vt) before ∙ steps-told three-axes p (s .sigma) (s .scalars .alpha) none
+    let q = final w in
+    last-then w (λ q. wayWalk (q .way) (q .shape) u vt s) none
+    ∙ quiet (wayWalk (q .way) (q .shape) u vt s) (way-branchless inThree (q .way) (q .shape) u vt s) (lastFrom none (path w)) ∙ steps-told three-axes p (s .sigma) (s .scalars .alpha) none
 
 -- and that branch gives the stored record
 pub nacc-branch : (p : NaccPlasticity) (u vt : List (List Float)) (s : State) → let q = final (stepsWalk three-axes p (s .sigma) (s .scalars .alpha)) in
-    final (naccWalk p u vt s) ≡ final (wayWalk (q .way) (q .shape) (s .f) u vt then (λ r. end (changeOf (r .way) (r .f) (r .shape) s)))
-unfolding naccWalk runWalk projectWalk
-nacc-branch p u vt s =
-    let w = stepsWalk three-axes p (s .sigma) (s .scalars .alpha) in
-    let g : Landed → Walk Result = λ q. wayWalk (q .way) (q .shape) (s .f) u vt in
-    let e : Result → Walk Change = λ r. end (changeOf (r .way) (r .f) (r .shape) s) in
-    final-then (w then g) e ∙ ap (λ r. final (e r)) (final-then w g) ∙ sym (final-then (g (final w)) e)
+    final (naccWalk p u vt s) ≡ final (wayWalk (q .way) (q .shape) u vt s)
+unfolding over.naccWalk over.runWalk
+nacc-branch p u vt s = final-then (stepsWalk three-axes p (s .sigma) (s .scalars .alpha)) (λ q. wayWalk (q .way) (q .shape) u vt s)
 
 -- of the arguments
 pub arguments-reason : (a : NaccArguments) (u vt : List (List Float)) (s : State) → let q = final (stepsWalk three-axes (lawOf a) (s .sigma) (s .scalars .alpha)) in
-    (last (path (argumentsWalk a u vt s)) ≡ some (reasonOf (q .way)))
-    × (final (argumentsWalk a u vt s) ≡ final (wayWalk (q .way) (q .shape) (s .f) u vt then (λ r. end (changeOf (r .way) (r .f) (r .shape) s))))
-unfolding argumentsWalk naccWalk
+    (last (path (argumentsWalk a u vt s)) ≡ some (reasonOf (q .way))) × (final (argumentsWalk a u vt s) ≡ final (wayWalk (q .way) (q .shape) u vt s))
+unfolding over.argumentsWalk over.naccWalk
 arguments-reason a u vt s = (nacc-reason (lawOf a) u vt s, nacc-branch (lawOf a) u vt s)

@@ -10,7 +10,7 @@ ghost use Rattle.reason.specs.Traced.{traced, numberAs};
 ghost use Rattle.numbers.specs.Floats.{maxOf};
 ghost use Rattle.tensor.specs.Matrix.{zero};
 ghost use Rattle.plasticity_nacc.specs.Formulas.{p0, pressure, stressed, low, y0, y1, y, volumeSquare, lowerSquare, scale};
-ghost use Rattle.plasticity_nacc.specs.Nacc.{raiseWalk};
+ghost use Rattle.plasticity_nacc.specs.Projection.{raiseWalk};
 
 impl NaccPlasticity {
     // What the hyperbolic sine is asked.

@@ -10,7 +10,8 @@ ghost use mathlib.Core.Path.{_≡_};
 ghost use mathlib.Core.Bool.{true};
 ghost use Rattle.numbers.specs.Floats.{finite};
 ghost use Rattle.reason.specs.Reason.{reasonOf};
-ghost use Rattle.plasticity_nacc.specs.Nacc.{moduli, runWalk, argumentsWalk};
+ghost use Rattle.plasticity_nacc.specs.Projection.{moduli};
+ghost use Rattle.plasticity_nacc.specs.Nacc.{runWalk, argumentsWalk};
 ghost use Rattle.plasticity_nacc.specs.Told.{testOf};
 
 // The branch's own test is the last: p0 < p, p < -beta p0, y < 1e-4.

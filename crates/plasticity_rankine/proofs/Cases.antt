@@ -7,7 +7,7 @@ use Rattle.tensor.specs.Matrix.{zero, one, three, sumOf}
 use Rattle.walk.specs.Matrix.{total, sum}
 use Rattle.plasticity_rankine.specs.declared.RankinePlasticity.{RankinePlasticity}
 use Rattle.plasticity_rankine.specs.Sorting.{orderOf}
-use Rattle.plasticity_rankine.specs.Projection.{thirdWalk, secondWalk, firstWalk, projectCall, callFloats, projectedOf, projectOf}
+use Rattle.plasticity_rankine.specs.Projection.{thirdWalk, secondWalk, firstWalk, callOver, callFloats, projectedOf, projectOf}
 
 -- the law of two moduli; strength and rate play no part here
 abbrev of : Float → Float → RankinePlasticity
@@ -36,7 +36,7 @@ all-move = refl
 -- the first side is minus infinity here, and is handed to nobody: only what is returned has to be finite
 infinite-side : let e = three (ofBits binary64 0xc000_0000_0000_0000) (ofBits binary64 0xc000_0000_0000_0000) (ofBits binary64 0xc000_0000_0000_0000) in
     projectOf (of (ofBits binary64 0x7fde_42d1_3077_3b76) zero) e zero ≡ record { refusal = 0; vector = e }
-unfolding projectCall callFloats firstWalk secondWalk thirdWalk sum total orderOf finite isNumber add sub mul div le ofBits
+unfolding callOver callFloats firstWalk secondWalk thirdWalk sum total orderOf finite isNumber add sub mul div le ofBits
 infinite-side = refl
 
 equal-strains : orderOf (three one one one) ≡ 0 ∷ 1 ∷ 2 ∷ []

@@ -37,7 +37,7 @@ use Rattle.plasticity_rankine.specs.declared.RankineArguments.{RankineAr
 use Rattle.plasticity_rankine.specs.declared.RankinePlasticity.{RankinePlasticity}
 use Rattle.plasticity_rankine.specs.Law.{lawOf, parametersOf, argumentsFloats, elasticFinite, parametersFinite, moduli}
 use Rattle.plasticity_rankine.specs.Sorting.{indexesOf, restoredOf}
-use Rattle.plasticity_rankine.specs.Projection.{Way, none-moves, one-moves, two-move, all-move, Moved, projectWalk, returnedWalk, callFloats, projectCall, argumentsCall, branchOf, movedOf, projectedOf, vectorOf, byBranch, projectOf, argumentsProject}
+use Rattle.plasticity_rankine.specs.Projection.{Way, none-moves, one-moves, two-move, all-move, Moved, projectWalk, returnedWalk, callFloats, callOver, branchOf, movedOf, projectedOf, vectorOf, byBranch, projectOf, argumentsProject}
 use Rattle.plasticity_rankine.specs.Over as over
 use Rattle.plasticity_rankine.specs.Over.{hardenedOf}
 use Rattle.plasticity_rankine.specs.Rankine.{stateOf, storeWalk, wayWalk, softStrength, strainedWalk, runWalk, rankineWalk, argumentsWalk, followedOf, rankineUpdate, grows, changes}
@@ -74,7 +74,7 @@ arguments-law a u vt s =
 
 pub arguments-call : (a : RankineArguments) (e : List Float) (s : Float)
     → argumentsProject a e s ≡ cond (elasticFinite a) (projectOf (lawOf a) e s) (refusedVector 1)
-unfolding argumentsCall projectCall callFloats
+unfolding callOver callFloats
 arguments-call a e s =
     let t = e ++ (s ∷ []) in
     rw (all-append finite (argumentsFloats a) t, all-append finite (parametersOf (lawOf a)) t)
@@ -114,10 +114,22 @@ restored R120 x y z = refl
 restored R201 x y z = refl
 restored R210 x y z = refl
 
--- ---- the projection is returned
-kept : (b : Bool) (v : List Float) → vectorOf (cond b (given v) (refused 3)) ≡ cond b (record { refusal = 0; vector = v }) (refusedVector 3)
-kept true v = refl
-kept false v = refl
+-- ---- the projection is returned: over however many axes, by whatever hands it out
+module _ {A : Type 0} (hands : Ended (List Float) → A) where
+  abbrev pub handedOf : Ended Moved → A
+  handedOf (given q) = cond (rowFinite (values (q .strains))) (hands (given (values (q .strains)))) (hands (refused 3))
+  handedOf (refused n) = hands (refused n)
+
+  kept : (b : Bool) (v : List Float) → hands (cond b (given v) (refused 3)) ≡ cond b (hands (given v)) (hands (refused 3))
+  kept true v = refl
+  kept false v = refl
+
+  returns : (x : Ended Moved) → hands (andThen x (λ q. result (returnedWalk q))) ≡ handedOf x
+  returns (given q) = kept (rowFinite (values (q .strains))) (values (q .strains))
+  returns (refused n) = refl
+
+  pub handed-law : (w : Walk Moved) → hands (result (w then returnedWalk)) ≡ handedOf (result w)
+  handed-law w = ap hands (result-then w returnedWalk) ∙ returns (result w)
 
 by-way : (w : Way) (e : List Float) → answeredVector e ≡ byBranch (branchOf w) e
 by-way (none-moves x y) e = refl
@@ -125,14 +137,14 @@ by-way (one-moves x y) e = refl
 by-way (two-move x y) e = refl
 by-way (all-move x y) e = refl
 
-returns : (x : Ended Moved) → vectorOf (andThen x (λ q. result (returnedWalk q))) ≡ byBranch (movedOf x .branch) (movedOf x .strains)
+by-branch : (x : Ended Moved) → handedOf vectorOf x ≡ byBranch (movedOf x .branch) (movedOf x .strains)
 unfolding answeredVector
-returns (given q) = kept (rowFinite (values (q .strains))) (values (q .strains)) ∙ by-way (q .way) (values (q .strains))
-returns (refused n) = refl
+by-branch (given q) = by-way (q .way) (values (q .strains))
+by-branch (refused n) = refl
 
 pub returned-law : (p : RankinePlasticity) (e : List Float) (s : Float)
     → vectorOf (result (projectWalk p e (num s) then returnedWalk)) ≡ byBranch (projectedOf p e s .branch) (projectedOf p e s .strains)
-returned-law p e s = ap vectorOf (result-then (projectWalk p e (num s)) returnedWalk) ∙ returns (result (projectWalk p e (num s)))
+returned-law p e s = handed-law vectorOf (projectWalk p e (num s)) ∙ by-branch (result (projectWalk p e (num s)))
 
 -- ---- strains that moved
 values-change : (a b : List Expr) → values (pairwise _-_ a b) ≡ pairwise sub (values a) (values b)

@@ -7,10 +7,10 @@ use Rattle.tensor.specs.Axes.{pairwise}
 use Rattle.tensor.specs.Matrix as tensor
 use Rattle.plasticity.specs.declared.Scalars.{Scalars}
 use Rattle.walk.specs.Expr.{Expr, num, _+_, _-_, _*_, value, values, nums}
-use Rattle.walk.specs.Walk.{Walk, exp, ln, root, inputs, ask, asks, work, least, end, _then_}
+use Rattle.walk.specs.Walk.{Walk, exp, ln, root, inputs, ask, asks, work, least, end, _then_, result}
 use Rattle.walk.specs.Matrix.{dots}
 use Rattle.walk.specs.Body as body
-use Rattle.walk.specs.Body.{Body, Change, untouched, floatsOf}
+use Rattle.walk.specs.Body.{Body, Change, untouched, updatedOf, floatsOf}
 use Rattle.plasticity_rankine.specs.declared.RankineArguments.{RankineArguments}
 use Rattle.plasticity_rankine.specs.declared.RankinePlasticity.{RankinePlasticity}
 use Rattle.plasticity_rankine.specs.Law.{lawOf, parametersOf, argumentsFloats, moduli}
@@ -91,3 +91,9 @@ module _ {S R : Type 0} (b : Body S R) where
     -- by the law that `new` makes of the arguments
     unfoldable pub argumentsWalk : RankineArguments → List (List Float) → List (List Float) → S → Walk (Change S)
     argumentsWalk a u vt s = inputs (floats (argumentsFloats a) u vt s) (moduli (lawOf a) (runWalk (lawOf a) (b .sigma s) u vt s))
+
+    abbrev pub rankineOver : RankinePlasticity → List (List Float) → List (List Float) → S → R
+    rankineOver p u vt s = updatedOf b s (result (rankineWalk p u vt s))
+
+    abbrev pub argumentsOver : RankineArguments → List (List Float) → List (List Float) → S → R
+    argumentsOver a u vt s = updatedOf b s (result (argumentsWalk a u vt s))

@@ -105,18 +105,21 @@ firstWalk p k e r s =
 abbrev pub projectWalk : RankinePlasticity → List Float → Expr → Walk Moved
 projectWalk p e s = firstWalk p (orderOf e) e (arrangeOf (orderOf e) e) s
 
--- ---- the projection as a call by itself, of a law and of the arguments of `new`
+-- ---- the projection as a call by itself, over the projection of however many axes: of a law and of the arguments of `new`
 abbrev pub returnedWalk : Moved → Walk (List Float)
 returnedWalk q = results 10 (q .strains ∷ []) (end (values (q .strains)))
 
 unfoldable pub callFloats : List Float → List Float → Float → List Float
 callFloats l e s = l ++ (e ++ (s ∷ []))
 
-unfoldable pub projectCall : RankinePlasticity → List Float → Float → Walk (List Float)
-projectCall p e s = inputs (callFloats (parametersOf p) e s) (moduli p (projectWalk p e (num s) then returnedWalk))
+unfoldable pub callOver : (RankinePlasticity → List Float → Expr → Walk Moved) → List Float → RankinePlasticity → List Float → Float → Walk (List Float)
+callOver project l p e s = inputs (callFloats l e s) (moduli p (project p e (num s) then returnedWalk))
 
-unfoldable pub argumentsCall : RankineArguments → List Float → Float → Walk (List Float)
-argumentsCall a e s = inputs (callFloats (argumentsFloats a) e s) (moduli (lawOf a) (projectWalk (lawOf a) e (num s) then returnedWalk))
+abbrev pub projectCall : RankinePlasticity → List Float → Float → Walk (List Float)
+projectCall p e s = callOver projectWalk (parametersOf p) p e s
+
+abbrev pub argumentsCall : RankineArguments → List Float → Float → Walk (List Float)
+argumentsCall a e s = callOver projectWalk (argumentsFloats a) (lawOf a) e s
 
 -- ---- as the code hands it on: zeros stand beside a refusal
 abbrev pub branchOf : Way → Branch

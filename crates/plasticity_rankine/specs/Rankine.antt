@@ -73,7 +73,7 @@ abbrev pub followedOf : Branch → RankinePlasticity → List Float → List Flo
 followedOf b p old new u vt s = byMoves (movesOf b) (movedWalk p old (nums new) u vt s) s
 
 abbrev pub rankineUpdate : RankinePlasticity → List (List Float) → List (List Float) → State → Updated
-rankineUpdate p u vt s = updatedOf s (result (rankineWalk p u vt s))
+rankineUpdate p u vt s = over.rankineOver inThree projectWalk p u vt s
 
 abbrev pub argumentsUpdate : RankineArguments → List (List Float) → List (List Float) → State → Updated
-argumentsUpdate a u vt s = updatedOf s (result (argumentsWalk a u vt s))
+argumentsUpdate a u vt s = over.argumentsOver inThree projectWalk a u vt s

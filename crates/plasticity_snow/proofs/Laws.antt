@@ -13,7 +13,8 @@ use Rattle.walk.specs.Every.{and-left, and-right, every, all-every}
 use Rattle.walk.specs.Steps.{most-answers, least-answers}
 use Rattle.walk.specs.Body.{Body, inputsFinite, inputs-finite, finite-sigma}
 use Rattle.plasticity_snow.specs.declared.SnowPlasticity.{SnowPlasticity}
-use Rattle.plasticity_snow.specs.Snow.{one, parametersOf, parametersFinite, clampOf, clampedOf, clamps, hardenWalk, runWalk, floats}
+use Rattle.plasticity_snow.specs.Clamp.{one, parametersOf, parametersFinite, clampOf, clampedOf}
+use Rattle.plasticity_snow.specs.Over.{clamps, hardenWalk, runWalk, floats}
 
 -- ---- the clamp
 pub one-number : isNumber one ≡ true

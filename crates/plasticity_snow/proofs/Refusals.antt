@@ -19,7 +19,8 @@ use Rattle.walk.specs.Exact.{Met, input, argument, result-of, path}
 use Rattle.walk.specs.Body.{Body, Change, refusalOf, updatedOf, storeWalk}
 use Rattle.walk.specs.Numbers.{Stops, Clear, refused-when, accepted-when}
 use Rattle.plasticity_snow.specs.declared.SnowPlasticity.{SnowPlasticity}
-use Rattle.plasticity_snow.specs.Snow.{one, clampedOf, determinant, floats, hardenWalk, runWalk, snowWalk, snowOver}
+use Rattle.plasticity_snow.specs.Clamp.{one, clampedOf}
+use Rattle.plasticity_snow.specs.Over.{determinant, floats, hardenWalk, runWalk, snowWalk, snowOver}
 use Rattle.plasticity_snow.proofs.Laws.{inputs-law, run-law}
 
 same : {A : Type 0} (c : Bool) (x y : Ended A) → (c ≡ true → x ≡ y) → cond c x (refused 1) ≡ cond c y (refused 1)

@@ -19,7 +19,8 @@ use Rattle.reason.specs.declared.Bound.the-variants.{Neither, Lower, Upper}
 use Rattle.reason.specs.declared.Reason.{Reason}
 use Rattle.reason.specs.Why.{why, most-why, least-why}
 use Rattle.plasticity_snow.specs.declared.SnowPlasticity.{SnowPlasticity}
-use Rattle.plasticity_snow.specs.Snow.{one, defaults, parametersFinite, clampOf, clampedOf, clamps, hardenWalk, runWalk, snowWalk}
+use Rattle.plasticity_snow.specs.Clamp.{one, defaults, parametersFinite, clampOf, clampedOf}
+use Rattle.plasticity_snow.specs.Over.{clamps, hardenWalk, runWalk, snowWalk}
 use Rattle.plasticity_snow.specs.Reason.{boundOf}
 use Rattle.plasticity_snow.proofs.Laws.{bounds-numbers, sigma-finite}
 

@@ -1,89 +1,20 @@
--- Snow (RULES, sections 5 and 6; plasticity_snow.rs). The steps: 1 and 2 the clamp, 3 the exponential, 4 the results.
-use mathlib.Core.Bool.{Bool}
-use mathlib.Core.List.{List, [], _∷_, _++_, map}
-use lib.Ieee.{Float, binary64, ofBits}
-pub use Rattle.numbers.specs.Constants.{one}
-use Rattle.numbers.specs.Floats.{finite, maxOf, minOf}
-use Rattle.tensor.specs.Axes.{allOf}
-use Rattle.tensor.specs.Matrix.{add, sub}
-use Rattle.plasticity.specs.declared.Scalars.{Scalars}
+-- Snow in three axes (RULES, sections 5 and 6): `Over` with the state of three.
+use mathlib.Core.List.{List}
+use lib.Ieee.{Float}
 use Rattle.plasticity.specs.declared.State.{State}
 use Rattle.plasticity.specs.declared.Updated.{Updated}
-use Rattle.walk.specs.Expr.{Expr, num, _+_, _-_, _*_, _/_, value}
-use Rattle.walk.specs.Walk.{Walk, exp, inputs, ask, most, least, result}
-use Rattle.walk.specs.Matrix.{product}
-use Rattle.walk.specs.Body.{Body, Change, updatedOf, floatsOf, storeWalk}
-use Rattle.walk.specs.Update.{inThree}
+use Rattle.walk.specs.Walk.{Walk}
+use Rattle.walk.specs.Update.{inThree, Change}
 use Rattle.plasticity_snow.specs.declared.SnowPlasticity.{SnowPlasticity}
+pub use Rattle.plasticity_snow.specs.Clamp.{one, defaults, parametersOf, parametersFinite, clampOf, clampedOf}
+use Rattle.plasticity_snow.specs.Over as over
+pub use Rattle.plasticity_snow.specs.Over.{scalarsOf}
 
--- defaults 0.025, 0.0045, 10
-abbrev pub defaults : SnowPlasticity
-defaults =
-    record {
-      «min_epsilon» = ofBits binary64 0x3f99_9999_9999_999a;
-      «max_epsilon» = ofBits binary64 0x3f72_6e97_8d4f_df3b;
-      «hardening_coeff» = ofBits binary64 0x4024_0000_0000_0000;
-    }
+abbrev pub runWalk : SnowPlasticity → List (List Float) → List (List Float) → State → Walk Change
+runWalk p u vt s = over.runWalk inThree p u vt s
 
-abbrev pub parametersOf : SnowPlasticity → List Float
-parametersOf p = p .«min_epsilon» ∷ p .«max_epsilon» ∷ p .«hardening_coeff» ∷ []
+abbrev pub snowWalk : SnowPlasticity → List (List Float) → List (List Float) → State → Walk Change
+snowWalk p u vt s = over.snowWalk inThree p u vt s
 
-abbrev pub parametersFinite : SnowPlasticity → Bool
-parametersFinite p = allOf finite (parametersOf p)
-
--- ---- the bare clamp, which has no refusal: maximum with 1 - `min_epsilon`, then minimum with 1 + `max_epsilon`
-abbrev pub clampOf : SnowPlasticity → Float → Float
-clampOf p e = minOf (maxOf e (sub one (p .«min_epsilon»))) (add one (p .«max_epsilon»))
-
-abbrev pub clampedOf : SnowPlasticity → List Float → List Float
-clampedOf p s = map (clampOf p) s
-
--- as steps of the law, over however many axes
-abbrev pub clamps : {A : Type 0} → SnowPlasticity → List Float → (List Float → Walk A) → Walk A
-clamps p [] k = k []
-clamps p (x ∷ l) k =
-    most 1 (num x) (num one - num (p .«min_epsilon»)) (λ y.
-    least 2 y (num one + num (p .«max_epsilon»)) (λ z.
-    clamps p l (λ vs. k (value z ∷ vs))))
-
--- the plastic determinant is multiplied by old product over new product
-abbrev pub determinant : Float → List Float → List Float → Expr
-determinant d old new = num d * (product old / product new)
-
--- the plastic determinant and the elastic hardening are new
-abbrev pub scalarsOf : Float → Float → Scalars → Scalars
-scalarsOf d h x =
-    record {
-      phase = x .phase;
-      «plastic_determinant» = d;
-      «plastic_hardening» = x .«plastic_hardening»;
-      «elastic_hardening» = h;
-      «log_gain» = x .«log_gain»;
-      alpha = x .alpha;
-    }
-
--- ---- the law, over however many axes
-module _ {S R : Type 0} (b : Body S R) (p : SnowPlasticity) where
-  -- elastic hardening becomes exp (coefficient * (1 - plastic determinant)), and is the amount; stored where all results are finite
-  unfoldable pub hardenWalk : List Float → List (List Float) → List (List Float) → S → Walk (Change S)
-  hardenWalk new u vt s =
-      let d = determinant (b .scalars s .«plastic_determinant») (b .sigma s) new in
-      ask 3 exp (num (p .«hardening_coeff») * (num one - d)) (λ h.
-      storeWalk b 4 u new vt (d ∷ h ∷ []) (scalarsOf (value d) (value h) (b .scalars s)) (value h))
-
-  unfoldable pub runWalk : List (List Float) → List (List Float) → S → Walk (Change S)
-  runWalk u vt s = clamps p (b .sigma s) (λ new. hardenWalk new u vt s)
-
-  -- parameters first
-  unfoldable pub floats : List (List Float) → List (List Float) → S → List Float
-  floats u vt s = parametersOf p ++ floatsOf b u vt s
-
-  unfoldable pub snowWalk : List (List Float) → List (List Float) → S → Walk (Change S)
-  snowWalk u vt s = inputs (floats u vt s) (runWalk u vt s)
-
-  abbrev pub snowOver : List (List Float) → List (List Float) → S → R
-  snowOver u vt s = updatedOf b s (result (snowWalk u vt s))
-
--- three axes
 abbrev pub snowUpdate : SnowPlasticity → List (List Float) → List (List Float) → State → Updated
-snowUpdate p u vt s = snowOver inThree p u vt s
+snowUpdate p u vt s = over.snowOver inThree p u vt s

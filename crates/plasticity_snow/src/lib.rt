@@ -101,7 +101,7 @@ impl SnowPlasticity {
     // one in the determinant is in what the exponential is given.
     fn run(self, u: [[f64; 3]; 3], vt: [[f64; 3]; 3], s: State) -> Updated
         requires { ⌜ parametersFinite self && inputsFinite u vt s ≡ true ⌝ }
-        ensures { λ r. ⌜ r ≡ updatedOf s (result (runWalk inThree self u vt s)) ⌝ }
+        ensures { λ r. ⌜ r ≡ updatedOf s (result (runWalk self u vt s)) ⌝ }
     {
         let sigma = s.sigma;
         let new = self.clamped(sigma);

@@ -9,7 +9,6 @@ ghost use mathlib.Core.Bool.{true, _&&_};
 ghost use Rattle.plasticity.specs.State.{inputsFinite};
 ghost use Rattle.reason.specs.Reason.{reasonFrom};
 ghost use Rattle.reason.specs.Why.{why};
-ghost use Rattle.walk.specs.Update.{inThree};
 ghost use Rattle.plasticity_snow.specs.Snow.{parametersFinite, runWalk, snowWalk};
 ghost use Rattle.plasticity_snow.specs.Reason.{boundOf, boundsOf};
 
@@ -49,7 +48,7 @@ impl SnowPlasticity {
     // The steps in the law's order, to the first that refuses.
     fn run_reason(self, u: [[f64; 3]; 3], vt: [[f64; 3]; 3], s: State, told: Reason) -> Reason
         requires { ⌜ parametersFinite self && inputsFinite u vt s ≡ true ⌝ }
-        ensures { λ r. ⌜ r ≡ why told (runWalk inThree self u vt s) ⌝ }
+        ensures { λ r. ⌜ r ≡ why told (runWalk self u vt s) ⌝ }
     {
         let sigma = s.sigma;
         let new = self.project_deformation_gradient(sigma);
@@ -68,7 +67,7 @@ impl SnowPlasticity {
 
     // Why `update_particle` answers as it does.
     pub fn reason(self, u: [[f64; 3]; 3], vt: [[f64; 3]; 3], s: State) -> Reason
-        ensures { λ r. ⌜ r ≡ reasonFrom (boundsOf self (s .sigma)) (snowWalk inThree self u vt s) ⌝ }
+        ensures { λ r. ⌜ r ≡ reasonFrom (boundsOf self (s .sigma)) (snowWalk self u vt s) ⌝ }
     {
         if self.parameters_finite() & plasticity::inputs_finite(u, vt, s) {
             let sigma = s.sigma;

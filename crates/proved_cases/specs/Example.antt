@@ -7,7 +7,8 @@ use Rattle.exponential.specs.Worked.{expOf, nearestOf, restOf, seriesOf, scaleB
 use Rattle.tensor.specs.Matrix.{one, sumOf, dotOf, scaledRowOf}
 use Rattle.plasticity.specs.declared.Outcome.the-variants.{Stored}
 use Rattle.walk.specs.Matrix.{total, product, entry}
-use Rattle.plasticity_snow.specs.Snow.{defaults, snowUpdate, snowWalk, floats, runWalk, hardenWalk}
+use Rattle.plasticity_snow.specs.Over.{snowWalk, floats, runWalk, hardenWalk}
+use Rattle.plasticity_snow.specs.Snow.{defaults, snowUpdate}
 use Rattle.walk.specs.Body as body
 use Rattle.proved_cases.specs.Table.{identity, rested}
 

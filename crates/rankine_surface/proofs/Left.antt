@@ -42,17 +42,17 @@ leftBy o r q = foundOf (record { outcome = o; failed = false; after = byOutcome 
 module _ {S R : Type 0} (k : Records S R) {put : List ℕ → S → List ℕ} (back : Puts k put) (a : RankineArguments) (r : List ℕ) (v : R) where
   -- the record that the update leaves which hands back v
   abbrev pub left : Found
-  left = leftBy (k .axes .body .outcomeIn v) r (put r (k .axes .state v))
+  left = leftBy (k .axes .body .outcomeIn v) r (put r (k .axes .body .stateIn v))
 
   inside-at : InsideIn (k .axes) (lawOf a) (k .at r) v → InsideAtIn k a r left
   inside-at d =
       let b = k .axes .body in
       let e = ap (b .outcomeIn) (d .untouched) ∙ b .outcome-in (k .at r) outcome.Untouched in
-      subst (λ o. InsideAtIn k a r (leftBy o r (put r (k .axes .state v)))) (sym e) (record { answer = (refl, refl); bits = refl; below = d .below })
+      subst (λ o. InsideAtIn k a r (leftBy o r (put r (k .axes .body .stateIn v)))) (sym e) (record { answer = (refl, refl); bits = refl; below = d .below })
 
   returned-at : length r ≡ k .floats → F64 (a .«tensile_strength») → ReturnedIn (k .axes) (lawOf a) (k .at r) v → ReturnedAtIn k a r left
   returned-at n f d =
-      let s = k .axes .state v in
+      let s = k .axes .body .stateIn v in
       let kept = back .hardening r s n (subst F64 (sym (d .written)) (d .f64 f)) ∙ d .written in
       let g = subst (Each F64) (sym (d .sigma)) (exps-f64 (projectedAtIn k a r)) in
       let shape = back .sigma r s n (ap length (d .sigma) ∙ d .axes) g in

@@ -14,9 +14,7 @@ use Rattle.numbers.proofs.Laws.{finite-is}
 use Rattle.physics.specs.Physics.{lambdaOf, shearModulusOf}
 use Rattle.tensor.specs.Axes.{allOf}
 use Rattle.tensor.specs.Finite.{rowFinite, matFinite}
-use Rattle.plasticity.specs.declared.Outcome.{Outcome}
 use Rattle.plasticity.specs.declared.Outcome.the-variants as outcome
-use Rattle.plasticity.specs.declared.Scalars.{Scalars}
 use Rattle.walk.specs.Expr.{Expr, num, value, values}
 use Rattle.walk.specs.Walk.{Walk, inputs, _then_, Ended, given, refused, result}
 use Rattle.walk.specs.Exact.{andThen, result-then}
@@ -35,19 +33,13 @@ use Rattle.rankine_surface.proofs.Strains.{Sized, logs-sized, exps-size
 use Rattle.rankine_surface.proofs.Hardening.{passed, by, Capped, changes-end}
 use Rattle.rankine_surface.proofs.Archive.{archive}
 
--- what a state is made of is read of it, and what is handed back of what a law hands back
-pub record Made {S R : Type 0} (ax : Axes S R) : Type 0 where
-  pub state-in : (s : S) (o : Outcome) → ax .state (ax .body .handed s o) ≡ s
-  pub sigma-made : (f : List (List Float)) (sigma : List Float) (x : Scalars) → ax .body .sigma (ax .body .made f sigma x) ≡ sigma
-  pub scalars-made : (f : List (List Float)) (sigma : List Float) (x : Scalars) → ax .body .scalars (ax .body .made f sigma x) ≡ x
-
 -- what is stored
 record Done {S R : Type 0} (ax : Axes S R) (law : RankinePlasticity) (v : R) (sigma : List Float) : Type 0 where
   pub hardening : Float
   pub stored : ax .body .outcomeIn v ≡ outcome.Stored hardening
-  pub written : ax .body .scalars (ax .state v) .«plastic_hardening» ≡ hardening
+  pub written : ax .body .scalars (ax .body .stateIn v) .«plastic_hardening» ≡ hardening
   pub capped : Capped law hardening
-  pub shape : ax .body .sigma (ax .state v) ≡ sigma
+  pub shape : ax .body .sigma (ax .body .stateIn v) ≡ sigma
   pub axes : length sigma ≡ ax .count
 
 -- no strain moves
@@ -70,7 +62,7 @@ pub record Strained {S R : Type 0} (ax : Axes S R) (law : RankinePlasticity) (s 
   pub outside : (e : List Float) → length e ≡ ax .count → Each Strain e → T (not (firstTestIn ax law e s)) → Given (result (ax .project law e (num s)))
       → ReturnsIn (ax .count) law s (result (ax .project law e (num s)))
 
-module _ {S R : Type 0} (ax : Axes S R) (made : Made ax) (law : RankinePlasticity) (u vt : List (List Float)) (st : S) where
+module _ {S R : Type 0} (ax : Axes S R) (law : RankinePlasticity) (u vt : List (List Float)) (st : S) where
   abbrev b : Body S R
   b = ax .body
 
@@ -110,9 +102,9 @@ module _ {S R : Type 0} (ax : Axes S R) (made : Made ax) (law : RankinePlasticit
       (record {
         hardening = h;
         stored = b .outcome-in new (outcome.Stored h);
-        written = ap (λ z. b .scalars z .«plastic_hardening») (made .state-in new (outcome.Stored h)) ∙ ap (λ z. z .«plastic_hardening») (made .scalars-made f sigma x);
+        written = ap (λ z. b .scalars z .«plastic_hardening») (b .state-in new (outcome.Stored h)) ∙ ap (λ z. z .«plastic_hardening») (b .scalars-made f sigma x);
         capped = l;
-        shape = ap (b .sigma) (made .state-in new (outcome.Stored h)) ∙ made .sigma-made f sigma x;
+        shape = ap (b .sigma) (b .state-in new (outcome.Stored h)) ∙ b .sigma-made f sigma x;
         axes = m;
       })
 
@@ -249,11 +241,11 @@ module _ {S R : Type 0} (ax : Axes S R) (made : Made ax) (law : RankinePlasticit
       failed h =
           let k = log-fails f (strained (g .fair)) (logsOf (b .sigma st)) sized took strains h in
           let d = k .0 in
-          let shape : b .sigma (ax .state (updatedOf b st (updateBy l))) ≡ numbersOf (expsOf (projectedIn ax law st)) = ap (λ v. b .sigma (ax .state v)) update ∙ d .shape in
+          let shape : b .sigma (ax .body .stateIn (updatedOf b st (updateBy l))) ≡ numbersOf (expsOf (projectedIn ax law st)) = ap (λ v. b .sigma (ax .body .stateIn v)) update ∙ d .shape in
           record {
             hardening = d .hardening;
             stored = ap (λ v. b .outcomeIn v) update ∙ d .stored;
-            written = ap (λ v. b .scalars (ax .state v) .«plastic_hardening») update ∙ d .written;
+            written = ap (λ v. b .scalars (ax .body .stateIn v) .«plastic_hardening») update ∙ d .written;
             capped = d .capped .0;
             f64 = d .capped .1;
             sigma = shape;
@@ -278,13 +270,13 @@ fair-by a s m f r =
     }
 
 -- of the update by the law that `new` makes of the arguments a
-pub demand-by : {S R : Type 0} (ax : Axes S R) (made : Made ax) (a : RankineArguments) (u vt : List (List Float)) (st : S)
-    → let v = updatedOf (ax .body) st (updateBy ax made (lawOf a) u vt st (argumentsFloats a)) in
+pub demand-by : {S R : Type 0} (ax : Axes S R) (a : RankineArguments) (u vt : List (List Float)) (st : S)
+    → let v = updatedOf (ax .body) st (updateBy ax (lawOf a) u vt st (argumentsFloats a)) in
     (FairIn (ax .count) (lawOf a) (softenedIn ax (lawOf a) st) → Strained ax (lawOf a) (softenedIn ax (lawOf a) st)) → TakenByIn ax a st v → Demand3In ax (lawOf a) st v
-demand-by ax made a u vt st strained g =
+demand-by ax a u vt st strained g =
     let s = softenedIn ax (lawOf a) st in
-    let ran = runs ax made (lawOf a) u vt st (argumentsFloats a) (g .accepted) in
+    let ran = runs ax (lawOf a) u vt st (argumentsFloats a) (g .accepted) in
     let fair = fair-by a s (ran .1) (fine s (g .s-finite) (sub-fits binary64 _ _)) (g .ranges) in
-    demand-over ax made (lawOf a) u vt st (argumentsFloats a)
+    demand-over ax (lawOf a) u vt st (argumentsFloats a)
     (λ h. and-r (elasticFinite a) (finite (a .«tensile_strength»)) (and-l (elasticFinite a && finite (a .«tensile_strength»)) (finite (a .«softening_rate»)) h))
     strained (record { accepted = g .accepted; fair = fair; axes = g .axes; sigma = g .sigma; strains = g .strains })

@@ -21,7 +21,7 @@ use Rattle.walk.specs.Matrix.{values-nums}
 use Rattle.plasticity_rankine.specs.declared.RankineArguments.{RankineArguments}
 use Rattle.plasticity_rankine.specs.declared.RankinePlasticity.{RankinePlasticity}
 use Rattle.plasticity_rankine.specs.Law.{lawOf, parametersOf, elasticFinite, moduliFinite}
-use Rattle.plasticity_rankine.specs.Projection.{Moved, projectWalk, returnedWalk, callFloats, projectCall, movedOf, vectorOf, projectOf}
+use Rattle.plasticity_rankine.specs.Projection.{Moved, projectWalk, returnedWalk, callFloats, callOver, projectCall, movedOf, vectorOf, projectOf}
 use Rattle.plasticity_rankine.specs.Over as over
 use Rattle.plasticity_rankine.specs.Rankine.{rankineUpdate, argumentsUpdate}
 use Rattle.plasticity_rankine.proofs.Laws.{arguments-law}
@@ -30,12 +30,9 @@ use Rattle.rankine_surface.specs.Axes.{Each}
 use Rattle.rankine_surface.specs.Surface.{Accepted, demanded, Below, Fair, Strain, Taken, TakenBy, firstTest, OnSurface, threeAxes, Demand3In, Demand3, Demand3By, Settled, Projects}
 use Rattle.rankine_surface.proofs.Indexed.{Given, Returns, inside, outside, same}
 use Rattle.rankine_surface.proofs.Hardening.{passed, by}
-use Rattle.rankine_surface.proofs.Over.{Made, Stays, Strained, demand-over, demand-by}
+use Rattle.rankine_surface.proofs.Over.{Stays, Strained, demand-over, demand-by}
 
 -- three axes
-madeThree : Made threeAxes
-madeThree = record { state-in = λ s o. refl; sigma-made = λ f sigma x. refl; scalars-made = λ f sigma x. refl }
-
 of-three : (P : List Float → Type 0) → ((x y z : Float) → P (three x y z)) → (e : List Float) → length e ≡ 3 → P e
 of-three P f e h = subst P (entries nan e h) (f (getD e 0 nan) (getD e 1 nan) (getD e 2 nan))
 
@@ -52,12 +49,12 @@ strained-three {law} {s} g =
 pub demand-3 : {law : RankinePlasticity} (u vt : List (List Float)) {st : State} → Taken law u vt st → Demand3 law u vt st
 unfolding over.rankineWalk
 demand-3 {law} u vt {st} g =
-    demand-over threeAxes madeThree law u vt st (parametersOf law) (λ h. and-l (finite (law .«tensile_strength»)) (finite (law .«softening_rate»)) h) strained-three g
+    demand-over threeAxes law u vt st (parametersOf law) (λ h. and-l (finite (law .«tensile_strength»)) (finite (law .«softening_rate»)) h) strained-three g
 
 -- the same of the law that `new` makes
 pub arguments-3 : {a : RankineArguments} (u vt : List (List Float)) {st : State} → TakenBy a u vt st → Demand3In threeAxes (lawOf a) st (argumentsUpdate a u vt st)
 unfolding over.argumentsWalk
-arguments-3 {a} u vt {st} g = demand-by threeAxes madeThree a u vt st strained-three g
+arguments-3 {a} u vt {st} g = demand-by threeAxes a u vt st strained-three g
 
 -- an accepted update by the arguments of `new` is the update by the law that they make
 by-arguments : (a : RankineArguments) (u vt : List (List Float)) (st : State) → Accepted (argumentsUpdate a u vt st .outcome)
@@ -94,7 +91,7 @@ upon law s (refused n) b = absurd b
 
 pub project-3 : {law : RankinePlasticity} {s : Float} → Fair law s → (x y z : Float) → Each Strain (three x y z)
     → Settled (projectOf law (three x y z) s) → Projects law (three x y z) s
-unfolding projectCall
+unfolding callOver
 project-3 {law} {s} g x y z i h =
     let e = three x y z in
     let w = projectWalk law e (num s) in

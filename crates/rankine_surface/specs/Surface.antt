@@ -142,7 +142,6 @@ pub record ArchivedIn (d : ℕ) (p : RankinePlasticity) (s : Float) (sigma : Lis
 pub record Axes (S R : Type 0) : Type 0 where
   pub count : ℕ
   pub body : Body S R
-  pub state : R → S
   pub largest : List Float → Float
   pub project : RankinePlasticity → List Float → Expr → Walk Moved
   pub strainsIn : Ended Moved → List Float
@@ -191,13 +190,13 @@ pub record InsideIn {S R : Type 0} (ax : Axes S R) (p : RankinePlasticity) (st :
 pub record ReturnedIn {S R : Type 0} (ax : Axes S R) (p : RankinePlasticity) (st : S) (v : R) : Type 0 where
   pub hardening : Float
   pub stored : ax .body .outcomeIn v ≡ Stored hardening
-  pub written : ax .body .scalars (ax .state v) .«plastic_hardening» ≡ hardening
+  pub written : ax .body .scalars (ax .body .stateIn v) .«plastic_hardening» ≡ hardening
   pub capped : T (Ieee.le hardening (p .«tensile_strength»))
   pub f64 : F64 (p .«tensile_strength») → F64 hardening
-  pub sigma : ax .body .sigma (ax .state v) ≡ numbersOf (expsOf (projectedIn ax p st))
+  pub sigma : ax .body .sigma (ax .body .stateIn v) ≡ numbersOf (expsOf (projectedIn ax p st))
   pub axes : length (numbersOf (expsOf (projectedIn ax p st))) ≡ ax .count
   pub on-surface : OnSurfaceIn (ax .count) demanded p (softenedIn ax p st) (projectedIn ax p st)
-  pub archive : ArchivedIn (ax .count) p (softenedIn ax p st) (ax .body .sigma (ax .state v))
+  pub archive : ArchivedIn (ax .count) p (softenedIn ax p st) (ax .body .sigma (ax .body .stateIn v))
 
 pub record Demand3In {S R : Type 0} (ax : Axes S R) (p : RankinePlasticity) (st : S) (v : R) : Type 0 where
   pub holds : T (firstTestIn ax p (logStrainsIn ax st) (softenedIn ax p st)) → InsideIn ax p st v
@@ -205,7 +204,7 @@ pub record Demand3In {S R : Type 0} (ax : Axes S R) (p : RankinePlasticity) (st 
 
 -- the archive by itself, where the update stores
 abbrev pub ArchivesIn : {S R : Type 0} → Axes S R → RankinePlasticity → S → R → Type 0
-ArchivesIn ax p st v = (hardening : Float) → ax .body .outcomeIn v ≡ Stored hardening → ArchivedIn (ax .count) p (softenedIn ax p st) (ax .body .sigma (ax .state v))
+ArchivesIn ax p st v = (hardening : Float) → ax .body .outcomeIn v ≡ Stored hardening → ArchivedIn (ax .count) p (softenedIn ax p st) (ax .body .sigma (ax .body .stateIn v))
 
 -- ---- in three axes
 abbrev pub threeAxes : Axes State Updated
@@ -213,7 +212,6 @@ threeAxes =
     record {
       count = 3;
       body = inThree;
-      state = λ v. v .state;
       largest = λ e. arrangeOf (orderOf e) e .high;
       project = projectWalk;
       strainsIn = λ x. movedOf x .strains;

@@ -1,16 +1,18 @@
 -- The record (RULES, section 7): F, U, sigma, V^T by rows, then phase, plastic determinant, plastic hardening,
 -- elastic hardening, log gain and alpha, and last F's determinant, each float as its bits. All offsets stand here.
 use mathlib.Core.Bool.{Bool, _&&_}
-use mathlib.Core.List.{List, [], _∷_, _++_}
+use mathlib.Core.List.{List, [], _∷_, _++_, foldl, map}
 use Prim.Native.Nat.{ℕ, zero, suc, _+_, _*_, _^_}
 use lib.Dec.{eqb, ltb}
 use lib.ListN.{getD, set}
 use lib.Ieee as Ieee
 use lib.Ieee.{Float, nan, binary64}
 use Rattle.numbers.specs.Floats.{finite}
-use Rattle.tensor.specs.Matrix.{three, detOf}
+use Rattle.tensor.specs.Axes.{axesFrom}
+use Rattle.tensor.specs.Matrix.{detOf, rowsOf, ofRows}
 use Rattle.tensor.specs.declared.Rows.{Rows}
 use Rattle.plasticity.specs.State.{inputsFinite}
+use Rattle.plasticity.specs.declared.Scalars.{Scalars}
 use Rattle.plasticity.specs.declared.State.{State}
 
 -- how many floats each part has over d axes, in the record's order, up to the six scalars
@@ -76,35 +78,68 @@ placeDeterminant = place layout 10
 abbrev pub floatAt : List ℕ → ℕ → Float
 floatAt r i = Ieee.ofBits binary64 (getD r i 0)
 
+-- k places on
+abbrev pub further : ℕ → ℕ → ℕ
+further at zero = at
+further at (suc k) = at + suc k
+
+-- a NaN's bits are 7ff8000000000000
+abbrev pub bits : Float → ℕ
+bits x = Ieee.toBits binary64 x
+
+-- ---- reading and writing over n axes: a row, a matrix by its rows
+abbrev pub rowOver : ℕ → List ℕ → ℕ → List Float
+rowOver n r at = map (λ j. floatAt r (further at j)) (axesFrom 0 n)
+
+abbrev pub matOver : ℕ → List ℕ → ℕ → List (List Float)
+matOver n r at = map (λ i. rowOver n r (further at (i * n))) (axesFrom 0 n)
+
+abbrev pub putRowOver : ℕ → List ℕ → ℕ → List Float → List ℕ
+putRowOver n r at v = foldl (λ q j. set q (further at j) (bits (getD v j nan))) r (axesFrom 0 n)
+
+abbrev pub putMatOver : ℕ → List ℕ → ℕ → List (List Float) → List ℕ
+putMatOver n r at m = foldl (λ q i. putRowOver n q (further at (i * n)) (getD m i [])) r (axesFrom 0 n)
+
+-- U and V^T; F and sigma written
+abbrev pub uOver : ℕ → List ℕ → List (List Float)
+uOver n r = matOver n r (place (widths n) 1)
+
+abbrev pub vtOver : ℕ → List ℕ → List (List Float)
+vtOver n r = matOver n r (place (widths n) 3)
+
+abbrev pub putOver : ℕ → List ℕ → List (List Float) → List Float → List ℕ
+putOver n r f sigma = putRowOver n (putMatOver n r (place (widths n) 0) f) (place (widths n) 2) sigma
+
+-- the six scalars of a layout
+abbrev pub scalarsOver : List ℕ → List ℕ → Scalars
+scalarsOver ws r =
+    record {
+      phase = floatAt r (place ws 4);
+      «plastic_determinant» = floatAt r (place ws 5);
+      «plastic_hardening» = floatAt r (place ws 6);
+      «elastic_hardening» = floatAt r (place ws 7);
+      «log_gain» = floatAt r (place ws 8);
+      alpha = floatAt r (place ws 9);
+    }
+
+-- ---- three axes
 abbrev pub rowAt : List ℕ → ℕ → List Float
-rowAt r at = three (floatAt r at) (floatAt r (at + 1)) (floatAt r (at + 2))
+rowAt r at = rowOver 3 r at
 
 abbrev pub matAt : List ℕ → ℕ → List (List Float)
-matAt r at = three (rowAt r at) (rowAt r (at + 3)) (rowAt r (at + 6))
+matAt r at = matOver 3 r at
 
 abbrev pub rowsAt : List ℕ → ℕ → Rows
-rowsAt r at = record { r0 = rowAt r at; r1 = rowAt r (at + 3); r2 = rowAt r (at + 6) }
+rowsAt r at = rowsOf (matAt r at)
 
 abbrev pub uAt : List ℕ → List (List Float)
-uAt r = matAt r placeU
+uAt r = uOver 3 r
 
 abbrev pub vtAt : List ℕ → List (List Float)
-vtAt r = matAt r placeVT
+vtAt r = vtOver 3 r
 
 abbrev pub stateAt : List ℕ → State
-stateAt r =
-    record {
-      f = rowsAt r placeF;
-      sigma = rowAt r placeSigma;
-      scalars = record {
-        phase = floatAt r placePhase;
-        «plastic_determinant» = floatAt r placePlasticDeterminant;
-        «plastic_hardening» = floatAt r placePlasticHardening;
-        «elastic_hardening» = floatAt r placeElasticHardening;
-        «log_gain» = floatAt r placeLogGain;
-        alpha = floatAt r placeAlpha;
-      };
-    }
+stateAt r = record { f = rowsAt r placeF; sigma = rowAt r placeSigma; scalars = scalarsOver layout r }
 
 -- no float of the record is a NaN or an infinity
 abbrev pub recordFinite : List ℕ → Bool
@@ -113,10 +148,6 @@ recordFinite r = inputsFinite (uAt r) (vtAt r) (stateAt r) && finite (floatAt r 
 -- below a sign's bit in an upper half, 2^31
 abbrev pub low : ℕ → Bool
 low n = ltb n (2 ^ 31)
-
--- a NaN's bits are 7ff8000000000000
-abbrev pub bits : Float → ℕ
-bits x = Ieee.toBits binary64 x
 
 -- the section 4 determinant of the F that stands in a record, as bits
 unfoldable pub determinantAt : List ℕ → ℕ
@@ -127,11 +158,10 @@ unfoldable pub determinantRight : List ℕ → Bool
 determinantRight r = eqb (getD r placeDeterminant 0) (determinantAt r)
 
 abbrev pub putRow : List ℕ → ℕ → List Float → List ℕ
-putRow r at v =
-    set (set (set r at (bits (getD v 0 nan))) (at + 1) (bits (getD v 1 nan))) (at + 2) (bits (getD v 2 nan))
+putRow r at v = putRowOver 3 r at v
 
 abbrev pub putRows : List ℕ → ℕ → Rows → List ℕ
-putRows r at m = putRow (putRow (putRow r at (m .r0)) (at + 3) (m .r1)) (at + 6) (m .r2)
+putRows r at m = putMatOver 3 r at (ofRows m)
 
 -- the record with the determinant of the F that stands there
 abbrev pub filled : List ℕ → List ℕ
@@ -139,7 +169,7 @@ filled r = set r placeDeterminant (determinantAt r)
 
 -- an update that stores writes F and sigma, and the determinant of that F
 abbrev pub putBare : List ℕ → State → List ℕ
-putBare r s = putRow (putRows r placeF (s .f)) placeSigma (s .sigma)
+putBare r s = putOver 3 r (ofRows (s .f)) (s .sigma)
 
 abbrev pub putShape : List ℕ → State → List ℕ
 putShape r s = filled (putBare r s)

@@ -16,14 +16,14 @@ use Rattle.plasticity.specs.declared.Outcome.the-variants as outcome
 use Rattle.plasticity.specs.declared.State.{State}
 use Rattle.record.specs.Layout.{floats, uAt, vtAt, stateAt}
 use Rattle.walk.specs.Expr.{Expr, values}
-use Rattle.walk.specs.Walk.{Walk, exp, end, _then_, given}
+use Rattle.walk.specs.Walk.{Walk, exp, given}
 use Rattle.walk.specs.Exact.{path, final, last}
 use Rattle.walk.specs.Update.{Change, untouched, stored, updatedOf}
 use Rattle.reason.specs.declared.Reason.{Reason}
 use Rattle.reason.specs.Reason.{comparedAs, lastAs}
 use Rattle.walk.specs.Body as body
 use Rattle.walk.specs.Update.{inThree}
-use Rattle.plasticity_snow.specs.Snow as snow
+use Rattle.plasticity_snow.specs.Over as snow
 use Rattle.plasticity_rankine.specs.Over as rankine-over
 use Rattle.plasticity_drucker_prager.specs.Over as drucker-over
 use Rattle.plasticity_snow.specs.declared.SnowPlasticity.{SnowPlasticity}
@@ -39,10 +39,10 @@ use Rattle.plasticity_drucker_prager.specs.DruckerPrager.{staysOf}
 use Rattle.plasticity_drucker_prager.specs.declared.DruckerPragerPlasticity.{DruckerPragerPlasticity}
 use Rattle.plasticity_drucker_prager.proofs.Reason as drucker-prager-reason
 use Rattle.plasticity_nacc.specs.Law as nacc-law
-use Rattle.plasticity_nacc.specs.Nacc as nacc
+use Rattle.plasticity_nacc.specs.Projection as nacc
+use Rattle.plasticity_nacc.specs.Over as nacc-over
 use Rattle.plasticity_nacc.specs.declared.NaccArguments.{NaccArguments}
 use Rattle.plasticity_nacc.proofs.Reason as nacc-reason
-use Rattle.tensor.specs.declared.Rows.{Rows}
 use Rattle.model.specs.declared.Law.the-variants as law
 use Rattle.model.specs.declared.Model.{Model}
 use Rattle.model.specs.declared.Model.the-variants.{Snow, Rankine, DruckerPrager, Nacc}
@@ -156,13 +156,12 @@ drucker-none p (drucker-prager.expanding x) sigma dq u vt s = refl
 drucker-none p (drucker-prager.inside x) sigma dq u vt s = refl
 drucker-none p (drucker-prager.surface x norm) sigma dq u vt s = refl
 
-nacc-none : (w : nacc.Way) (q : nacc.Shape) (f : Rows) (u vt : List (List Float)) (s : State)
-    → storesNone (final (nacc.wayWalk w q f u vt then (λ r. end (nacc.changeOf (r .way) (r .f) (r .shape) s)))) ≡ eqb (nacc.wayNumber w) 0
-unfolding nacc.wayWalk nacc.recomposedWalk
-nacc-none (nacc.upper x y) q f u vt s = refl
-nacc-none (nacc.lower x y) q f u vt s = refl
-nacc-none (nacc.inside x y) q f u vt s = refl
-nacc-none (nacc.surface x y) q f u vt s = refl
+nacc-none : (w : nacc.Way) (q : nacc.Shape) (u vt : List (List Float)) (s : State) → storesNone (final (nacc-over.wayWalk inThree w q u vt s)) ≡ eqb (nacc.wayNumber w) 0
+unfolding nacc-over.wayWalk nacc-over.storedWalk body.storeWalk
+nacc-none (nacc.upper x y) q u vt s = refl
+nacc-none (nacc.lower x y) q u vt s = refl
+nacc-none (nacc.inside x y) q u vt s = refl
+nacc-none (nacc.surface x y) q u vt s = refl
 
 module _ (u vt : List (List Float)) (s : State) where
   drucker-stays-none : (p : DruckerPragerPlasticity) (b : Bool) (n : ℕ) (c : Change) → storesNone c ≡ eqb n 0 → storesNone (cond b untouched c) ≡ eqb (cond b 0 n) 0
@@ -179,7 +178,7 @@ module _ (u vt : List (List Float)) (s : State) where
       let q = drucker-prager-reason.projectionOf p s in
       drucker-stays-none p (staysOf p (s .scalars .phase)) (drucker-prager.wayNumber (q .way)) (final (drucker-prager-reason.W p u vt s q))
       (drucker-none p (q .way) (q .sigma) (q .dq) u vt s)
-  model-none (Nacc a) = let q = naccEnd (nacc-law.lawOf a) s in nacc-none (q .way) (q .shape) (s .f) u vt s
+  model-none (Nacc a) = let q = naccEnd (nacc-law.lawOf a) s in nacc-none (q .way) (q .shape) u vt s
 
   none-untouched : (c : Change) (n : ℕ) → storesNone c ≡ eqb n 0 → (n ≡ 0) ↔ (updatedOf s (given c) .outcome ≡ outcome.Untouched)
   none-untouched untouched n h = (λ e. refl, λ e. eqb-true n 0 (sym h))

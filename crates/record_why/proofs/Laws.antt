@@ -17,7 +17,7 @@ use Rattle.plasticity.specs.declared.Updated.{Updated}
 use Rattle.record.specs.Layout.{placeDeterminant, floatAt, uAt, vtAt, stateAt, recordFinite, determinantRight}
 use Rattle.walk.specs.Walk.{given}
 use Rattle.walk.specs.Exact.{path, final, last}
-use Rattle.walk.specs.Update.{inThree, updatedOf}
+use Rattle.walk.specs.Update.{updatedOf}
 use Rattle.reason.specs.declared.Reason.{Reason}
 use Rattle.reason.specs.declared.Reason.the-variants as reason
 use Rattle.reason.specs.Reason.{lastOr}
@@ -38,8 +38,8 @@ use Rattle.record_why.specs.Why.{reasonWith, recordReason, toldOf, numbe
 
 -- ---- by the model's law
 -- Snow makes no test
-snow-last : (p : SnowPlasticity) (u vt : List (List Float)) (s : State) (r : Reason) → lastOr r (last (path (snowWalk inThree p u vt s))) ≡ r
-snow-last p u vt s r = ap (lastOr r) (quiet (snowWalk inThree p u vt s) (snow-branchless p u vt s) none)
+snow-last : (p : SnowPlasticity) (u vt : List (List Float)) (s : State) (r : Reason) → lastOr r (last (path (snowWalk p u vt s))) ≡ r
+snow-last p u vt s r = ap (lastOr r) (quiet (snowWalk p u vt s) (snow-branchless p u vt s) none)
 
 module _ (u vt : List (List Float)) (s : State) where
   pub model-number : (m : Model) → reasonNumber (modelReason m u vt s) ≡ outcomeNumber (modelUpdate m u vt s .outcome)

@@ -6,9 +6,8 @@ use Prim.Native.Nat.{ℕ}
 use lib.ListN.{getD}
 use lib.Ieee.{Float}
 use Rattle.plasticity.specs.declared.State.{State}
-use Rattle.walk.specs.Walk.{end, _then_}
 use Rattle.walk.specs.Exact.{final}
-use Rattle.walk.specs.Update.{Change, untouched, inThree}
+use Rattle.walk.specs.Update.{Change, untouched}
 use Rattle.plasticity_snow.specs.Snow.{snowWalk}
 use Rattle.plasticity_rankine.specs.Law as rankine-law
 use Rattle.plasticity_rankine.specs.Projection as rankine
@@ -19,7 +18,8 @@ use Rattle.plasticity_drucker_prager.specs.DruckerPrager.{staysOf}
 use Rattle.plasticity_drucker_prager.proofs.Reason as drucker-prager-reason
 use Rattle.plasticity_nacc.specs.Law as nacc-law
 use Rattle.plasticity_nacc.specs.Axes.{three-axes}
-use Rattle.plasticity_nacc.specs.Nacc as nacc
+use Rattle.plasticity_nacc.specs.Projection as nacc
+use Rattle.plasticity_nacc.specs.Nacc as nacc-walks
 use Rattle.plasticity_nacc.specs.declared.NaccPlasticity.{NaccPlasticity}
 use Rattle.model.specs.declared.Model.{Model}
 use Rattle.model.specs.declared.Model.the-variants.{Snow, Rankine, DruckerPrager, Nacc}
@@ -40,13 +40,13 @@ modelBranch (Nacc a) u vt s = nacc.wayNumber (naccEnd (nacc-law.lawOf a) s .way)
 
 -- what the branch stores
 abbrev pub modelStores : Model → List (List Float) → List (List Float) → State → Change
-modelStores (Snow p) u vt s = final (snowWalk inThree p u vt s)
+modelStores (Snow p) u vt s = final (snowWalk p u vt s)
 modelStores (Rankine a) u vt s = let p = rankine-law.lawOf a in final (rankine-reason.W p u vt s (rankineEnd p u vt s))
 modelStores (DruckerPrager p) u vt s =
     cond (staysOf p (s .scalars .phase)) untouched (final (drucker-prager-reason.W p u vt s (drucker-prager-reason.projectionOf p s)))
 modelStores (Nacc a) u vt s =
     let q = naccEnd (nacc-law.lawOf a) s in
-    final (nacc.wayWalk (q .way) (q .shape) (s .f) u vt then (λ r. end (nacc.changeOf (r .way) (r .f) (r .shape) s)))
+    final (nacc-walks.wayWalk (q .way) (q .shape) u vt s)
 
 -- the host's word
 abbrev pub branchWord : List ℕ → ℕ

@@ -7,7 +7,7 @@ use Rattle.walk.specs.Expr.{Expr, num, value, values}
 use Rattle.walk.specs.Walk.{Walk, end, _then_}
 pub use Rattle.walk.specs.Inner.{Inner, inner-then, inner-asks, inner-mosts, inner-leasts, inner-when}
 use Rattle.plasticity_snow.specs.declared.SnowPlasticity.{SnowPlasticity}
-use Rattle.plasticity_snow.specs.Snow as snow
+use Rattle.plasticity_snow.specs.Over as snow
 use Rattle.plasticity_rankine.specs.declared.RankinePlasticity.{RankinePlasticity}
 use Rattle.plasticity_rankine.specs.Projection as rankine-projection
 use Rattle.plasticity_rankine.specs.Rankine as rankine
@@ -18,7 +18,8 @@ use Rattle.plasticity_drucker_prager.specs.DruckerPrager as drucker-prager
 use Rattle.plasticity_nacc.specs.declared.NaccPlasticity.{NaccPlasticity}
 use Rattle.plasticity_nacc.specs.declared.Trial.{Trial}
 use Rattle.plasticity_nacc.specs.Axes.{Axes, two-axes, three-axes, dimOf}
-use Rattle.plasticity_nacc.specs.Nacc as nacc
+use Rattle.plasticity_nacc.specs.Projection as nacc
+use Rattle.plasticity_nacc.specs.Over as nacc-over
 use Rattle.plasticity_rankine.specs.Over as rankine-over
 use Rattle.plasticity_drucker_prager.specs.Over as drucker-over
 use Rattle.walk.specs.Body as body
@@ -172,21 +173,28 @@ module _ (p : NaccPlasticity) where
   nacc-steps two-axes sigma alpha = λ m x l w k. branches two-axes _ _ sigma alpha
   nacc-steps three-axes sigma alpha = λ m x l w k. branches three-axes _ _ sigma alpha
 
-  nacc-way : (w : nacc.Way) (q : nacc.Shape) (f : Rows) (u vt : List (List Float)) → Inner (nacc.wayWalk w q f u vt)
+  by-way : {A : Type 0} (w : nacc.Way) (x y : Walk A) → Inner x → Inner y → Inner (nacc.byWay w x y)
+  by-way (nacc.upper p q) x y h i = i
+  by-way (nacc.lower p q) x y h i = i
+  by-way (nacc.inside p q) x y h i = h
+  by-way (nacc.surface p q) x y h i = i
+
+  nacc-recomposes : (w : nacc.Way) (q : nacc.Shape) (f : Rows) (u vt : List (List Float)) → Inner (nacc.wayWalk w q f u vt)
   unfolding nacc.wayWalk nacc.recomposedWalk
-  nacc-way (nacc.upper x y) q f u vt = tt
-  nacc-way (nacc.lower x y) q f u vt = tt
-  nacc-way (nacc.inside x y) q f u vt = tt
-  nacc-way (nacc.surface x y) q f u vt = tt
+  nacc-recomposes w q f u vt = by-way w (end (record { way = w; f = f; shape = q })) (nacc.recomposedWalk w u q vt) tt tt
+
+  nacc-stores : (w : nacc.Way) (q : nacc.Shape) (u vt : List (List Float)) (s : State) → Inner (nacc-over.wayWalk inThree w q u vt s)
+  unfolding nacc-over.wayWalk nacc-over.storedWalk body.storeWalk
+  nacc-stores w q u vt s = by-way w (end body.untouched) (nacc-over.storedWalk inThree q u vt s) tt tt
 
   pub nacc-project : (f : Rows) (u : List (List Float)) (sigma : List Float) (vt : List (List Float)) (alpha : Float) → Inner (nacc.projectWalk p f u sigma vt alpha)
   unfolding nacc.projectWalk
-  nacc-project f u sigma vt alpha = inner-then (nacc.stepsWalk three-axes p sigma alpha) _ (nacc-steps three-axes sigma alpha) (λ q. nacc-way (q .way) (q .shape) f u vt)
+  nacc-project f u sigma vt alpha = inner-then (nacc.stepsWalk three-axes p sigma alpha) _ (nacc-steps three-axes sigma alpha) (λ q. nacc-recomposes (q .way) (q .shape) f u vt)
 
-  pub nacc-inner : (u vt : List (List Float)) (s : State) → Inner (nacc.runWalk p u vt s)
-  unfolding nacc.runWalk
+  pub nacc-inner : (u vt : List (List Float)) (s : State) → Inner (nacc-over.runWalk inThree three-axes p u vt s)
+  unfolding nacc-over.runWalk
   nacc-inner u vt s =
-      inner-then (nacc.projectWalk p (s .f) u (s .sigma) vt (s .scalars .alpha)) _ (nacc-project (s .f) u (s .sigma) vt (s .scalars .alpha)) (λ q. tt)
+      inner-then (nacc.stepsWalk three-axes p (s .sigma) (s .scalars .alpha)) _ (nacc-steps three-axes (s .sigma) (s .scalars .alpha)) (λ q. nacc-stores (q .way) (q .shape) u vt s)
 
 -- ---- the principal stresses
 pub principal-inner : (p : CorotatedLinearElasticity) (phase h : Float) (s : List Float) → Inner (principalWalk p phase h s)

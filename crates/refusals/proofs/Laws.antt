@@ -40,7 +40,9 @@ use Rattle.plasticity_nacc.specs.declared.NaccArguments.{NaccArguments}
 use Rattle.plasticity_nacc.specs.declared.NaccPlasticity.{NaccPlasticity}
 use Rattle.plasticity_nacc.specs.Law as nacc-law
 use Rattle.plasticity_nacc.specs.Friction as nacc-friction
-use Rattle.plasticity_nacc.specs.Nacc as nacc
+use Rattle.plasticity_nacc.specs.Projection as nacc
+use Rattle.plasticity_nacc.specs.Over as nacc-over
+use Rattle.plasticity_nacc.specs.Nacc as nacc-walks
 use Rattle.plasticity_rankine.specs.Over as rankine-over
 use Rattle.failure_maximum_stress.specs.declared.Made as limits-made-type
 use Rattle.failure_maximum_stress.specs.declared.Made.the-variants as limits-made
@@ -300,10 +302,10 @@ module _ (u vt : List (List Float)) (s : State) where
       outcome-numbers s (rankine.rankineUpdate p u vt s .outcome) (rankine-over.floats inThree (rankine-law.parametersOf p) u vt s) (rankine-law.moduli p (rankine.runWalk p (s .sigma) u vt s))
       (rankine-inner u vt s p) refl
 
-  nacc-updates : (p : NaccPlasticity) → Refuses (nacc.naccUpdate p u vt s .outcome) (path (nacc.naccWalk p u vt s))
-  unfolding nacc.naccWalk
+  nacc-updates : (p : NaccPlasticity) → Refuses (nacc-walks.naccUpdate p u vt s .outcome) (path (nacc-walks.naccWalk p u vt s))
+  unfolding nacc-over.naccWalk
   nacc-updates p =
-      outcome-numbers s (nacc.naccUpdate p u vt s .outcome) (nacc.floats (nacc-law.parametersOf p) u vt s) (nacc.moduli p (nacc.runWalk p u vt s)) (nacc-inner p u vt s) refl
+      outcome-numbers s (nacc-walks.naccUpdate p u vt s .outcome) (nacc-over.floats inThree (nacc-law.parametersOf p) u vt s) (nacc.moduli p (nacc-walks.runWalk p u vt s)) (nacc-inner p u vt s) refl
 
 -- ---- a projection
 module _ (e : List Float) (s : Float) where
@@ -315,11 +317,11 @@ module _ (e : List Float) (s : Float) where
       (inner-then (rankine-projection.projectWalk p e (num s)) rankine-projection.returnedWalk (rankine-project p e (num s)) (λ x. tt))
 
   rankine-projects : (p : RankinePlasticity) → Beside (rankine-projection.projectOf p e s .refusal) (path (rankine-projection.projectCall p e s))
-  unfolding rankine-projection.projectCall
+  unfolding rankine-projection.callOver
   rankine-projects p = projects (rankine-projection.callFloats (rankine-law.parametersOf p) e s) p
 
   arguments-project : (a : RankineArguments) → Beside (rankine-projection.argumentsProject a e s .refusal) (path (rankine-projection.argumentsCall a e s))
-  unfolding rankine-projection.argumentsCall
+  unfolding rankine-projection.callOver
   arguments-project a = projects (rankine-projection.callFloats (rankine-law.argumentsFloats a) e s) (rankine-law.lawOf a)
 
 drucker-way : (w : drucker-projection.Way) (dq : Float) → refusalOf (drucker-projection.outcomeOf (drucker-projection.branchOf w) dq) ≡ none

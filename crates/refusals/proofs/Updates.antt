@@ -23,10 +23,10 @@ use Rattle.walk.specs.Update.{inThree, Change, untouched, stored, updatedOf, re
 use Rattle.walk.specs.Answers.{refusalIn}
 use Rattle.record.specs.Layout.{placeDeterminant, floatAt, uAt, vtAt, stateAt, recordFinite, determinantRight}
 use Rattle.record.proofs.Parts as parts
-use Rattle.plasticity_snow.specs.Snow as snow
+use Rattle.plasticity_snow.specs.Over as snow
 use Rattle.plasticity_rankine.specs.Rankine as rankine
 use Rattle.plasticity_drucker_prager.specs.DruckerPrager as drucker-prager
-use Rattle.plasticity_nacc.specs.Nacc as nacc
+use Rattle.plasticity_nacc.specs.Over as nacc-over
 use Rattle.plasticity_rankine.specs.Over as rankine-over
 use Rattle.plasticity_drucker_prager.specs.Over as drucker-over
 use Rattle.walk.specs.Body.{floats-finite}
@@ -54,7 +54,7 @@ outcome-numbers s o l w h e = told refusalOf Refused (λ n. refl) as-outcome o l
 
 -- ---- the four models
 pub walked : (m : Model) (u vt : List (List Float)) (s : State) → modelUpdate m u vt s ≡ updatedOf s (result (walkOf m u vt s))
-unfolding snow.snowWalk snow.floats rankine-over.argumentsWalk rankine-over.floats drucker-over.druckerWalk drucker-over.floats nacc.argumentsWalk nacc.floats
+unfolding snow.snowWalk snow.floats rankine-over.argumentsWalk rankine-over.floats drucker-over.druckerWalk drucker-over.floats nacc-over.argumentsWalk nacc-over.floats
 walked (Snow p) u vt s = refl
 walked (Rankine a) u vt s = refl
 walked (DruckerPrager p) u vt s = refl

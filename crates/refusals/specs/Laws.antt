@@ -23,7 +23,8 @@ use Rattle.plasticity_nacc.specs.declared.NaccArguments.{NaccArguments}
 use Rattle.plasticity_nacc.specs.declared.NaccPlasticity.{NaccPlasticity}
 use Rattle.plasticity_nacc.specs.Law as nacc-law
 use Rattle.plasticity_nacc.specs.Friction as nacc-friction
-use Rattle.plasticity_nacc.specs.Nacc as nacc
+use Rattle.plasticity_nacc.specs.Projection as nacc
+use Rattle.plasticity_nacc.specs.Nacc as nacc-walks
 use Rattle.failure_maximum_stress.specs.Failure.{limitsOf}
 use Rattle.elasticity_neo_hookean.specs.Law as neo-hookean
 use Rattle.elasticity_corotated_linear.specs.Law as corotated
@@ -79,7 +80,7 @@ pub record Laws : Type 0 where
   -- ---- one update
   pub update : (m : Model) (u vt : List (List Float)) (s : State) → Refuses (modelUpdate m u vt s .outcome) (path (walkOf m u vt s))
   pub rankine-update : (p : RankinePlasticity) (u vt : List (List Float)) (s : State) → Refuses (rankine.rankineUpdate p u vt s .outcome) (path (rankine.rankineWalk p u vt s))
-  pub nacc-update : (p : NaccPlasticity) (u vt : List (List Float)) (s : State) → Refuses (nacc.naccUpdate p u vt s .outcome) (path (nacc.naccWalk p u vt s))
+  pub nacc-update : (p : NaccPlasticity) (u vt : List (List Float)) (s : State) → Refuses (nacc-walks.naccUpdate p u vt s .outcome) (path (nacc-walks.naccWalk p u vt s))
   -- ---- a projection
   pub rankine-project : (p : RankinePlasticity) (e : List Float) (s : Float) → Beside (rankine-projection.projectOf p e s .refusal) (path (rankine-projection.projectCall p e s))
   pub rankine-arguments-project : (a : RankineArguments) (e : List Float) (s : Float)

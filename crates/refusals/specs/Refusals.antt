@@ -22,7 +22,7 @@ use Rattle.plasticity.specs.declared.State.{State}
 use Rattle.walk.specs.Expr.{num, value}
 use Rattle.walk.specs.Walk.{Function, lowOf, highOf, at, Walk, inputs, ask, results, end, _then_, given}
 use Rattle.walk.specs.Exact.{Met, input, argument, worked, tested, result-of, path}
-use Rattle.walk.specs.Update.{inThree, Change, untouched, stored, updatedOf, floatsOf}
+use Rattle.walk.specs.Update.{Change, untouched, stored, updatedOf, floatsOf}
 use Rattle.walk.specs.Numbers as walk
 use Rattle.walk.specs.Numbers.{Stops, Comes, Clear}
 use Rattle.record.specs.Layout.{floats, placeF, placeDeterminant, floatAt, matAt, uAt, vtAt, stateAt, determinantRight}
@@ -34,6 +34,7 @@ use Rattle.plasticity_rankine.specs.Rankine as rankine
 use Rattle.plasticity_drucker_prager.specs.Law as drucker-prager-law
 use Rattle.plasticity_drucker_prager.specs.DruckerPrager as drucker-prager
 use Rattle.plasticity_nacc.specs.Law as nacc-law
+use Rattle.plasticity_nacc.specs.Projection as nacc-projection
 use Rattle.plasticity_nacc.specs.Nacc as nacc
 use Rattle.failure_maximum_stress.specs.declared.MaximumStressFailure.{MaximumStressFailure}
 use Rattle.elasticity_corotated_linear.specs.declared.CorotatedLinearElasticity.{CorotatedLinearElasticity}
@@ -110,10 +111,10 @@ parametersOf (Nacc a) = nacc-law.argumentsFloats a
 
 -- "1 is tested first, then the moduli by 3, then the steps"
 abbrev pub stepsOf : Model → List (List Float) → List (List Float) → State → Walk Change
-stepsOf (Snow p) u vt s = snow.runWalk inThree p u vt s
+stepsOf (Snow p) u vt s = snow.runWalk p u vt s
 stepsOf (Rankine a) u vt s = rankine-law.moduli (rankine-law.lawOf a) (rankine.runWalk (rankine-law.lawOf a) (s .sigma) u vt s)
 stepsOf (DruckerPrager p) u vt s = drucker-prager.runWalk p u vt s
-stepsOf (Nacc a) u vt s = nacc.moduli (nacc-law.lawOf a) (nacc.runWalk (nacc-law.lawOf a) u vt s)
+stepsOf (Nacc a) u vt s = nacc-projection.moduli (nacc-law.lawOf a) (nacc.runWalk (nacc-law.lawOf a) u vt s)
 
 abbrev pub walkOf : Model → List (List Float) → List (List Float) → State → Walk Change
 walkOf m u vt s = inputs (parametersOf m ++ floatsOf u vt s) (stepsOf m u vt s)

@@ -2,17 +2,13 @@
 -- RULES, section 4; and what they are worth as formulas.
 use mathlib.Core.List.{List, [], _∷_, map}
 use mathlib.Core.Path.{_≡_, refl}
-use Prim.Native.Nat.{ℕ, zero, suc}
+use Prim.Native.Nat.{ℕ}
 use lib.ListN.{getD}
 use lib.Ieee.{Float, nan}
+use Rattle.tensor.specs.Axes.{axesFrom}
 use Rattle.tensor.specs.Matrix.{dotOf, scaledRowOf}
 use Rattle.walk.specs.Expr.{Expr, values}
 use Rattle.walk.specs.Matrix.{entry, recompose, value-entry}
-
--- n axes from the i-th
-abbrev pub axesFrom : ℕ → ℕ → List ℕ
-axesFrom i zero = []
-axesFrom i (suc n) = i ∷ axesFrom (suc i) n
 
 abbrev pub column : List (List Float) → ℕ → List Float
 column m j = map (λ row. getD row j nan) m

@@ -10,7 +10,7 @@ use Rattle.numbers.specs.Floats.{finite}
 use Rattle.answers.specs.Refusals.{noNumber}
 use Rattle.tensor.specs.Axes.{allOf}
 use Rattle.tensor.specs.Finite.{rowFinite, matFinite}
-use Rattle.plasticity.specs.State.{scalarsFinite}
+use Rattle.plasticity.specs.State.{scalarsFinite, partsFinite}
 use Rattle.plasticity.specs.declared.Outcome.{Outcome}
 use Rattle.plasticity.specs.declared.Outcome.the-variants as outcome
 use Rattle.plasticity.specs.declared.Scalars.{Scalars}
@@ -28,8 +28,12 @@ pub record Body (S R : Type 0) : Type 0 where
   pub scalars : S → Scalars
   -- a state of them
   pub made : List (List Float) → List Float → Scalars → S
+  pub sigma-made : (m : List (List Float)) (l : List Float) (x : Scalars) → sigma (made m l x) ≡ l
+  pub scalars-made : (m : List (List Float)) (l : List Float) (x : Scalars) → scalars (made m l x) ≡ x
   -- the state handed back, with the outcome
   pub handed : S → Outcome → R
+  pub stateIn : R → S
+  pub state-in : (s : S) (o : Outcome) → stateIn (handed s o) ≡ s
   pub outcomeIn : R → Outcome
   pub outcome-in : (s : S) (o : Outcome) → outcomeIn (handed s o) ≡ o
   -- U sigma V^T, worked and as formulas
@@ -89,7 +93,7 @@ module _ {S R : Type 0} (b : Body S R) where
   -- ---- the inputs
   -- no float of the record is a NaN or an infinity
   abbrev pub stateFinite : S → Bool
-  stateFinite s = matFinite (b .f s) && rowFinite (b .sigma s) && scalarsFinite (b .scalars s)
+  stateFinite s = partsFinite (b .f s) (b .sigma s) (b .scalars s)
 
   abbrev pub inputsFinite : List (List Float) → List (List Float) → S → Bool
   inputsFinite u vt s = matFinite u && matFinite vt && stateFinite s

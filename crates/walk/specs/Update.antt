@@ -33,7 +33,11 @@ inThree =
       sigma = λ s. s .sigma;
       scalars = λ s. s .scalars;
       made = stateOf;
+      sigma-made = λ m l x. refl;
+      scalars-made = λ m l x. refl;
       handed = λ s o. record { state = s; outcome = o };
+      stateIn = λ v. v .state;
+      state-in = λ s o. refl;
       outcomeIn = λ v. v .outcome;
       outcome-in = λ s o. refl;
       recomposed = recomposeOf;

@@ -1,7 +1,7 @@
 -- `flat_snow::clamped` answers `clampedOf law sigma`.
 use borrow.Author.Needs.{needs}
 use lib.Ieee.{nan}
-use Rattle.plasticity_snow.specs.Snow.{clampedOf}
+use Rattle.plasticity_snow.specs.Clamp.{clampedOf}
 use Rattle.flat.specs.Axes.{of-one}
 use Rattle.flat_snow.proofs.clamped.Statement.{statement}
 use Rattle.flat_snow.proofs.clamped.Tie as tie

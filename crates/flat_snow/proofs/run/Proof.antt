@@ -1,8 +1,8 @@
--- `flat_snow::run` answers `updatedOf s (result (runWalk inTwo law u vt s))`.
+-- `flat_snow::run` answers `updatedOf s (result (runWalk law u vt s))`.
 use borrow.Author.Needs.{needs}
 use Rattle.walk.specs.Matrix.{value-product}
 use Rattle.walk.specs.Body.{store-law}
-use Rattle.plasticity_snow.specs.Snow.{hardenWalk}
+use Rattle.plasticity_snow.specs.Over.{hardenWalk}
 use Rattle.plasticity_snow.proofs.Laws.{run-law}
 use Rattle.flat.specs.Update.{inTwo}
 use Rattle.flat_snow.proofs.run.Statement.{statement}

@@ -1,6 +1,6 @@
--- `flat_snow::update_particle` answers `flatSnow law u vt s`.
+-- `flat_snow::update_particle` answers `snowUpdate law u vt s`.
 use borrow.Author.Needs.{needs}
-use Rattle.plasticity_snow.specs.Snow.{snowWalk}
+use Rattle.plasticity_snow.specs.Over.{snowWalk}
 use Rattle.plasticity_snow.proofs.Laws.{inputs-law}
 use Rattle.flat.specs.Update.{inTwo}
 use Rattle.flat_snow.proofs.update_particle.Statement.{statement}

@@ -1,6 +1,6 @@
 -- `flat_nacc::branches::branched` answers `steppedOf (result (branchWalk two-axes p t s sigma alpha))`.
 use borrow.Author.Needs.{needs}
-use Rattle.plasticity_nacc.specs.Nacc.{branchWalk}
+use Rattle.plasticity_nacc.specs.Projection.{branchWalk}
 use Rattle.plasticity_nacc.proofs.Laws.{pressures}
 use Rattle.flat_nacc.proofs.Laws.{upper-then}
 use Rattle.flat_nacc.proofs.branches.branched.Statement.{statement}

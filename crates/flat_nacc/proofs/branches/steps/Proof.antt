@@ -4,7 +4,7 @@ use Rattle.tensor.specs.Matrix.{productOf}
 use Rattle.walk.specs.Matrix.{value-product}
 use Rattle.plasticity_nacc.specs.Axes.{two-axes}
 use Rattle.plasticity_nacc.specs.Formulas.{trialOf}
-use Rattle.plasticity_nacc.specs.Nacc.{pressWalk}
+use Rattle.plasticity_nacc.specs.Projection.{pressWalk}
 use Rattle.flat_nacc.proofs.Laws.{within-given, steps-law}
 use Rattle.flat_nacc.proofs.branches.steps.Statement.{statement}
 use Rattle.flat_nacc.proofs.branches.steps.Tie as tie

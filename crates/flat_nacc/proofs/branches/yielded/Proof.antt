@@ -1,6 +1,6 @@
 -- `flat_nacc::branches::yielded` answers `steppedOf (result (yieldWalk two-axes p t s sigma alpha))`.
 use borrow.Author.Needs.{needs}
-use Rattle.plasticity_nacc.specs.Nacc.{yieldWalk}
+use Rattle.plasticity_nacc.specs.Projection.{yieldWalk}
 use Rattle.plasticity_nacc.proofs.Laws.{small-number}
 use Rattle.flat_nacc.proofs.Laws.{surface-then}
 use Rattle.flat_nacc.proofs.branches.yielded.Statement.{statement}

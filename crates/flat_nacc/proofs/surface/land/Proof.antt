@@ -1,6 +1,6 @@
 -- `flat_nacc::surface::land` answers `shapedOf (result (landWalk two-axes p t s alpha))`: the stress's norm comes with it.
 use borrow.Author.Needs.{needs}
-use Rattle.plasticity_nacc.specs.Nacc.{landWalk}
+use Rattle.plasticity_nacc.specs.Projection.{landWalk}
 use Rattle.flat_nacc.proofs.Laws.{within-given}
 use Rattle.flat_nacc.proofs.surface.land.Statement.{statement}
 use Rattle.flat_nacc.proofs.surface.land.Tie as tie

@@ -3,7 +3,7 @@ use borrow.Author.Needs.{needs}
 use mathlib.Core.Path.{_∙_}
 use lib.Ieee.{nan}
 use Rattle.walk.specs.Walk.{result}
-use Rattle.plasticity_nacc.specs.Nacc.{rootsWalk}
+use Rattle.plasticity_nacc.specs.Projection.{rootsWalk}
 use Rattle.flat.specs.Axes.{of-one}
 use Rattle.flat_nacc.specs.Nacc.{shapedOf}
 use Rattle.flat_nacc.proofs.surface.roots.Statement.{statement}

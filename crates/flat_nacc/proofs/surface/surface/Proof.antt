@@ -1,6 +1,6 @@
 -- `flat_nacc::surface::surface` answers `shapedOf (result (surfaceWalk two-axes p t s alpha))`.
 use borrow.Author.Needs.{needs}
-use Rattle.plasticity_nacc.specs.Nacc.{surfaceWalk}
+use Rattle.plasticity_nacc.specs.Projection.{surfaceWalk}
 use Rattle.flat_nacc.proofs.Laws.{alpha-then, half-root}
 use Rattle.flat_nacc.proofs.surface.surface.Statement.{statement}
 use Rattle.flat_nacc.proofs.surface.surface.Tie as tie

@@ -1,6 +1,6 @@
 -- `flat_nacc::surface::tip` answers `shapedOf (result (tipWalk two-axes p (num x) j alpha))`.
 use borrow.Author.Needs.{needs}
-use Rattle.plasticity_nacc.specs.Nacc.{tipWalk}
+use Rattle.plasticity_nacc.specs.Projection.{tipWalk}
 use Rattle.flat_nacc.proofs.Laws.{alpha-then, within-given}
 use Rattle.flat_nacc.proofs.surface.tip.Statement.{statement}
 use Rattle.flat_nacc.proofs.surface.tip.Tie as tie

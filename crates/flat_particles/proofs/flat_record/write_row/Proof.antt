@@ -1,6 +1,5 @@
 -- `flat_particles::flat_record::write_row` answers `putRowOver 2 (now (r .entry)) at v`.
 use borrow.Author.Needs.{needs}
-use native.Mathlib.Nat.{add-zero}
 use lib.ListN.{length-set}
 use native.Mathlib.Omega.{arith}
 use Rattle.flat_particles.proofs.flat_record.write_row.Statement.{statement}
@@ -11,7 +10,7 @@ slice-write-r-2 c = simp length-set (omega arith)
 
 returns : tie.Need-returns
 returns c =
-    simp (c .bits-of2 .ensures, c .before .bits-of .ensures, add-zero)
+    simp (c .bits-of2 .ensures, c .before .bits-of .ensures)
 
 pub write-row-spec : {M : Type 1} → statement M
 write-row-spec =

@@ -6,8 +6,8 @@ use Rattle.tensor.specs.Finite.{rowFinite}
 use Rattle.walk.specs.Every.{and-right}
 use Rattle.walk.specs.Number.{finite-number}
 use Rattle.plasticity_rankine.specs.Law.{argumentsFinite}
+use Rattle.plasticity_rankine.specs.Projection.{callOver}
 use Rattle.plasticity_rankine.proofs.Laws.{call-law}
-use Rattle.flat_rankine.specs.Project.{projectCall}
 use Rattle.flat_rankine.proofs.Handed.{returned-law}
 use Rattle.flat_rankine.proofs.alone.project.Statement.{statement}
 use Rattle.flat_rankine.proofs.alone.project.Tie as tie
@@ -23,7 +23,7 @@ projected-requires c κs =
     finite-number (a .s) (and-right (argumentsFinite (a .law) && rowFinite (a .strains)) (finite (a .s)) t0)
 
 returns : tie.Need-returns
-unfolding projectCall
+unfolding callOver
 returns c =
     let c1 = c .before in
     let c2 = c1 .before in
@@ -38,7 +38,7 @@ returns c =
     simp (c .returned .ensures, c1 .projected .ensures, c4 .law .ensures, t0, t1, call-law, returned-law)
 
 returns-2 : tie.Need-returns-2
-unfolding projectCall
+unfolding callOver
 returns-2 c =
     let c1 = c .before in
     let c2 = c1 .before in
@@ -51,7 +51,7 @@ returns-2 c =
     simp (t0, t1, call-law)
 
 returns-3 : tie.Need-returns-3
-unfolding projectCall
+unfolding callOver
 returns-3 c =
     let c1 = c .before in
     let c2 = c1 .before in

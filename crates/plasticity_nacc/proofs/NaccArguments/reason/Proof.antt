@@ -1,7 +1,9 @@
 -- `plasticity_nacc::NaccArguments::reason` answers `reasonOf (argumentsWalk self u vt s)`.
 use borrow.Author.Needs.{needs}
+use Rattle.walk.specs.Update.{inThree}
+use Rattle.plasticity_nacc.specs.Law.{argumentsFinite}
 use Rattle.plasticity_nacc.proofs.Told.{arguments-told}
-use Rattle.plasticity_nacc.proofs.Laws.{arguments-alpha}
+use Rattle.plasticity_nacc.proofs.Laws.{alpha-finite}
 use Rattle.plasticity_nacc.proofs.NaccArguments.reason.Statement.{statement}
 use Rattle.plasticity_nacc.proofs.NaccArguments.reason.Tie as tie
 
@@ -9,7 +11,7 @@ run-reason-requires : tie.Need-run-reason-requires
 run-reason-requires c κs =
     let c2 = c .before .before in
     let a = c2 .before .before .args in
-    arguments-alpha (a .self) (a .u) (a .vt) (a .s) (simp (c2 .inputs-finite .ensures, c2 .before .parameters-finite .ensures) at (c .before .if1 .taken))
+    alpha-finite inThree (argumentsFinite (a .self)) (a .u) (a .vt) (a .s) (simp (c2 .inputs-finite .ensures, c2 .before .parameters-finite .ensures) at (c .before .if1 .taken))
 
 returns : tie.Need-returns
 returns c =

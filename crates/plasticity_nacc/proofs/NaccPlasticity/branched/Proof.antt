@@ -1,6 +1,6 @@
 -- `plasticity_nacc::NaccPlasticity::branched` answers `steppedOf (traced (branchWalk three-axes self t s sigma alpha))`.
 use borrow.Author.Needs.{needs}
-use Rattle.plasticity_nacc.specs.Nacc.{branchWalk}
+use Rattle.plasticity_nacc.specs.Projection.{branchWalk}
 use Rattle.plasticity_nacc.proofs.Laws.{shape-then, pressures}
 use Rattle.plasticity_nacc.proofs.NaccPlasticity.branched.Statement.{statement}
 use Rattle.plasticity_nacc.proofs.NaccPlasticity.branched.Tie as tie

@@ -3,7 +3,7 @@ use borrow.Author.Needs.{needs}
 use Rattle.walk.specs.Expr.{num, value, zero-number}
 use Rattle.walk.specs.Steps.{root-told}
 use Rattle.plasticity_nacc.specs.Formulas.{volumeSquare}
-use Rattle.plasticity_nacc.specs.Nacc.{sizeOf, growWalk}
+use Rattle.plasticity_nacc.specs.Projection.{sizeOf, growWalk}
 use Rattle.plasticity_nacc.proofs.Laws.{size-number, small-number}
 use Rattle.plasticity_nacc.proofs.NaccPlasticity.grown.Statement.{statement}
 use Rattle.plasticity_nacc.proofs.NaccPlasticity.grown.Tie as tie

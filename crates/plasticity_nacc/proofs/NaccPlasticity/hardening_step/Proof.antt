@@ -1,7 +1,7 @@
 -- `plasticity_nacc::NaccPlasticity::hardening_step` answers `numberAs (traced (hardenWalk (num d) self t alpha))`: both roots come with it.
 use borrow.Author.Needs.{needs}
 use mathlib.Core.Path.{sym}
-use Rattle.plasticity_nacc.specs.Nacc.{hardenWalk}
+use Rattle.plasticity_nacc.specs.Projection.{hardenWalk}
 use Rattle.plasticity_nacc.proofs.NaccPlasticity.hardening_step.Statement.{statement}
 use Rattle.plasticity_nacc.proofs.NaccPlasticity.hardening_step.Tie as tie
 

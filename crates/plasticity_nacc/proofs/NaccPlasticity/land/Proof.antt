@@ -1,6 +1,6 @@
 -- `plasticity_nacc::NaccPlasticity::land` answers `asBranch b (traced (landWalk three-axes self t s alpha))`: the stress's norm comes with it.
 use borrow.Author.Needs.{needs}
-use Rattle.plasticity_nacc.specs.Nacc.{landWalk}
+use Rattle.plasticity_nacc.specs.Projection.{landWalk}
 use Rattle.plasticity_nacc.proofs.NaccPlasticity.land.Statement.{statement}
 use Rattle.plasticity_nacc.proofs.NaccPlasticity.land.Tie as tie
 

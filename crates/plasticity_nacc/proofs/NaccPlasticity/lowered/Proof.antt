@@ -3,7 +3,7 @@ use borrow.Author.Needs.{needs}
 use mathlib.Core.Path.{sym}
 use Rattle.numbers.specs.Floats.{isNumber}
 use Rattle.walk.specs.Every.{and-right}
-use Rattle.plasticity_nacc.specs.Nacc.{lowerWalk}
+use Rattle.plasticity_nacc.specs.Projection.{lowerWalk}
 use Rattle.plasticity_nacc.proofs.Laws.{lower-law}
 use Rattle.plasticity_nacc.proofs.NaccPlasticity.lowered.Statement.{statement}
 use Rattle.plasticity_nacc.proofs.NaccPlasticity.lowered.Tie as tie

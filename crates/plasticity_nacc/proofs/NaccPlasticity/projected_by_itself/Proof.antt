@@ -1,6 +1,6 @@
 -- `plasticity_nacc::NaccPlasticity::projected_by_itself` answers `walkedOf (traced (projectCall self f u sigma vt alpha))`.
 use borrow.Author.Needs.{needs}
-use Rattle.plasticity_nacc.specs.Nacc.{projectCall}
+use Rattle.plasticity_nacc.specs.Projection.{projectCall}
 use Rattle.plasticity_nacc.proofs.Laws.{project-inputs, project-alpha}
 use Rattle.plasticity_nacc.proofs.NaccPlasticity.projected_by_itself.Statement.{statement}
 use Rattle.plasticity_nacc.proofs.NaccPlasticity.projected_by_itself.Tie as tie

@@ -1,6 +1,6 @@
 -- `plasticity_nacc::NaccPlasticity::raised` answers `numberAs (traced (raiseWalk self (num x) j alpha))`.
 use borrow.Author.Needs.{needs}
-use Rattle.plasticity_nacc.specs.Nacc.{raiseWalk}
+use Rattle.plasticity_nacc.specs.Projection.{raiseWalk}
 use Rattle.plasticity_nacc.proofs.NaccPlasticity.raised.Statement.{statement}
 use Rattle.plasticity_nacc.proofs.NaccPlasticity.raised.Tie as tie
 

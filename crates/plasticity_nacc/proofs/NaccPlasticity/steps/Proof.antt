@@ -3,7 +3,7 @@ use borrow.Author.Needs.{needs}
 use Rattle.walk.specs.Matrix.{value-product}
 use Rattle.plasticity_nacc.specs.Axes.{three-axes}
 use Rattle.plasticity_nacc.specs.Formulas.{trialOf}
-use Rattle.plasticity_nacc.specs.Nacc.{pressWalk}
+use Rattle.plasticity_nacc.specs.Projection.{pressWalk}
 use Rattle.plasticity_nacc.proofs.Laws.{steps-law}
 use Rattle.plasticity_nacc.proofs.NaccPlasticity.steps.Statement.{statement}
 use Rattle.plasticity_nacc.proofs.NaccPlasticity.steps.Tie as tie

@@ -1,6 +1,6 @@
 -- `plasticity_nacc::NaccPlasticity::surface` answers `asBranch b (traced (surfaceWalk three-axes self t s alpha))`.
 use borrow.Author.Needs.{needs}
-use Rattle.plasticity_nacc.specs.Nacc.{surfaceWalk}
+use Rattle.plasticity_nacc.specs.Projection.{surfaceWalk}
 use Rattle.plasticity_nacc.proofs.Laws.{alpha-then}
 use Rattle.plasticity_nacc.proofs.Cases.{half-root}
 use Rattle.plasticity_nacc.proofs.NaccPlasticity.surface.Statement.{statement}

@@ -1,6 +1,6 @@
 -- `plasticity_nacc::NaccPlasticity::tip` answers `asBranch b (traced (tipWalk three-axes self (num x) j alpha))`.
 use borrow.Author.Needs.{needs}
-use Rattle.plasticity_nacc.specs.Nacc.{tipWalk}
+use Rattle.plasticity_nacc.specs.Projection.{tipWalk}
 use Rattle.plasticity_nacc.proofs.Laws.{alpha-then}
 use Rattle.plasticity_nacc.proofs.NaccPlasticity.tip.Statement.{statement}
 use Rattle.plasticity_nacc.proofs.NaccPlasticity.tip.Tie as tie

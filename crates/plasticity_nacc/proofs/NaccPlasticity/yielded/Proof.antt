@@ -1,6 +1,6 @@
 -- `plasticity_nacc::NaccPlasticity::yielded` answers `steppedOf (traced (yieldWalk three-axes self t s sigma alpha))`.
 use borrow.Author.Needs.{needs}
-use Rattle.plasticity_nacc.specs.Nacc.{yieldWalk}
+use Rattle.plasticity_nacc.specs.Projection.{yieldWalk}
 use Rattle.plasticity_nacc.proofs.Laws.{shape-then, small-number}
 use Rattle.plasticity_nacc.proofs.NaccPlasticity.yielded.Statement.{statement}
 use Rattle.plasticity_nacc.proofs.NaccPlasticity.yielded.Tie as tie

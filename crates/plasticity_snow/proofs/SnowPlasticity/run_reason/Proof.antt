@@ -3,7 +3,7 @@ use borrow.Author.Needs.{needs}
 use Rattle.walk.specs.Update.{inThree}
 use Rattle.reason.specs.Why.{store-why}
 use Rattle.walk.specs.Matrix.{value-product}
-use Rattle.plasticity_snow.specs.Snow.{hardenWalk}
+use Rattle.plasticity_snow.specs.Over.{hardenWalk}
 use Rattle.plasticity_snow.proofs.Why.{run-why}
 use Rattle.plasticity_snow.proofs.SnowPlasticity.run_reason.Statement.{statement}
 use Rattle.plasticity_snow.proofs.SnowPlasticity.run_reason.Tie as tie
