@@ -81,7 +81,7 @@ enum {
     PASOLETU_NO_ROOM = 9,            /* the lent room is shorter than the sheet */
     PASOLETU_ABOVE_RANGE = 10,       /* a function would get an argument above its range */
     PASOLETU_WRONG_DETERMINANT = 11, /* the record's stored determinant is not that of its F */
-    PASOLETU_OUT_OF_RANGE = 12,      /* a zone or a particle is out of range, there are over 256 tallies, or list lengths are unlike */
+    PASOLETU_BAD_ZONE = 12,          /* a zone or a particle is out of range, there are over 256 tallies, or list lengths are unlike */
     PASOLETU_TALLY_FULL = 13,        /* a tally would pass its end, 4294967295 */
     PASOLETU_NOT_ACCEPTED = 14,      /* the factors or the principal values worked out miss their check */
     PASOLETU_AFTER_END = 15,         /* a part or an end of a sheet in parts comes after its end */
@@ -121,7 +121,7 @@ static inline const char *pasoletu_refusal_text(uint64_t refusal)
     case PASOLETU_WRONG_DETERMINANT:
         return "the record's stored determinant is not that of its F: fill it in where you write F "
                "(fill_determinants)";
-    case PASOLETU_OUT_OF_RANGE:
+    case PASOLETU_BAD_ZONE:
         return "a zone or a particle is out of range, there are over 256 tallies, or list lengths are unlike: hold "
                "the zone list to the particles and the tallies";
     case PASOLETU_TALLY_FULL:

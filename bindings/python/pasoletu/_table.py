@@ -63,7 +63,7 @@ LENGTH = 8
 NO_ROOM = 9
 ABOVE_RANGE = 10
 WRONG_DETERMINANT = 11
-OUT_OF_RANGE = 12
+BAD_ZONE = 12
 TALLY_FULL = 13
 NOT_ACCEPTED = 14
 AFTER_END = 15
@@ -125,7 +125,7 @@ REFUSALS: dict[int, Refusal] = {
         "fill it in where you write F (fill_determinants)",
     ),
     12: Refusal(
-        "OUT_OF_RANGE",
+        "BAD_ZONE",
         "a zone or a particle is out of range, there are over 256 tallies, or list lengths are unlike",
         "hold the zone list to the particles and the tallies",
     ),

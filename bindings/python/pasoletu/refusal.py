@@ -6,6 +6,7 @@ from typing import Optional
 from ._table import (
     ABOVE_RANGE,
     AFTER_END,
+    BAD_ZONE,
     BELOW_RANGE,
     ENDS_EARLY,
     LENGTH,
@@ -13,7 +14,6 @@ from ._table import (
     NOT_ACCEPTED,
     NOT_FINITE,
     NOT_SHORTEST,
-    OUT_OF_RANGE,
     REFUSALS,
     TALLY_FULL,
     TOO_LONG,
@@ -25,6 +25,7 @@ from ._table import (
 __all__ = [
     "ABOVE_RANGE",
     "AFTER_END",
+    "BAD_ZONE",
     "BELOW_RANGE",
     "ENDS_EARLY",
     "LENGTH",
@@ -32,7 +33,6 @@ __all__ = [
     "NOT_FINITE",
     "NOT_SHORTEST",
     "NO_NUMBER",
-    "OUT_OF_RANGE",
     "REFUSALS",
     "Refused",
     "TALLY_FULL",

@@ -4,7 +4,7 @@ import random
 import unittest
 
 import pasoletu
-from pasoletu.refusal import OUT_OF_RANGE, TALLY_FULL
+from pasoletu.refusal import BAD_ZONE, TALLY_FULL
 
 PHASE = 30
 LAST = 2 ** 32 - 1
@@ -68,7 +68,7 @@ class Sequences(unittest.TestCase):
         else:
             with self.assertRaises(pasoletu.Refused) as told:
                 zones.move(particle, zone)
-            self.assertEqual(told.exception.number, OUT_OF_RANGE)
+            self.assertEqual(told.exception.number, BAD_ZONE)
 
     def run_pass(self, rng, model, zones, particles):
         records = array.array("d", [x for _ in range(particles) for x in record(rng)])
@@ -89,11 +89,11 @@ class Refusals(unittest.TestCase):
         self.assertEqual(told.exception.number, number)
 
     def test_twelve(self):
-        self.refused(OUT_OF_RANGE, pasoletu.Zones, 257, [])
-        self.refused(OUT_OF_RANGE, pasoletu.Zones, 2, [2])
+        self.refused(BAD_ZONE, pasoletu.Zones, 257, [])
+        self.refused(BAD_ZONE, pasoletu.Zones, 2, [2])
         zones = pasoletu.Zones(2, [0])
         records = array.array("d", pasoletu.Particle.stretched([1.0, 1.0, 1.0]).floats() * 2)
-        self.refused(OUT_OF_RANGE, zones.pass_records, pasoletu.SnowPlasticity(), records)
+        self.refused(BAD_ZONE, zones.pass_records, pasoletu.SnowPlasticity(), records)
 
     def test_thirteen(self):
         for field in range(1, 5):

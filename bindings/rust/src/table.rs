@@ -31,7 +31,7 @@ impl Refusal {
     /// The record's stored determinant is not that of its F.
     pub const WRONG_DETERMINANT: u8 = 11;
     /// A zone or a particle is out of range, there are over 256 tallies, or list lengths are unlike.
-    pub const OUT_OF_RANGE: u8 = 12;
+    pub const BAD_ZONE: u8 = 12;
     /// A tally would pass its end, 4294967295.
     pub const TALLY_FULL: u8 = 13;
     /// The factors or the principal values worked out miss their check.

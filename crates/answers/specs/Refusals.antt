@@ -46,8 +46,8 @@ abbrev pub wrongDeterminant : ℕ
 wrongDeterminant = 11
 
 -- a zone or a particle out of range, over 256 tallies, or lists of unlike lengths
-abbrev pub outOfRange : ℕ
-outOfRange = 12
+abbrev pub badZone : ℕ
+badZone = 12
 
 -- a tally would pass its end
 abbrev pub tallyFull : ℕ

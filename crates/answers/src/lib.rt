@@ -27,7 +27,7 @@ pub const ABOVE_RANGE: u8 = 10;
 
 pub const WRONG_DETERMINANT: u8 = 11;
 
-pub const OUT_OF_RANGE: u8 = 12;
+pub const BAD_ZONE: u8 = 12;
 
 pub const TALLY_FULL: u8 = 13;
 

@@ -8,7 +8,7 @@ use native.Mathlib.Omega.{arith}
 use lib.Dec.{eqb}
 use lib.ListN.{length}
 use Rattle.numbers.proofs.Laws.{and-both}
-use Rattle.answers.specs.Refusals.{unknown, wrongLength, outOfRange, tallyFull}
+use Rattle.answers.specs.Refusals.{unknown, wrongLength, badZone, tallyFull}
 use Rattle.record.specs.Layout.{floats}
 use Rattle.particles.specs.Pass.{Worked, wellSized}
 use Rattle.particles.specs.declared.step.Step.{Step}
@@ -59,21 +59,21 @@ then-six true false r d = (λ e. (refl, refl), λ h. refl)
 then-six false b r d = (λ e. absurd (omega (arith, e)), λ h. absurd (false≢true (h .0)))
 
 -- which answers no 6, and 8 of its own lists alone
-no-six : (w a b c : Bool) → _≡_ {A = ℕ} (cond w (cond a (cond b (cond c 0 tallyFull) outOfRange) wrongLength) wrongLength) unknown → ⊥
+no-six : (w a b c : Bool) → _≡_ {A = ℕ} (cond w (cond a (cond b (cond c 0 tallyFull) badZone) wrongLength) wrongLength) unknown → ⊥
 no-six true true true true e = omega (arith, e)
 no-six true true true false e = omega (arith, e)
 no-six true true false c e = omega (arith, e)
 no-six true false b c e = omega (arith, e)
 no-six false a b c e = omega (arith, e)
 
-no-eight : (w a b c : Bool) → (w ≡ true) × (a ≡ true) → _≡_ {A = ℕ} (cond w (cond a (cond b (cond c 0 tallyFull) outOfRange) wrongLength) wrongLength) wrongLength → ⊥
+no-eight : (w a b c : Bool) → (w ≡ true) × (a ≡ true) → _≡_ {A = ℕ} (cond w (cond a (cond b (cond c 0 tallyFull) badZone) wrongLength) wrongLength) wrongLength → ⊥
 no-eight true true true true h e = omega (arith, e)
 no-eight true true true false h e = omega (arith, e)
 no-eight true true false c h e = omega (arith, e)
 no-eight true false b c h e = false≢true (h .1)
 no-eight false a b c h e = false≢true (h .0)
 
-not-twelve : (_≡_ {A = ℕ} wrongLength outOfRange → ⊥) × (_≡_ {A = ℕ} unknown outOfRange → ⊥)
+not-twelve : (_≡_ {A = ℕ} wrongLength badZone → ⊥) × (_≡_ {A = ℕ} unknown badZone → ⊥)
 not-twelve = (λ e. omega (arith, e), λ e. omega (arith, e))
 
 not-thirteen : (_≡_ {A = ℕ} wrongLength tallyFull → ⊥) × (_≡_ {A = ℕ} unknown tallyFull → ⊥)
@@ -114,9 +114,9 @@ module _ (sized known : Bool) (zones xs out ws : List ℕ) where
     eight : (number ≡ wrongLength) ↔ (sized ≡ false)
     eight = first-eight sized known (passed xs out zones ws) (λ s e. no-eight (whole ws) (wellSized xs out) (passZonesFit xs zones (zonesOf ws)) (passRoom zones (zonesOf ws) (allTallies ws)) (lists s) e)
 
-    twelve : (number ≡ outOfRange) ↔ ((sized && known ≡ true) × OutOfRange (length xs / floats) zones (zonesOf ws))
+    twelve : (number ≡ badZone) ↔ ((sized && known ≡ true) × OutOfRange (length xs / floats) zones (zonesOf ws))
     twelve =
-        let q = after-both outOfRange (not-twelve .0) (not-twelve .1) sized known (passed xs out zones ws) in
+        let q = after-both badZone (not-twelve .0) (not-twelve .1) sized known (passed xs out zones ws) in
         let t = pass-words-twelve xs out zones ws in (
           λ e. let h = q .0 e in (h .0, t .0 (h .1) .1 .1),
           λ h. let l = lists (and-both sized known (h .0) .0) in q .1 (h .0, t .1 (l .0, (l .1, h .1))),
@@ -151,7 +151,7 @@ module _ (model : ℕ) (p zones xs out ws : List ℕ) where
   pub pass-six : (zonesCode model p zones xs out ws ≡ unknown) ↔ ((zonesSized model p xs out ws ≡ true) × (modelKnown model p ≡ false))
   pass-six = six (zonesSized model p xs out ws) (modelKnown model p) zones xs out ws
 
-  pub pass-twelve : (zonesCode model p zones xs out ws ≡ outOfRange) ↔ ((zonesGo model p xs out ws ≡ true) × OutOfRange (length xs / floats) zones (zonesOf ws))
+  pub pass-twelve : (zonesCode model p zones xs out ws ≡ badZone) ↔ ((zonesGo model p xs out ws ≡ true) × OutOfRange (length xs / floats) zones (zonesOf ws))
   pass-twelve = twelve (zonesSized model p xs out ws) (modelKnown model p) zones xs out ws lists
 
   pub pass-thirteen : (zonesCode model p zones xs out ws ≡ tallyFull) ↔ ((zonesGo model p xs out ws ≡ true) × ((zonesFit (length xs / floats) zones (zonesOf ws) ≡ true) × Full zones (allTallies ws)))
@@ -174,7 +174,7 @@ module _ (model : ℕ) (p l e zones xs out ws : List ℕ) where
   pub failure-six : (failureZonesCode model p l e zones xs out ws ≡ unknown) ↔ ((failureZonesSized model p l e xs out ws ≡ true) × (failureKnown model p e ≡ false))
   failure-six = six (failureZonesSized model p l e xs out ws) (failureKnown model p e) zones xs out ws
 
-  pub failure-twelve : (failureZonesCode model p l e zones xs out ws ≡ outOfRange) ↔ ((failureZonesGo model p l e xs out ws ≡ true) × OutOfRange (length xs / floats) zones (zonesOf ws))
+  pub failure-twelve : (failureZonesCode model p l e zones xs out ws ≡ badZone) ↔ ((failureZonesGo model p l e xs out ws ≡ true) × OutOfRange (length xs / floats) zones (zonesOf ws))
   failure-twelve = twelve (failureZonesSized model p l e xs out ws) (failureKnown model p e) zones xs out ws failure-lists
 
   pub failure-thirteen : (failureZonesCode model p l e zones xs out ws ≡ tallyFull) ↔ ((failureZonesGo model p l e xs out ws ≡ true) × ((zonesFit (length xs / floats) zones (zonesOf ws) ≡ true) × Full zones (allTallies ws)))

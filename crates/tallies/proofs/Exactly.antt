@@ -9,7 +9,7 @@ use lib.Dec.{eqb, leb, ltb}
 use lib.ListN.{length, getD}
 use borrow.Author.Tests.{leb-false, ltb-true, ltb-false, eqb-false}
 use Rattle.numbers.proofs.Laws.{and-both}
-use Rattle.answers.specs.Refusals.{wrongLength, outOfRange, tallyFull}
+use Rattle.answers.specs.Refusals.{wrongLength, badZone, tallyFull}
 use Rattle.record.specs.Layout.{floats}
 use Rattle.particles.specs.Pass.{wellSized}
 use Rattle.tallies.specs.declared.tally.Tally.{Tally}
@@ -49,11 +49,11 @@ false-of : (b : Bool) → (b ≡ true → ⊥) → b ≡ false
 false-of true h = absurd (h refl)
 false-of false h = refl
 
-twelve : (b : Bool) → _≡_ {A = ℕ} (cond b 0 outOfRange) outOfRange ↔ (b ≡ false)
+twelve : (b : Bool) → _≡_ {A = ℕ} (cond b 0 badZone) badZone ↔ (b ≡ false)
 twelve true = (λ e. absurd (omega (arith, e)), λ e. absurd (no-both true refl e))
 twelve false = (λ e. refl, λ e. refl)
 
-pub clear-twelve : (particles : ℕ) (zones : List ℕ) (n : ℕ) → (clearRefusal particles zones n ≡ outOfRange) ↔ OutOfRange particles zones n
+pub clear-twelve : (particles : ℕ) (zones : List ℕ) (n : ℕ) → (clearRefusal particles zones n ≡ badZone) ↔ OutOfRange particles zones n
 clear-twelve particles zones n = (
   λ e. out-of particles zones n (twelve (zonesFit particles zones n) .0 e),
   λ o. twelve (zonesFit particles zones n) .1 (false-of (zonesFit particles zones n) (not-fitting particles zones n o)),
@@ -61,7 +61,7 @@ clear-twelve particles zones n = (
 
 -- a move also where the particle or the zone is out of range
 pub move-twelve : (particles p z : ℕ) (zones : List ℕ) (n : ℕ)
-    → (moveRefusal particles p z zones n ≡ outOfRange) ↔ (OutOfRange particles zones n ⊎ ((particles ≤ p) ⊎ (n ≤ z)))
+    → (moveRefusal particles p z zones n ≡ badZone) ↔ (OutOfRange particles zones n ⊎ ((particles ≤ p) ⊎ (n ≤ z)))
 move-twelve particles p z zones n = (λ e. there (zonesFit particles zones n) refl (ltb p particles) refl (twelve (moveFits particles p z zones n) .0 e), λ o. twelve (moveFits particles p z zones n) .1 (false-of (moveFits particles p z zones n) (λ t. back o t)))
   where
     there : (a : Bool) → zonesFit particles zones n ≡ a → (b : Bool) → ltb p particles ≡ b → a && (b && ltb z n) ≡ false → OutOfRange particles zones n ⊎ ((particles ≤ p) ⊎ (n ≤ z))
@@ -80,7 +80,7 @@ move-twelve particles p z zones n = (λ e. there (zonesFit particles zones n) re
         by (inr (inl g)) f h l = omega (arith, g, h)
         by (inr (inr g)) f h l = omega (arith, g, l)
 
-pass-number : (a b c : Bool) (k : ℕ) → cond a (cond b (cond c 0 tallyFull) outOfRange) wrongLength ≡ k → ((k ≡ outOfRange) ↔ ((a ≡ true) × (b ≡ false))) × ((k ≡ tallyFull) ↔ ((a ≡ true) × ((b ≡ true) × (c ≡ false))))
+pass-number : (a b c : Bool) (k : ℕ) → cond a (cond b (cond c 0 tallyFull) badZone) wrongLength ≡ k → ((k ≡ badZone) ↔ ((a ≡ true) × (b ≡ false))) × ((k ≡ tallyFull) ↔ ((a ≡ true) × ((b ≡ true) × (c ≡ false))))
 pass-number true true true k q = ((λ e. absurd (omega (arith, q, e)), λ h. absurd (no-both true refl (h .1))), (λ e. absurd (omega (arith, q, e)), λ h. absurd (no-both true refl (h .1 .1))))
 pass-number true true false k q = ((λ e. absurd (omega (arith, q, e)), λ h. absurd (no-both true refl (h .1))), (λ e. (refl, (refl, refl)), λ h. sym q))
 pass-number true false c k q = ((λ e. (refl, refl), λ h. sym q), (λ e. absurd (omega (arith, q, e)), λ h. absurd (no-both false (h .1 .0) refl)))
@@ -88,7 +88,7 @@ pass-number false b c k q = ((λ e. absurd (omega (arith, q, e)), λ h. absurd (
 
 -- a pass, where 8 doesn't come first
 pub pass-twelve : (xs out zones : List ℕ) (ts : List Tally)
-    → (passRefusal xs out zones (length ts) ts ≡ outOfRange) ↔ ((wellSized xs out ≡ true) × OutOfRange (length xs / floats) zones (length ts))
+    → (passRefusal xs out zones (length ts) ts ≡ badZone) ↔ ((wellSized xs out ≡ true) × OutOfRange (length xs / floats) zones (length ts))
 pass-twelve xs out zones ts =
     let n = length ts in
     let q = pass-number (wellSized xs out) (zonesFit (length xs / floats) zones n) (passRoom zones n ts) (passRefusal xs out zones n ts) refl .0 in (

@@ -6,7 +6,7 @@ use mathlib.Core.List.{List, [], _∷_}
 use Prim.Native.Nat.{ℕ, _/_, _≤_, _<_}
 use native.Mathlib.Omega.{arith}
 use lib.ListN.{length, getD}
-use Rattle.answers.specs.Refusals.{wrongLength, outOfRange, tallyFull}
+use Rattle.answers.specs.Refusals.{wrongLength, badZone, tallyFull}
 use Rattle.record.specs.Layout.{floats}
 use Rattle.particles.specs.Pass.{Worked, wellSized}
 use Rattle.particles.specs.Step.{stepLaw}
@@ -131,27 +131,27 @@ now-counted-words c k e =
 
 -- ---- a refused call changes nothing: zones and words, and a pass's records and answers
 module _ (w b : Bool) (A : Type 0) (x y : A) where
-  stays : (cond w (cond b 0 outOfRange) wrongLength ≡ 0 → ⊥) → cond (w && b) x y ≡ y
+  stays : (cond w (cond b 0 badZone) wrongLength ≡ 0 → ⊥) → cond (w && b) x y ≡ y
   stays h = go w b h
     where
-      go : (w b : Bool) → (_≡_ {A = ℕ} (cond w (cond b 0 outOfRange) wrongLength) 0 → ⊥) → cond (w && b) x y ≡ y
+      go : (w b : Bool) → (_≡_ {A = ℕ} (cond w (cond b 0 badZone) wrongLength) 0 → ⊥) → cond (w && b) x y ≡ y
       go true true h = absurd (h refl)
       go true false h = refl
       go false b h = refl
 
-  stays-too : (cond w (cond b 0 outOfRange) wrongLength ≡ 0 → ⊥) → cond w (cond b x y) y ≡ y
+  stays-too : (cond w (cond b 0 badZone) wrongLength ≡ 0 → ⊥) → cond w (cond b x y) y ≡ y
   stays-too h = go w b h
     where
-      go : (w b : Bool) → (_≡_ {A = ℕ} (cond w (cond b 0 outOfRange) wrongLength) 0 → ⊥) → cond w (cond b x y) y ≡ y
+      go : (w b : Bool) → (_≡_ {A = ℕ} (cond w (cond b 0 badZone) wrongLength) 0 → ⊥) → cond w (cond b x y) y ≡ y
       go true true h = absurd (h refl)
       go true false h = refl
       go false b h = refl
 
 module _ (w a b c : Bool) (A : Type 0) (x y : A) where
-  kept : (cond w (cond a (cond b (cond c 0 tallyFull) outOfRange) wrongLength) wrongLength ≡ 0 → ⊥) → (cond (w && (a && (b && c))) x y ≡ y) × (cond w (cond (a && (b && c)) x y) y ≡ y)
+  kept : (cond w (cond a (cond b (cond c 0 tallyFull) badZone) wrongLength) wrongLength ≡ 0 → ⊥) → (cond (w && (a && (b && c))) x y ≡ y) × (cond w (cond (a && (b && c)) x y) y ≡ y)
   kept h = go w a b c h
     where
-      go : (w a b c : Bool) → (_≡_ {A = ℕ} (cond w (cond a (cond b (cond c 0 tallyFull) outOfRange) wrongLength) wrongLength) 0 → ⊥) → (cond (w && (a && (b && c))) x y ≡ y) × (cond w (cond (a && (b && c)) x y) y ≡ y)
+      go : (w a b c : Bool) → (_≡_ {A = ℕ} (cond w (cond a (cond b (cond c 0 tallyFull) badZone) wrongLength) wrongLength) 0 → ⊥) → (cond (w && (a && (b && c))) x y ≡ y) × (cond w (cond (a && (b && c)) x y) y ≡ y)
       go true true true true h = absurd (h refl)
       go true true true false h = (refl, refl)
       go true true false c h = (refl, refl)
@@ -180,22 +180,22 @@ after-eight : (w : Bool) (r k : ℕ) → (wrongLength ≡ k → ⊥) → (cond w
 after-eight true r k d = (λ e. (refl, e), λ h. h .1)
 after-eight false r k d = (λ e. absurd (d e), λ h. absurd (false≢true (h .0)))
 
-not-twelve : _≡_ {A = ℕ} wrongLength outOfRange → ⊥
+not-twelve : _≡_ {A = ℕ} wrongLength badZone → ⊥
 not-twelve e = omega (arith, e)
 
 not-thirteen : _≡_ {A = ℕ} wrongLength tallyFull → ⊥
 not-thirteen e = omega (arith, e)
 
-pub clear-words-twelve : (particles : ℕ) (zones ws : List ℕ) → (cleared particles zones ws ≡ outOfRange) ↔ ((whole ws ≡ true) × OutOfRange particles zones (zonesOf ws))
+pub clear-words-twelve : (particles : ℕ) (zones ws : List ℕ) → (cleared particles zones ws ≡ badZone) ↔ ((whole ws ≡ true) × OutOfRange particles zones (zonesOf ws))
 clear-words-twelve particles zones ws =
-    let q = after-eight (whole ws) (clearRefusal particles zones (zonesOf ws)) outOfRange not-twelve in
+    let q = after-eight (whole ws) (clearRefusal particles zones (zonesOf ws)) badZone not-twelve in
     let t = clear-twelve particles zones (zonesOf ws) in
     (λ e. let h = q .0 e in (h .0, t .0 (h .1)), λ h. q .1 (h .0, t .1 (h .1)))
 
 pub move-words-twelve : (particles p z : ℕ) (zones ws : List ℕ)
-    → (moved particles p z zones ws ≡ outOfRange) ↔ ((whole ws ≡ true) × (OutOfRange particles zones (zonesOf ws) ⊎ ((particles ≤ p) ⊎ (zonesOf ws ≤ z))))
+    → (moved particles p z zones ws ≡ badZone) ↔ ((whole ws ≡ true) × (OutOfRange particles zones (zonesOf ws) ⊎ ((particles ≤ p) ⊎ (zonesOf ws ≤ z))))
 move-words-twelve particles p z zones ws =
-    let q = after-eight (whole ws) (moveRefusal particles p z zones (zonesOf ws)) outOfRange not-twelve in
+    let q = after-eight (whole ws) (moveRefusal particles p z zones (zonesOf ws)) badZone not-twelve in
     let t = move-twelve particles p z zones (zonesOf ws) in
     (λ e. let h = q .0 e in (h .0, t .0 (h .1)), λ h. q .1 (h .0, t .1 (h .1)))
 
@@ -203,9 +203,9 @@ module _ (xs out zones ws : List ℕ) where
   same-number : passRefusal xs out zones (length (allTallies ws)) (allTallies ws) ≡ passRefusal xs out zones (zonesOf ws) (allTallies ws)
   same-number = ap (λ (m : ℕ). passRefusal xs out zones m (allTallies ws)) (tallies-length ws (zonesOf ws))
 
-  pub pass-words-twelve : (passed xs out zones ws ≡ outOfRange) ↔ ((whole ws ≡ true) × ((wellSized xs out ≡ true) × OutOfRange (length xs / floats) zones (zonesOf ws)))
+  pub pass-words-twelve : (passed xs out zones ws ≡ badZone) ↔ ((whole ws ≡ true) × ((wellSized xs out ≡ true) × OutOfRange (length xs / floats) zones (zonesOf ws)))
   pass-words-twelve =
-      let q = after-eight (whole ws) (passRefusal xs out zones (zonesOf ws) (allTallies ws)) outOfRange not-twelve in
+      let q = after-eight (whole ws) (passRefusal xs out zones (zonesOf ws) (allTallies ws)) badZone not-twelve in
       let t = pass-twelve xs out zones (allTallies ws) in (
         λ e. let h = q .0 e in let r = t .0 (same-number ∙ h .1) in (h .0, (r .0, (rw (tallies-length ws (zonesOf ws)) at (r .1)))),
         λ h. q .1 (h .0, sym same-number ∙ t .1 (h .1 .0, (rw (tallies-length ws (zonesOf ws)) (h .1 .1)))),

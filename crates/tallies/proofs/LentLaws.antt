@@ -7,7 +7,7 @@ use native.Mathlib.Omega.{arith}
 use lib.Dec.{eqb}
 use lib.ListN.{length, take, drop, List·getD-append}
 use lib.Seq.{take-at}
-use Rattle.answers.specs.Refusals.{wrongLength, outOfRange, tallyFull}
+use Rattle.answers.specs.Refusals.{wrongLength, badZone, tallyFull}
 use Rattle.tallies.specs.declared.tally.Tally.{Tally}
 use Rattle.tallies.specs.declared.array.Held.{Held}
 use Rattle.tallies.specs.Tallies.{none, spare}
@@ -15,11 +15,11 @@ use Rattle.tallies.specs.Words.{talliesIn, wordsIn}
 use Rattle.tallies.proofs.WordLaws.{words-same, tallies-length}
 
 -- 0 of a clear or a move, and of a pass
-pub goes-or : (b : Bool) → eqb (cond b 0 outOfRange) 0 ≡ b
+pub goes-or : (b : Bool) → eqb (cond b 0 badZone) 0 ≡ b
 goes-or true = refl
 goes-or false = refl
 
-pub goes-pass : (a b c : Bool) → eqb (cond a (cond b (cond c 0 tallyFull) outOfRange) wrongLength) 0 ≡ (a && (b && c))
+pub goes-pass : (a b c : Bool) → eqb (cond a (cond b (cond c 0 tallyFull) badZone) wrongLength) 0 ≡ (a && (b && c))
 goes-pass true true true = refl
 goes-pass true true false = refl
 goes-pass true false c = refl

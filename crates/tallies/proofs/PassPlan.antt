@@ -7,7 +7,7 @@ use native.Mathlib.Omega.{arith}
 use lib.Dec.{eqb}
 use lib.ListN.{length}
 use Rattle.numbers.proofs.Laws.{and-both}
-use Rattle.answers.specs.Refusals.{wrongLength, outOfRange, tallyFull}
+use Rattle.answers.specs.Refusals.{wrongLength, badZone, tallyFull}
 use Rattle.record.specs.Layout.{floats}
 use Rattle.particles.specs.declared.step.Step.{Step}
 use Rattle.particles.specs.Step.{stepLaw}
@@ -80,7 +80,7 @@ module _ (xs out zones : List ℕ) (ts : List Tally) where
         room : a ≡ true → b ≡ true → Counts zones (p .counts) → ok ≡ passRoom zones n ts
         room ea eb c = first .0 ∙ room-found p zones ts (fits-of (length xs / floats) zones n eb .most) c n (omega arith)
 
-        go : (a′ : Bool) → a ≡ a′ → (b′ : Bool) → b ≡ b′ → (ok′ : Bool) → ok ≡ ok′ → p .refusal ≡ cond a′ (cond b′ 0 outOfRange) wrongLength → Planned 0 (a′ && b′) zones p
+        go : (a′ : Bool) → a ≡ a′ → (b′ : Bool) → b ≡ b′ → (ok′ : Bool) → ok ≡ ok′ → p .refusal ≡ cond a′ (cond b′ 0 badZone) wrongLength → Planned 0 (a′ && b′) zones p
             → q .refusal ≡ cond (eqb (p .refusal) 0) (cond ok′ 0 tallyFull) (p .refusal) → q .what ≡ cond (eqb (p .refusal) 0 && ok′) 1 (p .what) → Result (q .refusal)
         go true ea true eb true eo r pl qr qw =
             let c = pl .1 refl in
@@ -111,7 +111,7 @@ module _ (xs out zones : List ℕ) (ts : List Tally) where
             (full ∙ rw (ea, eb, has) refl, (λ e. absurd (omega (arith, e, full)), λ d. (rw (ea, eb, has) refl, still idles)))
         go true ea false eb ok′ eo r pl qr qw =
             let code : eqb (p .refusal) 0 ≡ false = rw r refl in
-            let out-of : q .refusal ≡ outOfRange = qr ∙ rw code r in
+            let out-of : q .refusal ≡ badZone = qr ∙ rw code r in
             let idles : q .what ≡ 0 = qw ∙ rw code (idle-what (true && false) (pl .0)) in
             (out-of ∙ rw (ea, eb) refl, (λ e. absurd (omega (arith, e, out-of)), λ d. (rw (ea, eb) refl, still idles)))
         go false ea b′ eb ok′ eo r pl qr qw =

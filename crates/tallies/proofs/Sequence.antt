@@ -6,7 +6,7 @@ use Prim.Native.Nat.{ℕ, zero, suc, _+_, _/_, _<_}
 use native.Mathlib.Omega.{arith}
 use lib.Dec.{eqb}
 use lib.ListN.{length, getD, set}
-use Rattle.answers.specs.Refusals.{wrongLength, outOfRange, tallyFull}
+use Rattle.answers.specs.Refusals.{wrongLength, badZone, tallyFull}
 use Rattle.plasticity.specs.declared.Outcome.{Outcome}
 use Rattle.plasticity.specs.declared.Outcome.the-variants.{Untouched, Stored, Refused}
 use Rattle.record.specs.Layout.{floats}
@@ -145,7 +145,7 @@ pub since-cleared : (n : ℕ) (k : Kept) → clearRefusal n (k .zones) (length (
     → AllCounted (afterAll cs (after (clear n) k) .tallies) (logAll cs (after (clear n) k) [])
 since-cleared n k e cs = all-counted cs (after (clear n) k) [] (go (zonesFit n (k .zones) (length (k .tallies))) e)
   where
-    go : (b : Bool) → _≡_ {A = ℕ} (cond b 0 outOfRange) 0 → AllCounted (cond b (byZone (clearedAt (k .zones)) 0 (k .tallies)) (k .tallies)) []
+    go : (b : Bool) → _≡_ {A = ℕ} (cond b 0 badZone) 0 → AllCounted (cond b (byZone (clearedAt (k .zones)) 0 (k .tallies)) (k .tallies)) []
     go true q = cleared-counted (k .zones) (k .tallies)
     go false q = absurd (omega (arith, q))
 
@@ -186,12 +186,12 @@ recounted-now zones ts = by-now zones (recount zones) ts (λ z l. refl)
 pub now-counted : (c : Call) (k : Kept) → refusalOf c k ≡ 0 → AllNow (after c k .zones) (after c k .tallies)
 now-counted (clear n) k e = go (zonesFit n (k .zones) (length (k .tallies))) e
   where
-    go : (b : Bool) → _≡_ {A = ℕ} (cond b 0 outOfRange) 0 → AllNow (k .zones) (cond b (byZone (clearedAt (k .zones)) 0 (k .tallies)) (k .tallies))
+    go : (b : Bool) → _≡_ {A = ℕ} (cond b 0 badZone) 0 → AllNow (k .zones) (cond b (byZone (clearedAt (k .zones)) 0 (k .tallies)) (k .tallies))
     go true q = by-now (k .zones) (clearedAt (k .zones)) (k .tallies) (λ z l. refl)
     go false q = absurd (omega (arith, q))
 now-counted (move n p z) k e = go (moveFits n p z (k .zones) (length (k .tallies))) e
   where
-    go : (b : Bool) → _≡_ {A = ℕ} (cond b 0 outOfRange) 0 → AllNow (cond b (set (k .zones) p z) (k .zones)) (cond b (recounted (set (k .zones) p z) (k .tallies)) (k .tallies))
+    go : (b : Bool) → _≡_ {A = ℕ} (cond b 0 badZone) 0 → AllNow (cond b (set (k .zones) p z) (k .zones)) (cond b (recounted (set (k .zones) p z) (k .tallies)) (k .tallies))
     go true q = recounted-now (set (k .zones) p z) (k .tallies)
     go false q = absurd (omega (arith, q))
 now-counted (pass s xs out) k e = go (wellSized xs out) (zonesFit (length xs / floats) (k .zones) (length (k .tallies))) (passRoom (k .zones) (length (k .tallies)) (k .tallies)) e
@@ -200,7 +200,7 @@ now-counted (pass s xs out) k e = go (wellSized xs out) (zonesFit (length xs / f
     done = by-now (k .zones) (talliedIn (stepLaw s) xs (k .zones) (length xs / floats)) (recounted (k .zones) (k .tallies))
         (λ z l. pass-particles (stepLaw s) xs (k .zones) (length xs / floats) z (getD (recounted (k .zones) (k .tallies)) z none) ∙ recounted-now (k .zones) (k .tallies) z l)
 
-    go : (a b c : Bool) → _≡_ {A = ℕ} (cond a (cond b (cond c 0 tallyFull) outOfRange) wrongLength) 0
+    go : (a b c : Bool) → _≡_ {A = ℕ} (cond a (cond b (cond c 0 tallyFull) badZone) wrongLength) 0
         → AllNow (k .zones) (cond (a && (b && c)) (byZone (talliedIn (stepLaw s) xs (k .zones) (length xs / floats)) 0 (recounted (k .zones) (k .tallies))) (k .tallies))
     go true true true q = done
     go true true false q = absurd (omega (arith, q))

@@ -4,7 +4,7 @@ use mathlib.Core.List.{List, [], _∷_}
 use Prim.Native.Nat.{ℕ, zero, suc, _+_, _/_, _<_, _^_}
 use lib.Dec.{eqb, leb}
 use lib.ListN.{length, getD, set, replicate}
-use Rattle.answers.specs.Refusals.{wrongLength, outOfRange, tallyFull}
+use Rattle.answers.specs.Refusals.{wrongLength, badZone, tallyFull}
 use Rattle.plasticity.specs.declared.Outcome.{Outcome}
 use Rattle.record.specs.Layout.{floats}
 use Rattle.particles.specs.Pass.{Worked, recordAt, codeOf, countedIf, worked, answers, counted, wellSized}
@@ -91,13 +91,13 @@ roomIn ts (suc n) = roomIn ts n && hasRoom (getD ts n none)
 
 -- ---- the calls, with n tallies: 0, or the refusal's number
 abbrev pub clearRefusal : ℕ → List ℕ → ℕ → ℕ
-clearRefusal particles zones n = cond (zonesFit particles zones n) 0 outOfRange
+clearRefusal particles zones n = cond (zonesFit particles zones n) 0 badZone
 
 abbrev pub clearTallies : ℕ → List ℕ → ℕ → List Tally → List Tally
 clearTallies particles zones n ts = cond (zonesFit particles zones n) (byZone (clearedAt zones) 0 ts) ts
 
 abbrev pub moveRefusal : ℕ → ℕ → ℕ → List ℕ → ℕ → ℕ
-moveRefusal particles p z zones n = cond (moveFits particles p z zones n) 0 outOfRange
+moveRefusal particles p z zones n = cond (moveFits particles p z zones n) 0 badZone
 
 abbrev pub moveZones : ℕ → ℕ → ℕ → List ℕ → ℕ → List ℕ
 moveZones particles p z zones n = cond (moveFits particles p z zones n) (set zones p z) zones
@@ -114,7 +114,7 @@ passRoom zones n ts = roomIn (recounted zones ts) n
 
 abbrev pub passRefusal : List ℕ → List ℕ → List ℕ → ℕ → List Tally → ℕ
 passRefusal xs out zones n ts =
-    cond (wellSized xs out) (cond (passZonesFit xs zones n) (cond (passRoom zones n ts) 0 tallyFull) outOfRange) wrongLength
+    cond (wellSized xs out) (cond (passZonesFit xs zones n) (cond (passRoom zones n ts) 0 tallyFull) badZone) wrongLength
 
 abbrev pub passGoes : List ℕ → List ℕ → List ℕ → ℕ → List Tally → Bool
 passGoes xs out zones n ts = wellSized xs out && (passZonesFit xs zones n && passRoom zones n ts)

@@ -90,7 +90,7 @@ pub fn clear_words(particles: usize, zones: &[u64], tallies: &mut [u64]) -> u8
         if n <= ZONES {
             return clear_up_to(particles, zones, tallies, n);
         }
-        return answers::OUT_OF_RANGE;
+        return answers::BAD_ZONE;
     }
     answers::LENGTH
 }
@@ -112,7 +112,7 @@ pub fn move_particle_words(
         if n <= ZONES {
             return move_up_to(particles, p, z, zones, tallies, n);
         }
-        return answers::OUT_OF_RANGE;
+        return answers::BAD_ZONE;
     }
     answers::LENGTH
 }
@@ -135,7 +135,7 @@ pub fn pass_by_words(
         if n <= ZONES {
             return pass_up_to(s, xs, out, zones, tallies, n);
         }
-        return answers::OUT_OF_RANGE;
+        return answers::BAD_ZONE;
     }
     answers::LENGTH
 }

@@ -65,7 +65,7 @@ pub fn to_clear(particles: usize, zones: &[u64], n: usize) -> Plan
     ensures { λ p. ⌜ (p .refusal ≡ clearRefusal particles (now (zones .entry)) n) × Planned 2 (zonesFit particles (now (zones .entry)) n) (now (zones .entry)) p ⌝ }
 {
     let goes = ranges::zones_fit(particles, zones, n);
-    decided(goes, 2, answers::OUT_OF_RANGE, zones)
+    decided(goes, 2, answers::BAD_ZONE, zones)
 }
 
 // The particles listed in zone z; none in a zone beyond the last.
@@ -106,7 +106,7 @@ pub fn to_pass(words: usize, places: usize, zones: &[u64], n: usize) -> Plan
 {
     if particles::well_sized(words, places) {
         let goes = ranges::zones_fit(words / record::FLOATS, zones, n);
-        return decided(goes, 0, answers::OUT_OF_RANGE, zones);
+        return decided(goes, 0, answers::BAD_ZONE, zones);
     }
     decided(false, 0, answers::LENGTH, zones)
 }
@@ -140,9 +140,9 @@ pub fn to_move(particles: usize, p: usize, z: usize, zones: &mut [u64], n: usize
 {
     if ranges::move_fits(particles, p, z, &zones[..], n) {
         zones[p] = z as u64;
-        return decided(true, 1, answers::OUT_OF_RANGE, &zones[..]);
+        return decided(true, 1, answers::BAD_ZONE, &zones[..]);
     }
-    decided(false, 1, answers::OUT_OF_RANGE, &zones[..])
+    decided(false, 1, answers::BAD_ZONE, &zones[..])
 }
 
 pub fn plain(m: Model) -> Step
