@@ -19,7 +19,7 @@ use Rattle.tensor.specs.Inverse.{inverseTransposeOf, matOverOf, cofactorsOf}
 use Rattle.walk.specs.Expr.{Expr, num, _+_, _*_, value}
 use Rattle.walk.specs.Walk.{Walk, Function, minus-third, minus-two-thirds, ln, less, at-most, answerOf, asked, ask, Ended, refused, result, answerAs}
 use Rattle.walk.specs.Power.{power}
-use Rattle.walk.specs.Inner.{Inner}
+use Rattle.walk.proofs.Inner.{Inner}
 use Rattle.walk.specs.Every.{flat, all-append, all-flat}
 use Rattle.walk.specs.Tensor.{one, one-number, worth, rows, plus, times, determinant, cofactors-over, worth-cofactors, numbers-flat}
 use Rattle.walk.specs.Answers.{matrix, returnedMatrix, returned-matrix, matrixAs, split-number, split-matrix, asked-number, both, same, tested-later, asked-nan, asked-later}

@@ -11,11 +11,11 @@ use lib.Ieee.{Float, ofBits, fits}
 use Rattle.exact.specs.Units.{L, L-pos, mag, sgn, Fin64}
 use Rattle.exact.specs.Integers.{p, n, _≤ᶻ_, abs-is}
 use Rattle.exact.specs.Value.{val, abs-val, abs-near}
-use Rattle.exact.specs.Distances.{le-is}
+use Rattle.exact.proofs.Distances.{le-is}
 use Rattle.series.specs.Exponential.{num, den, den-pos}
 use Rattle.series.specs.Remainder.{Above, Under, above}
 use Rattle.series.specs.Bounds.{above-mono, above-weak, above-pow, under-add, under-mono, one-plus}
-use Rattle.series.specs.Scale.{above-scale, under-scale}
+use Rattle.series.proofs.Scale.{above-scale, under-scale}
 use Rattle.series.specs.ExpNear as exp
 use Rattle.series.specs.ExpNear.{AtMost, AtLeast, ExpNear, at-most-weak, at-least-weak}
 use Rattle.series.specs.LogNear as log

@@ -12,7 +12,7 @@ use lib.Ieee.Bits.{is-true}
 use lib.Ieee.Scale as Scale
 use Rattle.exact.specs.Units.{mag, L}
 use Rattle.exact.specs.Value.{val}
-use Rattle.exact.specs.OrderLe.{between-finite}
+use Rattle.exact.proofs.OrderLe.{between-finite}
 use Rattle.exact.specs.RootOf.{Rooted, sqrtOf}
 use Rattle.series.specs.ExpNear.{ExpNear}
 use Rattle.series.specs.SinhNear.{SinhNear}

@@ -12,7 +12,7 @@ use lib.Ieee.Fits.{down-pos, div-fits}
 use lib.Ieee.Order.{round-mono}
 use lib.Ieee.Positive.{positive, above, le→cross, above-of-le}
 use Rattle.exact.specs.Units.{mag, sgn}
-use Rattle.exact.specs.Positives.{one-fine, one-is, le-mag}
+use Rattle.exact.proofs.Positives.{one-fine, one-is, le-mag}
 use Rattle.exact.specs.RootOf.{sqrtOf}
 use Rattle.answers.specs.Refusals.{noNumber}
 use Rattle.answers.specs.Range.{inRange, sideOf}
@@ -26,7 +26,7 @@ use Rattle.tensor.specs.Matrix.{add, mul, div, one, sumOf, dotOf}
 use Rattle.tensor.specs.Finite.{rowFinite}
 use Rattle.walk.specs.Expr.{Expr, num, _/_, value, zero-number}
 use Rattle.walk.specs.Walk.{root, answerOf, Walk, ask, least, asked, result, answerAs}
-use Rattle.walk.specs.Steps.{most-answers, least-answers}
+use Rattle.walk.proofs.Steps.{most-answers, least-answers}
 use Rattle.walk.specs.Every.{every, all-every, and-left, and-right}
 use Rattle.walk.specs.Matrix.{dot, value-dot}
 use Rattle.walk.specs.Tensor as tensor

@@ -18,8 +18,8 @@ use Rattle.tensor.specs.Finite.{rowFinite, matFinite}
 use Rattle.physics.specs.Physics.{strainRateOf}
 use Rattle.walk.specs.Expr.{num, neg, _*_, _/_, value}
 use Rattle.walk.specs.Walk.{Walk, most, end, _then_, refused, result, answerAs, asked}
-use Rattle.walk.specs.Number.{finite-number, neg-number}
-use Rattle.walk.specs.Steps.{most-answers}
+use Rattle.walk.proofs.Number.{finite-number, neg-number}
+use Rattle.walk.proofs.Steps.{most-answers}
 use Rattle.walk.specs.Exact.{number-then}
 use Rattle.walk.specs.Every.{flat, and-left, and-right, all-append, all-flat}
 use Rattle.walk.specs.Tensor.{worth, deviatoric, worth-rows, worth-turned, worth-plus, worth-scaled, worth-deviatoric}

@@ -16,9 +16,9 @@ use Rattle.exact.specs.Fields.{Has}
 use Rattle.exact.specs.Integers.{p, n, abs, abs-is, +-parts, neg-parts}
 use Rattle.series.specs.Exponential.{num, den}
 use Rattle.series.specs.Remainder.{Above, above}
-use Rattle.series.specs.Scale.{above-scale}
+use Rattle.series.proofs.Scale.{above-scale}
 use Rattle.series.specs.ExpNear.{AtMost, AtLeast, at-most-weak, at-least-weak}
-use Rattle.series.specs.ExpSigned.{most-add, least-add}
+use Rattle.series.proofs.ExpSigned.{most-add, least-add}
 use Rattle.exponential.specs.Entries.{powerOf}
 use Rattle.exponential.specs.Worked.{shift, nearestOf, restOf, seriesOf, scaleBits, expOf}
 use Rattle.exponential.proofs.Whole.{Nearest, nearest}

@@ -16,11 +16,11 @@ use Rattle.exact.specs.Sums.{pl, mi, add-units}
 use Rattle.exact.specs.Value.{val, abs-val, near-abs, p-val, n-val}
 use Rattle.exact.specs.Integers.{p, n, abs}
 use Rattle.exact.specs.Fields.{Has}
-use Rattle.error_bounds.specs.Sharp.{digits}
-use Rattle.exact.specs.Positives.{one, one-fine, one-is, le-mag}
+use Rattle.error_bounds.proofs.Sharp.{digits}
+use Rattle.exact.proofs.Positives.{one, one-fine, one-is, le-mag}
 use Rattle.series.specs.Exponential.{num, den}
 use Rattle.series.specs.Powers.{pow1}
-use Rattle.series.specs.Ln2.{ln2}
+use Rattle.series.proofs.Ln2.{ln2}
 use Rattle.exponential.specs.Entries.{powerOf}
 use Rattle.exponential.specs.Worked.{seriesOf, timesOf, expOf}
 use Rattle.exponential.proofs.Rounded.{Few, exact-mul}

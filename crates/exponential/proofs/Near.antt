@@ -12,8 +12,8 @@ use lib.Ieee.{Float, binary64, ofBits, toBits, fits}
 use Rattle.exact.specs.Units.{L, L-pos, mag, Fin64}
 use Rattle.exact.specs.Integers.{p, n, _≤ᶻ_, neg-parts, abs-is}
 use Rattle.exact.specs.Value.{val, abs-val}
-use Rattle.exact.specs.Distances.{le-is}
-use Rattle.exact.specs.Symmetric.{symmetric-finite, symmetric-mag}
+use Rattle.exact.proofs.Distances.{le-is}
+use Rattle.exact.proofs.Symmetric.{symmetric-finite, symmetric-mag}
 use Rattle.series.specs.ExpNear.{ExpNear, at-most-weak, at-least-weak}
 use Rattle.answers.specs.Range.{inRange}
 use Rattle.answers.proofs.Values.{between}

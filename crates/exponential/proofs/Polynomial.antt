@@ -12,12 +12,12 @@ use lib.Ieee.{Float, ofBits, fits}
 use Rattle.exact.specs.Units.{L, L-pos, mag, Fin64}
 use Rattle.exact.specs.Value.{val, abs-val}
 use Rattle.exact.specs.Integers.{p, n, abs, abs-*pos, abs-pos, abs-is, _≤ᶻ_, neg-parts}
-use Rattle.exact.specs.Ring.{ring, var, con, _:+_, _:-_, _:*_}
+use Rattle.exact.proofs.Ring.{ring, var, con, _:+_, _:-_, _:*_}
 use Rattle.numbers.specs.Constants.{half}
-use Rattle.error_bounds.specs.Line.{Q}
-use Rattle.error_bounds.specs.Box.{floor, ceil, minZ, maxZ}
-use Rattle.error_bounds.specs.Span.{S, In}
-use Rattle.error_bounds.specs.Prog.{Op, _⊞_, _⊠_, runF, runQ, runB, goods, All, nth, zeroF, zeroQ, zeroB, self, nth-stands, sound}
+use Rattle.error_bounds.proofs.Line.{Q}
+use Rattle.error_bounds.proofs.Box.{floor, ceil, minZ, maxZ}
+use Rattle.error_bounds.proofs.Span.{S, In}
+use Rattle.error_bounds.proofs.Prog.{Op, _⊞_, _⊠_, runF, runQ, runB, goods, All, nth, zeroF, zeroQ, zeroB, self, nth-stands, sound}
 use Rattle.exponential.specs.Worked.{sixth, last, seriesOf}
 
 -- ---- the coefficients stand for 1 / 2, 1 / 6 and 1 / 24

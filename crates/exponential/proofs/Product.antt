@@ -12,10 +12,10 @@ use Rattle.exact.specs.Rounding.{Near}
 use Rattle.exact.specs.Units.{L, L-pos, mag, sgn, Fin64}
 use Rattle.exact.specs.Sums.{pl, mi}
 use Rattle.exact.specs.Value.{val, abs-val, near-abs, p-val, n-val, AddVal, add-val, MulVal, mul-val}
-use Rattle.exact.specs.Distances.{abs-shift}
+use Rattle.exact.proofs.Distances.{abs-shift}
 use Rattle.exact.specs.Fields.{Has}
 use Rattle.exact.specs.Integers.{p, n, abs, abs-+, abs-*, abs-*pos, abs-pos, ext, *-parts, +-parts}
-use Rattle.exact.specs.Ring.{ring, var, _:+_, _:-_, _:*_}
+use Rattle.exact.proofs.Ring.{ring, var, _:+_, _:-_, _:*_}
 use Rattle.exponential.specs.Worked.{timesOf}
 
 -- ---- over whole numbers: S is s, A the size of p, e and d the errors of the product and the sum

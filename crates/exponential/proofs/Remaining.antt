@@ -13,11 +13,11 @@ use Rattle.exact.specs.Rounding.{Near}
 use Rattle.exact.specs.Units.{L, L-pos, mag, sgn, Fin64}
 use Rattle.exact.specs.Sums.{pl, mi}
 use Rattle.exact.specs.Value.{val, abs-val, abs-near, p-val, n-val, add-val, mul-val}
-use Rattle.exact.specs.Distances.{neg-val, neg-fine, abs-shift}
-use Rattle.exact.specs.Positives.{neg-mag}
+use Rattle.exact.proofs.Distances.{neg-val, neg-fine, abs-shift}
+use Rattle.exact.proofs.Positives.{neg-mag}
 use Rattle.exact.specs.Integers.{p, n, abs, abs-+, abs-*pos, abs-neg, abs-is, +-parts, neg-parts, *-parts}
-use Rattle.exact.specs.Ring.{ring, var, _:+_, _:-_, _:*_}
-use Rattle.series.specs.Ln2.{ln2}
+use Rattle.exact.proofs.Ring.{ring, var, _:+_, _:-_, _:*_}
+use Rattle.series.proofs.Ln2.{ln2}
 use Rattle.exponential.specs.Worked.{shift, first, second, restOf}
 use Rattle.exponential.proofs.Rounded.{Exact, Few, exact-sub, exact-mul}
 use Rattle.exponential.proofs.Whole.{Nearest, shift-is, unit-large}

@@ -17,8 +17,8 @@ use Rattle.exact.specs.Units.{L, L-pos, mag, sgn, Fin64, round-mag, mul-units}
 use Rattle.exact.specs.Sums.{pl, mi, add-units}
 use Rattle.exact.specs.Value.{val, p-val, n-val}
 use Rattle.exact.specs.Integers.{p, n, ext}
-use Rattle.exact.specs.Positives.{neg-mag, neg-fine, neg-sign}
-use Rattle.error_bounds.specs.Sharp.{Digits, exact-round}
+use Rattle.exact.proofs.Positives.{neg-mag, neg-fine, neg-sign}
+use Rattle.error_bounds.proofs.Sharp.{Digits, exact-round}
 
 -- ---- rounding to a whole number: below 2^53, the error is at most a half
 cancel : (l g a u : ℕ) → 0 < l → Near (2 * (g * l)) (2 * (a * l)) (l * u) → Near (2 * g) (2 * a) u

@@ -12,7 +12,7 @@ use lib.Ieee.{Float, binary64, ofBits, toBits, fits}
 use Rattle.exact.specs.Units.{L, L-pos, mag, sgn, Fin64}
 use Rattle.exact.specs.Value.{val}
 use Rattle.exact.specs.Integers.{n}
-use Rattle.exact.specs.Positives.{neg-mag, neg-fine, neg-sign}
+use Rattle.exact.proofs.Positives.{neg-mag, neg-fine, neg-sign}
 use Rattle.series.specs.Exponential.{num, den}
 use Rattle.series.specs.Remainder.{Above, Under}
 use Rattle.series.specs.ExpNear.{AtMost, AtLeast}

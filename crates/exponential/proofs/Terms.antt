@@ -11,9 +11,9 @@ use Rattle.exact.specs.Rounding.{Near}
 use Rattle.exact.specs.Units.{L, L-pos, mag, Fin64}
 use Rattle.exact.specs.Value.{val, abs-val, near-abs}
 use Rattle.exact.specs.Integers.{p, n, abs, abs-is, ext, neg-is, +-parts}
-use Rattle.exact.specs.Ring.{ring, var, con, _:+_, _:-_, _:*_}
+use Rattle.exact.proofs.Ring.{ring, var, con, _:+_, _:-_, _:*_}
 use Rattle.series.specs.ExpNear.{AtMost, AtLeast}
-use Rattle.series.specs.ExpSmall.{evens, odds, Small, Five, small-most, small-least, at-negative}
+use Rattle.series.proofs.ExpSmall.{evens, odds, Small, Five, small-most, small-least, at-negative}
 use Rattle.exponential.specs.Worked.{seriesOf}
 use Rattle.exponential.proofs.Polynomial.{polyAt, series-near, series-small}
 

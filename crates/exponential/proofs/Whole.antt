@@ -14,7 +14,7 @@ use Rattle.exact.specs.Sums.{pl, mi, plus, minus}
 use Rattle.exact.specs.Value.{val, p-val, n-val}
 use Rattle.exact.specs.Integers.{p, n}
 use Rattle.exact.specs.Products.{mul-mag, mul-near}
-use Rattle.exact.specs.Normal.{Normal, normal}
+use Rattle.exact.proofs.Normal.{Normal, normal}
 use Rattle.exponential.specs.Worked.{shift, rate, nearestOf}
 use Rattle.exponential.proofs.Rounded.{Whole, whole-add}
 

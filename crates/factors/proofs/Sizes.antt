@@ -15,8 +15,8 @@ use lib.Ieee.{Float, binary64, ofBits, neg, fits}
 use Rattle.exact.specs.Units.{L, mag, sgn, Fin64}
 use Rattle.exact.specs.Integers.{p, n, _≤ᶻ_}
 use Rattle.exact.specs.Value.{val, signed}
-use Rattle.exact.specs.Order.{lt-val}
-use Rattle.exact.specs.Positives.{neg-mag, neg-fine, neg-sign}
+use Rattle.exact.proofs.Order.{lt-val}
+use Rattle.exact.proofs.Positives.{neg-mag, neg-fine, neg-sign}
 use Rattle.numbers.specs.Floats.{finite}
 use Rattle.numbers.proofs.Laws.{finite-is, and-both}
 use Rattle.nearness.proofs.Rounded.{naught-fine, naught-val}

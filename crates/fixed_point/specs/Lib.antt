@@ -1,2 +1,1 @@
 pub mod ToFloat
-pub mod FloatOfLaw

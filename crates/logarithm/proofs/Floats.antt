@@ -11,7 +11,7 @@ use lib.Dec.{T, leb, leb→le}
 use lib.Ieee as Ieee
 use lib.Ieee.{Float, binary64, ofBits, fits}
 use lib.Ieee.Scale.{finite}
-use Rattle.exact.specs.Both.{both, both-left, both-right}
+use Rattle.exact.proofs.Both.{both, both-left, both-right}
 use Rattle.exact.specs.Units.{L, mag, sgn, Fin64}
 use Rattle.exact.specs.Sums.{pl, mi, plus, minus, add-near}
 use Rattle.logarithm.specs.Worked.{ln2}

@@ -13,13 +13,13 @@ use lib.Ieee.Scale as Scale
 use Rattle.exact.specs.Units.{L, L-pos, mag, sgn, Fin64}
 use Rattle.exact.specs.Sums.{pl, mi}
 use Rattle.exact.specs.Value.{val, signed, p-val, n-val}
-use Rattle.exact.specs.OrderLe.{le-val, between-finite}
+use Rattle.exact.proofs.OrderLe.{le-val, between-finite}
 use Rattle.exact.specs.Fields.{Has, exponentAt, of-own}
-use Rattle.exact.specs.Patterns.{finite-not-nan, exponent-lt, units-at}
+use Rattle.exact.proofs.Patterns.{finite-not-nan, exponent-lt, units-at}
 use Rattle.answers.specs.Range.{inRange}
 use Rattle.answers.proofs.Values.{between}
 use Rattle.series.specs.LogNear.{LogNear}
-use Rattle.series.specs.LogTail.{log-tail}
+use Rattle.series.proofs.LogTail.{log-tail}
 use Rattle.logarithm.specs.Entries.{scaleOf, logOf, cOf}
 use Rattle.logarithm.specs.Worked.{low, high, exponentOf, restOf, partOf, fractionOf, ln2, lnOf}
 use Rattle.logarithm.proofs.Floats.{K, Times, product, Summed, summed}

@@ -14,11 +14,11 @@ use Rattle.exact.specs.Sums.{plus, minus}
 use Rattle.exact.specs.Value.{val, p-val, n-val}
 use Rattle.series.specs.Remainder.{Above, Under}
 use Rattle.series.specs.Bounds.{above-add, under-add, above-mono, under-mono, above-cancel, under-cancel, above-pow, under-pow, one-plus}
-use Rattle.series.specs.Scale.{above-scale, above-unscale, under-scale, under-unscale}
+use Rattle.series.proofs.Scale.{above-scale, above-unscale, under-scale, under-unscale}
 use Rattle.series.specs.ExpNear.{AtMost, AtLeast, at-most-weak, at-least-weak}
 use Rattle.series.specs.LogNear.{LogNear, low-parts, high-parts}
-use Rattle.series.specs.Logs.{Between, betweenTest, between}
-use Rattle.series.specs.LogTail.{risen, fallen, whole, LogTail}
+use Rattle.series.proofs.Logs.{Between, betweenTest, between}
+use Rattle.series.proofs.LogTail.{risen, fallen, whole, LogTail}
 use Rattle.logarithm.proofs.Floats.{K, L-is, ln2Whole, Times, Summed}
 use Rattle.logarithm.proofs.Terms.{Terms}
 

@@ -15,7 +15,7 @@ use Rattle.exact.specs.Rounding.{Near}
 use Rattle.exact.specs.Sums.{pl, mi, plus, minus, add-near}
 use Rattle.exact.specs.Products.{mul-mag}
 use Rattle.exact.specs.Fields.{Has}
-use Rattle.exact.specs.Normal.{above-positive}
+use Rattle.exact.proofs.Normal.{above-positive}
 use Rattle.exact.specs.Value.{val, signed}
 use Rattle.logarithm.proofs.Floats.{K, K-pos, L-is, D, D-pos, square, few}
 

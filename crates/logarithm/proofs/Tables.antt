@@ -7,11 +7,11 @@ use lib.Dec.{T, leb, leb→le, eqb, eqb→eq}
 use lib.Pow.{pow-pos}
 use lib.Ieee.{Float, binary64, ofBits, fits}
 use lib.Ieee.Scale.{finite}
-use Rattle.exact.specs.Both.{both, both-left, both-right}
-use Rattle.exact.specs.Match.{at-or-last}
+use Rattle.exact.proofs.Both.{both, both-left, both-right}
+use Rattle.exact.proofs.Match.{at-or-last}
 use Rattle.exact.specs.Units.{L, mag, sgn}
 use Rattle.exact.specs.Fields.{Has}
-use Rattle.series.specs.Logs.{Between, betweenTest, between}
+use Rattle.series.proofs.Logs.{Between, betweenTest, between}
 use Rattle.logarithm.specs.Entries.{scales, last-scale, scaleOf, logOf, cOf}
 use Rattle.logarithm.proofs.Floats.{K, D}
 

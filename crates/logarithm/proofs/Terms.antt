@@ -11,16 +11,16 @@ use lib.Ieee as Ieee
 use lib.Ieee.{Float, binary64, ofBits, fits}
 use Rattle.exact.specs.Units.{L, L-pos, mag, sgn, Fin64}
 use Rattle.exact.specs.Integers.{p, n, abs, abs-pos, +-parts, neg-parts, *-parts}
-use Rattle.exact.specs.Ring.{ring, Ex, var, con, _:+_, _:-_, _:*_, Env, den}
+use Rattle.exact.proofs.Ring.{ring, Ex, var, con, _:+_, _:-_, _:*_, Env, den}
 use Rattle.exact.specs.Value.{val, near-abs, p-val, n-val}
 use Rattle.exact.specs.Sums.{plus, minus}
 use Rattle.series.specs.Powers.{pow2, pow3, pow4}
-use Rattle.error_bounds.specs.Line.{Q}
-use Rattle.error_bounds.specs.Box.{minZ, maxZ, floor, ceil}
-use Rattle.error_bounds.specs.Span.{S, In}
-use Rattle.error_bounds.specs.Prog.{Op, _⊞_, _⊠_, lit, nth, zeroQ, zeroB, runF, runQ, runB, goods, sound, self, nth-stands}
+use Rattle.error_bounds.proofs.Line.{Q}
+use Rattle.error_bounds.proofs.Box.{minZ, maxZ, floor, ceil}
+use Rattle.error_bounds.proofs.Span.{S, In}
+use Rattle.error_bounds.proofs.Prog.{Op, _⊞_, _⊠_, lit, nth, zeroQ, zeroB, runF, runQ, runB, goods, sound, self, nth-stands}
 use Rattle.logarithm.specs.Worked.{partOf}
-use Rattle.series.specs.LogTail.{risen, fallen}
+use Rattle.series.proofs.LogTail.{risen, fallen}
 use Rattle.logarithm.proofs.Floats.{K, L-is, D, L-of-D, size-of}
 
 -- g + partOf r, from the floats r and g

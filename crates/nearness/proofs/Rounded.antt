@@ -11,18 +11,18 @@ use lib.ListN.{length, getD}
 use lib.Ieee.{Float, nan, binary64, neg, add, mul, le, fits, ofBits}
 use Rattle.exact.specs.Units.{L, L-pos, mag, sgn, Fin64}
 use lib.Ieee.Bits.{is-true}
-use Rattle.exact.specs.Positives.{neg-mag}
+use Rattle.exact.proofs.Positives.{neg-mag}
 use Rattle.exact.specs.Integers.{p, n, ext, +-parts, neg-*, *-comm, *1, _≤ᶻ_, abs, abs-is, abs-+, abs-*, abs-*pos, abs-pos}
-use Rattle.exact.specs.Ring.{ring, var, con, _:+_, _:-_, _:*_}
+use Rattle.exact.proofs.Ring.{ring, var, con, _:+_, _:-_, _:*_}
 use Rattle.exact.specs.Value.{val, signed, abs-val, add-val, mul-val}
-use Rattle.exact.specs.OrderLe.{le-val, between-finite}
-use Rattle.exact.specs.Normal.{above-positive, below-positive}
+use Rattle.exact.proofs.OrderLe.{le-val, between-finite}
+use Rattle.exact.proofs.Normal.{above-positive, below-positive}
 use Rattle.numbers.specs.Floats.{finite}
 use Rattle.numbers.proofs.Laws.{finite-is}
 use Rattle.tensor.specs.Axes.{entries}
 use Rattle.nearness.specs.Near.{exactSum, near}
 use Rattle.nearness.specs.Quick.{Tame, Bounded, RowBounded, Sound, two, fourfold}
-use Rattle.exact.specs.Distances.{neg-val, neg-fine, abs-shift, abs-back}
+use Rattle.exact.proofs.Distances.{neg-val, neg-fine, abs-shift, abs-back}
 
 -- z, times P, is X up to e M P / 2 ^ 53, and z is at most B M
 pub record Close (M P : ℕ) (z : Float) (X : ℤ) (B e : ℕ) : Type 0 where

@@ -9,7 +9,7 @@ use lib.IntN.{ℤ, pos, _+ℤ_, _-ℤ_, _*ℤ_}
 use lib.ListN.{getD}
 use lib.Ieee.{Float, add, fits, ofBits, round}
 use Rattle.exact.specs.Units.{L, mag, Fin64}
-use Rattle.exact.specs.Positives.{one-is}
+use Rattle.exact.proofs.Positives.{one-is}
 use Rattle.exact.specs.Integers.{abs, *-comm, *-assoc}
 use Rattle.exact.specs.Value.{val}
 use Rattle.numbers.specs.Floats.{finite}

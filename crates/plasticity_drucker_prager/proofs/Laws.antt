@@ -20,7 +20,7 @@ use Rattle.plasticity.specs.declared.Scalars.{Scalars}
 use Rattle.plasticity.specs.declared.State.{State}
 use Rattle.walk.specs.Expr.{Expr, value}
 use Rattle.walk.specs.Walk.{Function, Walk, asks, _then_, Ended, given, refused, result}
-use Rattle.walk.specs.Three.{answersOf, byThree, asks-by}
+use Rattle.walk.proofs.Three.{answersOf, byThree, asks-by}
 use Rattle.walk.specs.Exact.{andThen, result-then}
 use Rattle.reason.specs.declared.Number.{Number}
 use Rattle.reason.specs.declared.Number.the-variants as number

@@ -17,7 +17,7 @@ use Rattle.walk.specs.Exact.{path, final, first, Refusal, answer, exactly, last
 use Rattle.walk.specs.Body as body
 use Rattle.walk.specs.Body.{refused-exactly}
 use Rattle.walk.specs.Update.{inThree, Change, untouched, refusalOf, numberOf}
-use Rattle.walk.specs.Reason.{final-then, last-then, Told, asks-told, branch-told}
+use Rattle.walk.proofs.Reason.{final-then, last-then, Told, asks-told, branch-told}
 use Rattle.plasticity_drucker_prager.specs.declared.Branch.{Branch}
 use Rattle.plasticity_drucker_prager.specs.declared.Branch.the-variants as branches
 use Rattle.plasticity_drucker_prager.specs.declared.DruckerPragerPlasticity.{DruckerPragerPlasticity}

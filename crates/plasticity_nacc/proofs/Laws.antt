@@ -18,7 +18,7 @@ use Rattle.plasticity.specs.declared.State.{State}
 use Rattle.plasticity.specs.declared.Updated.{Updated}
 use Rattle.walk.specs.Expr.{Expr, num, neg, value, zero-number}
 use Rattle.walk.specs.Walk.{Walk, end, _then_, holds, Ended, given, refused, result}
-use Rattle.walk.specs.Number.{finite-number, neg-number, add-number, sub-number, finite-sub, picked-number, zero-finite}
+use Rattle.walk.proofs.Number.{finite-number, neg-number, add-number, sub-number, finite-sub, picked-number, zero-finite}
 use Rattle.walk.specs.Exact.{andThen, result-then}
 use Rattle.walk.specs.Every.{and-left, and-right, flat, all-append, all-flat}
 use Rattle.walk.specs.Matrix.{value-entry, values-nums}

@@ -15,7 +15,7 @@ use Rattle.walk.specs.Walk.{Walk, root, less, end, branch, ask, _then_}
 use Rattle.walk.specs.Exact.{path, final, last, lastFrom, Reason}
 use Rattle.walk.specs.Body.{Body, storeWalk}
 use Rattle.walk.specs.Update.{inThree}
-use Rattle.walk.specs.Reason.{final-then, last-then, Told, branch-told, Branchless, quiet, branchless-when, branchless-asks, branchless-then}
+use Rattle.walk.proofs.Reason.{final-then, last-then, Told, branch-told, Branchless, quiet, branchless-when, branchless-asks, branchless-then}
 use Rattle.walk.specs.Numbers.{Stops, refused-when}
 use Rattle.plasticity_nacc.specs.declared.NaccArguments.{NaccArguments}
 use Rattle.plasticity_nacc.specs.declared.NaccPlasticity.{NaccPlasticity}

@@ -21,11 +21,11 @@ use Rattle.plasticity.specs.declared.Scalars.{Scalars}
 use Rattle.plasticity.specs.declared.State.{State}
 use Rattle.walk.specs.Expr.{Expr, num, _-_, value, values, nums}
 use Rattle.walk.specs.Walk.{Function, Walk, asks, _then_, Ended, given, refused, asked, result}
-use Rattle.walk.specs.Three.{answersOf, byThree, asks-by}
-use Rattle.walk.specs.Number.{finite-number, sub-number, finite-sub}
+use Rattle.walk.proofs.Three.{answersOf, byThree, asks-by}
+use Rattle.walk.proofs.Number.{finite-number, sub-number, finite-sub}
 use Rattle.walk.specs.Exact.{andThen, result-then}
 use Rattle.walk.specs.Every.{and-left, and-right, all-append}
-use Rattle.walk.specs.Steps.{least-answers}
+use Rattle.walk.proofs.Steps.{least-answers}
 use Rattle.walk.specs.Matrix.{value-dots, values-nums}
 use Rattle.walk.specs.Body as body
 use Rattle.walk.specs.Body.{Body, updatedOf, inputs-finite, finite-scalars}

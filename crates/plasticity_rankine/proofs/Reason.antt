@@ -14,7 +14,7 @@ use Rattle.walk.specs.Expr.{Expr, num, value, values, nums}
 use Rattle.walk.specs.Matrix.{sum}
 use Rattle.walk.specs.Walk.{Function, ln, exp, at, at-most, Walk, asks, end, _then_, given, result}
 use Rattle.walk.specs.Exact.{Met, path, final, first, Refusal, answer, exactly, last, lastFrom, Reason}
-use Rattle.walk.specs.Reason.{final-then, last-then, Told, branch-told, Branchless, quiet, branchless-asks}
+use Rattle.walk.proofs.Reason.{final-then, last-then, Told, branch-told, Branchless, quiet, branchless-asks}
 use Rattle.walk.specs.Numbers.{Stops, Clear, first-stops, first-clear, refused-when, accepted-when}
 use Rattle.walk.specs.Answers.{stops-positive}
 use Rattle.walk.specs.Body as body

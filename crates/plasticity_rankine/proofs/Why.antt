@@ -16,8 +16,8 @@ use Rattle.plasticity.specs.State.{inputsFinite}
 use Rattle.plasticity.specs.declared.State.{State}
 use Rattle.walk.specs.Expr.{Expr, num, _-_, value, values, nums}
 use Rattle.walk.specs.Walk.{Function, Walk, asks, _then_, Ended, given, refused, result}
-use Rattle.walk.specs.Three.{answersOf, byThree, asks-by}
-use Rattle.walk.specs.Number.{finite-number}
+use Rattle.walk.proofs.Three.{answersOf, byThree, asks-by}
+use Rattle.walk.proofs.Number.{finite-number}
 use Rattle.walk.specs.Matrix.{sum, value-dots, values-nums}
 use Rattle.reason.specs.declared.Reason.{Reason}
 use Rattle.reason.specs.declared.Reason.the-variants as reason

@@ -8,9 +8,9 @@ use Rattle.tensor.specs.Axes.{allOf}
 use Rattle.tensor.specs.Matrix.{add, sub}
 use Rattle.walk.specs.Expr.{Expr, num, _+_, _-_, value}
 use Rattle.walk.specs.Walk.{Walk, least, result}
-use Rattle.walk.specs.Number.{finite-number, max-number, add-number, sub-number}
+use Rattle.walk.proofs.Number.{finite-number, max-number, add-number, sub-number}
 use Rattle.walk.specs.Every.{and-left, and-right, every, all-every}
-use Rattle.walk.specs.Steps.{most-answers, least-answers}
+use Rattle.walk.proofs.Steps.{most-answers, least-answers}
 use Rattle.walk.specs.Body.{Body, inputsFinite, inputs-finite, finite-sigma}
 use Rattle.plasticity_snow.specs.declared.SnowPlasticity.{SnowPlasticity}
 use Rattle.plasticity_snow.specs.Clamp.{one, parametersOf, parametersFinite, clampOf, clampedOf}

@@ -10,8 +10,8 @@ use Rattle.plasticity.specs.State.{inputsFinite}
 use Rattle.plasticity.specs.declared.State.{State}
 use Rattle.walk.specs.Expr.{Expr, num, _+_, _-_, value}
 use Rattle.walk.specs.Walk.{Walk, least}
-use Rattle.walk.specs.Reason.{Branchless}
-use Rattle.walk.specs.Number.{finite-number, max-number}
+use Rattle.walk.proofs.Reason.{Branchless}
+use Rattle.walk.proofs.Number.{finite-number, max-number}
 use Rattle.walk.specs.Every.{and-left, and-right, every}
 use Rattle.walk.specs.Body.{storeWalk}
 use Rattle.walk.specs.Update.{inThree}

@@ -10,7 +10,7 @@ use lib.IntN.{ℤ, pos, _+ℤ_, _*ℤ_, _-ℤ_}
 use lib.Ieee.{Float}
 use Rattle.exact.specs.Units.{L, mag, Fin64}
 use Rattle.exact.specs.Integers.{abs, abs-+, abs-*, abs-pos}
-use Rattle.exact.specs.Ring.{ring, var, con, _:+_, _:-_, _:*_}
+use Rattle.exact.proofs.Ring.{ring, var, con, _:+_, _:-_, _:*_}
 use Rattle.exact.specs.Value.{val}
 use Rattle.elementary.specs.RoundTrip.{Back, Taken}
 use Rattle.elementary.proofs.RoundTrip.{round-trip}

@@ -6,7 +6,7 @@ use native.Mathlib.Omega.{arith}
 use lib.Dec.{T, leb, leb→le}
 use lib.IntN.{ℤ, pos, _+ℤ_, _*ℤ_, _-ℤ_}
 use Rattle.exact.specs.Integers.{p, n, _≤ᶻ_, abs, +-parts, *-parts}
-use Rattle.exact.specs.Ring.{ring, var, _:+_, _:*_}
+use Rattle.exact.proofs.Ring.{ring, var, _:+_, _:*_}
 use Rattle.exact.specs.Value.{near-abs}
 use Rattle.rankine_surface.specs.Surface.{Under, demanded, archived}
 

@@ -8,9 +8,9 @@ use lib.IntN.{ℤ, pos, negsuc, negℤ, _+ℤ_, _*ℤ_, _-ℤ_}
 use lib.Ieee.{Float, binary64, add, sub, mul, div, le, fits, ofBits}
 use Rattle.exact.specs.Units.{L, L-pos, mag, Fin64}
 use Rattle.exact.specs.Integers.{n, _≤ᶻ_, abs, abs-+, abs-neg, abs-pos, *-parts}
-use Rattle.exact.specs.Ring.{ring, var, con, _:+_, _:-_, _:*_}
+use Rattle.exact.proofs.Ring.{ring, var, con, _:+_, _:-_, _:*_}
 use Rattle.exact.specs.Value.{val, abs-val}
-use Rattle.exact.specs.OrderLe.{le-val}
+use Rattle.exact.proofs.OrderLe.{le-val}
 use Rattle.walk.specs.Expr.{num, value}
 use Rattle.plasticity_rankine.specs.declared.RankinePlasticity.{RankinePlasticity}
 use Rattle.plasticity_rankine.specs.declared.Sorted.{Sorted}

@@ -15,7 +15,7 @@ use Rattle.tensor.specs.Axes.{allOf}
 use Rattle.walk.specs.Expr.{Expr, num, value, values, whole-tells}
 use Rattle.walk.specs.Walk.{lowOf, highOf, at, Test, holds, Walk, inputs, ask, works, either, branch, split, results, end, _then_, Ended, given, refused, answerOf, numbers, tellable, picked, result, when, most}
 use Rattle.walk.specs.Exact.{Met, path, final, first, last, stop, placeOf, Refusal, answer, exactly, all-clean, told, picked-clean, rows-clean}
-use Rattle.walk.specs.Number.{picked-number}
+use Rattle.walk.proofs.Number.{picked-number}
 use Rattle.walk.specs.Every.{and-left, and-right, every, all-every}
 use Rattle.walk.specs.Update.{Change}
 use Rattle.reason.specs.declared.Reason.{Reason}

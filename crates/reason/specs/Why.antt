@@ -15,7 +15,7 @@ use Rattle.tensor.specs.Finite.{rowFinite, matFinite}
 use Rattle.plasticity.specs.declared.Scalars.{Scalars}
 use Rattle.walk.specs.Expr.{Expr, num, value, values, whole-tells}
 use Rattle.walk.specs.Walk.{Function, lowOf, highOf, at, Test, holds, compared, Walk, inputs, ask, works, either, branch, split, most, least, results, end, _then_, Ended, given, refused, asked, answerOf, numbers, tellable, picked, result}
-use Rattle.walk.specs.Number.{picked-number}
+use Rattle.walk.proofs.Number.{picked-number}
 use Rattle.walk.specs.Exact as walk
 use Rattle.walk.specs.Exact.{Met, Refusal, path, first, stop, placeOf, lastFrom, all-clean, told, picked-clean, rows-clean}
 use Rattle.walk.specs.Body.{Body, storeWalk, results-finite}

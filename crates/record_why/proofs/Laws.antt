@@ -22,7 +22,7 @@ use Rattle.reason.specs.declared.Reason.{Reason}
 use Rattle.reason.specs.declared.Reason.the-variants as reason
 use Rattle.reason.specs.Reason.{lastOr}
 use Rattle.reason.specs.Told.{reasonNumber, outcomeNumber, number-told, last-told, number-of, last-of}
-use Rattle.walk.specs.Reason.{quiet}
+use Rattle.walk.proofs.Reason.{quiet}
 use Rattle.plasticity_snow.specs.declared.SnowPlasticity.{SnowPlasticity}
 use Rattle.plasticity_snow.specs.Snow.{snowWalk}
 use Rattle.plasticity_snow.specs.Reason.{boundsOf}

@@ -5,7 +5,7 @@ use Rattle.tensor.specs.declared.Rows.{Rows}
 use Rattle.plasticity.specs.declared.State.{State}
 use Rattle.walk.specs.Expr.{Expr, num, value, values}
 use Rattle.walk.specs.Walk.{Walk, end, _then_}
-pub use Rattle.walk.specs.Inner.{Inner, inner-then, inner-asks, inner-mosts, inner-leasts, inner-when}
+pub use Rattle.walk.proofs.Inner.{Inner, inner-then, inner-asks, inner-mosts, inner-leasts, inner-when}
 use Rattle.plasticity_snow.specs.declared.SnowPlasticity.{SnowPlasticity}
 use Rattle.plasticity_snow.specs.Over as snow
 use Rattle.plasticity_rankine.specs.declared.RankinePlasticity.{RankinePlasticity}

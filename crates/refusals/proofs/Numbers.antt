@@ -16,7 +16,7 @@ use Rattle.walk.specs.Every.{every, all-every}
 use Rattle.walk.specs.Numbers as walk
 use Rattle.walk.specs.Numbers.{Stops, Clear}
 use Rattle.walk.specs.Answers.{refusalIn, refused-when, accepted-when}
-use Rattle.walk.specs.Inner.{Inner, Later, later, between, never-one}
+use Rattle.walk.proofs.Inner.{Inner, Later, later, between, never-one}
 use Rattle.refusals.specs.Refusals.{SomeNotFinite, Numbers, RecordNumbers}
 
 -- ---- a list of floats

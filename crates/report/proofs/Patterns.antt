@@ -11,7 +11,7 @@ use lib.Pow.{pow-pos, pow-add, pow-mono}
 use lib.Ieee.{binary64, ofBits}
 use Rattle.exact.specs.Units.{mag, sgn}
 use Rattle.exact.specs.Fields.{Has, signAt, exponentAt, digitsAt, normal-units, small-units}
-use Rattle.exact.specs.Cut.{Unpacked, unpacked}
+use Rattle.exact.proofs.Cut.{Unpacked, unpacked}
 
 -- ---- the shift
 pub low : (m e s : ℕ) → s + e ≡ 1045 → m / 2 ^ s ≡ m * 2 ^ e / 2 ^ 1045

@@ -13,7 +13,7 @@ use Rattle.exact.specs.Integers.{+0}
 use Rattle.exact.specs.Units.{mag, sgn}
 use Rattle.exact.specs.Value.{val, signed}
 use Rattle.exact.specs.Fields.{signAt, exponentAt, digitsAt}
-use Rattle.exact.specs.Cut.{Unpacked, unpacked}
+use Rattle.exact.proofs.Cut.{Unpacked, unpacked}
 use Rattle.numbers.specs.Floats.{finite}
 use Rattle.numbers.proofs.Laws.{finite-bits}
 use Rattle.report.specs.Whole.{down, wholeOf, within, isCounted, isOutside, isNotFinite}

@@ -5,17 +5,7 @@ pub mod Powers
 pub mod Bounds
 pub mod Sine
 pub mod SinNear
-pub mod SinSure
-pub mod SinNarrow
-pub mod SineNest
 pub mod ExpNear
-pub mod Scale
 pub mod LogNear
-pub mod SignedPowers
-pub mod Logs
-pub mod Ln2
 pub mod ThirdsNear
 pub mod SinhNear
-pub mod LogTail
-pub mod ExpSigned
-pub mod ExpSmall

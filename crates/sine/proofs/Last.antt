@@ -8,7 +8,7 @@ use Rattle.exact.specs.Units.{L, L-pos, mag, sgn, Fin64}
 use Rattle.exact.specs.Sums.{pl, mi}
 use Rattle.series.specs.Sine.{odd, den}
 use Rattle.series.specs.SinNear.{SinNear}
-use Rattle.series.specs.SinSure.{Sure, sure}
+use Rattle.series.proofs.SinSure.{Sure, sure}
 
 -- (2 n + 1)!
 unfoldable pub factorial : ℕ → ℕ

@@ -12,11 +12,11 @@ use Rattle.exact.specs.Units.{L, L-pos, mag, sgn, Fin64}
 use Rattle.exact.specs.Sums.{pl, mi}
 use Rattle.exact.specs.Fields.{signAt}
 use Rattle.fixed_point.specs.ToFloat.{toFloatOf, FloatOf}
-use Rattle.fixed_point.specs.FloatOfLaw.{float-of}
+use Rattle.fixed_point.proofs.FloatOfLaw.{float-of}
 use Rattle.answers.specs.Range.{inRange}
 use Rattle.series.specs.Sine.{odd, ratio, den, added, taken}
 use Rattle.series.specs.SinNear.{SinNear}
-use Rattle.series.specs.SinSure.{Sure}
+use Rattle.series.proofs.SinSure.{Sure}
 use Rattle.sine.specs.Sine.{plusOf, minusOf, differenceOf, eighthAt, low, high, one, hornerOf, shortOf, sinAt, sinOf}
 use Rattle.sine.proofs.Cuts.{Cut}
 use Rattle.sine.proofs.Terms.{plus-cut, minus-cut}

@@ -11,23 +11,23 @@ use lib.IntN.{ℤ, pos, negsuc, negℤ, _*ℤ_, _-ℤ_}
 use lib.Ieee as Ieee
 use lib.Ieee.{Float, binary64, ofBits, fits, unlike}
 use lib.Ieee.Scale.{finite}
-use Rattle.exact.specs.Both.{both, both-left, both-right}
+use Rattle.exact.proofs.Both.{both, both-left, both-right}
 use Rattle.exact.specs.Units.{L, mag, sgn, Fin64}
 use Rattle.exact.specs.Integers.{p, n, abs, _≤ᶻ_, neg-is, 1*, abs-*, abs-pos, +-parts, *-parts, neg-parts}
-use Rattle.exact.specs.Ring.{ring, Ex, var, con, _:+_, _:-_, _:*_}
-use Rattle.exact.specs.Ring as Ring
+use Rattle.exact.proofs.Ring.{ring, Ex, var, con, _:+_, _:-_, _:*_}
+use Rattle.exact.proofs.Ring as Ring
 use Rattle.exact.specs.Sums.{pl, mi}
 use Rattle.exact.specs.Value.{val, near-abs}
-use Rattle.exact.specs.OrderLe.{le-val}
-use Rattle.exact.specs.Symmetric.{symmetric-finite, symmetric-mag}
-use Rattle.error_bounds.specs.Line.{Q}
-use Rattle.error_bounds.specs.Box.{minZ, maxZ, floor, ceil}
-use Rattle.error_bounds.specs.Span.{S, In}
-use Rattle.error_bounds.specs.Prog.{Op, _⊞_, _⊟_, _⊠_, _⊘_, lit, nth, zeroQ, zeroB, zeroF, runF, runQ, runB, goods, All, sound, self, nth-stands}
+use Rattle.exact.proofs.OrderLe.{le-val}
+use Rattle.exact.proofs.Symmetric.{symmetric-finite, symmetric-mag}
+use Rattle.error_bounds.proofs.Line.{Q}
+use Rattle.error_bounds.proofs.Box.{minZ, maxZ, floor, ceil}
+use Rattle.error_bounds.proofs.Span.{S, In}
+use Rattle.error_bounds.proofs.Prog.{Op, _⊞_, _⊟_, _⊠_, _⊘_, lit, nth, zeroQ, zeroB, zeroF, runF, runQ, runB, goods, All, sound, self, nth-stands}
 use Rattle.answers.specs.Range.{inRange}
 use Rattle.answers.proofs.Values.{between}
 use Rattle.series.specs.SinNear.{SinNear}
-use Rattle.series.specs.SinSure.{Sure}
+use Rattle.series.proofs.SinSure.{Sure}
 use Rattle.series.specs.Sine.{odd, ratio, den, added, taken, even}
 use Rattle.sine.specs.Sine.{one, shorts, hornerOf, shortOf}
 use Rattle.sine.proofs.Last.{factorial, next-small, near-by}

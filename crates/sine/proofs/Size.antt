@@ -7,7 +7,7 @@ use native.Mathlib.Omega.{sub-cases}
 use native.Mathlib.Bridge.{le-by-compare, IsLe}
 use lib.Dec.{T, leb, leb→le}
 use lib.Pow.{pow-pos}
-use Rattle.exact.specs.Both.{both, both-left, both-right}
+use Rattle.exact.proofs.Both.{both, both-left, both-right}
 use Rattle.sine.specs.Sine.{stepOf, nested, plusses, minuses, square, plusOf, minusOf}
 use Rattle.sine.proofs.Laws.{cut-le}
 use Rattle.sine.proofs.Nested.{total, nested-le}

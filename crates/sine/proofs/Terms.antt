@@ -6,7 +6,7 @@ use native.Mathlib.Omega.{arith}
 use native.Mathlib.Bridge.{le-by-compare, IsLe}
 use lib.Pow.{pow-pos}
 use Rattle.series.specs.Sine.{ratio, den, added, taken, even}
-use Rattle.series.specs.SineNest.{span, nest, span-pos, span-den, added-nest, taken-nest}
+use Rattle.series.proofs.SineNest.{span, nest, span-pos, span-den, added-nest, taken-nest}
 use Rattle.sine.specs.Sine.{plusses, minuses, nested, square, plusOf, minusOf}
 use Rattle.sine.proofs.Cuts.{Cut, cut-same, cut-scale, cut-mul}
 use Rattle.sine.proofs.Laws.{cut-le}

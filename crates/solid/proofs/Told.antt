@@ -18,7 +18,7 @@ use Rattle.walk.specs.Exact.{path}
 use Rattle.walk.specs.Every.{flat}
 use Rattle.walk.specs.Numbers.{Stops}
 use Rattle.walk.specs.Answers.{returned, matrixAs, number-refused, matrix-refused}
-use Rattle.walk.specs.Inner.{Inner, later, between, never-one}
+use Rattle.walk.proofs.Inner.{Inner, later, between, never-one}
 use Rattle.record.specs.Layout.{placeF, placeSigma, placePhase, placeElasticHardening, floatAt, rowAt, matAt, uAt, vtAt, recordFinite}
 use Rattle.elasticity_neo_hookean.specs.declared.NeoHookeanElasticity.{NeoHookeanElasticity}
 use Rattle.elasticity_neo_hookean.specs.Law as neo

@@ -11,7 +11,7 @@ use lib.Ieee.{Float, nan, inf, fin, neg, binary64, toBits}
 use lib.Ieee.Bits.{is-true, is-false}
 use lib.Pow.{pow-pos}
 use Rattle.exact.specs.Units.{L, mag, sgn, Fin64}
-use Rattle.exact.specs.Positives.{neg-mag, neg-fine, neg-sign}
+use Rattle.exact.proofs.Positives.{neg-mag, neg-fine, neg-sign}
 use Rattle.exact.specs.RootOf.{sqrtOf}
 use Rattle.exact.specs.RootZero.{sqrt-zero}
 use Rattle.exact.specs.RootLaws.{NotBelow}

@@ -12,10 +12,10 @@ use Rattle.exact.specs.Units.{L, L-pos, mag}
 use Rattle.exact.specs.Value.{val}
 use Rattle.series.specs.Exponential.{num, den}
 use Rattle.series.specs.Remainder.{Above, above}
-use Rattle.series.specs.Scale.{above-scale}
+use Rattle.series.proofs.Scale.{above-scale}
 use Rattle.series.specs.ExpNear.{AtMost, AtLeast, ordered}
 use Rattle.series.specs.LogNear.{LogNear, low-parts, high-parts}
-use Rattle.series.specs.SignedPowers.{at-most-over, at-least-over, at-most-mono, at-least-mono, at-most-turned, at-least-turned, at-most-add, at-least-add}
+use Rattle.series.proofs.SignedPowers.{at-most-over, at-least-over, at-most-mono, at-least-mono, at-most-turned, at-least-turned, at-most-add, at-least-add}
 use Rattle.series.specs.ThirdsNear.{cube, cube-mul, CubeRootNear}
 use Rattle.exponential.proofs.Close.{Close}
 

@@ -1,12 +1,9 @@
 pub mod Expr
 pub mod Constants
-pub mod Number
 pub mod Walk
 pub mod Exact
 pub mod Every
-pub mod Steps
 pub mod Matrix
-pub mod Reason
 pub mod Axes
 pub mod Body
 pub mod Update
@@ -14,6 +11,4 @@ pub mod Tensor
 pub mod Answers
 pub mod Power
 pub mod Numbers
-pub mod Inner
 pub mod Before
-pub mod Three

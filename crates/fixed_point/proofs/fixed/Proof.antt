@@ -2,7 +2,7 @@
 use mathlib.Core.Path.{_≡_}
 use Prim.Native.Nat.{ℕ, _+_, _-_, _≤_}
 use native.Mathlib.Omega.{arith}
-use Rattle.exact.specs.Shift.{up, down, gone}
+use Rattle.exact.proofs.Shift.{up, down, gone}
 use borrow.Author.Needs.{needs}
 use Rattle.fixed_point.proofs.fixed.Statement.{statement}
 use Rattle.fixed_point.proofs.fixed.Tie as tie

@@ -1,5 +1,5 @@
 -- `fixed_point::mulhi` meets its contract. Assumes nothing.
-use Rattle.exact.specs.Halves.{Columns, columns}
+use Rattle.exact.proofs.Halves.{Columns, columns}
 use Rattle.fixed_point.proofs.mulhi.Statement.{statement}
 use Rattle.fixed_point.proofs.mulhi.Tie as tie
 use Rattle.fixed_point.proofs.mulhi.Reads as reads

@@ -2,7 +2,7 @@
 use Prim.Native.Nat.{_+_, _%_, _^_, _<_}
 use native.Mathlib.Omega.{arith}
 use borrow.Author.Needs.{needs}
-use Rattle.exact.specs.Patterns.{units-at, not-nan-bits}
+use Rattle.exact.proofs.Patterns.{units-at, not-nan-bits}
 use Rattle.logarithm.proofs.rest.Statement.{statement}
 use Rattle.logarithm.proofs.rest.Tie as tie
 

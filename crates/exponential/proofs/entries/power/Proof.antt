@@ -1,7 +1,7 @@
 -- `exponential::entries::power` meets its contract. Assumes nothing.
 use mathlib.Core.Path.{sym}
 use borrow.Author.Needs.{needs}
-use Rattle.exact.specs.Match.{beyond, past}
+use Rattle.exact.proofs.Match.{beyond, past}
 use Rattle.exponential.specs.Entries.{power-entries}
 use Rattle.exponential.proofs.entries.power.Statement.{statement}
 use Rattle.exponential.proofs.entries.power.Tie as tie

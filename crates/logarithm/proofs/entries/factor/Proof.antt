@@ -1,7 +1,7 @@
 -- `logarithm::entries::factor` meets its contract. Assumes nothing.
 use mathlib.Core.Path.{sym, ap, ap₂}
 use lib.Ieee.{binary64, ofBits}
-use Rattle.exact.specs.Match.{beyond, past}
+use Rattle.exact.proofs.Match.{beyond, past}
 use Rattle.logarithm.specs.Entries.{scales, last-scale, logs, last-log, cOf, factorOf}
 use Rattle.logarithm.proofs.entries.factor.Statement.{statement}
 use Rattle.logarithm.proofs.entries.factor.Tie as tie

@@ -1,6 +1,6 @@
 -- `nearness::multiply::both_halves` meets its contract. Assumes nothing.
 use borrow.Author.Needs.{needs}
-use Rattle.exact.specs.Halves.{Columns, columns}
+use Rattle.exact.proofs.Halves.{Columns, columns}
 use Rattle.nearness.proofs.Products.{both-halves}
 use Rattle.nearness.proofs.multiply.both_halves.Statement.{statement}
 use Rattle.nearness.proofs.multiply.both_halves.Tie as tie

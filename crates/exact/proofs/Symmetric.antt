@@ -8,7 +8,7 @@ use lib.Ieee.{Float, binary64, fits, le}
 use Rattle.exact.specs.Units.{mag, Fin64}
 use Rattle.exact.specs.Integers.{p, n, abs, abs-is, _≤ᶻ_}
 use Rattle.exact.specs.Value.{val, abs-val}
-use Rattle.exact.specs.OrderLe.{le-val, between-finite}
+use Rattle.exact.proofs.OrderLe.{le-val, between-finite}
 
 within-ends : (z : ℤ) (m : ℕ) → negℤ (pos (suc m)) ≤ᶻ z → z ≤ᶻ pos (suc m) → abs z ≤ suc m
 within-ends z m h k = rw (abs-is z) (go z h k)

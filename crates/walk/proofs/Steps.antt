@@ -14,7 +14,7 @@ use Rattle.exact.specs.RootOf.{sqrtOf}
 use Rattle.tensor.specs.Axes.{allOf}
 use Rattle.tensor.specs.Matrix.{sub, zero}
 use Rattle.walk.specs.Expr.{Expr, num, value, zero-number}
-use Rattle.walk.specs.Number.{picked-number, finite-sub, zero-finite, root-number}
+use Rattle.walk.proofs.Number.{picked-number, finite-sub, zero-finite, root-number}
 use Rattle.walk.specs.Walk.{root, lowOf, highOf, answerOf, Walk, Test, holds, tellable, most, least, mosts, leasts, size, when, Ended, result}
 use Rattle.walk.specs.Every.{and-left, and-right, every, all-every}
 

@@ -8,7 +8,7 @@ use mathlib.Core.Bool.{Bool, true, false, not, cond}
 use lib.Dec.{T, leb, leb→le, nleb→lt}
 use lib.IntN.{ℤ, pos, negsuc, negℤ, _*ℤ_}
 use Rattle.exact.specs.Integers.{p, n, +-parts, neg-parts, *-parts, _≤ᶻ_, *-comm}
-use Rattle.exact.specs.Ring.{bound, var, con, _:-_, _:*_, hyp, _⊗_}
+use Rattle.exact.proofs.Ring.{bound, var, con, _:-_, _:*_, hyp, _⊗_}
 
 abbrev leq : ℤ → ℤ → Bool
 leq a b = leb (p a + n b) (p b + n a)

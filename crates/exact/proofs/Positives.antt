@@ -17,7 +17,7 @@ use Rattle.exact.specs.Units.{L, mag, sgn, Fin64, div-units}
 use Rattle.exact.specs.Sums.{pl, mi, add-units, Unit64, unit-near}
 use Rattle.exact.specs.Products.{div-mag}
 use Rattle.exact.specs.Value.{p-val, n-val}
-use Rattle.exact.specs.OrderLe.{le-val}
+use Rattle.exact.proofs.OrderLe.{le-val}
 
 pub neg-mag : (x : Float) → mag (neg x) ≡ mag x
 unfolding mag neg

@@ -11,9 +11,9 @@ use lib.IntN.{ℤ, pos, negℤ, _+ℤ_, _*ℤ_, _-ℤ_, negℤ-negℤ, negℤ-+�
 use lib.Ieee.{Float, binary64, add, mul, div}
 use Rattle.exact.specs.Units.{L, L-pos, mag, Fin64}
 use Rattle.exact.specs.Integers.{abs, abs-+, abs-*, abs-*pos, abs-neg}
-use Rattle.exact.specs.Ring.{ring, var, _:+_, _:-_, _:*_}
+use Rattle.exact.proofs.Ring.{ring, var, _:+_, _:-_, _:*_}
 use Rattle.exact.specs.Value.{val, abs-val, add-val, mul-val, div-val}
-use Rattle.error_bounds.specs.DivStep.{div-step}
+use Rattle.error_bounds.proofs.DivStep.{div-step}
 
 -- ---- an exact value, and what is known of a float that stands for it
 pub record Q : Type 0 where

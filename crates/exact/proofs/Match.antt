@@ -8,7 +8,7 @@ use native.Mathlib.Nat.{not-suc-le-zero, le-of-suc-le-suc, suc-add, add-suc, add
 use native.Mathlib.Omega.{arith}
 use lib.Dec.{T}
 use lib.ListN.{length, getD}
-use Rattle.exact.specs.Both.{both, both-left, both-right}
+use Rattle.exact.proofs.Both.{both, both-left, both-right}
 
 abbrev pub Rest : ℕ → ℕ → Type 0
 Rest j zero = Unit {0}

@@ -8,7 +8,7 @@ use Rattle.exact.specs.Integers.{p, n, _≤ᶻ_, +-parts}
 use Rattle.series.specs.Exponential.{num, den}
 use Rattle.series.specs.Remainder.{Above, Under, above}
 use Rattle.series.specs.Bounds.{above-add, under-add}
-use Rattle.series.specs.Scale.{above-scale, under-scale}
+use Rattle.series.proofs.Scale.{above-scale, under-scale}
 use Rattle.series.specs.ExpNear.{AtMost, AtLeast}
 use Rattle.series.specs.LogNear.{at-most, at-least}
 

@@ -11,8 +11,8 @@ use lib.Ieee.{Float, binary64, add, mul, div}
 use Rattle.exact.specs.Units.{L, L-pos, mag, Fin64}
 use Rattle.exact.specs.Integers.{p, n, +-parts, neg-parts, *-parts, _≤ᶻ_, abs, abs-+, abs-is}
 use Rattle.exact.specs.Value.{val, abs-val, add-val, mul-val, div-val, near-abs}
-use Rattle.error_bounds.specs.Line.{Q, B, Stands, sumQ, sumB, prodQ, prodB, quotQ, quotB, add-stands, mul-stands, div-stands}
-use Rattle.error_bounds.specs.Box.{least4, most4, prod-in, floor, ceil, floor-le, le-ceil}
+use Rattle.error_bounds.proofs.Line.{Q, B, Stands, sumQ, sumB, prodQ, prodB, quotQ, quotB, add-stands, mul-stands, div-stands}
+use Rattle.error_bounds.proofs.Box.{least4, most4, prod-in, floor, ceil, floor-le, le-ceil}
 
 -- lo ≤ z ≤ hi
 pub record S : Type 0 where

@@ -8,12 +8,12 @@ use native.Mathlib.Nat.{le-refl, mul-pos, mul-one, mul-assoc, zero-lt-suc, mul-l
 use native.Mathlib.Omega.{arith}
 use lib.Pow.{pow-add}
 use lib.Dec.{T, leb, ltb, leb→le, ltb→lt}
-use Rattle.exact.specs.Both.{both, both-left, both-right}
+use Rattle.exact.proofs.Both.{both, both-left, both-right}
 use Rattle.series.specs.Exponential.{num, den}
 use Rattle.series.specs.Remainder.{Above, Under, above}
 use Rattle.series.specs.Powers.{pow1, pow2, pow3, pow4}
 use Rattle.series.specs.Bounds.{above-add, under-add}
-use Rattle.series.specs.Scale.{above-scale, under-scale}
+use Rattle.series.proofs.Scale.{above-scale, under-scale}
 
 -- r = m / q:  r + r^3 / 3 + r^5 / 5 and r^2 / 2 + r^4 / 4, over 60 q^5
 abbrev pub risen : ℕ → ℕ → ℕ

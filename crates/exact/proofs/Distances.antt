@@ -9,9 +9,9 @@ use lib.Ieee.{Float, nan, inf, fin, binary64, up, down, neg, lt, eq, le}
 use lib.Ieee.Fits.{neg-fits}
 use Rattle.exact.specs.Units.{L, mag, sgn, Fin64}
 use Rattle.exact.specs.Integers.{_≤ᶻ_, abs, abs-+, abs-neg}
-use Rattle.exact.specs.Ring.{ring, Ex, var, con, _:+_, _:-_}
+use Rattle.exact.proofs.Ring.{ring, Ex, var, con, _:+_, _:-_}
 use Rattle.exact.specs.Value.{val}
-use Rattle.exact.specs.Order.{lt-val}
+use Rattle.exact.proofs.Order.{lt-val}
 
 pub neg-val : (y : Float) → Fin64 y → val (neg y) ≡ negℤ (val y)
 unfolding neg mag val

@@ -13,7 +13,7 @@ use Rattle.exact.specs.Units.{mag, sgn, Fin64}
 use Rattle.exact.specs.Sums.{pl, mi}
 use Rattle.exact.specs.Value.{p-val, n-val}
 use Rattle.exact.specs.Fields.{signAt, exponentAt, digitsAt, normal-units, small-units, of-own}
-use Rattle.exact.specs.OrderLe.{le-val}
+use Rattle.exact.proofs.OrderLe.{le-val}
 
 -- ---- `<=` between positive values
 pub above-positive : (l x : Float) → Fin64 l → Fin64 x → sgn l ≡ false → 0 < mag l → T (le l x) → (sgn x ≡ false) × (mag l ≤ mag x)

@@ -2,7 +2,7 @@
 use mathlib.Core.Bool.{Bool}
 use Prim.Native.Nat.{ℕ, suc, _+_, _*_, _^_, _<_}
 use lib.Dec.{T, leb, leb→le}
-use Rattle.exact.specs.Both.{both, both-left, both-right}
+use Rattle.exact.proofs.Both.{both, both-left, both-right}
 use Rattle.series.specs.Exponential.{num, den}
 use Rattle.series.specs.Remainder.{Above, Under, above}
 

@@ -12,12 +12,12 @@ use lib.Ieee.{Float, fin, binary64, neg, add, sub, mul, div, fits}
 use lib.Ieee.Fits.{and-l, and-r}
 use lib.Ieee.Scale.{finite}
 use Rattle.exact.specs.Units.{L, mag, Fin64}
-use Rattle.exact.specs.Distances.{neg-val, neg-fine}
+use Rattle.exact.proofs.Distances.{neg-val, neg-fine}
 use Rattle.exact.specs.Integers.{abs, abs-neg, abs-pos, neg-*, _≤ᶻ_, neg-parts}
-use Rattle.exact.specs.Ring.{ring, var, con, _:-_, _:*_}
+use Rattle.exact.proofs.Ring.{ring, var, con, _:-_, _:*_}
 use Rattle.exact.specs.Value.{val}
-use Rattle.error_bounds.specs.Line.{Q, sumQ, negQ, prodQ, quotQ}
-use Rattle.error_bounds.specs.Span.{S, In, sumS, prodS, quotS, add-in, mul-in, div-in}
+use Rattle.error_bounds.proofs.Line.{Q, sumQ, negQ, prodQ, quotQ}
+use Rattle.error_bounds.proofs.Span.{S, In, sumS, prodS, quotS, add-in, mul-in, div-in}
 
 pub data Op : Type 0 where
   _⊞_ _⊟_ _⊠_ _⊘_ : ℕ → ℕ → Op

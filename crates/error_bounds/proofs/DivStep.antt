@@ -6,7 +6,7 @@ use native.Mathlib.Omega.{arith}
 use lib.IntN.{ℤ, pos, negℤ, _+ℤ_, _*ℤ_, _-ℤ_}
 use Rattle.exact.specs.Units.{L}
 use Rattle.exact.specs.Integers.{abs, abs-+, abs-*, abs-pos, abs-neg}
-use Rattle.exact.specs.Ring.{ring, var, _:+_, _:-_, _:*_}
+use Rattle.exact.proofs.Ring.{ring, var, _:+_, _:-_, _:*_}
 
 -- X / c is near n, Y / d near m (each den a whole number, of either sign), and Y is at least lo + f in size
 pub div-step : (Z X Y n m c d : ℤ) (e f K lo R E : ℕ) → abs (Z *ℤ Y -ℤ X *ℤ pos L) * 2 ^ 53 ≤ R → abs (X *ℤ c -ℤ n) ≤ e * abs c → abs (Y *ℤ d -ℤ m) ≤ f * abs d

@@ -7,7 +7,7 @@ use lib.Arith.{le→nltb}
 use lib.Ieee.{Float, nan, inf, fin, up, down, below, level, lt, eq, le}
 use lib.Ieee.Scale.{finite}
 use Rattle.exact.specs.Units.{Fin64}
-use Rattle.exact.specs.Order.{lt-val}
+use Rattle.exact.proofs.Order.{lt-val}
 use Rattle.exact.specs.Integers.{_≤ᶻ_}
 use Rattle.exact.specs.Value.{val}
 

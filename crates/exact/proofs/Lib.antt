@@ -1,0 +1,14 @@
+pub mod Ring
+pub mod Order
+pub mod Halves
+pub mod Both
+pub mod Match
+pub mod Shift
+pub mod OrderLe
+pub mod Cut
+pub mod Normal
+pub mod Positives
+pub mod Patterns
+pub mod Symmetric
+pub mod RootCases
+pub mod Distances

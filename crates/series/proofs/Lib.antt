@@ -1,0 +1,10 @@
+pub mod SinSure
+pub mod SinNarrow
+pub mod SineNest
+pub mod Scale
+pub mod SignedPowers
+pub mod Logs
+pub mod Ln2
+pub mod LogTail
+pub mod ExpSigned
+pub mod ExpSmall

@@ -1,0 +1,5 @@
+pub mod Number
+pub mod Steps
+pub mod Reason
+pub mod Inner
+pub mod Three
