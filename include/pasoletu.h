@@ -710,7 +710,7 @@ uint8_t pasoletu_write_sheet(uint64_t model, const double *parameters, size_t pa
 
 /* state: 52. Begins a sheet that comes in parts, cut anywhere. The caller keeps the state between the calls and
  * changes nothing in it; it holds at most one unfinished record. Words that no call wrote are answered too, as some
- * state.
+ * state, or by 6 where they name no model.
  * Refusals, nothing written: 8 for a state not of 52. */
 uint8_t pasoletu_begin_parts(uint64_t *state, size_t state_length);
 
@@ -722,16 +722,17 @@ uint8_t pasoletu_begin_parts(uint64_t *state, size_t state_length);
  * Refusals: 8 for a list of another length, before all else, with nothing written, and no fault; 5, 6 and 7 as soon
  * as the fault is there: that call does write, the records complete before the fault stand worked, and state and
  * progress tell them; after it the fault's own number again, and 15 after the end, with nothing written, progress
- * too. */
+ * too; 6, with nothing written, for a state whose words name no model or have a flag other than 0.0 and 1.0, which
+ * no call leaves. */
 uint8_t pasoletu_part(const uint8_t *bytes, size_t bytes_length, uint64_t *state, size_t state_length, double *records,
                       size_t records_length, uint64_t *answers, size_t answers_length, uint64_t *progress,
                       size_t progress_length);
 
 /* state: 52; progress: 2. The sheet has ended. The lists are lent as to pasoletu_part, and records and answers are
  * only looked at for their lengths.
- * Refusals: 8 as pasoletu_part, a fault's own number after it, and 15 after an end, all with nothing written; 4
- * where something is missing, told only here and again by every later call: the first time state and progress are
- * written. */
+ * Refusals: 8 as pasoletu_part, a fault's own number after it, 15 after an end, and the 6 of a state, all with
+ * nothing written; 4 where something is missing, told only here and again by every later call: the first time state
+ * and progress are written. */
 uint8_t pasoletu_end_parts(const double *records, size_t records_length, const uint64_t *answers, size_t answers_length,
                            uint64_t *state, size_t state_length, uint64_t *progress, size_t progress_length);
 

@@ -171,6 +171,7 @@ NANS = [
         "model: model_finite parameters_ready",
         "a test's answer",
     ),
+    ("parts: names_model", "no where it stands for a flag; of another parameter it asks nothing, and the law refuses each record by 1"),
 ]
 
 # Calls with floats whose answer can be a refusal, and that refuse a NaN by 1 (`*` stands for any name): the other half of what NANS tells.

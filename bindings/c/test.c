@@ -1018,6 +1018,24 @@ static void sheets_in_parts(void)
     CHECK(pasoletu_part(s, 1, state, STATE, r, WORDS, a, PLACES, p, 2) == 7 && p[PASOLETU_PARTS_COMPLETE] == LISTED);
     CHECK(pasoletu_end_parts(r, WORDS, a, PLACES, state, STATE, p, 2) == 7 && same(r, whole_r, WORDS));
 
+    /* A state whose words name no model, or have another flag: 6, and nothing is worked or written; put right again it goes on. */
+    CHECK(pasoletu_begin_parts(state, STATE) == 0);
+    CHECK(pasoletu_part(s, 26, state, STATE, r, WORDS, a, PLACES, p, 2) == 0);
+    memset(r, 0, sizeof r);
+    memset(a, 0, sizeof a);
+    p[0] = p[1] = 9;
+    state[PASOLETU_PARTS_STATE_MODEL] = 9;
+    memcpy(was, state, sizeof was);
+    CHECK(pasoletu_part(s + 26, n - 26, state, STATE, r, WORDS, a, PLACES, p, 2) == 6);
+    CHECK(pasoletu_end_parts(r, WORDS, a, PLACES, state, STATE, p, 2) == 6);
+    CHECK(memcmp(state, was, sizeof was) == 0 && p[0] == 9 && p[1] == 9 && a[0] == 0 && r[0] == 0);
+    state[PASOLETU_PARTS_STATE_MODEL] = PASOLETU_NACC;
+    state[PASOLETU_PARTS_STATE_PARAMETERS + 3] = UINT64_C(0x401c000000000000);
+    CHECK(pasoletu_part(s + 26, n - 26, state, STATE, r, WORDS, a, PLACES, p, 2) == 6 && a[0] == 0 && r[0] == 0);
+    state[PASOLETU_PARTS_STATE_MODEL] = PASOLETU_SNOW;
+    state[PASOLETU_PARTS_STATE_PARAMETERS + 3] = 0;
+    CHECK(pasoletu_part(s + 26, n - 26, state, STATE, r, WORDS, a, PLACES, p, 2) == 0 && same(r, whole_r, LISTED * PASOLETU_FLOATS));
+
     /* Lists of another length: 8, nothing written, and no fault. */
     CHECK(pasoletu_begin_parts(state, STATE - 1) == 8 && pasoletu_begin_parts(state, 0) == 8);
     CHECK(pasoletu_begin_parts(state, STATE) == 0);

@@ -78,7 +78,7 @@ pub extern "C" fn pasoletu_report(records: &[u64], report: &mut [u64]) -> u8
     ensures { λ r. ⌜ now (report .exit) ≡ reportWritten (now (records .entry)) (now (report .entry)) ⌝ }
 {
     if report.len() != 18 {
-        return 8;
+        return answers::LENGTH;
     }
     let r = report::over(records);
     put_reported(r, report)

@@ -76,9 +76,9 @@ pub extern "C" fn pasoletu_read_sheet(bytes: &[u8], header: &mut [u64], records:
     ensures { λ r. ⌜ now (records .exit) ≡ recordsRead (now (bytes .entry)) (now (header .entry)) (now (records .entry)) ⌝ }
 {
     if header.len() != 11 {
-        return 8;
+        return answers::LENGTH;
     }
-    let h = sheet::read(bytes, records);
+    let h = reader::read(bytes, records);
     put_header(h, header)
 }
 
@@ -95,7 +95,7 @@ pub extern "C" fn pasoletu_run_sheet(
     ensures { λ r. ⌜ now (counts .exit) ≡ countsRun (now (bytes .entry)) (now (records .entry)) (now (answers .entry)) (now (counts .entry)) ⌝ }
 {
     if counts.len() != 4 {
-        return 8;
+        return answers::LENGTH;
     }
     let ran = sheet_run::run_sheet(bytes, records, answers);
     put_ran(ran, counts)
@@ -114,7 +114,7 @@ pub extern "C" fn pasoletu_write_sheet(
     ensures { λ r. ⌜ now (written .exit) ≡ lengthWritten model (now (parameters .entry)) (now (records .entry)) (now (bytes .entry)) (now (written .entry)) ⌝ }
 {
     if written.len() != 1 {
-        return 8;
+        return answers::LENGTH;
     }
     let w = writer::write(model, parameters, records, bytes);
     put_written(w, written)

@@ -16,7 +16,7 @@ use Rattle.sheet.specs.Sheet.{most, preambleOf, asHeader}
 use Rattle.sheet.specs.declared.Header.{Header}
 use Rattle.parts.specs.declared.Arrival.{Arrival}
 use Rattle.parts.specs.declared.Told.{Told}
-use Rattle.parts.specs.Parts.{Work, works, room, heldWith, stopped, headed, wanted, recordsWith, answersWith, recorded, recordsBy, answersBy, next, after, lent, Lent, told, missing, ended}
+use Rattle.parts.specs.Parts.{Work, works, room, heldWith, stopped, headed, wanted, named, recordsWith, answersWith, recorded, recordsBy, answersBy, next, after, lent, Lent, told, missing, ended}
 
 module _ (a : Arrival) (b : ℕ) where
   pub few : wanted a ≡ true → a .complete < most
@@ -43,11 +43,16 @@ module _ (a : Arrival) (b : ℕ) where
       unfolding recorded recordsBy answersBy
       held-more h = let s = lt-ltb (a .kept + 1) (sheetFloats (a .header .model) * 8) h in (rw (t, s), (rw (t, s), rw (t, s)))
 
-      pub whole : sheetFloats (a .header .model) * 8 ≤ a .kept + 1
-          → Records (record { refusal = 0; header = a .header; complete = a .complete + 1; kept = 0; held = heldWith a b })
-          (recordsWith (a .header) (a .complete) (heldWith a b) xs) (answersWith (a .header) (a .complete) (heldWith a b) xs out)
-      unfolding recorded recordsBy answersBy
-      whole h = let s = le-ltb (a .kept + 1) (sheetFloats (a .header .model) * 8) h in (rw (t, s), (rw (t, s), rw (t, s)))
+      module _ (h : sheetFloats (a .header .model) * 8 ≤ a .kept + 1) where
+        pub whole : named (a .header) ≡ true
+            → Records (record { refusal = 0; header = a .header; complete = a .complete + 1; kept = 0; held = heldWith a b })
+            (recordsWith (a .header) (a .complete) (heldWith a b) xs) (answersWith (a .header) (a .complete) (heldWith a b) xs out)
+        unfolding recorded recordsBy answersBy
+        whole k = let s = le-ltb (a .kept + 1) (sheetFloats (a .header .model) * 8) h in (rw (t, s, k), (rw (t, s, k), rw (t, s, k)))
+
+        pub nameless : named (a .header) ≡ false → Records (stopped a 6) xs out
+        unfolding recorded recordsBy answersBy
+        nameless k = let s = le-ltb (a .kept + 1) (sheetFloats (a .header .model) * 8) h in (rw (t, s, k), (rw (t, s, k), rw (t, s, k)))
 
     pub over : wanted a ≡ false → Records (stopped a 7) xs out
     unfolding recorded recordsBy answersBy

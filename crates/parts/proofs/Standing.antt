@@ -20,6 +20,7 @@ use Rattle.sheet.specs.Sheet.{most, numberAt, wordsOf, Preamble, Open, Shut, pr
 use Rattle.sheet.specs.Spelling.{Below}
 use Rattle.sheet.specs.declared.Header.{Header}
 use Rattle.sheet.proofs.Bounds.{not-0}
+use Rattle.sheet.proofs.Known.{Known, preamble-known}
 use Rattle.sheet.proofs.Preambles.{Closes, closes}
 use Rattle.sheet.proofs.RecordLaws.{floats-least, floats-most}
 use Rattle.sheet.proofs.Rooms.{record-read}
@@ -259,6 +260,9 @@ module _ (xs₀ out₀ : List ℕ) (lent : Lent xs₀ out₀) (s : List ℕ) (x 
     named-count : a .header .count ≡ p .count
     named-count = ap (λ (h : Header). h .count) (p .header)
 
+    named-there : Known (a .header)
+    named-there = subst Known (ap asHeader (p .opens) ∙ sym (p .header)) (preamble-known s)
+
     recorded-next : Next a x (w .records) (w .answers) (recorded a x) (recordsBy a x (w .records)) (answersBy a x (w .records) (w .answers))
     recorded-next = next-record a x (w .records) (w .answers) (p .going) few-kept (ap (λ (h : Header). h .refusal) (p .header))
 
@@ -343,7 +347,7 @@ module _ (xs₀ out₀ : List ℕ) (lent : Lent xs₀ out₀) (s : List ℕ) (x 
 
         record-done : Stands xs₀ out₀ longer (next w x)
         record-done =
-            let m = whole a x (w .records) (w .answers) wants (rw named-model h) in
+            let m = whole a x (w .records) (w .answers) wants (rw named-model h) named-there in
             let n = recorded-next in
             let q = full in
             let j = add-one k in

@@ -6,8 +6,9 @@ use mathlib.Core.List.{List, [], _∷_, _++_}
 use Prim.Native.Nat.{ℕ, suc, _+_, _*_}
 use lib.ListN.{length, take, set, replicate}
 use lib.Dec.{ltb, eqb}
-use Rattle.answers.specs.Refusals.{endsEarly, tooMany, wrongLength, afterEnd}
+use Rattle.answers.specs.Refusals.{endsEarly, unknown, tooMany, wrongLength, afterEnd}
 use Rattle.record.specs.Layout.{floats}
+use Rattle.model.specs.Kinds.{modelKnown}
 use Rattle.plasticity.specs.declared.Outcome.{Outcome}
 use Rattle.particles.specs.Pass.{Worked, codeOf, valueOf, recordAt, replaced, answered}
 use Rattle.sheet.specs.Records.{sheetFloats}
@@ -56,12 +57,18 @@ wanted a = ltb (a .complete) (a .header .count) && ltb (a .complete) most
 abbrev pub short : Arrival → Bool
 short a = ltb (a .kept + 1) (sheetFloats (a .header .model) * 8)
 
+-- else 6, which no call of ours leads to: one of the eight models, and each flag is one
+abbrev pub named : Header → Bool
+named h = modelKnown (h .model) (h .parameters)
+
 unfoldable pub recorded : Arrival → ℕ → Arrival
 recorded a b =
     cond (wanted a)
     (cond (short a)
     (record { refusal = 0; header = a .header; complete = a .complete; kept = a .kept + 1; held = heldWith a b })
-    (record { refusal = 0; header = a .header; complete = a .complete + 1; kept = 0; held = heldWith a b }))
+    (cond (named (a .header))
+    (record { refusal = 0; header = a .header; complete = a .complete + 1; kept = 0; held = heldWith a b })
+    (stopped a unknown)))
     (stopped a tooMany)
 
 -- a record as the law leaves it, read from its bytes into its place
@@ -79,10 +86,12 @@ abbrev pub answersWith : Header → ℕ → List ℕ → List ℕ → List ℕ �
 answersWith h k bytes xs out = answered out k (workedBy h bytes (recordAt xs k) .outcome)
 
 unfoldable pub recordsBy : Arrival → ℕ → List ℕ → List ℕ
-recordsBy a b xs = cond (wanted a) (cond (short a) xs (recordsWith (a .header) (a .complete) (heldWith a b) xs)) xs
+recordsBy a b xs =
+    cond (wanted a) (cond (short a) xs (cond (named (a .header)) (recordsWith (a .header) (a .complete) (heldWith a b) xs) xs)) xs
 
 unfoldable pub answersBy : Arrival → ℕ → List ℕ → List ℕ → List ℕ
-answersBy a b xs out = cond (wanted a) (cond (short a) out (answersWith (a .header) (a .complete) (heldWith a b) xs out)) out
+answersBy a b xs out =
+    cond (wanted a) (cond (short a) out (cond (named (a .header)) (answersWith (a .header) (a .complete) (heldWith a b) xs out) out)) out
 
 -- ---- one byte more: nothing after a fault or the end; 7 where no room is left, which no call of ours leads to
 abbrev pub took : Work → ℕ → Work

@@ -3,13 +3,13 @@
 use model::PARAMETERS;
 use sheet::Header;
 ghost use mathlib.Core.Path.{_≡_};
-ghost use mathlib.Core.Bool.{_&&_};
+ghost use mathlib.Core.Bool.{true, _&&_};
 ghost use Prim.Native.Nat.{_*_, _<_};
 ghost use lib.Dec.{eqb};
 ghost use lib.ListN.{length, take};
 ghost use Rattle.record.specs.Layout.{floats};
 ghost use Rattle.sheet.specs.Sheet.{most, preambleOf, asHeader};
-ghost use Rattle.parts.specs.Parts.{works, room, workedBy, answerOf, recordsWith, answersWith, headed, recorded, recordsBy, answersBy, next, after, begun, stopped, Lent, parted, told, partAnswer, missing, ended, endAnswer};
+ghost use Rattle.parts.specs.Parts.{works, room, named, workedBy, answerOf, recordsWith, answersWith, headed, recorded, recordsBy, answersBy, next, after, begun, stopped, Lent, parted, told, partAnswer, missing, ended, endAnswer};
 
 // How far a sheet has come. `refusal`: what every further call is answered by: 0 while more may come, a fault's number, or 15 after the
 // end. `header`: what stands before the records, refused by 4 while it is unfinished. `complete`: how many records were worked. `kept`:
@@ -57,9 +57,9 @@ fn preamble(held: &[u8], kept: usize) -> Header
     ensures { λ r. ⌜ r ≡ asHeader (preambleOf (take kept (now (held .entry)))) ⌝ }
 {
     if kept <= held.len() {
-        return sheet::read_preamble(&held[..kept]);
+        return sheet::preamble_at(&held[..kept], 0);
     }
-    sheet::read_preamble(held)
+    sheet::preamble_at(held, 0)
 }
 
 // A byte more before the records.
@@ -105,9 +105,17 @@ fn stop(a: Arrival, n: u8) -> Arrival
     }
 }
 
+// Whether a header names one of the eight models, and each of its flags is one. Those that the calls give do.
+pub fn names_model(h: Header) -> bool
+    ensures { λ r. ⌜ r ≡ named h ⌝ }
+{
+    let parameters = h.parameters;
+    model::known(h.model, &parameters)
+}
+
 // A record's bytes are read into its place, and it is worked.
 fn work_one(h: Header, bytes: &[u8], r: &mut [u64], out: &mut [u64])
-    requires { ⌜ (length (now r) ≡ floats) × (length (now out) ≡ 2) ⌝ }
+    requires { ⌜ (length (now r) ≡ floats) × (length (now out) ≡ 2) × (named h ≡ true) ⌝ }
     ensures { λ _. ⌜ now (r .exit) ≡ workedBy h (now (bytes .entry)) (now (r .entry)) .after ⌝ }
     ensures { λ _. ⌜ now (out .exit) ≡ answerOf (workedBy h (now (bytes .entry)) (now (r .entry)) .outcome) ⌝ }
 {
@@ -119,7 +127,7 @@ fn work_one(h: Header, bytes: &[u8], r: &mut [u64], out: &mut [u64])
 
 // Record k is complete.
 fn work(h: Header, k: usize, bytes: &[u8], records: &mut [u64], answers: &mut [u64])
-    requires { ⌜ (k < most) × Lent (now records) (now answers) ⌝ }
+    requires { ⌜ (k < most) × Lent (now records) (now answers) × (named h ≡ true) ⌝ }
     ensures { λ _. ⌜ now (records .exit) ≡ recordsWith h k (now (bytes .entry)) (now (records .entry)) ⌝ }
     ensures { λ _. ⌜ now (answers .exit) ≡ answersWith h k (now (bytes .entry)) (now (records .entry)) (now (answers .entry)) ⌝ }
 {
@@ -130,7 +138,7 @@ fn work(h: Header, k: usize, bytes: &[u8], records: &mut [u64], answers: &mut [u
     work_one(h, bytes, &mut records[a..b], &mut answers[c..d]);
 }
 
-// A byte more in the records.
+// A byte more in the records. No call of ours leads to a header that names no model.
 fn record_byte(a: Arrival, b: u8, records: &mut [u64], answers: &mut [u64]) -> Arrival
     requires { ⌜ (a .kept < room) × Lent (now records) (now answers) ⌝ }
     ensures { λ r. ⌜ r ≡ recorded a b ⌝ }
@@ -153,14 +161,17 @@ fn record_byte(a: Arrival, b: u8, records: &mut [u64], answers: &mut [u64]) -> A
                 held,
             };
         }
-        work(header, k, &held[..], records, answers);
-        return Arrival {
-            refusal: 0,
-            header,
-            complete: k + 1,
-            kept: 0,
-            held,
-        };
+        if names_model(header) {
+            work(header, k, &held[..], records, answers);
+            return Arrival {
+                refusal: 0,
+                header,
+                complete: k + 1,
+                kept: 0,
+                held,
+            };
+        }
+        return stop(a, answers::UNKNOWN);
     }
     stop(a, answers::TOO_MANY)
 }

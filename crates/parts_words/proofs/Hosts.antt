@@ -10,15 +10,15 @@ use borrow.Author.Tests.{eq-eqb, ne-eqb, eqb-true, eqb-false}
 use Rattle.sheet.specs.Spelling.{Below}
 use Rattle.parts.specs.declared.Arrival.{Arrival}
 use Rattle.parts.specs.declared.Told.{Told}
-use Rattle.parts.specs.Parts.{Work, works, after, begun, Lent, parted, partAnswer, ended, endAnswer, partedAll, joined}
+use Rattle.parts.specs.Parts.{Work, works, named, after, begun, Lent, parted, partAnswer, ended, endAnswer, partedAll, joined}
 use Rattle.parts.specs.Whole.{EndsAs, soFar, afterwards}
 use Rattle.parts.proofs.Cases.{lists-lent}
-use Rattle.parts.proofs.Cutting.{part-stays}
+use Rattle.parts.proofs.Cutting.{part-again, part-stays, end-again}
 use Rattle.parts.proofs.Standing.{Stands, at-start, below-front, after-stands, stands-lent}
 use Rattle.parts.proofs.Ending.{after-end, ends, cut-alike, parts-stand, part-told, ends-as-run}
 use Rattle.sheet_run.specs.Run.{ranOf}
 use Rattle.parts_words.specs.Words.{stateLength, stateWords, arrivalAt, Typed}
-use Rattle.parts_words.specs.Calls.{Lists, progressLength, progressOf, lists, workAt, beginState, fits, goes, partCode, partLists, endTold, endCode, endLists, Call, Part, Amiss, AmissEnd, handed, partsIn, carried, progressBy, progressAfter}
+use Rattle.parts_words.specs.Calls.{Lists, progressLength, progressOf, lists, standingOf, standsAt, workAt, beginState, fits, goes, partCode, partLists, endTold, endCode, endLists, Call, Part, Amiss, AmissEnd, handed, partsIn, carried, progressBy, progressAfter}
 use Rattle.parts_words.proofs.Back.{words-back, words-many}
 use Rattle.parts_words.proofs.Kept.{typed-begun, typed-parted, typed-ended}
 use Rattle.parts_words.proofs.Fitting.{all-fit, on, host-stays, told-again}
@@ -28,6 +28,22 @@ below-back : (b : ℕ) (p l : List ℕ) → Below b (p ++ l) → Below b l
 below-back b [] l h = h
 below-back b (x ∷ p) l h = below-back b p l (h .1)
 
+-- what a state that names a model answers is its own number
+stands-so : (a : Arrival) → named (a .header) ≡ true → standingOf a ≡ a .refusal
+stands-so a k = by-number (eqb (a .refusal) 0) refl
+  where
+    by-number : (b : Bool) → eqb (a .refusal) 0 ≡ b → cond b (cond (named (a .header)) 0 6) (a .refusal) ≡ a .refusal
+    by-number true z = rw k (sym (eqb-true (a .refusal) 0 z))
+    by-number false z = refl
+
+-- a number that is told again where it is not 0
+either : (n r : ℕ) → ((n ≡ 0 → ⊥) → r ≡ n) → cond (eqb n 0) r n ≡ r
+either n r again = by-number (eqb n 0) refl
+  where
+    by-number : (b : Bool) → eqb n 0 ≡ b → cond b r n ≡ r
+    by-number true z = refl
+    by-number false z = sym (again (eqb-false n 0 z))
+
 -- ---- one call, on words that carry a state
 module _ (w : Work) (p : List ℕ) (t : Typed (w .arrival)) (lent : Lent (w .records) (w .answers)) (e : length p ≡ progressLength) where
   fit : fits (carried w p) ≡ true
@@ -36,20 +52,21 @@ module _ (w : Work) (p : List ℕ) (t : Typed (w .arrival)) (lent : Lent (w .rec
   back : arrivalAt (stateWords (w .arrival)) ≡ w .arrival
   back = words-back (w .arrival) t
 
-  number : arrivalAt (stateWords (w .arrival)) .refusal ≡ w .arrival .refusal
-  number = ap (λ (a : Arrival). a .refusal) back
+  number : standingOf (arrivalAt (stateWords (w .arrival))) ≡ w .arrival .refusal
+  number = ap standingOf back ∙ stands-so (w .arrival) (t .known)
 
   same : workAt (carried w p) ≡ w
   same = rw back
 
   pub part-code : (l : List ℕ) → partCode (carried w p) l ≡ partAnswer w l .refusal
-  part-code l = rw fit (ap (λ (x : Work). partAnswer x l .refusal) same)
+  part-code l = rw (fit, number, back) (either (w .arrival .refusal) (partAnswer w l .refusal) (λ n. ap (λ (x : Told). x .refusal) (part-again w n l (lists-lent (w .records) (w .answers) lent))))
 
   pub end-told : endTold (carried w p) ≡ endAnswer (w .arrival) (w .records) (w .answers)
   end-told = ap (λ (a : Arrival). endAnswer a (w .records) (w .answers)) back
 
   pub end-code : endCode (carried w p) ≡ endAnswer (w .arrival) (w .records) (w .answers) .refusal
-  end-code = rw fit (ap (λ (a : Arrival). endAnswer a (w .records) (w .answers) .refusal) back)
+  end-code =
+      rw (fit, number, back) (either (w .arrival .refusal) (endAnswer (w .arrival) (w .records) (w .answers) .refusal) (λ n. ap (λ (x : Told). x .refusal) (end-again w n (lists-lent (w .records) (w .answers) lent))))
 
   abbrev Carried : Lists → Work → List ℕ → Type 0
   Carried c v q = c ≡ carried v (cond (eqb (w .arrival .refusal) 0) q p)
@@ -206,7 +223,7 @@ module _ (xs₀ out₀ : List ℕ) (lent : Lent xs₀ out₀) where
           let m = two (eqb (a .refusal) 0) (ended a) (told ks) told-two in
           let u = number v q y lists-there m in
           let k = fit v q y lists-there m in
-          let z : arrivalAt (stateWords (ended a .arrival)) .refusal ≡ 0 → ⊥ = λ x. after-end a .1 (sym u ∙ x) in
+          let z : standsAt (carried v q) ≡ 0 → ⊥ = λ x. after-end a .1 (sym u ∙ x) in
           let r = ends xs₀ out₀ lent s w (parts-stand xs₀ out₀ lent (partsIn ks) b) .refusal in
           let n = u ∙ after-end a .0 ∙ ap afterwards r in
           let h = host-stays (carried v q) k z l in

@@ -1,4 +1,4 @@
--- Every state that the calls give has the types that the code has. Assumes nothing.
+-- Every state that the calls give has the types that the code has, and names a model. Assumes nothing.
 use mathlib.Core.Path.{_≡_, refl, sym, ap, _∙_, subst}
 use mathlib.Core.Bool.{Bool, true, false, cond}
 use mathlib.Core.List.{List, [], _∷_, _++_}
@@ -12,11 +12,12 @@ use Rattle.sheet.specs.Sheet.{padded, refusedBy, Preamble, Open, Shut, preamble
 use Rattle.sheet.specs.Spelling.{Below}
 use Rattle.sheet.specs.declared.Header.{Header}
 use Rattle.sheet.proofs.Bounds.{Refusal}
+use Rattle.sheet.proofs.Known.{refused-known, preamble-known}
 use Rattle.sheet.proofs.Pieces.{below-take, fits-length}
 use Rattle.sheet.proofs.Preambles.{Closes, closes}
 use Rattle.parts.specs.declared.Arrival.{Arrival}
 use Rattle.parts.specs.declared.Told.{Told}
-use Rattle.parts.specs.Parts.{Work, room, heldWith, stopped, headed, headedBy, recorded, wanted, short, next, after, begun, lent, parted, missing, ended, endAnswer}
+use Rattle.parts.specs.Parts.{Work, room, heldWith, stopped, headed, headedBy, recorded, wanted, short, named, next, after, begun, lent, parted, missing, ended, endAnswer}
 use Rattle.parts.proofs.MoreBytes.{spelled-out}
 use Rattle.parts_words.specs.Words.{Typed}
 
@@ -32,13 +33,13 @@ below-set (y ∷ l) (suc i) x b h = (b .0, below-set l i x (b .1) h)
 
 -- ---- what stands before the records
 abbrev Header·Typed : Header → Type 0
-Header·Typed h = (h .refusal < 256) × (length (h .parameters) ≡ places)
+Header·Typed h = (h .refusal < 256) × (length (h .parameters) ≡ places) × (named h ≡ true)
 
 padded-length : (ws : List ℕ) → length ws ≤ places → length (padded ws) ≡ places
 padded-length ws h = omega (arith, h, length-append ws (replicate (places - length ws) 0), length-replicate {A = ℕ} (places - length ws) 0)
 
 module _ (s : List ℕ) (b : Below 256 s) where
-  by-preamble : (f : Preamble) → preambleOf s ≡ f → Closes (length s) f → Header·Typed (asHeader f)
+  by-preamble : (f : Preamble) → preambleOf s ≡ f → Closes (length s) f → (asHeader f .refusal < 256) × (length (asHeader f .parameters) ≡ places)
   by-preamble (Open model bits count at) e c =
       let g = spelled-out s b model bits count at e in
       let k = kinds-most model in
@@ -47,7 +48,7 @@ module _ (s : List ℕ) (b : Below 256 s) where
   by-preamble (Shut n) e c = (omega (arith, c .1), padded-length [] (omega arith))
 
   header-typed : Header·Typed (asHeader (preambleOf s))
-  header-typed = by-preamble (preambleOf s) refl (closes s)
+  header-typed = let p = by-preamble (preambleOf s) refl (closes s) in (p .0, p .1, preamble-known s)
 
 -- ---- the calls
 pub typed-begun : Typed begun
@@ -58,11 +59,12 @@ typed-begun =
       parameters = padded-length [] (omega arith);
       held = length-replicate {A = ℕ} room 0;
       bytes = below-zeros room;
+      known = refused-known 4;
     }
 
 module _ (a : Arrival) (t : Typed a) where
   typed-stopped : (n : ℕ) → n < 256 → Typed (stopped a n)
-  typed-stopped n h = record { refusal = h; stopped = t .stopped; parameters = t .parameters; held = t .held; bytes = t .bytes }
+  typed-stopped n h = record { refusal = h; stopped = t .stopped; parameters = t .parameters; held = t .held; bytes = t .bytes; known = t .known }
 
   module _ (x : ℕ) (small : x < 256) where
     held-typed : (n : ℕ) (h : Header) (k at : ℕ) → n < 256 → Header·Typed h → Typed (record { refusal = n; header = h; complete = k; kept = at; held = heldWith a x })
@@ -73,6 +75,7 @@ module _ (a : Arrival) (t : Typed a) where
           parameters = p .1;
           held = length-set (a .held) (a .kept) x ∙ t .held;
           bytes = below-set (a .held) (a .kept) x (t .bytes) small;
+          known = p .2;
         }
 
     chosen : (c : Bool) (p q : Arrival) → Typed p → Typed q → Typed (cond c p q)
@@ -90,9 +93,9 @@ module _ (a : Arrival) (t : Typed a) where
     typed-recorded : Typed (recorded a x)
     unfolding recorded
     typed-recorded =
-        let p : Header·Typed (a .header) = (t .stopped, t .parameters) in
+        let p : Header·Typed (a .header) = (t .stopped, t .parameters, t .known) in
         chosen (wanted a) _ _
-        (chosen (short a) _ _ (held-typed 0 (a .header) (a .complete) (a .kept + 1) (omega arith) p) (held-typed 0 (a .header) (a .complete + 1) 0 (omega arith) p))
+        (chosen (short a) _ _ (held-typed 0 (a .header) (a .complete) (a .kept + 1) (omega arith) p) (chosen (named (a .header)) _ _ (held-typed 0 (a .header) (a .complete + 1) 0 (omega arith) p) (typed-stopped 6 (omega arith))))
         (typed-stopped 7 (omega arith))
 
 choose : (c : Bool) (p q : Work) → Typed (p .arrival) → Typed (q .arrival) → Typed (cond c p q .arrival)

@@ -4,9 +4,10 @@ use mathlib.Core.List.{List, [], _∷_}
 use Prim.Native.Nat.{ℕ}
 use lib.Dec.{eqb}
 use lib.ListN.{length}
-use Rattle.answers.specs.Refusals.{wrongLength}
+use Rattle.answers.specs.Refusals.{unknown, wrongLength}
+use Rattle.parts.specs.declared.Arrival.{Arrival}
 use Rattle.parts.specs.declared.Told.{Told}
-use Rattle.parts.specs.Parts.{Work, works, begun, lent, parted, partAnswer, endAnswer}
+use Rattle.parts.specs.Parts.{Work, works, named, begun, lent, parted, partAnswer, endAnswer}
 use Rattle.parts_words.specs.Words.{stateLength, stateWords, arrivalAt}
 
 -- how many records are complete, and how many the sheet says it has, 0 before that is known
@@ -30,9 +31,16 @@ lists state xs out p = record { state = state; records = xs; answers = out; prog
 abbrev pub fits : Lists → Bool
 fits c = eqb (length (c .state)) stateLength && eqb (length (c .progress)) progressLength && lent (c .records) (c .answers)
 
--- Beside 8, after a fault and after the end nothing is written.
+-- what a state itself answers: a fault's number or 15; 6 where it names no model, which no call leaves; else 0
+abbrev pub standingOf : Arrival → ℕ
+standingOf a = cond (eqb (a .refusal) 0) (cond (named (a .header)) 0 unknown) (a .refusal)
+
+abbrev pub standsAt : Lists → ℕ
+standsAt c = standingOf (arrivalAt (c .state))
+
+-- Beside 8 and beside what the state itself answers nothing is written.
 abbrev pub goes : Lists → Bool
-goes c = fits c && eqb (arrivalAt (c .state) .refusal) 0
+goes c = fits c && eqb (standsAt c) 0
 
 abbrev pub workAt : Lists → Work
 workAt c = works (arrivalAt (c .state)) (c .records) (c .answers)
@@ -52,7 +60,7 @@ abbrev pub partWork : Lists → List ℕ → Work
 partWork c l = parted (workAt c) l
 
 abbrev pub partCode : Lists → List ℕ → ℕ
-partCode c l = cond (fits c) (partTold c l .refusal) wrongLength
+partCode c l = cond (fits c) (cond (eqb (standsAt c) 0) (partTold c l .refusal) (standsAt c)) wrongLength
 
 abbrev pub partLists : Lists → List ℕ → Lists
 partLists c l =
@@ -65,7 +73,7 @@ abbrev pub endTold : Lists → Told
 endTold c = endAnswer (arrivalAt (c .state)) (c .records) (c .answers)
 
 abbrev pub endCode : Lists → ℕ
-endCode c = cond (fits c) (endTold c .refusal) wrongLength
+endCode c = cond (fits c) (cond (eqb (standsAt c) 0) (endTold c .refusal) (standsAt c)) wrongLength
 
 abbrev pub endLists : Lists → Lists
 endLists c =

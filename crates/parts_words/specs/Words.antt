@@ -1,5 +1,6 @@
 -- How far a sheet has come as a list of words (RULES, section 7), and the state that any words answer for.
 use mathlib.Core.Path.{_≡_}
+use mathlib.Core.Bool.{true}
 use mathlib.Core.List.{List, [], _∷_, _++_}
 use Prim.Native.Nat.{ℕ, _+_, _%_, _<_}
 use lib.ListN.{length, getD, take, drop}
@@ -9,7 +10,7 @@ use Rattle.sheet.specs.Sheet.{wordsOf}
 use Rattle.sheet.specs.Spelling.{spellWords, Below}
 use Rattle.sheet.specs.declared.Header.{Header}
 use Rattle.parts.specs.declared.Arrival.{Arrival}
-use Rattle.parts.specs.Parts.{room}
+use Rattle.parts.specs.Parts.{room, named}
 
 -- seven numbers, a model's parameters, and the bytes held, eight a word
 abbrev pub numbers : ℕ
@@ -49,10 +50,11 @@ arrivalAt l =
       held = spellWords (drop front l);
     }
 
--- a state of the types that the code has
+-- a state of the types that the code has, with the name of a model
 pub record Typed (a : Arrival) : Type 0 where
   pub refusal : a .refusal < 256
   pub stopped : a .header .refusal < 256
   pub parameters : length (a .header .parameters) ≡ places
   pub held : length (a .held) ≡ room
   pub bytes : Below 256 (a .held)
+  pub known : named (a .header) ≡ true

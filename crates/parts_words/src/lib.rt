@@ -16,7 +16,7 @@ ghost use Rattle.sheet.specs.Sheet.{most, wordsOf};
 ghost use Rattle.sheet.specs.Spelling.{spellWords};
 ghost use Rattle.parts.specs.Parts.{room};
 ghost use Rattle.parts_words.specs.Words.{numbers, front, stateLength, numbersOf, stateWords, headerAt, arrivalAt};
-ghost use Rattle.parts_words.specs.Calls.{progressLength, progressOf, lists, beginCode, beginState, partCode, partLists, endCode, endLists};
+ghost use Rattle.parts_words.specs.Calls.{standingOf, progressLength, progressOf, lists, beginCode, beginState, partCode, partLists, endCode, endLists};
 
 // The refusals, the model, and the numbers of records, places and bytes come first, then the parameters, then the bytes held, eight a word.
 const NUMBERS: usize = 7;
@@ -129,6 +129,20 @@ fn put_told(t: Told, state: &mut [u64], progress: &mut [u64]) -> u8
     t.refusal
 }
 
+// What a state itself answers every call by: a fault's number or 15; 6 where its words name no model, which no call of ours leaves; else 0.
+fn standing(a: Arrival) -> u8
+    ensures { λ r. ⌜ r ≡ standingOf a ⌝ }
+{
+    if a.refusal != 0 {
+        return a.refusal;
+    }
+    let header = a.header;
+    if parts::names_model(header) {
+        return 0;
+    }
+    answers::UNKNOWN
+}
+
 // The state, the progress, and lists for exactly 200 particles.
 fn fit(state: usize, progress: usize, words: usize, places: usize) -> bool
     ensures { λ r. ⌜ r ≡ (eqb state stateLength && eqb progress progressLength && (eqb words (most * floats) && eqb places (most * 2))) ⌝ }
@@ -151,7 +165,8 @@ pub fn begin(state: &mut [u64]) -> u8
     0
 }
 
-// A part: 8 where a list has another length, before all else. Beside it, after a fault and after the end nothing is written.
+// A part: 8 where a list has another length, before all else. Beside it, after a fault, after the end and beside the 6 of a state nothing is
+// written.
 pub fn part(
     bytes: &[u8],
     state: &mut [u64],
@@ -168,8 +183,9 @@ pub fn part(
     let fits = fit(state.len(), progress.len(), records.len(), answers.len());
     if fits {
         let came = arrival_at(state);
-        if came.refusal != 0 {
-            return came.refusal;
+        let n = standing(came);
+        if n != 0 {
+            return n;
         }
         let t = parts::part(came, bytes, records, answers);
         return put_told(t, state, progress);
@@ -186,8 +202,9 @@ pub fn end(records: &[u64], answers: &[u64], state: &mut [u64], progress: &mut [
     let fits = fit(state.len(), progress.len(), records.len(), answers.len());
     if fits {
         let a = arrival_at(state);
-        if a.refusal != 0 {
-            return a.refusal;
+        let stands = standing(a);
+        if stands != 0 {
+            return stands;
         }
         let t = parts::end(a, records, answers);
         return put_told(t, state, progress);

@@ -1,3 +1,4 @@
 pub mod Alpha
 pub mod Table
 pub mod Example
+pub mod SheetExample

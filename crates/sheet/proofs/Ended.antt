@@ -9,11 +9,12 @@ use native.Mathlib.Omega.{arith}
 use native.Mathlib.Nat.{mul-le-mul}
 use lib.ListN.{length, replicate, length-append, length-replicate}
 use lib.Dec.{ltb}
+use borrow.Author.Tests.{lt-ltb}
 use Rattle.model.specs.Kinds.{kindsOf}
 use Rattle.record.specs.Layout.{floats}
 use Rattle.sheet.specs.Records.{sheetFloats}
 use Rattle.sheet.specs.Sheet.{most, headerOf}
-use Rattle.sheet.specs.Spelling.{spellNumber, spellWords, Below}
+use Rattle.sheet.specs.Spelling.{spellNumber, spellWords, spell, Below}
 use Rattle.sheet.specs.Refused.{Good, AtCount, AtParameter, AtNumber, at-model, at-count, Reason, no-number, half-number, short-parameter, short-records, not-shortest, third-group, unknown-model, other-flag, count-over, bytes-after}
 use Rattle.model.proofs.KindLaws.{kinds-most}
 use Rattle.sheet.proofs.RecordLaws.{floats-most}
@@ -56,9 +57,37 @@ pub at-length : (s l : List ℕ) → AtNumber s l → length s ≤ 66 + length l
 at-length s l (at-model e) = let a = ap length e in omega arith
 at-length s l (at-count p) = count-length s l p
 
--- a sheet that ends early is not long
-abbrev longest : ℕ
-longest = 66 + 2 + most * floats * 8
+-- the longest sheet
+abbrev pub longest : ℕ
+longest = 65 + 2 + most * floats * 8
+
+one-byte : (v : ℕ) → v < 128 → length (spellNumber v) ≡ 1
+unfolding spellNumber
+one-byte v h = rw (lt-ltb v 128 h)
+
+pieces-length : (model : ℕ) (ps : List ℕ) (count : ℕ) (ws : List ℕ) → length (spell model ps count ws) ≡ length (spellNumber model) + (length (spellWords ps) + (length (spellNumber count) + length (spellWords ws)))
+unfolding spell
+pieces-length model ps count ws =
+    length-append (spellNumber model) (spellWords ps ++ (spellNumber count ++ spellWords ws))
+    ∙ ap (λ (n : ℕ). length (spellNumber model) + n) (length-append (spellWords ps) (spellNumber count ++ spellWords ws))
+    ∙ ap (λ (n : ℕ). length (spellNumber model) + (length (spellWords ps) + n)) (length-append (spellNumber count) (spellWords ws))
+
+pub good-length : (s : List ℕ) → Good s → length s ≤ longest
+good-length s g =
+    let w = g .writable in
+    let k = w .known in
+    let a = ap length (g .spelled) ∙ pieces-length (g .model) (g .parameters) (g .count) (g .words) in
+    let b = one-byte (g .model) (omega arith) in
+    let c = number-length (g .count) in
+    let d = spelled-length (g .parameters) in
+    let e = fits-length (kindsOf (g .model)) (g .parameters) (w .fits) in
+    let f = kinds-most (g .model) in
+    let h = spelled-length (g .words) in
+    let i = w .whole in
+    let j = mul-le-mul (w .few) (floats-most (g .model)) in
+    omega arith
+
+-- and one that ends early is no longer
 
 ended-length : (s : List ℕ) (n : ℕ) → n ≡ 4 → Reason s n → length s ≤ longest
 ended-length s n e (no-number p) = let a = at-length s [] p in omega arith
@@ -113,3 +142,23 @@ module _ (s : List ℕ) (b : Below 256 s) where
     λ e. (λ g. let z = good-exactly s b .1 g in omega arith, (replicate (suc longest) 0, filled-up (suc longest) (omega arith) e)),
     λ c. ended-by (c .1 .0) (c .1 .1) (c .0),
   )
+
+-- MORE BYTES THAN THE LONGEST SHEET HAS are refused, not by 4, and what follows them changes nothing
+module _ (p : List ℕ) (b : Below 256 p) (h : longest < length p) where
+  not-ended : headerOf p .refusal ≡ 4 → ⊥
+  not-ended e = let l = ended-length p 4 refl (refused-exactly p b 4 (λ z. omega arith) .0 e) in omega arith
+
+  not-good : headerOf p .refusal ≡ 0 → ⊥
+  not-good e = let l = good-length p (good-exactly p b .0 e) in omega arith
+
+  follows-nothing : (r : List ℕ) → headerOf (p ++ r) .refusal ≡ headerOf p .refusal
+  follows-nothing [] = ap (λ (l : List ℕ). headerOf l .refusal) (append-nil p)
+  follows-nothing (x ∷ r) = by-case (later p (x ∷ r) (omega arith))
+    where
+      by-case : Later (headerOf p) (headerOf (p ++ (x ∷ r))) → headerOf (p ++ (x ∷ r)) .refusal ≡ headerOf p .refusal
+      by-case (inl e) = absurd (not-ended e)
+      by-case (inr (inl e)) = absurd (not-good (e .0))
+      by-case (inr (inr e)) = e .1
+
+  pub over-longest : (headerOf p .refusal ≡ 0 → ⊥) × (headerOf p .refusal ≡ 4 → ⊥) × ((r : List ℕ) → headerOf (p ++ r) .refusal ≡ headerOf p .refusal)
+  over-longest = (not-good, not-ended, follows-nothing)

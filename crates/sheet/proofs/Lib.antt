@@ -4,6 +4,7 @@ pub mod Steps
 pub mod Bounds
 pub mod Preambles
 pub mod Taken
+pub mod Known
 pub mod Rooms
 pub mod Filling
 pub mod Pieces

@@ -7,7 +7,7 @@ use lib.ListN.{length}
 use lib.Dec.{ltb}
 use borrow.Author.Tests.{ltb-false}
 use Rattle.model.specs.Kinds.{last, kindsOf}
-use Rattle.sheet.specs.Sheet.{most, numberAt, Fields, Got, Stopped, parametersAt, padded, Preamble, Open, Shut, afterCount, afterParameters, afterModel, preambleOf, asHeader, recordsEnd, closed, headerOf}
+use Rattle.sheet.specs.Sheet.{most, numberAt, Fields, Got, Stopped, parametersAt, padded, Preamble, Open, Shut, afterCount, afterParameters, afterModel, preambleFrom, preambleOf, asHeader, recordsEnd, closed, headerFrom, headerOf}
 use Rattle.sheet.specs.declared.Number.{Number}
 use Rattle.sheet.specs.declared.Number.the-variants.{Read as Number·Read, Refused as Number·Refused}
 use Rattle.sheet.specs.declared.Header.{Header}
@@ -38,12 +38,20 @@ module _ (s : List ℕ) where
       tested true = is-6
       tested false = closes-fields model (parametersAt (kindsOf model) s at) (stops (kindsOf model) s at)
 
+  closes-from : (at : ℕ) → Closes (length s) (preambleFrom s at)
+  closes-from at = closes-model (numberAt s at) (ends s at)
+
   pub closes : Closes (length s) (preambleOf s)
   unfolding preambleOf
-  closes = closes-model (numberAt s 0) (ends s 0)
+  closes = closes-from 0
+
+  -- FROM THE START the header by place is the sheet's
+  pub from-start : headerFrom s 0 ≡ headerOf s
+  unfolding headerOf preambleOf
+  from-start = refl
 
   -- the header, from what stands before the records
-  module _ (h : Header) where
+  module _ (at : ℕ) (h : Header) where
     refused-by : (f : Preamble) → Closes (length s) f → h ≡ asHeader f → (h .refusal ≡ 0 → ⊥) → h ≡ closed s f
     refused-by (Open model bits count at) c e n = absurd (n (ap (λ (x : Header). x .refusal) e))
     refused-by (Shut k) c e n = e
@@ -56,14 +64,12 @@ module _ (s : List ℕ) where
     read-by (Open model bits count at) c e z = rw e
     read-by (Shut k) c e z = absurd (not-0 k c (sym (ap (λ (x : Header). x .refusal) e) ∙ z))
 
-    module _ (e : h ≡ asHeader (preambleOf s)) where
-      pub preamble-refused : (h .refusal ≡ 0 → ⊥) → h ≡ headerOf s
-      unfolding headerOf
-      preamble-refused n = refused-by (preambleOf s) closes e n
+    module _ (e : h ≡ asHeader (preambleFrom s at)) where
+      pub preamble-refused : (h .refusal ≡ 0 → ⊥) → h ≡ headerFrom s at
+      preamble-refused n = refused-by (preambleFrom s at) (closes-from at) e n
 
       pub preamble-inside : h .refusal ≡ 0 → (h .at ≤ length s) × (h .count ≤ most)
-      preamble-inside z = inside-by (preambleOf s) closes e z
+      preamble-inside z = inside-by (preambleFrom s at) (closes-from at) e z
 
-      pub preamble-read : h .refusal ≡ 0 → recordsEnd s (h .model) (h .parameters) (h .count) (h .at) ≡ headerOf s
-      unfolding headerOf
-      preamble-read z = read-by (preambleOf s) closes e z
+      pub preamble-read : h .refusal ≡ 0 → recordsEnd s (h .model) (h .parameters) (h .count) (h .at) ≡ headerFrom s at
+      preamble-read z = read-by (preambleFrom s at) (closes-from at) e z

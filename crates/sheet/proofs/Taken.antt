@@ -99,6 +99,12 @@ few s h e z =
     let c : t .count ≡ h .count = ap (λ (x : Header). x .count) (t .is ∙ sym e) in
     omega (arith, t .few)
 
+pub named-model : (s : List ℕ) (h : Header) → h ≡ headerOf s → h .refusal ≡ 0 → h .model ≤ last
+named-model s h e z =
+    let t = taken s (ap (λ (x : Header). x .refusal) (sym e) ∙ z) in
+    let m : t .model ≡ h .model = ap (λ (x : Header). x .model) (t .is ∙ sym e) in
+    omega (arith, t .known)
+
 pub within : (s : List ℕ) (h : Header) → h ≡ headerOf s → h .refusal ≡ 0 → h .at + h .count * sheetFloats (h .model) * 8 ≤ length s
 within s h e z =
     let t = taken s (ap (λ (x : Header). x .refusal) (sym e) ∙ z) in

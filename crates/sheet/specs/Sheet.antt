@@ -105,8 +105,12 @@ afterModel s (Number·Refused n) = Shut n
 afterModel s (Number·Read model at) =
     cond (ltb last model) (Shut unknown) (afterParameters s model (parametersAt (kindsOf model) s at))
 
+-- from a place on, and from the start
+abbrev pub preambleFrom : List ℕ → ℕ → Preamble
+preambleFrom s at = afterModel s (numberAt s at)
+
 unfoldable pub preambleOf : List ℕ → Preamble
-preambleOf s = afterModel s (numberAt s 0)
+preambleOf s = preambleFrom s 0
 
 -- as a header, whether or not the records are there
 abbrev pub asHeader : Preamble → Header
@@ -125,6 +129,9 @@ closed s (Open model bits count at) = recordsEnd s model bits count at
 closed s (Shut n) = refusedBy n
 
 -- model number, parameters, count, then the length that the records take
+abbrev pub headerFrom : List ℕ → ℕ → Header
+headerFrom s at = closed s (preambleFrom s at)
+
 unfoldable pub headerOf : List ℕ → Header
 headerOf s = closed s (preambleOf s)
 

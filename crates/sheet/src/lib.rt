@@ -6,12 +6,11 @@ mod reading;
 mod records;
 mod words;
 
-pub use groups::number_at;
 use model::PARAMETERS;
-pub use reading::read;
-pub use reading::read_header;
-pub use reading::read_preamble;
+pub use reading::header_at;
+pub use reading::preamble_at;
 pub use reading::record_at;
+pub use reading::refused;
 pub use records::floats_of;
 pub use words::word_at;
 

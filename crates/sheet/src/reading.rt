@@ -7,16 +7,16 @@ use crate::Place;
 use crate::fields::parameters;
 use crate::groups::number_at;
 use crate::records::fill_record;
-use crate::records::fill_records;
 use crate::records::floats_of;
 use model::PARAMETERS;
 ghost use mathlib.Core.Path.{_≡_};
 ghost use Prim.Native.Nat.{_≤_};
 ghost use lib.ListN.{length};
 ghost use Rattle.model.specs.Kinds.{kindsOf};
-ghost use Rattle.sheet.specs.Sheet.{most, numberAt, parametersAt, refusedBy, afterCount, afterParameters, preambleOf, asHeader, recordsEnd, headerOf, readOf, roomOf, recordAt, roomAt};
+ghost use Rattle.sheet.specs.Sheet.{most, numberAt, parametersAt, refusedBy, afterCount, afterParameters, preambleFrom, asHeader, recordsEnd, headerFrom, recordAt, roomAt};
 
-fn refused(n: u8) -> Header
+// A header that is refused.
+pub fn refused(n: u8) -> Header
     ensures { λ r. ⌜ r ≡ refusedBy n ⌝ }
 {
     Header {
@@ -60,18 +60,18 @@ fn after_model(s: &[u8], model: u64, at: usize) -> Header
     after_parameters(s, model, bits, p.at)
 }
 
-// What stands before the records, in a sheet that may not have come whole: 4 where more is wanted.
-pub fn read_preamble(s: &[u8]) -> Header
-    ensures { λ r. ⌜ r ≡ asHeader (preambleOf (now (s .entry))) ⌝ }
+// What stands before the records, from a place on, in a sheet that may not have come whole: 4 where more is wanted.
+pub fn preamble_at(s: &[u8], at: usize) -> Header
+    ensures { λ r. ⌜ r ≡ asHeader (preambleFrom (now (s .entry)) at) ⌝ }
 {
-    let n = number_at(s, 0);
+    let n = number_at(s, at);
     match n {
         Number::Refused(n) => refused(n),
-        Number::Read(model, at) => {
+        Number::Read(model, next) => {
             if model::LAST < model {
                 return refused(answers::UNKNOWN);
             }
-            after_model(s, model, at)
+            after_model(s, model, next)
         }
     }
 }
@@ -103,36 +103,16 @@ fn records_end(
     }
 }
 
-pub fn read_header(s: &[u8]) -> Header
-    ensures { λ r. ⌜ r ≡ headerOf (now (s .entry)) ⌝ }
+// The header of a sheet that stands from a place on: what stands before the records, which end the sheet.
+pub fn header_at(s: &[u8], at: usize) -> Header
+    ensures { λ r. ⌜ r ≡ headerFrom (now (s .entry)) at ⌝ }
 {
-    let h = read_preamble(s);
+    let h = preamble_at(s, at);
     if h.refusal != 0 {
         return h;
     }
     let parameters = h.parameters;
     records_end(s, h.model, parameters, h.count, h.at)
-}
-
-// The records go into the first places of the room, each with its determinant; the other places, and all of them beside a refusal,
-// keep their bits.
-pub fn read(s: &[u8], room: &mut [u64]) -> Header
-    ensures header { λ r. ⌜ r ≡ readOf (now (s .entry)) (length (now (room .entry))) ⌝ }
-    ensures room { λ r. ⌜ now (room .exit) ≡ roomOf (now (s .entry)) (now (room .entry)) ⌝ }
-{
-    if room.len() % record::FLOATS != 0 {
-        return refused(answers::LENGTH);
-    }
-    let h = read_header(s);
-    if h.refusal != 0 {
-        return h;
-    }
-    let n = h.count * record::FLOATS;
-    if room.len() < n {
-        return refused(answers::LENGTH);
-    }
-    fill_records(s, h.model, h.at, h.count, room);
-    h
 }
 
 // The record that stands at a place, into a room of a list's record; beside a refusal the room keeps its bits.

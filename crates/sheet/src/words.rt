@@ -36,6 +36,7 @@ fn word(s: &[u8], at: usize) -> u64
     eight(four(a, b), four(c, d))
 }
 
+// The bits of the float that stands at a place, and the place after it: 4 where fewer than eight bytes are left.
 pub fn word_at(s: &[u8], at: usize) -> Word
     ensures { λ r. ⌜ r ≡ wordAt (now (s .entry)) at ⌝ }
 {

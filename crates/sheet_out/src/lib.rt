@@ -33,6 +33,6 @@ pub fn run_out(s: &[u8], records: &mut [u64], answers: &mut [u64], room: &mut [u
     if ran.refusal != 0 {
         return Written::Refused(ran.refusal);
     }
-    let h = sheet::read_header(s);
+    let h = reader::header(s);
     write_front(h, records, room)
 }

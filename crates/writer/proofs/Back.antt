@@ -14,11 +14,13 @@ use Rattle.model.specs.Kinds.{kindsOf, allowed, flagsAllowed}
 use Rattle.model.proofs.KindLaws.{kinds-most}
 use Rattle.record.specs.Layout.{floats}
 use Rattle.sheet.specs.Records.{sheetFloats, dropped, each, listWords, sheetWords, AllRight}
-use Rattle.sheet.specs.Sheet.{most, wordsIn, recordsOf, headerOf}
+use Rattle.sheet.specs.Sheet as sheet
+use Rattle.sheet.specs.Sheet.{most, wordsIn, recordsOf, headerOf, readOf}
 use Rattle.sheet.specs.Spelling.{spellNumber, spell, Below, Fits, Writable, parametersOf}
 use Rattle.sheet.proofs.Pieces.{below-take, below-drop, below-append, fits-length}
 use Rattle.sheet.proofs.RecordLaws.{floats-most, list-length, sheet-list, list-sheet}
 use Rattle.sheet.proofs.RecordLaws as records
+use Rattle.sheet.proofs.Rooms.{good}
 use Rattle.sheet.proofs.Format.{Accepted, accepted, ReadBack, read-back}
 use Rattle.sheet.specs.declared.Header.{Header}
 use Rattle.writer.specs.declared.Written.the-variants.{Length, Refused}
@@ -118,6 +120,31 @@ module _ (model : ℕ) (p words : List ℕ) where
       let s = sheetOf model p words in
       let n : 0 + length s ≡ length s = omega arith in
       rw e (refl, record { sheet = take-at s _ (length s) refl; rest = drop-at s _ (length s) refl ∙ ap (λ (k : ℕ). drop k room) n })
+
+  -- WHAT `write` LEAVES IN A ROOM, `read` READS BACK, into any room of whole records with place for them
+  module _ (room ys : List ℕ) (bp : Below (2 ^ 64) p) (bw : Below (2 ^ 64) words) (e : refusalOf model p words (length room) ≡ 0) (even : length ys % floats ≡ 0) (place : countOf words * floats ≤ length ys) where
+    -- the bytes that it tells of
+    abbrev bytes : List ℕ
+    bytes = take (length (sheetOf model p words)) (roomOf model p words room)
+
+    back : ReadBack model p (countOf words) inSheet (sheetOf model p words) (headerOf (sheetOf model p words))
+    back = reads-back (length room) bp bw e
+
+    read-in : let s = sheetOf model p words in (headerOf s ≡ readOf s (length ys)) × (recordsOf s (headerOf s) ++ drop (headerOf s .count * floats) ys ≡ sheet.roomOf s ys)
+    read-in = good (sheetOf model p words) ys (headerOf (sheetOf model p words)) refl even (back .read) _ (rw (back .count-is) place) refl
+
+    pub room-reads-back : ReadBack model p (countOf words) inSheet bytes (readOf bytes (length ys))
+    room-reads-back =
+        subst (λ (s : List ℕ). ReadBack model p (countOf words) inSheet s (readOf s (length ys))) (sym (in-room room e .1 .sheet))
+        (subst (ReadBack model p (countOf words) inSheet (sheetOf model p words)) (read-in .0) back)
+
+    -- every bit of every record, where each determinant was right or is in the sheet
+    pub room-same-records : AllRight model (countOf words) words → sheet.roomOf bytes ys ≡ words ++ drop (length words) ys
+    room-same-records r =
+        let n = even-length (fine model p words (length room) e .named .listed .even) in
+        subst (λ (s : List ℕ). sheet.roomOf s ys ≡ words ++ drop (length words) ys) (sym (in-room room e .1 .sheet))
+        (sym (read-in .1) ∙ ap (λ (k : ℕ). recordsOf (sheetOf model p words) (headerOf (sheetOf model p words)) ++ drop k ys) (ap (λ (k : ℕ). k * floats) (back .count-is) ∙ sym n)
+        ∙ ap (λ (l : List ℕ). l ++ drop (length words) ys) (same-records (length room) bp bw e r))
 
   -- a refusal keeps the room
   pub kept : (room : List ℕ) (n : ℕ) → (n ≡ 0 → ⊥) → refusalOf model p words (length room) ≡ n

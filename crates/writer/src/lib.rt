@@ -7,6 +7,7 @@ pub use bytes::write_words;
 use sheet::BYTES;
 ghost use mathlib.Core.Path.{_≡_};
 ghost use lib.ListN.{length};
+ghost use Rattle.writer.specs.declared.Written.the-variants.{Length};
 ghost use Rattle.writer.specs.Writer.{put, sheetOf, refusalOf, writtenOf, roomOf};
 
 // The sheet's length, or why none was written.
@@ -30,6 +31,15 @@ fn fill(model: u64, parameters: &[u64], records: &[u64], room: &mut [u8]) -> usi
     c + count * sheet::floats_of(model) * BYTES
 }
 
+// The same, with its length as the answer.
+fn filled(model: u64, parameters: &[u64], records: &[u64], room: &mut [u8]) -> Written
+    requires { ⌜ refusalOf model (now parameters) (now records) (length (now room)) ≡ 0 ⌝ }
+    ensures { λ r. ⌜ r ≡ Length (length (sheetOf model (now (parameters .entry)) (now (records .entry)))) ⌝ }
+    ensures { λ r. ⌜ now (room .exit) ≡ put (now (room .entry)) 0 (sheetOf model (now (parameters .entry)) (now (records .entry))) ⌝ }
+{
+    Written::Length(fill(model, parameters, records, room))
+}
+
 // 8, 6, 7 and 9, in this order; a NaN passes as it is.
 pub fn write(model: u64, parameters: &[u64], records: &[u64], room: &mut [u8]) -> Written
     ensures { λ r. ⌜ r ≡ writtenOf model (now (parameters .entry)) (now (records .entry)) (length (now (room .entry))) ⌝ }
@@ -39,5 +49,5 @@ pub fn write(model: u64, parameters: &[u64], records: &[u64], room: &mut [u8]) -
     if refusal != 0 {
         return Written::Refused(refusal);
     }
-    Written::Length(fill(model, parameters, records, room))
+    filled(model, parameters, records, room)
 }

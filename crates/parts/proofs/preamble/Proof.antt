@@ -10,15 +10,20 @@ use borrow.Author.Needs.{needs}
 use Rattle.parts.proofs.preamble.Statement.{statement}
 use Rattle.parts.proofs.preamble.Tie as tie
 
-slice-aggregate-read-preamble : tie.Need-slice-aggregate-read-preamble
-slice-aggregate-read-preamble c = simp length-take (omega arith)
+slice-aggregate-preamble-at : tie.Need-slice-aggregate-preamble-at
+slice-aggregate-preamble-at c = simp length-take (omega arith)
+
+returns : tie.Need-returns
+unfolding preambleOf
+returns c = search needs
 
 returns-2 : tie.Need-returns-2
+unfolding preambleOf
 returns-2 c =
     let a = c .before .before .before .args in
-    c .read-preamble2 .ensures ∙ ap (λ (l : List ℕ). asHeader (preambleOf l)) (sym (take-all (a .kept) (a .held .now) (omega arith)))
+    c .preamble-at2 .ensures ∙ ap (λ (l : List ℕ). asHeader (preambleOf l)) (sym (take-all (a .kept) (a .held .now) (omega arith)))
 
 pub preamble-spec : {M : Type 1} → statement M
 preamble-spec =
     tie.close
-    (tie.spec slice-aggregate-read-preamble (λ c κs. search needs) (λ c. search needs) (λ c κs. search needs) returns-2)
+    (tie.spec slice-aggregate-preamble-at (λ c κs. search needs) returns (λ c κs. search needs) returns-2)

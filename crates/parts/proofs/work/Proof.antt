@@ -10,6 +10,9 @@ use borrow.Author.Needs.{needs}
 use Rattle.parts.proofs.work.Statement.{statement}
 use Rattle.parts.proofs.work.Tie as tie
 
+work-one-requires : tie.Need-work-one-requires
+work-one-requires c κs = let q = c .before .before .before .before .before .pre in (search needs, search needs, q .2)
+
 returns : tie.Need-returns
 returns c =
     let a = c .before .before .before .before .before .before .before .before .before .before .args in
@@ -24,4 +27,4 @@ work-spec =
     tie.close
     (tie.spec (λ c. search needs) (λ c. search needs) (λ c. search needs) (λ c. search needs) (λ c. search needs) (λ c. search needs)
     (λ c. search needs) (λ c. search needs) (λ c. search needs) (λ c. search needs) (λ c. search needs) (λ c. search needs)
-    (λ c κs. search needs) (λ c. search needs) (λ c. search needs) returns)
+    work-one-requires (λ c. search needs) (λ c. search needs) returns)

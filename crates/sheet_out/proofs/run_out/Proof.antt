@@ -17,7 +17,7 @@ write-front-requires : tie.Need-write-front-requires
 write-front-requires c κs =
     let a = c .before .before .before .before .before .before .before .before .before .before .before .before .before .before .before .before .args in
     let r = c .before .before .before .before .before .before .before .before .before .run-sheet .ensures in
-    let h = c .before .before .read-header .ensures in
+    let h = c .before .before .header .ensures in
     let z : ranOf (a .s .now) (a .records .now) (a .answers .now) .refusal ≡ 0 = rw (r .0) at (c .before .before .before .if1 .left) in
     let l = ran-length (a .s .now) (a .records .now) (a .answers .now) z in (
       rw (h, r .1 .0, l) (records-fit (a .s .now) (a .records .now) (a .answers .now) z),
@@ -27,7 +27,7 @@ write-front-requires c κs =
 returns-2 : tie.Need-returns-2
 returns-2 c =
     let f = c .before .before .write-front .ensures in
-    let h = c .before .before .before .before .before .read-header .ensures in
+    let h = c .before .before .before .before .before .header .ensures in
     let r = c .before .before .before .before .before .before .before .before .before .before .before .before .run-sheet .ensures in
     let z = simp (r .0) at (eq-eqb _ _ (c .before .before .before .before .before .before .if1 .left)) in
     (simp (f .0, h, r .1 .0, z), (simp (f .1, h, r .1 .0, z), r .1))

@@ -14,7 +14,7 @@ returns-2 : tie.Need-returns-2
 unfolding writtenOf roomOf
 returns-2 c =
     let z = sym (c .before .before .before .before .before .refusal .ensures) ∙ c .before .before .before .before .if1 .left in
-    let f = c .before .before .fill .ensures in
+    let f = c .before .before .filled .ensures in
     rw (z, f .0) (refl, f .1)
 
 pub write-spec : {M : Type 1} → statement M
