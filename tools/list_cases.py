@@ -200,12 +200,12 @@ def rust(law):
 
 # ---- passes
 
-def passed(model, p, records, kind="pass", by=None, given=None):
+def passed(model, p, records, kind="pass", by=None):
     """A pass of records, its parameters as floats."""
     by = by or (lambda r: cases.worked(model, p, r))
     after, answers, _ = list_passed(by, records, FLAT if kind == "flat_pass" else FLOATS)
     before = {"p": words(p), "r": records, "a": marks(len(answers), 1), "t": marks(3, 2)}
-    return Entry(kind, 0, given or before, {"r": after, "a": answers, "t": counts(answers)}, x=model)
+    return Entry(kind, 0, before, {"r": after, "a": answers, "t": counts(answers)}, x=model)
 
 
 def judged(model, p, limits, law, records, kind="pass_with_failure", by=None):
@@ -220,9 +220,9 @@ def sand():
     return record((1.1, 0.9, 1.3)) + record(phase=0.0) + WRONG + record((2.0, 1.0, 0.5), phase=0.5) + record(phase=-0.0, gain=0.5) + record(phard=2.0)
 
 
-def refusals(good, unknown_model=8):
+def refusals(good):
     """Before any record: 6 for a model over 7 with any list of parameters, and for a flag of sand; 8 before either."""
-    for x, p in ((unknown_model, []), (2 ** 64 - 1, good.before["p"])):
+    for x, p in ((8, []), (2 ** 64 - 1, good.before["p"])):
         yield good.refused(UNKNOWN, x=x, p=p)
     for flag in (-0.0, 0.5, NAN):
         yield good.refused(UNKNOWN, p=with_word(good.before["p"], 6, words([flag])[0]))
@@ -230,8 +230,8 @@ def refusals(good, unknown_model=8):
     for name in "ra":
         yield good.refused(LENGTH, p=bad, **{name: good.before[name][:-1]})
     yield good.refused(LENGTH, x=9, t=good.before["t"] + [1])
-    if "t" in good.after and good.kind.startswith("pass"):
-        yield good.refused(LENGTH, r=good.before["r"] + good.before["r"][:FLAT if good.kind == "flat_pass" else FLOATS])
+    if good.kind != "flat_pass":
+        yield good.refused(LENGTH, r=good.before["r"] + good.before["r"][:FLOATS])
 
 
 def passes():
@@ -566,9 +566,8 @@ def sheet_of(model, p, records):
 
 
 def header(model, p, records):
-    p = p + [0] * (8 - len(p))
     count = len(records) // FLOATS
-    return [model, *p, count, len(sheet_of(model, [w for w in p][:len_of(model)], records)) - 8 * cases.floats_of(model) * count]
+    return [model, *p, *[0] * (8 - len(p)), count, len(sheet_of(model, p, records)) - 8 * cases.floats_of(model) * count]
 
 
 def len_of(model):
@@ -786,7 +785,7 @@ def parts():
     line = Line()
     sheet = sheet_of(6, words(SAND), sand()[:3 * FLOATS])
     line.part(sheet[:300])
-    good, end = Line.part(line, sheet[300:500]), Line.end(line)
+    good, end = line.part(sheet[300:500]), line.end()
     for entry in (good, end):
         yield from entry.lengths("zrat")
         for state in (6, 15):
