@@ -37,7 +37,7 @@ import twice  # noqa: E402
 SHEETS = cases.SHEETS
 SAMPLES = sorted((HERE.parent / "samples").glob("*.sheet"))
 LINES = (HERE.parent / "crates" / "slope_cases" / "stdout").read_text()
-TOOLS = [HERE / name for name in ("sheet.py", "draw.py", "samples.py", "cases.py", "faults.py", "no_division.py", "report.py", "arrive.py", "measure/accuracy.py", "measure/surface.py", "measure/replayed.py")]
+TOOLS = [HERE / name for name in ("sheet.py", "draw.py", "samples.py", "cases.py", "faults.py", "no_division.py", "report.py", "arrive.py", "list_cases.py", "measure/accuracy.py", "measure/surface.py", "measure/replayed.py")]
 NUMPY = importlib.util.find_spec("numpy")
 NOT_FINITE = (math.nan, math.inf, -math.inf)
 PATIENCE = 1200  # seconds after which a tool is taken for one that never ends, on however slow a machine
@@ -1450,6 +1450,21 @@ class Tools(InFolder):
         self.assertEqual((process.returncode, process.stderr), (0, b""))
         self.assertIn(b"the gate's: 663 lines, 663 expected, 0 differ", process.stdout)
         self.assertEqual(process.stdout.count(b"0 differ"), 2 if os.environ.get("PASOLETU_SLOPE") else 1)
+
+    def test_list_cases(self):
+        process = ran("list_cases.py", "--check", env=self.env)
+        self.assertEqual((process.returncode, process.stderr), (0, b""))
+
+    def test_another_word_in_the_list_of_list_cases_is_told(self):
+        crate = HERE.parent / "crates" / "list_cases"
+        held = bytearray((crate / "data" / "list").read_bytes())
+        held[len(held) // 2] ^= 1
+        (self.folder / "data").mkdir()
+        (self.folder / "data" / "list").write_bytes(held)
+        (self.folder / "stdout").write_bytes((crate / "stdout").read_bytes())
+        process = ran("list_cases.py", "--check", self.folder, env=self.env)
+        self.assertEqual(process.returncode, 1)
+        self.assertRegex(process.stdout.decode(), r"is another than tools/list_cases.py makes\n\d+ passed, 1 failed\n$")
 
     def test_replayed(self):
         process = ran("measure/replayed.py", env=self.env)
