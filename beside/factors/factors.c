@@ -32,18 +32,27 @@ static void measure(const double *x, struct worst *w) {
         }
 }
 
+static void raise(long double *worst, long double d) { *worst = d > *worst ? d : *worst; }
+
+// Bad where a named F is refused, where one of family 0 is, and where what is accepted misses the check.
 static int run(int family, uint64_t seed, long count, FILE *out) {
-    long accepted = 0, missed = 0, other = 0;
+    long accepted = 0, missed = 0, other = 0, named_drawn = 0, named_refused = 0, wrong = 0;
     struct worst w = {0, 0};
     state = seed;
     for (long n = 0; n < count; n++) {
         matrix f;
         double x[37];
         draw(family, f);
-        int r = factor(f, x);
+        int r = factor(f, x), is_named = named(f[0]);
+        named_drawn += is_named;
+        named_refused += is_named && r != 0;
         if (r == 0) {
+            struct worst here = {0, 0};
+            measure(x, &here);
             accepted++;
-            measure(x, &w);
+            wrong += !(here.of_f <= 1 + 0x1p-16L && here.of_identity <= 1 + 0x1p-16L && x[18] >= 0 && x[19] >= 0 && x[20] >= 0);
+            raise(&w.of_f, here.of_f);
+            raise(&w.of_identity, here.of_identity);
         } else if (r == 14) {
             missed++;
         } else {
@@ -58,8 +67,9 @@ static int run(int family, uint64_t seed, long count, FILE *out) {
             fprintf(out, "%d\n", r);
         }
     }
-    printf("%-40s %9ld %9ld %7ld %7ld   %.4f %.4f\n", names[family], count, accepted, missed, other, (double)w.of_f, (double)w.of_identity);
-    return missed + other != 0;
+    printf("factors | %2d | %-38s | %8ld | %8ld | %6ld | %6ld | %8ld | %6ld | %5ld | %.4f | %.4f\n", family, names[family], count, accepted, missed, other, named_drawn,
+           named_refused, wrong, (double)w.of_f, (double)w.of_identity);
+    return (family == 0 && missed + other != 0) || named_refused != 0 || wrong != 0;
 }
 
 int main(int argc, char **argv) {
@@ -68,11 +78,13 @@ int main(int argc, char **argv) {
     FILE *out = fopen(argv[4], "w");
     if (!out)
         return 2;
-    printf("%-40s %9s %9s %7s %7s   %s\n", "family", "drawn", "accepted", "14", "other", "worst of F, of the identity, in the bound");
+    printf("F: accepted, refused by 14 or another number; named: all nine sizes between 2^-20 and 2^20; wrong: accepted, and off the check in long double\n");
+    printf("        |    | %-38s | %8s | %8s | %6s | %6s | %8s | %6s | %5s | %s\n", "family", "drawn", "accepted", "14", "other", "named", "refused", "wrong",
+           "worst of F, of the identity, in the bound");
     int bad = run(0, 6, atol(argv[1]), out);
     fclose(out);
     bad |= run(0, 7, atol(argv[2]), NULL);
     for (int family = 1; family < FAMILIES; family++)
-        run(family, 100 + family, atol(argv[3]), NULL);
+        bad |= run(family, 100 + family, atol(argv[3]), NULL);
     return bad;
 }

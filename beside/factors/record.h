@@ -27,3 +27,11 @@ static inline double largest(const double *f) {
         m = size(f[i]) > m ? size(f[i]) : m;
     return m;
 }
+
+// Whether all nine sizes lie between 2^-20 and 2^20.
+static inline int named(const double *x) {
+    for (int i = 0; i < 9; i++)
+        if (size(x[i]) < 0x1p-20L || size(x[i]) > 0x1p20L)
+            return 0;
+    return 1;
+}
