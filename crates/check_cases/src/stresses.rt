@@ -1,5 +1,5 @@
 // The stresses that both solid laws give for the same F with the library's own factors: elastic hardening 1; phase 1, 1/2 and 0;
-// lambda and mu alike, 1, 2^-10, 2^-20 and 2^-30. How many are given, and how many refused by 14.
+// lambda and mu alike, 1, 2^-10, 2^-20 and 2^-30; the corotated flag 1, so that phase 0 drops the tensile part. How many are given, and how many refused by 14.
 use crate::draws;
 use crate::say;
 
@@ -30,7 +30,7 @@ fn asked(corotated: bool, modulus: u64, r: &[u64; 37], verdict: &mut [u64; 1]) -
     let limits = [WIDE, WIDE];
     let mut stress = [0u64; 9];
     if corotated {
-        let law = [0, HALF, modulus, modulus];
+        let law = [ONE, HALF, modulus, modulus];
         host::judged::pasoletu_corotated_stress_and_verdict(&law, &limits, r, &mut stress, verdict)
     } else {
         let law = [HALF, modulus, modulus];
