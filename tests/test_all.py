@@ -68,9 +68,9 @@ class Reads(unittest.TestCase):
 class Runs(unittest.TestCase):
     """The command over parts of a test's own."""
 
-    def ran(self, *words, parts, **environment):
+    def ran(self, *words, parts, ready=("--lib", "lib.a", "--program", "slope"), **environment):
         out = io.StringIO()
-        with unittest.mock.patch.object(sys, "argv", ["tests/all", "--lib", "lib.a", "--program", "slope", *words]), \
+        with unittest.mock.patch.object(sys, "argv", ["tests/all", *ready, *words]), \
                 unittest.mock.patch.dict(ALL.PARTS, parts, clear=True), unittest.mock.patch.object(ALL, "python", lambda: sys.executable), \
                 unittest.mock.patch.dict(os.environ, {"PASOLETU_EMULATOR": "", **environment}), contextlib.redirect_stdout(out):
             status = ALL.main()
@@ -100,6 +100,19 @@ class Runs(unittest.TestCase):
         self.assertEqual((status, lines[-2:]), (0, ["2 left out, 1 skipped", "3 passed, 0 failed"]))
         for line in ("left out: a: there is none", "left out: b: c: left out: why", "skipped: b: t: what"):
             self.assertIn(line, lines)
+
+    def test_a_library_that_could_not_be_built_has_failed_once(self):
+        """Asked for once, whatever needs it; what does not need it runs all the same."""
+        with tempfile.TemporaryDirectory() as folder:
+            top = pathlib.Path(folder)
+            (top / "tools").mkdir()
+            (top / "tools" / "built").write_text("#!/bin/sh\necho \"$*\" >>'%s'\necho there\n[ $2 = program ]\n" % (top / "asked"))
+            (top / "tools" / "built").chmod(0o755)
+            needs = self.says("1 passed, 0 failed\n", archive=True)
+            with unittest.mock.patch.object(ALL, "TOP", top):
+                status, lines = self.ran(parts={"a": needs, "b": needs, "c": self.says("4 passed, 0 failed\n")}, ready=())
+            self.assertEqual((status, lines[-3:]), (1, ["FAILED: the archive could not be built", "2 left out, 0 skipped", "4 passed, 1 failed"]))
+            self.assertEqual((top / "asked").read_text(), "--prove program\n--prove archive\n")
 
     def test_the_rust_is_named_or_left_out(self):
         parts = ALL.Parts("lib.a", "slope", None)

@@ -20,8 +20,8 @@ LAWS = (
     RankinePlasticity(1e5, 0.3, 500.0, 2.0),
     NaccPlasticity(1e4, 0.3, 0.05, True, 3.0, 2.36),
 )
-# Seconds, after which a worker is taken for lost.
-WAIT = 300
+# Seconds, after which a worker is taken for lost, on however slow a machine.
+WAIT = 1200
 LIMITS, ELASTICITY = MaximumStressFailure(2e4, 1e4), CorotatedLinearElasticity(True, 0.9, 4e4, 6e4)
 
 
@@ -46,6 +46,7 @@ class Chunks(unittest.TestCase):
     def setUpClass(cls):
         folder = tempfile.TemporaryDirectory()
         cls.addClassCleanup(folder.cleanup)
+        dask.config.set({"distributed.comm.timeouts.connect": "%ds" % WAIT, "distributed.comm.timeouts.tcp": "%ds" % WAIT})
         cluster = LocalCluster(
             n_workers=2,
             threads_per_worker=1,
