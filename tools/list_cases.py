@@ -874,8 +874,8 @@ def joinings():
     yield joined(empty, empty)
     # each of the three counts of each column counts to 4,096, with the first report's and the second's
     for k in (0, 6, 12):
-        for place in (0, 4, 5):
-            one, full = with_word(empty, k + place, 1), with_word(empty, k + (place + 4) % 8, 4095)
+        for place, other in ((0, 4), (4, 5), (5, 0)):
+            one, full = with_word(empty, k + place, 1), with_word(empty, k + other, 4095)
             yield joined(one, full)
             yield joined(full, with_word(one, k + place, 2))
             yield joined(with_word(empty, k + place, 4097), empty)

@@ -36,7 +36,7 @@ fn same_answer(n: u64, is: u8, wanted: u64) -> bool {
         return true;
     }
     say(b"entry ", n);
-    say(b": answers ", is as u64);
+    say(b": returns ", is as u64);
     say(b" for ", wanted);
     io::write_all(STDOUT_FILENO, b"\n");
     false
