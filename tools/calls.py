@@ -70,6 +70,7 @@ REQUIRES = [
     ("particles: copy", "two lists of one length"),
     ("particles: one", "of one record of a pass and its answers: that the record and its two places are inside the lists"),
     ("writer: write_words", "that the room has place for the words, as bytes"),
+    ("model: model_of", "that the number is one of the eight and each flag is one, which `model::known` tells: every caller has asked it, or has read a header, which names such a model (`sheet/proofs/Known: read-known`)"),
     (
         "plasticity_snow: SnowPlasticity::update_ready; plasticity_rankine: RankinePlasticity::update_ready; plasticity_drucker_prager: DruckerPragerPlasticity::update_ready; "
         "plasticity_nacc: NaccPlasticity::update_ready; model: update_ready",

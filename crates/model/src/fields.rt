@@ -9,7 +9,9 @@ use plasticity_drucker_prager::DruckerPragerPlasticity;
 use plasticity_nacc::NaccArguments;
 use plasticity_rankine::RankineArguments;
 use plasticity_snow::SnowPlasticity;
+ghost use mathlib.Core.Bool.{true};
 ghost use mathlib.Core.Path.{_≡_};
+ghost use Rattle.model.specs.Kinds.{modelKnown};
 ghost use Rattle.model.specs.Fields.{snowOf, rankineOf, druckerPragerOf, naccOf, modelOf, neoHookeanOf, corotatedOf, limitsOf};
 
 fn snow(p: &[u64]) -> SnowPlasticity
@@ -61,8 +63,9 @@ fn nacc(p: &[u64]) -> NaccArguments
     }
 }
 
-// The law that a model number, at most the last, and its parameters name.
+// The law that a model's number and parameters name: one of the eight, and each flag is one.
 pub fn model_of(number: u64, p: &[u64]) -> Model
+    requires { ⌜ modelKnown number (now p) ≡ true ⌝ }
     ensures { λ r. ⌜ r ≡ modelOf number (now (p .entry)) ⌝ }
 {
     let law = law_of(number);

@@ -2,10 +2,12 @@
 use particles::Counts;
 use particles::Passed;
 use sheet::Header;
+ghost use mathlib.Core.Bool.{true};
 ghost use mathlib.Core.Path.{_≡_};
 ghost use Prim.Native.Nat.{_*_, _≤_};
 ghost use lib.ListN.{length};
 ghost use Rattle.record.specs.Layout.{floats};
+ghost use Rattle.model.specs.Kinds.{modelKnown};
 ghost use Rattle.sheet_run.specs.Run.{stopped, finished, frontOf, frontRecords, frontAnswers, ranOf, ranRecords, ranAnswers};
 
 // Refusal 0 where the sheet was read: how many particles it has, and the counts of their outcomes. Beside
@@ -45,7 +47,7 @@ fn outcome(particles: usize, passed: Passed) -> Ran
 
 // Passes the records that a header speaks of, at the front of both rooms.
 fn pass_front(h: Header, records: &mut [u64], answers: &mut [u64]) -> Ran
-    requires { ⌜ (h .count * floats ≤ length (now records)) × (h .count * 2 ≤ length (now answers)) ⌝ }
+    requires { ⌜ (h .count * floats ≤ length (now records)) × (h .count * 2 ≤ length (now answers)) × (modelKnown (h .model) (h .parameters) ≡ true) ⌝ }
     ensures { λ r. ⌜ r ≡ frontOf h (now (records .entry)) (now (answers .entry)) ⌝ }
     ensures { λ r. ⌜ now (records .exit) ≡ frontRecords h (now (records .entry)) (now (answers .entry)) ⌝ }
     ensures { λ r. ⌜ now (answers .exit) ≡ frontAnswers h (now (records .entry)) (now (answers .entry)) ⌝ }

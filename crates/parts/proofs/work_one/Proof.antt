@@ -4,6 +4,9 @@ use borrow.Author.Needs.{needs}
 use Rattle.parts.proofs.work_one.Statement.{statement}
 use Rattle.parts.proofs.work_one.Tie as tie
 
+model-of-requires : tie.Need-model-of-requires
+model-of-requires c κs = c .before .before .before .before .before .pre .2
+
 returns : tie.Need-returns
 returns c =
     let s = c .before .before .before .before in
@@ -18,5 +21,5 @@ returns c =
 pub work-one-spec : {M : Type 1} → statement M
 work-one-spec =
     tie.close
-    (tie.spec (λ c. search needs) (λ c κs. search needs) (λ c κs. search needs) (λ c κs. search needs) (λ c. search needs)
+    (tie.spec (λ c. search needs) model-of-requires (λ c κs. search needs) (λ c κs. search needs) (λ c. search needs)
     (λ c. search needs) returns)

@@ -1,4 +1,5 @@
 -- 8, then 6.
+use mathlib.Core.Path.{sym, _∙_}
 use lib.Dec.{eqb}
 use lib.ListN.{length}
 use borrow.Author.Needs.{needs}
@@ -9,6 +10,9 @@ use Rattle.record.specs.Layout.{floats}
 use Rattle.record_why.specs.Why.{whyOf}
 use Rattle.record_why.proofs.why.Statement.{statement}
 use Rattle.record_why.proofs.why.Tie as tie
+
+model-of-requires : tie.Need-model-of-requires
+model-of-requires c κs = sym (c .before .known .ensures) ∙ c .if2 .taken
 
 told-requires : tie.Need-told-requires
 told-requires c κs =
@@ -46,4 +50,4 @@ returns-3 c =
 pub why-spec : {M : Type 1} → statement M
 why-spec =
     tie.close
-    (tie.spec (λ c κs. search needs) (λ c κs. search needs) (λ c κs. search needs) told-requires returns returns-2 returns-3)
+    (tie.spec (λ c κs. search needs) (λ c κs. search needs) model-of-requires told-requires returns returns-2 returns-3)

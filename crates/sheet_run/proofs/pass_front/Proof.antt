@@ -6,6 +6,9 @@ use borrow.Author.Needs.{needs}
 use Rattle.sheet_run.proofs.pass_front.Statement.{statement}
 use Rattle.sheet_run.proofs.pass_front.Tie as tie
 
+model-of-requires : tie.Need-model-of-requires
+model-of-requires c κs = c .before .before .before .before .pre .2
+
 slice-aggregate-pass : tie.Need-slice-aggregate-pass
 slice-aggregate-pass c =
     let h = c .before .before .before .before .before .before .pre in
@@ -26,6 +29,6 @@ returns c =
 pub pass-front-spec : {M : Type 1} → statement M
 pass-front-spec =
     tie.close
-    (tie.spec (λ c. search needs) (λ c κs. search needs) (λ c. search needs) (λ c. search needs) (λ c. search needs)
+    (tie.spec (λ c. search needs) model-of-requires (λ c. search needs) (λ c. search needs) (λ c. search needs)
     slice-aggregate-pass (λ c. search needs) slice-aggregate-pass-2 (λ c κs. search needs) (λ c κs. search needs)
     (λ c. search needs) (λ c. search needs) returns)

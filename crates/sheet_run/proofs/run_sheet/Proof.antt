@@ -8,6 +8,7 @@ use borrow.Author.Tests.{eq-eqb, ne-eqb, eqb-true}
 use Rattle.numbers.proofs.Laws.{and-both}
 use Rattle.record.specs.Layout.{floats}
 use Rattle.sheet.specs.Sheet.{readOf}
+use Rattle.sheet.proofs.Known.{read-known}
 use Rattle.sheet_run.proofs.Rooms.{read-fits, room-length}
 use borrow.Author.Needs.{needs}
 use Rattle.sheet_run.proofs.run_sheet.Statement.{statement}
@@ -30,7 +31,7 @@ pass-front-requires c κs =
     let e : length (a .records .now) / floats * 2 ≡ length (a .answers .now) = eqb-true _ _ (t .1) in
     let z : readOf (a .s .now) (length (a .records .now)) .refusal ≡ 0 = rw (r .0) at (c .before .before .if2 .left) in
     let f = read-fits (a .s .now) (length (a .records .now)) z in
-    (rw (r .0, r .1, room-length (a .s .now) (a .records .now)) f, rw (r .0) (omega arith))
+    (rw (r .0, r .1, room-length (a .s .now) (a .records .now)) f, rw (r .0) (omega arith), rw (r .0) (read-known (a .s .now) (length (a .records .now))))
 
 returns-2 : tie.Need-returns-2
 returns-2 c =

@@ -11,6 +11,11 @@ use borrow.Author.Needs.{needs}
 use Rattle.host.proofs.factored.pasoletu_pass_factored_with_failure.Statement.{statement}
 use Rattle.host.proofs.factored.pasoletu_pass_factored_with_failure.Tie as tie
 
+model-of-requires : tie.Need-model-of-requires
+model-of-requires c κs =
+    let k = c .before .before .before in
+    sym (k .known .ensures) ∙ and-both (k .known .result) (c .before .is-flag .result) (c .if2 .taken) .0
+
 put-failure-counts-requires : tie.Need-put-failure-counts-requires
 put-failure-counts-requires c κs =
     let d = c .before .before .before .before .before .before .before .before .before .before .before .before .before .before .before in
@@ -56,6 +61,6 @@ pub pasoletu-pass-factored-with-failure-spec : {M : Type 1} → statement M
 pasoletu-pass-factored-with-failure-spec =
     tie.close
     (tie.spec (λ c κs. search needs) (λ c κs. search needs) (λ c κs. search needs) (λ c κs. search needs)
-    (λ c κs. search needs) (λ c κs. search needs) (λ c κs. search needs) (λ c κs. search needs)
+    (λ c κs. search needs) model-of-requires (λ c κs. search needs) (λ c κs. search needs)
     (λ c κs. search needs) put-failure-counts-requires (λ c. search needs) (λ c. search needs) (λ c. search needs)
     returns returns-2 returns-3)

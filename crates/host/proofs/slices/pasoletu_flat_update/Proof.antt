@@ -9,6 +9,9 @@ use borrow.Author.Needs.{needs}
 use Rattle.host.proofs.slices.pasoletu_flat_update.Statement.{statement}
 use Rattle.host.proofs.slices.pasoletu_flat_update.Tie as tie
 
+model-of-requires : tie.Need-model-of-requires
+model-of-requires c κs = sym (c .before .known .ensures) ∙ c .if2 .taken
+
 put-outcome-requires : tie.Need-put-outcome-requires
 put-outcome-requires c κs =
     let d = c .before .before .before .before .before .before .before .before in
@@ -43,5 +46,5 @@ returns-3 c =
 pub pasoletu-flat-update-spec : {M : Type 1} → statement M
 pasoletu-flat-update-spec =
     tie.close
-    (tie.spec (λ c κs. search needs) (λ c κs. search needs) (λ c κs. search needs) (λ c κs. search needs)
+    (tie.spec (λ c κs. search needs) (λ c κs. search needs) model-of-requires (λ c κs. search needs)
     put-outcome-requires (λ c. search needs) (λ c. search needs) returns returns-2 returns-3)

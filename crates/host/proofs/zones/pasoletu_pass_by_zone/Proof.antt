@@ -7,6 +7,9 @@ use borrow.Author.Needs.{needs}
 use Rattle.host.proofs.zones.pasoletu_pass_by_zone.Statement.{statement}
 use Rattle.host.proofs.zones.pasoletu_pass_by_zone.Tie as tie
 
+model-of-requires : tie.Need-model-of-requires
+model-of-requires c κs = sym (c .before .known .ensures) ∙ c .if2 .taken
+
 returns : tie.Need-returns
 returns c =
     let d = c .before .before .before .before .before .before .before .before .before .before .before .before .before in
@@ -34,4 +37,4 @@ returns-3 c =
 pub pasoletu-pass-by-zone-spec : {M : Type 1} → statement M
 pasoletu-pass-by-zone-spec =
     tie.close
-    (tie.spec (λ c κs. search needs) (λ c κs. search needs) (λ c κs. search needs) (λ c κs. search needs) (λ c κs. search needs) (λ c κs. search needs) (λ c. search needs) (λ c. search needs) (λ c. search needs) returns returns-2 returns-3)
+    (tie.spec (λ c κs. search needs) (λ c κs. search needs) (λ c κs. search needs) (λ c κs. search needs) model-of-requires (λ c κs. search needs) (λ c. search needs) (λ c. search needs) (λ c. search needs) returns returns-2 returns-3)

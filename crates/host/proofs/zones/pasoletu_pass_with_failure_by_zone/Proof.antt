@@ -3,9 +3,15 @@ use Rattle.host.specs.Zones.{failureZonesGo}
 use Rattle.host.proofs.Steps.{chosen}
 use mathlib.Core.Path.{_≡_, sym, _∙_}
 use mathlib.Core.Bool.{true}
+use Rattle.numbers.proofs.Laws.{and-both}
 use borrow.Author.Needs.{needs}
 use Rattle.host.proofs.zones.pasoletu_pass_with_failure_by_zone.Statement.{statement}
 use Rattle.host.proofs.zones.pasoletu_pass_with_failure_by_zone.Tie as tie
+
+model-of-requires : tie.Need-model-of-requires
+model-of-requires c κs =
+    let k = c .before .before .before in
+    sym (k .known .ensures) ∙ and-both (k .known .result) (c .before .is-flag .result) (c .if2 .taken) .0
 
 returns : tie.Need-returns
 returns c =
@@ -36,4 +42,4 @@ returns-3 c =
 pub pasoletu-pass-with-failure-by-zone-spec : {M : Type 1} → statement M
 pasoletu-pass-with-failure-by-zone-spec =
     tie.close
-    (tie.spec (λ c κs. search needs) (λ c κs. search needs) (λ c κs. search needs) (λ c κs. search needs) (λ c κs. search needs) (λ c κs. search needs) (λ c κs. search needs) (λ c κs. search needs) (λ c κs. search needs) (λ c κs. search needs) (λ c. search needs) (λ c. search needs) (λ c. search needs) returns returns-2 returns-3)
+    (tie.spec (λ c κs. search needs) (λ c κs. search needs) (λ c κs. search needs) (λ c κs. search needs) (λ c κs. search needs) (λ c κs. search needs) model-of-requires (λ c κs. search needs) (λ c κs. search needs) (λ c κs. search needs) (λ c. search needs) (λ c. search needs) (λ c. search needs) returns returns-2 returns-3)
