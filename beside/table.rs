@@ -42,6 +42,19 @@ pub const DECOMPOSED_TIMES: usize = 39;
 pub const NEO_HOOKEAN_STRESS_AND_VERDICT: usize = 40;
 pub const COROTATED_STRESS_AND_VERDICT: usize = 41;
 
+// Numbers that crates/replay alone has; of a call with a model, the first of one for each.
+pub const REPLAYED_FLAT_UPDATE: usize = 42;
+pub const REPLAYED_PASS_WITH_FAILURE: usize = 46;
+pub const REPLAYED_WHY: usize = 50;
+pub const REPLAYED_NEO_HOOKEAN_ELASTIC_ENERGY_DENSITY_IN: usize = 54;
+pub const REPLAYED_RECORD_NEO_HOOKEAN_FPK_STRESS: usize = 55;
+pub const REPLAYED_RECORD_NEO_HOOKEAN_ELASTIC_ENERGY_DENSITY: usize = 56;
+pub const REPLAYED_RECORD_NEO_HOOKEAN_ELASTIC_ENERGY_DENSITY_IN: usize = 57;
+pub const REPLAYED_RECORD_NEO_HOOKEAN_POS_ENERGY: usize = 58;
+pub const REPLAYED_RECORD_COROTATED_ELASTIC_ENERGY_DENSITY: usize = 59;
+pub const REPLAYED_RECORD_COROTATED_POS_ENERGY: usize = 60;
+pub const REPLAYED_FACTOR: usize = 61;
+
 // Floats of a record, and those before the determinant. Models from LAWS up name the same laws, for sheets whose records have all.
 pub const FLOATS: usize = 37;
 pub const BARE: usize = 36;

@@ -106,7 +106,7 @@ class Check(Copy):
 
     def test_another_number_in_replay_is_told(self):
         self.edit("crates/replay/src/elementary.rt", "if k == 3 {", "if k == 33 {")
-        self.told("crates/replay: call 3 is (None, 1, 1), in the table ('sin', 1, 1)")
+        self.told("crates/replay: call 3 is (None, 1, 1, 0), in the table ('sin', 1, 1, 0)")
 
     def test_another_flag_or_number_of_parameters_is_told(self):
         self.edit("crates/model/specs/Kinds.antt", "kinds Nacc = false ∷ false", "kinds Nacc = false ∷ true")
@@ -118,7 +118,7 @@ class Check(Copy):
 
     def test_another_length_in_replay_is_told(self):
         self.edit("crates/replay/src/reading.rt", "    40,\n", "    39,\n")
-        self.told("crates/replay: call 20 is ('update 0', 39, 39)")
+        self.told("crates/replay: call 20 is ('update 0', 39, 39, 37)")
 
 
 class Rows(Copy):

@@ -33,6 +33,7 @@ import samples  # noqa: E402
 import sheet  # noqa: E402
 import shell  # noqa: E402
 import twice  # noqa: E402
+import vectors  # noqa: E402
 
 SHEETS = cases.SHEETS
 SAMPLES = sorted((HERE.parent / "samples").glob("*.sheet"))
@@ -143,6 +144,36 @@ class Twice(InFolder):
     def test_a_local_lemma_is_none(self):
         text = "pub {0} : {1}\n{0} = go\n  where\n    go : (x : ℕ) → x ≡ x\n    go x = refl\n"
         self.assertEqual(self.counted(text.format("a", "A"), text.format("b", "B")), 0)
+
+
+class Vectors(InFolder):
+    def checked(self, change):
+        """What vectors.py says of the list with a change in its bytes."""
+        there, said = pathlib.Path(self.folder) / "data", io.StringIO()
+        shutil.copytree(vectors.DATA, there)
+        (there / "readings").write_bytes(change((there / "readings").read_bytes()))
+        with unittest.mock.patch.object(vectors, "DATA", there), contextlib.redirect_stdout(said):
+            status = vectors.check(None)
+        return status, said.getvalue().splitlines()[-1]
+
+    def test_the_list_as_it_stands(self):
+        status, last = self.checked(lambda data: data)
+        self.assertFalse(status)
+        self.assertRegex(last, "^[0-9]+ passed, 0 failed$")
+
+    def test_a_wrong_word(self):
+        widths, at, places = vectors.lengths(), 0, {}
+        for e in vectors.read((vectors.DATA / "readings").read_bytes(), widths):
+            end = at + len(vectors.spelled(e))
+            places.setdefault(e.call, at + 1 if e.refusal else end - 8)
+            at = end
+        self.assertEqual(len(places), 11)
+        for place in places.values():
+            with self.subTest(place=place):
+                status, last = self.checked(lambda data: data[:place] + bytes([data[place] ^ 4]) + data[place + 1:])
+                self.assertTrue(status)
+                self.assertNotRegex(last, " 0 failed$")
+                shutil.rmtree(pathlib.Path(self.folder) / "data")
 
 
 class Tables(InFolder):

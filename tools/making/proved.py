@@ -9,6 +9,7 @@ REFUSAL = re.compile(r"pub const (\w+): u8 = (\d+);")
 KINDS_OF = re.compile(r"^kinds (\w+) = ((?:(?:true|false) ∷ )+)\[\]$", re.M)
 EXTERN = re.compile(r'pub extern "C" fn pasoletu_(\w+)\((.*?)\)\s*->\s*u8', re.S)
 BRANCH = re.compile(r"\bk == (\d+) \{|\belse \{|\bhost::(?:\w+::)?pasoletu_(\w+)\(|\bupdated\(\s*(\d+),")
+BELOW = re.compile(r"\b(?:k < (\d+)|else) \{\s*(\w+)\(")
 
 
 def spelled(a):
@@ -73,6 +74,16 @@ def replayed(top, update):
                 yield number, name
 
 
+def replayed_by_model(top, models):
+    """The numbers of its calls that are given a model, one for each law: a branch `if k < N {` has the last before N, an `else` the next."""
+    text = (top / "crates/replay/src/models.rt").read_text()
+    end = None
+    for below, name in BELOW.findall(text):
+        end = int(below) if below else end + len(models)
+        if f"pasoletu_{name}(" in text:
+            yield from ((end - len(models) + m.number, f"{name} {m.number}") for m in models)
+
+
 def replay_lengths(top, name):
     text = (top / "crates/replay/src/reading.rt").read_text()
     match = re.search(rf"const {name}: \[usize; \d+\] = \[(.*?)\]", text, re.S)
@@ -83,20 +94,39 @@ def words_in(c, m):
     return sum(1 if word in ("NUMBER", "GAMMA") else int(word) for word in beside_row(c, m)[0])
 
 
+def list_words(a, m, floats):
+    """The words of an argument of a call on one record."""
+    lengths = {"parameters": len(m.parameters) if m else 0, "records": floats, "answers": 2}
+    return 1 if not a.is_list else a.length or lengths[a.name]
+
+
+def lengths_of(c, m, floats):
+    """How many words go in, with a lent record last, come out, and are that record's."""
+    written = [list_words(a, m, floats) for a in c.written]
+    lent = written[0] if c.written[0].name in ("record", "records") else 0
+    return sum(list_words(a, m, floats) for a in c.taken) + lent, sum(written), lent
+
+
 def replay(top, table):
-    """What crates/replay has may be fewer calls than the table numbers, its first ones; of a retired number it has no call, and no words."""
-    inputs, outputs = replay_lengths(top, "INPUTS"), replay_lengths(top, "OUTPUTS")
-    yield "crates/replay: INPUTS and OUTPUTS", None if inputs and len(inputs) == len(outputs) else "cannot be read off"
-    there = dict(replayed(top, "update"))
-    for number in (number for number in table.retired if number < len(inputs)):
-        found = there.get(number), inputs[number], outputs[number]
-        yield f"crates/replay: call {number}", None if found == (None, 0, 0) else f"is {found}, in the table retired"
-    for number, c, m in (row for row in table.numbered if row[0] < len(inputs)):
-        name = c.name if m is None else f"{c.name} {m.number}"
-        lengths = words_in(c, m), beside_row(c, m)[1]
-        found = there.get(number), inputs[number], outputs[number] if number < len(outputs) else None
+    """Of a retired number crates/replay has no call, and no words."""
+    lists = [replay_lengths(top, name) for name in ("INPUTS", "OUTPUTS", "LENT")]
+    numbers = len(table.numbered) + len(table.retired) + len(table.replayed)
+    whole = all(len(list) == numbers for list in lists)
+    yield "crates/replay: INPUTS, OUTPUTS and LENT", None if whole else f"are {[len(list) for list in lists]} long, in the table {numbers}"
+    there = {**dict(replayed(top, "update")), **dict(replayed_by_model(top, table.models))}
+
+    def held_to(number, name, lengths):
+        found = there.get(number), *(list[number] if number < len(list) else None for list in lists)
         wanted = name, *lengths
-        yield f"crates/replay: call {number}", None if found == wanted else f"is {found}, in the table {wanted}"
+        return f"crates/replay: call {number}", None if found == wanted else f"is {found}, in the table {wanted}"
+
+    for number in table.retired:
+        yield held_to(number, None, (0, 0, 0))
+    for number, c, m in table.numbered:
+        lent = table.floats if m else 0
+        yield held_to(number, c.name if m is None else f"{c.name} {m.number}", (words_in(c, m), beside_row(c, m)[1], lent))
+    for number, c, m in table.replayed:
+        yield held_to(number, c.name if m is None else f"{c.name} {m.number}", lengths_of(c, m, table.floats))
 
 
 def held(top, table):

@@ -28,13 +28,15 @@ class Argument:
 
 @dataclass(frozen=True)
 class Call:
-    """A call of the library. `flag` is the place of a flag among its inputs, `beside` its number in beside/ or "lists" or None."""
+    """A call of the library. `flag` is the place of a flag among its inputs, `beside` its number in beside/ and crates/replay or "lists" or None,
+    `replay` its number where crates/replay alone has one."""
 
     name: str
     text: str
     arguments: tuple
     beside: int | str | None
     flag: int | None
+    replay: int | None
 
     @property
     def taken(self):
@@ -50,8 +52,8 @@ class Call:
 
     @property
     def for_every_model(self):
-        """Whether beside/ has a number for each model of it."""
-        return self.numbered and self.arguments[0].name == "model"
+        """Whether a number stands for each model of it."""
+        return (self.numbered or self.replay is not None) and self.arguments[0].name == "model"
 
 
 @dataclass(frozen=True)
@@ -161,7 +163,7 @@ def call(row):
     written = [argument(a, True, where) for a in row["writes"].split(",")]
     if not all(a.is_list for a in written):
         raise BadTable(f"{where}: only lists can be written")
-    made = Call(row["name"], row["text"], tuple(taken + written), row.get("beside"), row.get("flag"))
+    made = Call(row["name"], row["text"], tuple(taken + written), row.get("beside"), row.get("flag"), row.get("replay"))
     if made.beside not in (None, "lists") and not made.numbered:
         raise BadTable(f"{where}: beside is {made.beside!r}, which is neither a number nor \"lists\"")
     if made.numbered and not made.for_every_model and 0 in (a.length for a in made.arguments):
@@ -243,12 +245,17 @@ class Table:
     @property
     def numbered(self):
         """The calls of beside/ by number: (number, call, model or None)."""
+        return self.rows((c.beside, c) for c in self.calls if c.numbered)
+
+    @property
+    def replayed(self):
+        """The calls that crates/replay alone has a number for, likewise."""
+        return self.rows((c.replay, c) for c in self.calls if c.replay is not None)
+
+    def rows(self, calls):
         rows = []
-        for c in self.calls:
-            if c.for_every_model:
-                rows += [(c.beside + m.number, c, m) for m in self.models]
-            elif c.numbered:
-                rows.append((c.beside, c, None))
+        for number, c in calls:
+            rows += [(number + m.number, c, m) for m in self.models] if c.for_every_model else [(number, c, None)]
         return sorted(rows, key=lambda row: row[0])
 
     def check(self):
@@ -261,6 +268,8 @@ class Table:
         rising("the refusals' numbers", [r.number for r in self.refusals], 1)
         consecutive("the models' numbers", [m.number for m in self.models], 0)
         unique("a call's name", (c.name for c in self.calls))
-        consecutive("the numbers of beside/", sorted([number for number, _, _ in self.numbered] + self.retired), 0)
+        numbers = [number for number, _, _ in self.numbered] + self.retired
+        consecutive("the numbers of beside/", sorted(numbers), 0)
+        consecutive("the numbers of crates/replay", sorted(number for number, _, _ in self.replayed), len(numbers))
         for c in self.calls:
             unique(f"an argument of {c.name}", (a.name for a in c.arguments))

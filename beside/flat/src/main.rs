@@ -12,6 +12,7 @@ mod draw;
 mod far;
 mod ours;
 mod rankine;
+mod replay;
 
 use build2::Outcome;
 use draw::Draw;
@@ -40,6 +41,26 @@ fn one_zero(rust: &Outcome, strength: f64) -> Outcome {
         }
     }
     x
+}
+
+/// The Rust's outcome, the right one, which of Rankine is RULES', and the branches where that isn't refused.
+pub fn right(model: usize, p: &[f64], r: &Record) -> (Outcome, Outcome, Vec<&'static str>) {
+    let rust = build2::expected(model, p, r);
+    let mut taken = Vec::new();
+    if model == 1 {
+        let mine = rankine::expected(p, r);
+        if let Ok(((o, [stored, _]), branch)) = mine {
+            taken.push(branch);
+            if stored == 1 {
+                taken.push(if o[PLASTIC] == p[2] { "hardening capped" } else { "hardening not capped" });
+            }
+        }
+        return (rust, rankine::outcome(&mine), taken);
+    }
+    if let Ok((o, [stored, _])) = &rust {
+        taken = branches::taken(model, p, r, o, *stored == 1);
+    }
+    (rust, rust, taken)
 }
 
 /// What came of a law's calls.
@@ -76,23 +97,7 @@ impl Tally {
 
     /// One record: ours beside what is right, and of Rankine the Rust's own beside both. What is right is handed back.
     fn one(&mut self, model: usize, p: &[f64], r: &Record) -> Outcome {
-        let rust = build2::expected(model, p, r);
-        let mut taken = Vec::new();
-        let right = if model == 1 {
-            let mine = rankine::expected(p, r);
-            if let Ok(((o, [stored, _]), branch)) = mine {
-                taken.push(branch);
-                if stored == 1 {
-                    taken.push(if o[PLASTIC] == p[2] { "hardening capped" } else { "hardening not capped" });
-                }
-            }
-            rankine::outcome(&mine)
-        } else {
-            if let Ok((o, [stored, _])) = &rust {
-                taken = branches::taken(model, p, r, o, *stored == 1);
-            }
-            rust
-        };
+        let (rust, right, taken) = right(model, p, r);
         taken.into_iter().for_each(|b| *self.branches.entry(b).or_default() += 1);
         self.calls += 1;
         self.outcome(&right);
@@ -270,6 +275,9 @@ fn main() {
     let number = |name: &str, or: u64| of(name).map_or(or, |x| x.parse().expect("a whole number"));
     let (work, seed, count) = (&args[1], number("--seed", 1), number("--count", 100_000));
     ours::open(&format!("{work}/libours.so"));
+    if let Some(file) = of("--replay") {
+        return replay::write(&file, seed);
+    }
     let untouched = far::Untouched::open(&format!("{work}/libuntouched_flat.so"));
     let mut failed = false;
     println!("seed {seed}, {count} records a law");

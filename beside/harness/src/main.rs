@@ -19,6 +19,7 @@ mod replay;
 mod show;
 mod sites;
 mod untouched;
+mod vectors;
 
 use calls::CALLS;
 use draw::Draw;

@@ -4,13 +4,31 @@
 use crate::branches;
 use crate::calls;
 use crate::draw::Draw;
-use crate::inside;
+use crate::inside::{self, Answer};
 use crate::listed;
+use crate::vectors;
 use std::collections::BTreeMap;
 
+/// The list as it grows.
+#[derive(Default)]
+pub struct List {
+    bytes: Vec<u8>,
+    total: u64,
+}
+
+impl List {
+    pub fn entry(&mut self, n: usize, inputs: &[u64], a: &Answer) {
+        self.total += 1;
+        self.bytes.extend([n as u8, a.status]);
+        self.bytes.extend(inputs.iter().flat_map(|x| x.to_le_bytes()));
+        if a.status == 0 {
+            self.bytes.extend(a.out.iter().flat_map(|x| x.to_le_bytes()));
+        }
+    }
+}
+
 pub fn write(file: &str, seed: u64) {
-    let mut bytes = Vec::new();
-    let mut total = 0;
+    let mut list = List::default();
     let mut classes = 0;
     for n in (0..calls::CALLS.len()).filter(|n| !calls::is_retired(*n)) {
         // A few of each kind: the refusal, or the branches taken together.
@@ -37,20 +55,14 @@ pub fn write(file: &str, seed: u64) {
                 continue;
             }
             *c += 1;
-            total += 1;
-            bytes.extend([n as u8, a.status]);
-            for x in &i {
-                bytes.extend(x.to_le_bytes());
-            }
-            if a.status == 0 {
-                for x in &a.out {
-                    bytes.extend(x.to_le_bytes());
-                }
-            }
+            list.entry(n, &i, &a);
         }
         classes += kinds.len();
     }
-    bytes.push(255);
-    std::fs::write(file, &bytes).expect("the list cannot be written");
-    println!("{file}: {total} entries of {classes} kinds, {} bytes", bytes.len());
+    let numbered = list.total;
+    vectors::write(&mut list, seed);
+    list.bytes.push(255);
+    std::fs::write(file, &list.bytes).expect("the list cannot be written");
+    let List { bytes, total } = list;
+    println!("{file}: {numbered} entries of {classes} kinds and {} of the pass with failure and of records, {} bytes", total - numbered, bytes.len());
 }

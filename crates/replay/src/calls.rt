@@ -1,24 +1,36 @@
-// An entry's call, by its number in beside/calls.rs: its refusal or 0, with the outputs in the first places of `out`.
+// An entry's call, by its number in calls.toml: its refusal or 0. The lists that are lent stand in the first places of `out`, one after
+// another, before the call and after it.
 use crate::elementary;
 use crate::judged;
 use crate::laws;
+use crate::models;
 use crate::reading;
+use crate::records;
 use crate::stresses;
 ghost use mathlib.Core.Path.{_≡_};
 ghost use lib.ListN.{length};
 
 pub fn call(k: u8, i: &[u64], out: &mut [u64]) -> u8
-    requires { ⌜ (length (now i) ≡ 45) × (length (now out) ≡ 39) ⌝ }
+    requires { ⌜ (length (now i) ≡ 52) × (length (now out) ≡ 43) ⌝ }
+{
+    if (20 <= k) & (k < 24) {
+        laws::update(k, i, out)
+    } else if (40 <= k) & (k < 42) {
+        judged::judged(k, i, out)
+    } else if (42 <= k) & (k < 54) {
+        models::call(k, i, out)
+    } else {
+        one_list(k, i, out)
+    }
+}
+
+// A call that is lent one list.
+fn one_list(k: u8, i: &[u64], out: &mut [u64]) -> u8
+    requires { ⌜ (length (now i) ≡ 52) × (length (now out) ≡ 43) ⌝ }
 {
     let n = reading::outputs_of(k);
-    if 39 < n {
+    if 43 < n {
         return 255;
-    }
-    if (20 <= k) & (k < 24) {
-        return laws::update(k, i, out);
-    }
-    if 40 <= k {
-        return judged::judged(k, i, out);
     }
     let o = &mut out[..n];
     if k < 9 {
@@ -39,7 +51,9 @@ pub fn call(k: u8, i: &[u64], out: &mut [u64]) -> u8
         stresses::corotated(k, i, o)
     } else if k < 35 {
         stresses::monaghan(k, i, o)
-    } else {
+    } else if k < 40 {
         laws::alone(k, i, o)
+    } else {
+        records::call(k, i, o)
     }
 }

@@ -4,7 +4,7 @@ ghost use mathlib.Core.Path.{_≡_};
 ghost use lib.ListN.{length};
 
 fn answered(k: u8, i: &[u64], stress: &mut [u64], verdict: &mut [u64]) -> u8
-    requires { ⌜ length (now i) ≡ 45 ⌝ }
+    requires { ⌜ length (now i) ≡ 52 ⌝ }
 {
     if k == 40 {
         host::judged::pasoletu_neo_hookean_stress_and_verdict(
@@ -27,14 +27,14 @@ fn answered(k: u8, i: &[u64], stress: &mut [u64], verdict: &mut [u64]) -> u8
 
 // The stress in the first nine places, the verdict in the next.
 pub fn judged(k: u8, i: &[u64], out: &mut [u64]) -> u8
-    requires { ⌜ length (now i) ≡ 45 ⌝ }
+    requires { ⌜ (length (now i) ≡ 52) × (length (now out) ≡ 43) ⌝ }
 {
     let mut stress = [0u64; 9];
     let mut verdict = [0u64; 1];
+    laws::copy(&out[..9], 0, &mut stress);
+    laws::copy(&out[9..10], 0, &mut verdict);
     let refusal = answered(k, i, &mut stress, &mut verdict);
-    if refusal == 0 {
-        laws::copy(&stress, 0, out);
-        laws::copy(&verdict, 9, out);
-    }
+    laws::copy(&stress, 0, out);
+    laws::copy(&verdict, 9, out);
     refusal
 }

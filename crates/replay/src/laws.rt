@@ -3,16 +3,17 @@ use numbers::float_of;
 ghost use mathlib.Core.Path.{_≡_};
 ghost use lib.ListN.{length};
 
-// The record after the update in the first 37 places, the answer in the next two.
-fn updated(model: u64, parameters: &[u64], record: &[u64], out: &mut [u64]) -> u8 {
+// The record in the first 37 places, the answer in the next two.
+fn updated(model: u64, parameters: &[u64], out: &mut [u64]) -> u8
+    requires { ⌜ length (now out) ≡ 43 ⌝ }
+{
     let mut r = [0u64; 37];
     let mut answer = [0u64; 2];
-    copy(record, 0, &mut r);
+    copy(&out[..37], 0, &mut r);
+    copy(&out[37..39], 0, &mut answer);
     let refusal = host::update::pasoletu_update(model, parameters, &mut r, &mut answer);
-    if refusal == 0 {
-        copy(&r, 0, out);
-        copy(&answer, 37, out);
-    }
+    copy(&r, 0, out);
+    copy(&answer, 37, out);
     refusal
 }
 
@@ -32,21 +33,21 @@ pub fn copy(from: &[u64], at: usize, to: &mut [u64]) {
 }
 
 pub fn update(k: u8, i: &[u64], out: &mut [u64]) -> u8
-    requires { ⌜ length (now i) ≡ 45 ⌝ }
+    requires { ⌜ (length (now i) ≡ 52) × (length (now out) ≡ 43) ⌝ }
 {
     if k == 20 {
-        updated(0, &i[..3], &i[3..40], out)
+        updated(0, &i[..3], out)
     } else if k == 21 {
-        updated(1, &i[..4], &i[4..41], out)
+        updated(1, &i[..4], out)
     } else if k == 22 {
-        updated(2, &i[..8], &i[8..45], out)
+        updated(2, &i[..8], out)
     } else {
-        updated(3, &i[..6], &i[6..43], out)
+        updated(3, &i[..6], out)
     }
 }
 
 pub fn alone(k: u8, i: &[u64], o: &mut [u64]) -> u8
-    requires { ⌜ length (now i) ≡ 45 ⌝ }
+    requires { ⌜ length (now i) ≡ 52 ⌝ }
 {
     if k == 36 {
         host::returns::pasoletu_snow_clamp(

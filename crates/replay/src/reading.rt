@@ -1,9 +1,10 @@
-// An entry of the list: the call's number, the refusal's number or 0, the inputs as words and, after a 0, the outputs.
+// An entry of a list: the call's number, the refusal's number or 0, the inputs as words and, after a 0, the outputs.
+use crate::laws;
 use sheet::Word;
 
-const KINDS: usize = 42;
-// How many words go into each call and come out, by its number (beside/calls.rs); a number whose call is retired has none.
-const INPUTS: [usize; 42] = [
+pub const KINDS: usize = 62;
+// How many words go into each call and come out, by its number (calls.toml); a number whose call is retired has none.
+const INPUTS: [usize; 62] = [
     1,
     1,
     1,
@@ -46,9 +47,29 @@ const INPUTS: [usize; 42] = [
     13,
     42,
     43,
+    24,
+    25,
+    29,
+    27,
+    47,
+    48,
+    52,
+    50,
+    41,
+    42,
+    46,
+    44,
+    15,
+    40,
+    40,
+    41,
+    40,
+    41,
+    41,
+    37,
 ];
 
-const OUTPUTS: [usize; 42] = [
+const OUTPUTS: [usize; 62] = [
     1,
     1,
     1,
@@ -91,36 +112,128 @@ const OUTPUTS: [usize; 42] = [
     3,
     10,
     10,
+    22,
+    22,
+    22,
+    22,
+    43,
+    43,
+    43,
+    43,
+    11,
+    11,
+    11,
+    11,
+    1,
+    9,
+    1,
+    1,
+    1,
+    1,
+    1,
+    37,
 ];
 
+// How many of the last words that go in are a record that is lent: what comes out begins with it.
+const LENT: [usize; 62] = [
+    0,
+    0,
+    0,
+    0,
+    0,
+    0,
+    0,
+    0,
+    0,
+    0,
+    0,
+    0,
+    0,
+    0,
+    0,
+    0,
+    0,
+    0,
+    0,
+    0,
+    37,
+    37,
+    37,
+    37,
+    0,
+    0,
+    0,
+    0,
+    0,
+    0,
+    0,
+    0,
+    0,
+    0,
+    0,
+    0,
+    0,
+    0,
+    0,
+    0,
+    0,
+    0,
+    20,
+    20,
+    20,
+    20,
+    37,
+    37,
+    37,
+    37,
+    0,
+    0,
+    0,
+    0,
+    0,
+    0,
+    0,
+    0,
+    0,
+    0,
+    0,
+    37,
+];
+
+// The inputs, the lists as they are lent, and as the call must leave them: after a refusal as they were lent.
 pub struct Entry {
     pub there: bool,
     pub call: u8,
     pub refusal: u8,
-    pub inputs: [u64; 45],
-    pub outputs: [u64; 39],
+    pub inputs: [u64; 52],
+    pub lent: [u64; 43],
+    pub left: [u64; 43],
 }
+
+// What stands in a lent place that holds no record: no call writes it.
+const MARK: u64 = 0x7ff4_dead_beef_0001;
 
 fn none() -> Entry {
     Entry {
         there: false,
         call: 0,
         refusal: 0,
-        inputs: [0; 45],
-        outputs: [0; 39],
+        inputs: [0; 52],
+        lent: [0; 43],
+        left: [0; 43],
     }
 }
 
 // The next n words of the file, in the first places of the room; whether they were there.
 fn words(file: i32, n: usize, room: &mut [u64]) -> bool {
-    if 45 < n {
+    if 52 < n {
         return false;
     }
     if room.len() < n {
         return false;
     }
     let size = n * 8;
-    let mut bytes = [0u8; 360];
+    let mut bytes = [0u8; 416];
     if !filled(file, size, &mut bytes) {
         return false;
     }
@@ -138,7 +251,7 @@ fn filled(file: i32, size: usize, room: &mut [u8]) -> bool {
 
 // The first n words of the bytes, in the first places of the room; whether they were there.
 fn decoded(bytes: &[u8], n: usize, room: &mut [u64]) -> bool {
-    if 45 < n {
+    if 52 < n {
         return false;
     }
     let mut i = 0;
@@ -168,6 +281,18 @@ pub fn outputs_of(call: u8) -> usize {
     if k < KINDS { OUTPUTS[k] } else { 0 }
 }
 
+// The record that ends at a place of the inputs, in the first places of the room.
+fn lend(inputs: &[u64], end: usize, n: usize, room: &mut [u64]) {
+    if inputs.len() < end {
+        return;
+    }
+    if end < n {
+        return;
+    }
+    let first = end - n;
+    laws::copy(&inputs[first..end], 0, room);
+}
+
 // The next entry; none at the list's end, a byte 255, or where the file breaks off.
 pub fn next(file: i32) -> Entry {
     let mut head = [0u8; 2];
@@ -178,13 +303,15 @@ pub fn next(file: i32) -> Entry {
     if KINDS <= k {
         return none();
     }
-    let mut inputs = [0u64; 45];
+    let mut inputs = [0u64; 52];
     if !words(file, INPUTS[k], &mut inputs) {
         return none();
     }
-    let mut outputs = [0u64; 39];
+    let mut lent = [MARK; 43];
+    lend(&inputs, INPUTS[k], LENT[k], &mut lent);
+    let mut left = lent;
     if refusal == 0 {
-        if !words(file, OUTPUTS[k], &mut outputs) {
+        if !words(file, OUTPUTS[k], &mut left) {
             return none();
         }
     }
@@ -193,6 +320,7 @@ pub fn next(file: i32) -> Entry {
         call,
         refusal,
         inputs,
-        outputs,
+        lent,
+        left,
     }
 }

@@ -4,7 +4,7 @@ ghost use mathlib.Core.Path.{_≡_};
 ghost use lib.ListN.{length};
 
 pub fn neo_hookean(k: u8, i: &[u64], o: &mut [u64]) -> u8
-    requires { ⌜ length (now i) ≡ 45 ⌝ }
+    requires { ⌜ length (now i) ≡ 52 ⌝ }
 {
     let law = &i[..3];
     if k == 24 {
@@ -32,7 +32,7 @@ fn neo_hookean_phase(
 }
 
 pub fn corotated(k: u8, i: &[u64], o: &mut [u64]) -> u8
-    requires { ⌜ length (now i) ≡ 45 ⌝ }
+    requires { ⌜ length (now i) ≡ 52 ⌝ }
 {
     let law = &i[..4];
     let a = float_of(i[4]);
@@ -44,7 +44,7 @@ pub fn corotated(k: u8, i: &[u64], o: &mut [u64]) -> u8
 }
 
 pub fn monaghan(k: u8, i: &[u64], o: &mut [u64]) -> u8
-    requires { ⌜ length (now i) ≡ 45 ⌝ }
+    requires { ⌜ length (now i) ≡ 52 ⌝ }
 {
     let gamma = (i[1] % 4294967296) as u32;
     let p = float_of(i[0]);

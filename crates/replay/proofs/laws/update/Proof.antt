@@ -20,9 +20,7 @@ slice-aggregate-updated-4 c = simp length-take (omega arith)
 pub update-spec : {M : Type 1} → statement M
 update-spec =
     tie.close
-    (tie.spec slice-aggregate-updated (λ c. search needs) (λ c. search needs) (λ c. search needs)
-    (λ c κs. search needs) slice-aggregate-updated-2 (λ c. search needs) (λ c. search needs) (λ c. search needs)
-    (λ c κs. search needs) slice-aggregate-updated-3 (λ c. search needs) (λ c. search needs) (λ c. search needs)
-    (λ c κs. search needs) slice-aggregate-updated-4 (λ c. search needs) (λ c. search needs) (λ c. search needs)
-    (λ c κs. search needs) (λ c. search needs) (λ c. search needs) (λ c. search needs) (λ c. search needs)
+    (tie.spec slice-aggregate-updated (λ c κs. search needs) slice-aggregate-updated-2 (λ c κs. search needs)
+    slice-aggregate-updated-3 (λ c κs. search needs) slice-aggregate-updated-4 (λ c κs. search needs)
+    (λ c. search needs) (λ c. search needs) (λ c. search needs) (λ c. search needs)
     (λ c. search needs) (λ c. search needs) (λ c. search needs) (λ c. search needs))
