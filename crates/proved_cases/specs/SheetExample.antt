@@ -11,7 +11,7 @@ use Rattle.exponential.specs.Worked.{expOf, nearestOf, restOf, seriesOf, scaleB
 use Rattle.tensor.specs.Matrix.{sumOf, dotOf, scaledRowOf}
 use Rattle.walk.specs.Matrix.{total, product, entry}
 use Rattle.walk.specs.Body as body
-use Rattle.plasticity_snow.specs.Snow as snow
+use Rattle.plasticity_snow.specs.Over as snow
 use Rattle.record.specs.Layout.{floats, determinantAt, determinantRight}
 use Rattle.model.specs.Kinds as model
 use Rattle.model.specs.Fields.{modelOf}
