@@ -1465,7 +1465,7 @@ class Tools(InFolder):
     def test_replayed(self):
         process = ran("measure/replayed.py", env=self.env)
         self.assertEqual((process.returncode, process.stderr), (0, b""))
-        self.assertEqual(process.stdout, b"1400 passed, 0 failed\n")
+        self.assertEqual(process.stdout, b"1497 passed, 0 failed\n")
 
     def test_another_side_in_the_replayed_list(self):
         b = bytearray((HERE.parent / "crates" / "replay" / "data" / "list").read_bytes())
