@@ -37,7 +37,7 @@ import vectors  # noqa: E402
 SHEETS = cases.SHEETS
 SAMPLES = sorted((HERE.parent / "samples").glob("*.sheet"))
 LINES = (HERE.parent / "crates" / "slope_cases" / "stdout").read_text()
-TOOLS = [HERE / name for name in ("sheet.py", "draw.py", "samples.py", "cases.py", "faults.py", "no_division.py", "report.py", "arrive.py", "measure/accuracy.py", "measure/surface.py", "measure/replayed.py")]
+TOOLS = [HERE / name for name in ("sheet.py", "draw.py", "samples.py", "cases.py", "faults.py", "no_division.py", "report.py", "arrive.py", "measure/accuracy.py", "measure/surface.py", "measure/replayed.py", "vectors.py")]
 NUMPY = importlib.util.find_spec("numpy")
 NOT_FINITE = (math.nan, math.inf, -math.inf)
 
