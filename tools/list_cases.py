@@ -189,7 +189,7 @@ GROWN = record((1.5, 1.5, 1.5), pdet=1.5e308)  # the plastic determinant passes 
 def rust(law):
     """The parameters, the record before, the record after and the answer of the first stored update by a law in the replayed list."""
     b = replayed.LIST.read_bytes()
-    for at, number, refusal, given in replayed.entries(replayed.Table(shell.TOP), b):
+    for at, number, refusal, given in replayed.entries(b):
         if number == 20 + law and refusal == 0:
             n = len(given)
             ws = struct.unpack_from("<%dQ" % (n + FLOATS + 2), b, at + 2)

@@ -38,7 +38,7 @@ import vectors  # noqa: E402
 SHEETS = cases.SHEETS
 SAMPLES = sorted((HERE.parent / "samples").glob("*.sheet"))
 LINES = (HERE.parent / "crates" / "slope_cases" / "stdout").read_text()
-TOOLS = [HERE / name for name in ("sheet.py", "draw.py", "samples.py", "cases.py", "faults.py", "no_division.py", "report.py", "arrive.py", "list_cases.py", "measure/accuracy.py", "measure/surface.py", "measure/replayed.py")]
+TOOLS = [HERE / name for name in ("sheet.py", "draw.py", "samples.py", "cases.py", "faults.py", "no_division.py", "report.py", "arrive.py", "list_cases.py", "measure/accuracy.py", "measure/surface.py", "measure/replayed.py", "vectors.py")]
 NUMPY = importlib.util.find_spec("numpy")
 NOT_FINITE = (math.nan, math.inf, -math.inf)
 PATIENCE = 1200  # seconds after which a tool is taken for one that never ends, on however slow a machine
@@ -1500,7 +1500,7 @@ class Tools(InFolder):
     def test_replayed(self):
         process = ran("measure/replayed.py", env=self.env)
         self.assertEqual((process.returncode, process.stderr), (0, b""))
-        self.assertEqual(process.stdout, b"1400 passed, 0 failed\n")
+        self.assertEqual(process.stdout, b"1497 passed, 0 failed\n")
 
     def test_another_side_in_the_replayed_list(self):
         b = bytearray((HERE.parent / "crates" / "replay" / "data" / "list").read_bytes())

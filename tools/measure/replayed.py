@@ -16,8 +16,8 @@ TOP = pathlib.Path(__file__).resolve().parents[2]
 sys.path[:0] = [str(TOP / "tools")]
 import cases  # noqa: E402
 import shell  # noqa: E402
+import vectors  # noqa: E402
 from making.rows import Table  # noqa: E402
-from making.rust import beside_row  # noqa: E402
 
 LIST = TOP / "crates/replay/data/list"
 TOLD = (2, 10, 11)
@@ -72,6 +72,16 @@ def judged(name):
     return reading
 
 
+def of_record(name):
+    """A record's determinant, and then, of the neo-Hookean law, what the plain call asks."""
+    def reading(*words):
+        record = list(words[-37:])
+        cases.taken(list(words[:-37]), record)
+        if name.startswith("record_neo_hookean_"):
+            neo_hookean(name.removeprefix("record_").removesuffix("_in"))(*words[:3], record[30], record[33], *record[:9])
+    return reading
+
+
 def timestep(pressure0, gamma, _, largest, j, mass, volume, density, x, y, z, __):
     """The exponent is a u32 read as i32, halved; a negative argument of the first root, or a NaN, is let through."""
     exponent = struct.unpack("<Q", struct.pack("<d", gamma))[0]
@@ -108,14 +118,16 @@ def readings(table):
             yield number, neo_hookean(c.name)
         elif c.name in by_name:
             yield number, by_name[c.name]
+    for number, c, _ in table.replayed:
+        if c.name.startswith("record_"):
+            yield number, of_record(c.name)
+        elif c.name.startswith("neo_hookean_"):
+            yield number, neo_hookean(c.name.removesuffix("_in"))
 
 
-def entries(table, b):
+def entries(b):
     """Each entry of the list: where it stands, its call's number, the refusal and the words that go in."""
-    lengths = {}
-    for number, c, model in table.numbered:
-        words, out, *_ = beside_row(c, model)
-        lengths[number] = sum(1 if word in ("NUMBER", "GAMMA") else int(word) for word in words), out
+    lengths = vectors.lengths()
     at = 0
     while b[at] != 255:
         number, refusal = b[at], b[at + 1]
@@ -139,7 +151,7 @@ def check(path):
     table = Table(TOP)
     known = dict(readings(table))
     passed = failed = 0
-    for at, number, refusal, words in entries(table, path.read_bytes()):
+    for at, number, refusal, words in entries(path.read_bytes()):
         if refusal in (0, 3, *TOLD) and number in known:
             side = told(known[number], words)
             if (refusal in TOLD or side in TOLD) and side != refusal:
