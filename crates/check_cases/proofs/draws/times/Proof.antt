@@ -1,6 +1,6 @@
 -- `check_cases::draws::times` meets its contract.
 use borrow.Author.Needs.{needs}
-use Rattle.exact.specs.Halves.{columns}
+use Rattle.exact.proofs.Halves.{columns}
 use Rattle.check_cases.proofs.draws.times.Statement.{statement}
 use Rattle.check_cases.proofs.draws.times.Tie as tie
 
