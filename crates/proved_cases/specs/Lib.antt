@@ -2,3 +2,4 @@ pub mod Alpha
 pub mod Table
 pub mod Example
 pub mod SheetExample
+pub mod Friction
