@@ -31,6 +31,14 @@ def bits(ran):
     )
 
 
+def named(state):
+    """Whether a state's words name one of the models, each flag 0.0 or 1.0 (docs/RULES.md, section 7: the model is word 2, its parameters begin at 7)."""
+    if state[2] >= 2 * len(_table.MODELS):
+        return False
+    law = _table.MODELS[state[2] % len(_table.MODELS)]
+    return all(state[7 + k] in (0, 0x3FF0000000000000) for k, name in enumerate(law.parameters) if name in law.flags)
+
+
 def fed(*parts):
     arrival = pasoletu.Arrival()
     for part in parts:
@@ -197,17 +205,24 @@ class Lengths(unittest.TestCase):
             self.assertEqual([bytes(held) for held in made], before)
 
     def test_any_words_answer(self):
-        rng = random.Random(3)
+        """What the state holds, else 6 where it names no model, and then nothing is written; else some number, which the state then holds."""
+        rng, unnamed = random.Random(3), 0
         for _ in range(2000):
-            state, records, answers, progress = self.lists()
+            state, records, answers, progress = made = self.lists()
             for k in range(len(state)):
                 state[k] = rng.choice([0, 1, 4, 7, 200, 255, 256, 296, rng.randrange(300), rng.getrandbits(64)])
-            number = state[0] % 256
+            if rng.randrange(2):
+                state[0], state[2] = 0, rng.randrange(10)
+            held = state[0] % 256 or (0 if named(state) else UNKNOWN)
+            before = [bytes(part) for part in made]
             data = bytes(rng.randrange(256) for _ in range(rng.randrange(400)))
             told = ask("part", (ctypes.c_uint8 * len(data)).from_buffer_copy(data), state, records, answers, progress)
-            if number:
-                self.assertEqual(told, number)
-            self.assertEqual(state[0] % 256, told)
+            if held:
+                self.assertEqual((told, [bytes(part) for part in made]), (held, before))
+                unnamed += state[0] % 256 == 0
+            else:
+                self.assertEqual(state[0] % 256, told)
+        self.assertGreater(unnamed, 100)
 
 
 if __name__ == "__main__":
