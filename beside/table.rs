@@ -60,6 +60,9 @@ pub const FLOATS: usize = 37;
 pub const BARE: usize = 36;
 pub const LAWS: usize = 4;
 
+// The first number that names no law, of the Rust's or not.
+pub const NO_MODEL: u64 = 8;
+
 // How many parameters each model has.
 pub const PARAMETERS: [usize; 4] = [3, 4, 8, 6];
 

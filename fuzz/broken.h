@@ -99,7 +99,7 @@ static uint8_t broken_pass_with_failure(uint64_t model, const uint64_t *p, size_
 
 // By the pass and the update alike, so that they agree.
 static void off_surface(uint64_t model, uint64_t *r, const uint64_t *a) {
-    if (!fault_is(OFF_SURFACE) || a[0] != 1 || model % LAWS != 1)
+    if (!fault_is(OFF_SURFACE) || a[0] != 1 || LAW_OF[model] != 1)
         return;
     r[8] = bits(value(r[8]) * (1.0 + 0x1p-30));
     for (int k = 0; k < 4; k++)

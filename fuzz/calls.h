@@ -6,10 +6,13 @@
 #define FLOATS 37
 #define FLAT_FLOATS 20
 #define MOST 200
-// Models from LAWS up name the same laws, for sheets whose records have all floats; those below have BARE a record.
+// Of each model's number its law, and whether the records of its sheets have all floats; else they have BARE.
 #define LAWS 4
 #define MODELS 8
 #define BARE 36
+static const char *const NAMES[LAWS] = {"snow", "rankine", "drucker_prager", "nacc"};
+static const uint64_t LAW_OF[MODELS] = {0, 1, 2, 3, 0, 1, 2, 3};
+static const int WHOLE[MODELS] = {0, 0, 0, 0, 1, 1, 1, 1};
 // How many parameters each model has, and the place of its flag or -1.
 static const size_t FIELDS[MODELS] = {3, 4, 8, 6, 3, 4, 8, 6};
 static const int FLAG[MODELS] = {-1, -1, 6, 3, -1, -1, 6, 3};

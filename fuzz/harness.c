@@ -21,6 +21,19 @@
 #define WIDTH (FLAT ? FLAT_FLOATS : FLOATS)
 #include "mutate.h"
 
+// ---- a row a law: which of the six scalars it may change, the place of its amount among them, and parameters that a user might give
+static const uint8_t named[LAWS][6] = {{0, 1, 0, 1, 0, 0}, {0, 0, 1, 0, 0, 0}, {0, 1, 1, 0, 1, 0}, {0, 0, 0, 0, 0, 1}};
+static const int amount[LAWS] = {3, 2, 2, 5};
+
+static void user_parameters(size_t law, double *p) {
+    double young = pow(10.0, between(2.0, 7.0)), poisson = below(8) ? between(0.0, 0.49) : between(-1.0, 1.0), flag = below(2);
+    double drawn[LAWS][8] = {{between(0.0, 0.1), between(0.0, 0.02), between(1.0, 20.0)},
+                             {young, poisson, young * pow(10.0, between(-5.0, 0.0)), pow(10.0, between(-2.0, 6.0))},
+                             {between(0.0, 1.2), between(0.0, 0.4), between(0.0, 0.5), between(0.0, 0.4), young * between(0.1, 2.0), young * between(0.1, 1.0), flag, between(0.0, 1.5)},
+                             {young, poisson, between(0.0, 1.0), flag, between(0.0, 5.0), between(0.1, 3.0)}};
+    memcpy(p, drawn[law], sizeof drawn[law]);
+}
+
 #define ROOM (MOST * FLOATS)
 #define LONGEST (1 + 8 * 8 + 2 + 8 * ROOM) // bytes of a sheet
 #define PASSED 8 // records in an input for the passes
@@ -111,9 +124,8 @@ static void check_surface(const uint64_t *p, const uint64_t *was, const uint64_t
 
 // Section 7: F is recomposed, U and V^T stay, and of the six scalars only those that the law names may change.
 static void check_stored(uint64_t model, const uint64_t *p, const uint64_t *was, const struct done *d) {
-    static const uint8_t named[LAWS][6] = {{0, 1, 0, 1, 0, 0}, {0, 0, 1, 0, 0, 0}, {0, 1, 1, 0, 1, 0}, {0, 0, 0, 0, 0, 1}};
     const uint64_t *r = d->record;
-    model %= LAWS;
+    model = LAW_OF[model];
     check(finite_words(r, WIDTH) && finite_words(d->answer + 1, 1), "a stored float is not finite", model, 0);
     if (!FLAT)
         check(r[BARE] == determinant(r), "the stored determinant is not that of F: bits, should be", r[BARE], determinant(r));
@@ -128,7 +140,6 @@ static void check_stored(uint64_t model, const uint64_t *p, const uint64_t *was,
                 f += value(r[U_AT + AXES * i + k]) * value(r[SIGMA_AT + k]) * value(r[VT_AT + AXES * k + j]);
             check(bits(f) == r[AXES * i + j], "F is not U sigma V^T: place, bits", AXES * i + j, r[AXES * i + j]);
         }
-    static const int amount[LAWS] = {3, 2, 2, 5};
     uint64_t before = was[PHASE_AT + amount[model]], stored = r[PHASE_AT + amount[model]];
     if (model == 2)
         check(bits(value(before) + value(d->answer[1])) == stored, "dq is not what the hardening grew by", d->answer[1], stored);
@@ -150,7 +161,6 @@ static void check_stored(uint64_t model, const uint64_t *p, const uint64_t *was,
 static unsigned long outcomes[LAWS][7], verdicts[2], refusals[9], writes[10], fills[9], parts_told[16], ends_told[16], judgements[2][16], tallied[CALLS][14];
 
 static void print_met(void) {
-    static const char *names[LAWS] = {"snow", "rankine", "drucker_prager", "nacc"};
     if (SHEETS)
         fprintf(stderr, "met: sheets read %lu, refused 4: %lu, 5: %lu, 6: %lu, 7: %lu\n", refusals[0], refusals[4], refusals[5], refusals[6], refusals[7]);
     if (TARGET == 5)
@@ -160,7 +170,7 @@ static void print_met(void) {
         fprintf(stderr, "met: ends taken %lu, refused 4: %lu, 5: %lu, 6: %lu, 7: %lu, 15: %lu, 8: %lu\n", ends_told[0], ends_told[4], ends_told[5], ends_told[6], ends_told[7], ends_told[15], ends_told[8]);
     }
     for (int k = 0; k < (TARGET % 5 && TARGET != 6 ? LAWS : 0); k++)
-        fprintf(stderr, "met: %s untouched %lu, stored %lu, refused 1: %lu, 2: %lu, 3: %lu, 10: %lu, 11: %lu\n", names[k], outcomes[k][0], outcomes[k][1], outcomes[k][2], outcomes[k][3], outcomes[k][4], outcomes[k][5], outcomes[k][6]);
+        fprintf(stderr, "met: %s untouched %lu, stored %lu, refused 1: %lu, 2: %lu, 3: %lu, 10: %lu, 11: %lu\n", NAMES[k], outcomes[k][0], outcomes[k][1], outcomes[k][2], outcomes[k][3], outcomes[k][4], outcomes[k][5], outcomes[k][6]);
     if (TARGET == 2 || FLAT)
         fprintf(stderr, "met: rankine in demand 3's ranges %lu\n", surfaces);
     if (TARGET == 3)
@@ -175,7 +185,7 @@ static void print_met(void) {
 
 static void tell(uint64_t model, const uint64_t *was, const struct done *d) {
     uint8_t kind = d->status ? d->status : 16 + d->answer[0];
-    model %= LAWS;
+    model = LAW_OF[model];
     met[model * 32 + kind] = 1;
     unsigned place = d->status >= 10 ? d->status - 5 : d->status + 1;
     outcomes[model][d->status ? place : d->answer[0]]++;
@@ -210,7 +220,7 @@ static struct done updated(uint64_t model, const uint64_t *p, size_t np, const u
         int eleven = !FLAT && !one && was[BARE] != determinant(was);
         check((d.status == 11) == eleven, "refusal 11 comes exactly where the stored determinant has other bits than F's, and after 1: answer, should be 11", d.status, eleven);
         check(d.status <= 3 || d.status == 10 || d.status == 11, "update: answer", d.status, 0);
-        if (model % LAWS == 0 && !one && !eleven)
+        if (LAW_OF[model] == 0 && !one && !eleven)
             check_side(p, was, d.status);
         if (d.status == 0) {
             check(a[0] <= 1 && (a[0] == 1 || a[1] == 0), "update's answer places", a[0], a[1]);
@@ -255,7 +265,7 @@ static void want_pass(uint64_t model, const uint64_t *p, const struct judge *j, 
         if (fails)
             d.record[30] = 0;
         if (j)
-            met[640 + model % LAWS * 16 + (d.status ? d.status : 4 + fails * 2 + d.answer[0])] = 1;
+            met[640 + LAW_OF[model] * 16 + (d.status ? d.status : 4 + fails * 2 + d.answer[0])] = 1;
         memcpy(want_records + k * WIDTH, d.status ? r : d.record, 8 * WIDTH);
         want_answers[2 * k] = d.status ? 2 : d.answer[0];
         want_answers[2 * k + 1] = d.status ? d.status : d.answer[1];

@@ -1,6 +1,7 @@
 // New inputs: by libFuzzer's own changes of bytes, and by changes that know where a float, the count and a record stand. Bytes alone would
 // hardly ever make a record that a law takes.
 size_t LLVMFuzzerMutate(uint8_t *b, size_t n, size_t most);
+static void user_parameters(size_t law, double *p);
 
 static uint64_t drawing;
 
@@ -67,17 +68,12 @@ static void stretch(double *x, size_t n) {
         x[below(n)] *= pow(10.0, between(-308.0, 308.0));
 }
 
-// Parameters that a user might give.
 static void put_parameters(uint8_t *b, size_t model) {
-    double young = pow(10.0, between(2.0, 7.0)), poisson = below(8) ? between(0.0, 0.49) : between(-1.0, 1.0), flag = below(2);
-    model %= LAWS;
-    double p[LAWS][8] = {{between(0.0, 0.1), between(0.0, 0.02), between(1.0, 20.0)},
-                      {young, poisson, young * pow(10.0, between(-5.0, 0.0)), pow(10.0, between(-2.0, 6.0))},
-                      {between(0.0, 1.2), between(0.0, 0.4), between(0.0, 0.5), between(0.0, 0.4), young * between(0.1, 2.0), young * between(0.1, 1.0), flag, between(0.0, 1.5)},
-                      {young, poisson, between(0.0, 1.0), flag, between(0.0, 5.0), between(0.1, 3.0)}};
-    stretch(p[model], FIELDS[model]);
+    double p[8];
+    user_parameters(LAW_OF[model], p);
+    stretch(p, FIELDS[model]);
     for (size_t k = 0; k < FIELDS[model]; k++)
-        put_word(b + 8 * k, p[model][k]);
+        put_word(b + 8 * k, p[k]);
 }
 
 // The determinant of the F that stands in a record of all floats; now and then a neighbour, the other sign, or any float.

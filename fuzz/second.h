@@ -32,7 +32,7 @@ static uint64_t determinant(const uint64_t *r) {
 
 // How many floats a record has in a sheet.
 static size_t sheet_floats(uint64_t model) {
-    return model < LAWS ? BARE : FLOATS;
+    return model < MODELS && !WHOLE[model] ? BARE : FLOATS;
 }
 
 static int is_flag(uint64_t w) {

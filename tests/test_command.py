@@ -326,6 +326,22 @@ class Proved(InFolder):
             self.assertEqual([line for line in told if line.endswith(" refused 11")], [line for line in lines if line.endswith(" refused 11")])
             (self.folder / "new.sheet").unlink()
 
+    def program(self, *words, sheet):
+        """What the program itself writes on both outputs."""
+        emulator = os.environ.get("PASOLETU_EMULATOR", "").split()
+        ran = self.run_command(*emulator, proved_program(), *words, sheet=sheet.read_bytes())
+        return ran.stdout, ran.stderr.decode()
+
+    def test_the_program_to_the_last_byte(self):
+        sheets = TOP / "tests" / "sheets"
+        self.assertEqual(self.program("-o", sheet=sheets / "before.sheet"), ((sheets / "after.sheet").read_bytes(), ""))
+        self.assertEqual(self.program("--why", sheet=TOP / "samples" / "rankine.sheet"), ((sheets / "rankine.why").read_bytes(), ""))
+
+    def test_the_program_takes_no_other_argument(self):
+        for word in ("--whx", "--who", "xxwxx", "--wh", "--why=5", "-O", "-ox", "--frame", "-", ""):
+            out, told = self.program(word, sheet=TOP / "samples" / "rankine.sheet")
+            self.assertEqual((out, told), (b"", "slope: the argument is none of --why, -o, --frames\n"), word)
+
     def test_why(self):
         """Of each sample, a line a particle that says what its answer does; that of one particle alone is the same line."""
         outcomes = {"stayed,": "untouched", "yielded,": "stored", "clamped,": "stored", "inside": "stored", "refused": "refused"}

@@ -2,9 +2,9 @@
 """What must be believed: the definitions that the public contracts and the theorems of docs/PROMISES.md reach.
 
   tools/believe.py               writes docs/BELIEVE.md
-  tools/believe.py --check       holds the page to the sources. The last line is 'N passed, M failed'
+  tools/believe.py --check       holds the page to the sources, and specs/ to definitions. The last line is 'N passed, M failed'
   tools/believe.py --of NAME     the definitions that a crate's public calls reach, with their places and lines
-  tools/believe.py --lemmas      what stands below specs/ and is reached by none of them, by crate
+  tools/believe.py --lemmas      what stands below specs/ and is reached by none of them, by crate: definitions of inner contracts, and lemmas
 
 A contract that a reader cites names definitions; these name others, to the end. A theorem is believed by its type, so that of a lemma only the type is followed, and of
 a definition its type and its body. Lines are those of the declarations, without blank ones and comments. The kit's own library is not counted.
@@ -20,7 +20,8 @@ import calls
 
 TOP = pathlib.Path(__file__).resolve().parent.parent
 PAGE = TOP / "docs" / "BELIEVE.md"
-LAWS = ("plasticity_snow", "plasticity_rankine", "plasticity_drucker_prager", "plasticity_nacc")
+CARRIED = ("walk/specs/Axes", "walk/specs/Matrix")  # pages whose lemmas definitions carry (`Body`)
+LAWS = [name for name, _ in calls.crates(TOP) if name.startswith("plasticity_")]
 NAME = r"[^\s(){}\[\],;.«»]+"
 DECLARED = re.compile(rf"^( *)((?:(?:abbrev|unfoldable|pub) )*)(record |data )?({NAME})((?: [({{][^=]*?)?) : ")
 USE = re.compile(rf"^ *(pub )?use (Rattle·\S+?)(?:\.\{{([^}}]*)\}}| as ({NAME}))$", re.M)
@@ -197,16 +198,26 @@ def written():
     return "\n".join(out) + "\n"
 
 
-def lemmas():
-    """What stands below specs/ and is not reached, with its lines."""
-    seen, rows = everything(), collections.Counter()
+def pages():
+    """Each page below specs/, with its crate."""
     for name, _ in calls.crates(TOP):
         for path in sorted((TOP / "crates" / name / "specs").rglob("*.antt")):
-            place = (name, str(path.relative_to(TOP / "crates" / name))[:-5])
-            for d in page(place).declared.values():
-                if (d.place, d.name) not in seen:
-                    rows[name] += d.size()
-    return rows
+            yield name, page((name, str(path.relative_to(TOP / "crates" / name))[:-5]))
+
+
+def proved(p):
+    """The lemmas of a page: what is no definition, nor a field of one."""
+    inside = [range(d.first + 1, d.first + len(d.lines)) for d in p.declared.values() if d.definition]
+    return [d for d in p.declared.values() if not d.definition and not any(d.first in r for r in inside)]
+
+
+def lemmas():
+    """What stands below specs/ and is not reached, with its lines: definitions, and lemmas."""
+    seen, inner, rest = everything(), collections.Counter(), collections.Counter()
+    for name, p in pages():
+        rest[name] += sum(d.size() for d in proved(p))
+        inner[name] += sum(d.size() for d in p.declared.values() if d.definition and (d.place, d.name) not in seen)
+    return inner, rest
 
 
 def main():
@@ -220,15 +231,19 @@ def main():
             print(f"{place[0]}/{place[1]}: {name} ({d.size()} lines{'' if d.definition else ', a theorem'})")
         return 0
     if args.lemmas:
-        for name, n in lemmas().most_common():
-            print(f"{name}: {n} lines")
+        inner, rest = lemmas()
+        for name in sorted(inner, key=lambda name: -inner[name] - rest[name]):
+            if inner[name] or rest[name]:
+                print(f"{name}: {inner[name]} lines of definitions, {rest[name]} of lemmas")
         return 0
     if args.check:
-        good = PAGE.exists() and PAGE.read_text(encoding="utf-8") == written()
-        if not good:
-            print("docs/BELIEVE.md is stale: tools/believe.py makes it")
-        print(f"{int(good)} passed, {int(not good)} failed")
-        return 0 if good else 1
+        told = [None if PAGE.exists() and PAGE.read_text(encoding="utf-8") == written() else "docs/BELIEVE.md is stale: tools/believe.py makes it"]
+        for name, p in pages():
+            found_here = [d.name for d in proved(p)] if f"{name}/{p.place}" not in CARRIED else []
+            told.append(f"{name}/{p.place}: {', '.join(found_here)}: a lemma stands below proofs/" if found_here else None)
+        failed = list(filter(None, told))
+        print("\n".join([*failed, f"{len(told) - len(failed)} passed, {len(failed)} failed"]))
+        return 1 if failed else 0
     PAGE.write_text(written(), encoding="utf-8")
     return 0
 

@@ -6,8 +6,9 @@
   tools/calls.py --words    prints how many words of each page are kept by hand, and how many there may be
   tools/calls.py --open     prints the calls with a `requires`, or with no `ensures`
 
---check fails where a page or a table is not what this makes; where a call has no contract, no section or no words of its own (a C call's are calls.toml's, another's
-the source's or, where that has none, calls.toml's [words]); where a call that requires something or takes a float has no row below that says what (REQUIRES, NANS or
+--check fails where a page or a table is not what this makes; where a call has no contract, no section or no words of its own (a C call's section is its heading's
+in calls.toml, held to the definitions' pages, another's is read from these; a C call's words are calls.toml's, another's the source's or, where that has none,
+calls.toml's [words]); where a call that requires something or takes a float has no row below that says what (REQUIRES, NANS or
 FIRST), or a row names no such call; where a page cites what isn't there: `crate/specs/File: name, name` (a definition or a theorem, in crates/crate/specs/File.antt),
 `crate/must-fail: name, name` (wrong builds), `crate::call`, a file, an option, a name in a code span; where a line is shown that no program of the gate prints;
 where a number of things is another; and where there are too many words (tools/making/prose.py).
@@ -29,35 +30,12 @@ PAGE = "docs/CALLS.md"
 HEAD = """# Every public call
 
 Made by `tools/calls.py` from the sources: don't edit. A call stands with the path by which another crate names it; a C call with its own name.
-The section is [RULES.md](RULES.md)'s; the words of a C call are the header's first sentence, of another the source's or calls.toml's.
+The section is [RULES.md](RULES.md)'s, as the page of its definition cites it; the words of a C call are the header's first sentence, of another the source's or calls.toml's.
 The contract names definitions, and below each table stands where these are. `r` is the result, `now (x .entry)` and `now (x .exit)` a lent list before and
 after. An *inner* call is public for the project's own crates alone: it requires something, which they prove, or it is no part of what a host is given ([EXCEPTIONS.md](EXCEPTIONS.md)).
 """
 
-Call = collections.namedtuple("Call", "crate path name words takes gives requires ensures definitions")
-
-# The section of a call: a C call's is that of its heading in calls.toml; of another by its name where the crate's would be wrong, else by its crate's (or the
-# crate's first words). Of any other call it is the one that the definitions' pages cite.
-SECTIONS = [
-    ("numbers", "3", "powi"),
-    ("numbers", "4", "max min"),
-    ("numbers", "7", "float_of bits_of"),
-    ("numbers", "6", ""),
-    ("fixed_point exponential logarithm sine thirds square_root", "3", ""),
-    ("tensor", "1", "DecomposedTensor::decompose DecomposedTensor::recompose DecomposedTensor::add DecomposedTensor::add_assign DecomposedTensor::times"),
-    ("tensor", "1", "plain::decompose plain::recompose plain::add plain::times plain::add_assign plain::zero plain::spherical_part plain::deviatoric_part"),
-    ("tensor", "6", "refused_matrix refused_vector answered answered_vector row_finite mat_finite rows_finite row_number mat_number"),
-    ("tensor", "4", ""),
-    ("physics", "4", "norm_on_path"),
-    ("physics", "1", ""),
-    ("plasticity elasticity eos failure solid", "5", ""),
-    ("flat_particles", "5, 7", ""),
-    ("flat", "5", ""),
-    ("model", "5, 6, 7", "make_ready parameters_ready update_ready"),
-    ("nearness factors record particles reader lines why_lines", "7", ""),
-    ("sheet writer", "6, 7", ""),
-    ("host_lists", "6", ""),
-]
+Call = collections.namedtuple("Call", "crate path name words takes gives requires ensures definitions source")
 
 # docs/EXCEPTIONS.md's tables. A row: of which calls, each crate's by their names inside it, and what a reader is told of them.
 REQUIRES = [
@@ -71,9 +49,9 @@ REQUIRES = [
     ("particles: one", "of one record of a pass and its answers: that the record and its two places are inside the lists"),
     ("writer: write_words", "that the room has place for the words, as bytes"),
     ("model: model_of", "that the number is one of the eight and each flag is one, which `model::known` tells: every caller has asked it, or has read a header, which names such a model (`sheet/proofs/Known: read-known`)"),
+    ("model: write_scalars", "a list of a record's length, and that what is written is finite"),
     (
-        "plasticity_snow: SnowPlasticity::update_ready; plasticity_rankine: RankinePlasticity::update_ready; plasticity_drucker_prager: DruckerPragerPlasticity::update_ready; "
-        "plasticity_nacc: NaccPlasticity::update_ready; model: update_ready",
+        "plasticity_*: *::update_ready; model: update_ready",
         "that the record's floats are finite, and the law's parameters and moduli, as `model::make_ready` leaves them",
     ),
     (
@@ -93,8 +71,8 @@ INNER = [
     ("elasticity_neo_hookean: kirchhoff", "the stress with a determinant that is handed in. `solid` asks it, and answers it with its verdict"),
     ("solid: judged::refused_judged", "`host_lists` asks it, of a list of the wrong length"),
     (
-        "model: model_of rankine drucker_prager neo_hookean corotated limits parameters_of is_flag_of",
-        "the laws from their bits, for any number and any list: above 7 the numbers go round again, a place past the end reads as 0, a flag is any pattern but 0. "
+        "model: model_of rankine drucker_prager parameters_of is_flag_of law_of whole branch; host_lists: neo_hookean corotated limits",
+        "the laws from their bits, for any number and any list: of a number above 7 no law, in whose place Snow is made, a place past the end reads as 0, a flag is any pattern but 0. "
         "Who asks them has asked `fit` and `known` before (8, 6), or has read a header; the header in a state of `parts` is the host's, and no call has tested it",
     ),
 ]
@@ -151,12 +129,12 @@ NANS = [
     ),
     (
         "record: word float write_row write_rows determinant determinant_with; particles: copy fill_determinants; writer: write_words; host_lists: row matrix decomposed; model: rankine "
-        "drucker_prager model_of neo_hookean corotated limits fit known; host: pasoletu_fill_determinants",
+        "drucker_prager model_of fit known; host_lists: neo_hookean corotated limits; host: pasoletu_fill_determinants",
         "read, written or copied as it is, of a determinant as worked (7ff8000000000000); the law refuses that record or those parameters by 1",
     ),
     (
-        "record: finite_bits read_f read_u read_vt read_state store_row store_rows determinant_right; plasticity_snow: SnowPlasticity::update_ready; "
-        "plasticity_rankine: RankinePlasticity::update_ready; plasticity_drucker_prager: DruckerPragerPlasticity::update_ready; plasticity_nacc: NaccPlasticity::update_ready; model: update_ready",
+        "record: finite_bits read_f read_u read_vt read_state store_row store_rows determinant_right; plasticity_*: *::update_ready; "
+        "model: update_ready write_scalars",
         "none comes in: they require that all floats are finite",
     ),
     ("factors: factors_of principal_of", "as the sweeps work it: what comes out misses the check"),
@@ -164,14 +142,13 @@ NANS = [
     (
         "numbers: is_finite is_number; answers: in_range all_in_range; tensor: row_finite mat_finite rows_finite row_number mat_number; flat: row_finite; "
         "nearness: near_all orthogonal surely_near surely_orthogonal; factors: accepted principal_accepted; plasticity: scalars_finite inputs_finite; "
-        "flat: inputs_finite; plasticity_snow: SnowPlasticity::parameters_finite; "
-        "plasticity_rankine: RankineArguments::parameters_finite RankinePlasticity::moduli_finite; plasticity_drucker_prager: DruckerPragerPlasticity::parameters_finite; "
-        "plasticity_nacc: NaccArguments::parameters_finite NaccPlasticity::parameters_finite NaccPlasticity::moduli_finite; "
+        "flat: inputs_finite; plasticity_*: *::parameters_finite *::moduli_finite; "
         "elasticity_neo_hookean: NeoHookeanElasticity::law_finite NeoHookeanElasticity::is_fluid; elasticity_corotated_linear: CorotatedLinearElasticity::law_finite "
         "CorotatedLinearElasticity::is_fluid; eos_monaghan_sph: MonaghanSphEos::is_fluid; failure_maximum_stress: MaximumStressFailure::limits_finite; record: all_finite; "
         "model: model_finite parameters_ready",
         "a test's answer",
     ),
+    ("answer_text: put_sheet", "its bits in sixteen digits: an answer that its call has tested"),
     ("parts: names_model", "no where it stands for a flag; of another parameter it asks nothing, and the law refuses each record by 1"),
 ]
 
@@ -180,11 +157,11 @@ FIRST = [
     "exponential: exp sinh; logarithm: ln; sine: sin; thirds: cbrt inv_cbrt cbrt_squared inv_cbrt_squared; square_root: sqrt; answers: bare",
     "tensor: DecomposedTensor::decompose DecomposedTensor::recompose DecomposedTensor::add DecomposedTensor::add_assign DecomposedTensor::times",
     "physics: inv_exact lame_lambda_mu shear_modulus bulk_modulus shear_modulus_from_lame bulk_modulus_from_lame solve_quadratic spin_tensor strain_rate deviatoric_part spherical_part",
-    "plasticity_*: *::new *::with_m *::update_particle *::reason *::project *::project_deformation_gradient *::alpha; plasticity_nacc: friction_of; flat_*: update_particle project project_deformation_gradient new; model: update reason_of make_ready",
+    "plasticity_*: *::new *::with_m *::update_particle *::reason *::project *::project_deformation_gradient *::alpha; plasticity_nacc: friction_of; flat_*: update_particle project project_deformation_gradient new; model: reason_of make_ready",
     "elasticity_*: *::new *::fpk_stress *::phase_coeff *::elastic_energy_density *::elastic_energy_density_in *::pos_energy",
     "eos_monaghan_sph: *::new *::pressure *::kirchhoff_stress *::timestep_bound; failure_maximum_stress: *::new *::particle_failed",
     "solid: *::stress_and_verdict *::fpk_stress *::elastic_energy_density *::elastic_energy_density_in *::pos_energy",
-    "particles: update_record pass* one; flat_particles: update_record pass; tallies: pass*; host: pasoletu_*",
+    "particles: update_record pass* one; flat_particles: update_record pass; tallies: pass*; host_passes: *; host_sheets: *; host: pasoletu_*",
 ]
 
 FLOATS, LISTS = r"\bf64\b", r"\[u64"
@@ -321,7 +298,7 @@ def calls_of(top, crate):
             requires = re.findall(r"requires(?: \w+)? \{ ⌜ (.*) ⌝ \}", rest)
             used = {w: named[w] for w in re.findall(r"[^\s()]+", " ".join(ensures)) if w in named}
             takes, gives = signature(rest, owner(text[:m.start()]))
-            yield Call(crate, public, name, call_words(top, public, text[:m.start()]), takes, gives, requires, ensures, used)
+            yield Call(crate, public, name, call_words(top, public, text[:m.start()]), takes, gives, requires, ensures, used, path.relative_to(top / "crates"))
 
 
 def call_words(top, public, before):
@@ -330,17 +307,66 @@ def call_words(top, public, before):
     return c[public][1] if public in c else others.get(public) or first_sentence(before)
 
 
+def page_sections(top, place):
+    """The sections that a page of definitions cites."""
+    path = top / "crates" / (place + ".antt")
+    return cited_sections(path.read_text()) if path.exists() else set()
+
+
+def sections_read(top, call):
+    """The sections of the pages that a call's contract leads to: those of its own crate, else its source's, else those of the crate that knows the others."""
+    pages = set(call.definitions.values())
+    own = {p for p in pages if p.startswith(call.crate + "/")}
+    source = cited_sections((top / "crates" / call.source).read_text())
+    if own or source:
+        return set().union(*(page_sections(top, p) for p in own)) if own else source
+    order = [crate for crate, _ in crates(top)]
+    last = max((p.split("/")[0] for p in pages), key=order.index, default=None)
+    return set().union(*(page_sections(top, p) for p in pages if p.split("/")[0] == last))
+
+
 def section_of(top, call):
+    """A C call's section is that of its heading in calls.toml, another's is read from the pages of its definitions."""
     c, _ = told_of(top)
-    if call.path in c:
-        return c[call.path][0]
-    within = re.sub(r"^(?:%s::|pasoletu_)" % call.crate, "", call.path)
-    for of, number, names in SECTIONS:
-        if any(call.crate == c or call.crate.startswith(c + "_") for c in of.split()) and (not names or within in names.split()):
-            return number
-    pages = [top / "crates" / (place + ".antt") for place in set(call.definitions.values())]
-    cited = set().union(*(cited_sections(page.read_text()) for page in pages if page.exists()))
-    return ", ".join(str(n) for n in sorted(cited))
+    return c[call.path][0] if call.path in c else ", ".join(map(str, sorted(sections_read(top, call))))
+
+
+def named_by(top, place, name, through=()):
+    """The pages of the definitions that a definition names, by itself or through others of its page."""
+    path = top / "crates" / (place + ".antt")
+    text = path.read_text() if path.exists() else ""
+    found = {}
+    for crate, file, names, alias in re.findall(r"^(?:pub )?use Rattle·(\w+?)(?:·specs)?\.specs((?:\.\w+)+)(?:\.\{([^}]*)\}| as (\w+))$", text, re.M):
+        for item in names.split(",") if names else [alias]:
+            found[item.strip().split(" ")[-1]] = "%s/specs%s" % (crate, file.replace(".", "/"))
+    body = re.search(r"^ *(?:unfoldable |abbrev |pub )*%s(?= ).*?(?=\n\n|\Z)" % re.escape(name), text, re.M | re.S)
+    words = {w.split(".")[0] for w in re.findall(r"[^\s()]+", body.group() if body else "")}
+    pages = {found[w] for w in words if w in found}
+    for other in words - {name, *through, *found}:
+        if re.search(r"^(?:unfoldable |abbrev |pub )*%s : " % re.escape(other), text, re.M):
+            pages |= named_by(top, place, other, (name, *through))
+    return pages
+
+
+def pages_sections(top, call):
+    """The sections that the pages cite to which a C call's contract leads, by itself or through the hosts' own definitions."""
+    pages = set(call.definitions.values())
+    for name, place in call.definitions.items():
+        if place.startswith("host"):
+            pages |= named_by(top, place, name)
+    return set().union(*(page_sections(top, p) for p in pages))
+
+
+def heading_faults(top, listed):
+    """A heading of calls.toml names what the definitions' pages of its calls cite: each call's one of its sections, and all together all of them."""
+    calls = {c.path: c for c in listed}
+    for section in tomllib.loads((top / "calls.toml").read_text()).get("section", []):
+        told = {name: pages_sections(top, calls[name]) for name in ("pasoletu_" + call["name"] for call in section["call"]) if name in calls}
+        heading = {int(n) for name in told for n in re.findall(r"\d+", told_of(top)[0][name][0])}
+        for name, cited in told.items():
+            yield None if heading & cited else "%s: its heading in calls.toml, %r, names no section of its definitions' pages, %s" % (name, section["title"], sorted(cited))
+        more = heading - set().union(*told.values())
+        yield None if not more else "calls.toml: the heading %r names a section that no page of its calls' definitions cites: %s" % (section["title"], sorted(more))
 
 
 @functools.lru_cache(maxsize=None)
@@ -471,7 +497,7 @@ def contract_fault(top, known, call):
     if not call.ensures:
         return "%s has no contract (docs/RULES.md, section 9)" % call.path
     if not section_of(top, call):
-        return "%s has no section: name it in SECTIONS of tools/calls.py" % call.path
+        return "%s has no section: let the opening comment of its definition's page, or of its source, name it" % call.path
     if not call.words:
         return "%s has no words: give its source a comment, or calls.toml's [words] a row" % call.path
     if HALF.match(call.words):
@@ -501,17 +527,11 @@ def row_faults(listed):
 
 
 def name_rows(top, listed):
-    """SECTIONS and calls.toml's [words] name crates and calls that are there."""
-    crate_names, paths = {crate for crate, _ in crates(top)}, {c.path for c in listed}
-    for of, _, names in SECTIONS:
-        for crate in of.split():
-            there = [c for c in listed if c.crate == crate or c.crate.startswith(crate + "_")]
-            yield None if there or crate in crate_names else "tools/calls.py: SECTIONS names %s, which is no crate" % crate
-            inside_them = {re.sub(r"^%s::" % c.crate, "", c.path) for c in there}
-            for name in names.split():
-                yield None if name in inside_them else "tools/calls.py: SECTIONS names %s of %s, which hands out no such call" % (name, crate)
+    """calls.toml's [words] names calls that are there, and its headings the sections of what they hold."""
+    paths = {c.path for c in listed}
     for path in told_of(top)[1]:
         yield None if path in paths else "calls.toml: [words] names %s, which no crate hands out" % path
+    yield from heading_faults(top, listed)
 
 
 # ---- the house and the tools
@@ -622,7 +642,7 @@ def rust_faults(top):
     """Each held function of the Rust has its row, below its file's name, with a place that defines it."""
     part = re.search(r"^## The Rust's functions\n(.*?)(?=^## |\Z)", prose.pages(top).get("docs/PROMISES.md", ""), re.M | re.S)
     told, file = collections.defaultdict(set), None
-    for first, _, place in re.findall(r"^\| (.*?) \|(.*?)\| (.*?) \|$", part.group(1) if part else "", re.M):
+    for first, place in re.findall(r"^- (.*?): (.*)$", part.group(1) if part else "", re.M):
         file = (re.match(r"\w+\.rs", first) or re.match("()", "")).group() or file
         told[file].update(re.findall(r"`(\w+)`", first) if CITED.search(place) else [])
     for file, names in RUST_FUNCTIONS.items():

@@ -16,19 +16,21 @@ import sys
 
 sys.path.insert(0, str(pathlib.Path(__file__).resolve().parent))
 import shell  # noqa: E402
+from making.rows import Table  # noqa: E402
 
 HERE = shell.TOP / "crates" / "slope_cases"
 SHEETS = sorted((HERE / "data").glob("*"))  # none where the tools are installed
 I = [1.0, 0, 0, 0, 1.0, 0, 0, 0, 1.0]
 NAN, INF = float("nan"), float("inf")
 SNOW = [0.025, 0.0045, 10.0]
-MODELS = 8  # 4 to 7 name the laws of 0 to 3, for sheets whose records end with the determinant
+TABLE = Table(shell.TOP)  # of the laws the numbers, the names and the kinds of their parameters; no formula
+MODELS = len(TABLE.law_of)
 BARE = 36  # floats of a record before the determinant
 
 
 def floats_of(model):
     """How many floats a record has in a sheet of this model."""
-    return BARE + model // len(LAWS)
+    return BARE + TABLE.law_of[model][1]
 
 
 def floats(xs):
@@ -56,7 +58,7 @@ def record(sigma=(1.0, 1.0, 1.0), phase=1.0, pdet=1.0, phard=1.0, ehard=1.0, gai
 
 
 def sheet(records, parameters=SNOW, model=0, count=None):
-    """A sheet's bytes: of models 0 to 3 the determinants are left out."""
+    """A sheet's bytes; by the model's number the determinants are left out."""
     n = floats_of(model)
     return number(model) + floats(parameters) + number(len(records) if count is None else count) + b"".join(floats(r[:n]) for r in records)
 
@@ -171,14 +173,14 @@ def read_number(b, at):
 def read(b):
     """Model, parameters and records, each with its determinant: filled in where the sheet has none."""
     model, at = read_number(b, 0)
-    if model >= MODELS:
+    if model not in TABLE.law_of:
         raise Refused(6, 0)
-    law, parameters = model % len(LAWS), []
-    for k in range((3, 4, 8, 6)[law]):
+    (law, whole), parameters = TABLE.law_of[model], []
+    for kind in TABLE.models[law].parameters:
         if len(b) < at + 8:
             raise Refused(4, len(b))
         bits = b[at:at + 8]
-        if (law, k) in ((2, 6), (3, 3)) and bits not in (floats([0.0]), floats([1.0])):
+        if kind.flag and bits not in (floats([0.0]), floats([1.0])):
             raise Refused(6, at)
         parameters += words(bits)
         at += 8
@@ -190,7 +192,7 @@ def read(b):
     if len(b) - at != count * size:
         raise Refused(*((4, len(b)) if len(b) - at < count * size else (7, at + count * size)))
     records = [words(b[at + size * k:at + size * (k + 1)]) for k in range(count)]
-    return model, parameters, records if model >= len(LAWS) else [completed(r) for r in records]
+    return model, parameters, records if whole else [completed(r) for r in records]
 
 
 def rust_max(a, b):
@@ -353,7 +355,7 @@ def nacc(p, r):
     return alpha, [root(scale * x / norm(shear) + total / 3.0) for x in shear], {35: alpha}
 
 
-LAWS = [snow, rankine, drucker_prager, nacc]
+LAWS = [globals()[law.name] for law in TABLE.models]
 
 
 def recompose(u, sigma, vt):
@@ -380,7 +382,7 @@ def worked(model, p, r):
     """The amount, nothing where the law leaves the record untouched; and the record after it. 1, then 11, then the law, then whether the new
     F's determinant is finite."""
     taken(p, r)
-    told = LAWS[model % len(LAWS)](p, r)
+    told = LAWS[TABLE.law_of[model][0]](p, r)
     if told is None:
         return None, r
     amount, sigma, scalars = told

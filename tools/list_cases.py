@@ -221,8 +221,8 @@ def sand():
 
 
 def refusals(good):
-    """Before any record: 6 for a model over 7 with any list of parameters, and for a flag of sand; 8 before either."""
-    for x, p in ((8, []), (2 ** 64 - 1, good.before["p"])):
+    """Before any record: 6 for an unknown model with any list of parameters, and for a flag of sand; 8 before either."""
+    for x, p in ((cases.MODELS, []), (2 ** 64 - 1, good.before["p"])):
         yield good.refused(UNKNOWN, x=x, p=p)
     for flag in (-0.0, 0.5, NAN):
         yield good.refused(UNKNOWN, p=with_word(good.before["p"], 6, words([flag])[0]))
@@ -510,8 +510,8 @@ def zone_passes(kind):
     for zones in ([], [1, 0], [3], [2 ** 64 - 1]):
         yield good.refused(ZONE, z=zones)
         yield good.refused(ZONE, z=zones, t=[LAST] * 15)
-        yield good.refused(UNKNOWN, z=zones, x=8)
-        yield good.refused(LENGTH, z=zones, x=8, t=[LAST] * 14)
+        yield good.refused(UNKNOWN, z=zones, x=cases.MODELS)
+        yield good.refused(LENGTH, z=zones, x=cases.MODELS, t=[LAST] * 14)
     yield from refusals(good)
     if kind != "pass_by_zone":
         yield good.refused(UNKNOWN, c=words([2.0] + LAW[1:]), z=[])
@@ -571,7 +571,7 @@ def header(model, p, records):
 
 
 def len_of(model):
-    return (3, 4, 8, 6)[model % 4]
+    return len(cases.TABLE.models[cases.TABLE.law_of[model][0]].parameters)
 
 
 def faulty():
@@ -582,7 +582,7 @@ def faulty():
     yield b"\x86\0" + good[1:], 5
     yield b"\x86\x80\1" + good[1:], 5
     yield good[:65] + b"\x86\0" + good[66:], 5
-    yield b"\x08" + good[1:], 6
+    yield cases.number(cases.MODELS) + good[1:], 6
     yield good[:49] + struct.pack("<d", -0.0) + good[57:], 6
     yield good + b"\0", 7
     yield good[:65] + b"\xc9\1" + good[66:], 7
@@ -652,7 +652,7 @@ def writings():
     yield good.refused(9, b=[])
     yield good.refused(7, r=long, b=short)
     yield good.refused(UNKNOWN, r=long, b=short, p=bad)
-    yield good.refused(UNKNOWN, r=long, b=short, x=8, p=[])
+    yield good.refused(UNKNOWN, r=long, b=short, x=cases.MODELS, p=[])
     yield good.refused(LENGTH, r=long + [0], b=short, p=bad)
     yield good.refused(LENGTH, r=long, b=short, p=bad, t=[])
     yield good.refused(LENGTH, r=long, b=short, p=bad + [0])
@@ -704,7 +704,7 @@ class Arrival:
     def record(self, records, answers):
         model, p = self.head[1], floats(self.head[4:4 + len_of(self.head[1])])
         r = list(struct.unpack_from("<%dQ" % cases.floats_of(model), self.held))
-        if model < 4:
+        if not cases.TABLE.law_of[model][1]:
             r += words([cases.determinant(floats(r[:9]))])
         after, answer, _ = list_passed(lambda f: cases.worked(model, p, f), r)
         k = self.complete

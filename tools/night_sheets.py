@@ -148,7 +148,7 @@ def read(path):
 
 def law(number):
     """The law that a model's number names, with determinants or without; nothing for an unknown one."""
-    return TABLE.MODELS[number % len(TABLE.MODELS)] if number is not None and number < TABLE.WITH_DETERMINANT + len(TABLE.MODELS) else None
+    return TABLE.MODELS[TABLE.LAW_OF[number][0]] if number in TABLE.LAW_OF else None
 
 
 class Sheet(NamedTuple):

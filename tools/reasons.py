@@ -1,12 +1,13 @@
 #!/usr/bin/env python3
-"""Why each particle of a sheet moves, or doesn't: a second reading, from docs/RULES.md and docs/STEPS.md.
+"""Why each particle of a sheet moves, or doesn't: a second reading, from docs/RULES.md; and the tables of docs/STEPS.md.
 
   tools/reasons.py X.sheet...              prints the lines of `slope --why` as the second implementation works them, the numbers as decimals
   tools/reasons.py check [--program PROGRAM] [X.sheet...]
-                                           reads the sheets of crates/why and crates/slope_cases and compares with their expected output: tests, branches,
-                                           steps with the words of docs/STEPS.md and places exactly, the numbers within 2^-30 of themselves and of 1; and
-                                           the sheets (default: samples/ and those of slope_cases) with what the proved program prints with --why, where
-                                           --program or PASOLETU_SLOPE names it
+                                           reads samples/rankine.sheet and the sheets of crates/slope_cases and compares with what must be printed: tests, branches,
+                                           steps with their words and places exactly, the numbers within 2^-30 of themselves and of 1; and the sheets
+                                           (default: samples/ and those of slope_cases) with what the proved program prints with --why, where --program or
+                                           PASOLETU_SLOPE names it; and the tables of docs/STEPS.md with what is made
+  tools/reasons.py page                    writes the tables of docs/STEPS.md between their marks: steps in the program's words (crates/why_lines), branches
 """
 import argparse
 import functools
@@ -17,7 +18,6 @@ import re
 import struct
 import subprocess
 import sys
-import tomllib
 
 sys.path.insert(0, str(pathlib.Path(__file__).resolve().parent))
 import cases  # noqa: E402
@@ -221,7 +221,7 @@ def nacc(p, r):
     return (*told, sigma)
 
 
-LAWS = [snow, rankine, drucker_prager, nacc]
+LAWS = [globals()[law.name] for law in cases.TABLE.models]
 
 # What the program prints of a test, after "stayed, test N" or "yielded, test N": the words before the first number, between the two, after the second.
 WITHIN, OVER = " would be within the softened strength ", " would be over the softened strength "
@@ -253,7 +253,7 @@ def reason(model, p, r):
             if not math.isfinite(x):
                 raise Stopped(1, 0, whose, k)
     stop_unless(floats(r[36:]) == floats([cases.determinant(r[:9])]), 11, STORED_DETERMINANT)
-    law = model % len(LAWS)
+    law = cases.TABLE.law_of[model][0]
     test, compared, sigma = LAWS[law](p, r)
     if sigma is not None:
         results(NEW_DETERMINANT, cases.determinant(recompose(r[9:18], sigma, r[21:30])))
@@ -269,49 +269,67 @@ def branch(model, p, r):
     return 1 if test == "bounds" else BRANCHES[test]
 
 
-@functools.lru_cache
-def steps():
-    """What is done at each step of each law, as the tables of docs/STEPS.md have it."""
-    parts = re.split("^## ", (shell.TOP / "docs" / "STEPS.md").read_text(), flags=re.M)[1:]
-    rows = {part.split("\n")[0]: {int(n): words.replace("`", "") for n, words in re.findall(r"^\| (\d+) \| ([^|]+?) \|", part, re.M)} for part in parts}
-    return [{**rows["The record's own"], **rows[law]} for law in ("Snow", "Rankine", "Drucker-Prager", "NACC")]
+def titles():
+    """The laws by their names on pages, in the table's order."""
+    return [law.title for law in cases.TABLE.models]
 
 
 def printed_steps():
     """The words of every step as the program has them, crates/why_lines: the record's own, then a law's."""
-    text = (shell.TOP / "crates" / "why_lines" / "src" / "steps.rt").read_text()
-    lists = [re.search(r'fn %s_step\(.*?b": ",\s*b"(.*?)",' % name, text, re.S)[1] for name in ("record", "snow", "rankine", "drucker_prager", "nacc")]
+    text = "".join((shell.TOP / "crates" / "why_lines" / "src" / name).read_text() for name in ("steps.rt", "rows.rt"))
+    lists = [re.search(r'fn %s_step\(.*?b": ",\s*b"(.*?)",' % name, text, re.S)[1] for name in ("record", *(law.name for law in cases.TABLE.models))]
     return [words.split("\\n")[:-1] for words in lists]
 
 
-def page_faults():
-    """For each step of docs/STEPS.md and each branch that it names, what is wrong with it or None: the words are the program's, the branches those of BRANCHES."""
-    record, *laws = printed_steps()
-    for law, (told, printed) in enumerate(zip(steps(), laws)):
-        there = {0: told[0], **dict(enumerate(printed, 1)), **dict(enumerate(record, STORED_DETERMINANT))}
-        for step in sorted(there.keys() | told.keys()):
-            same = there.get(step) == told.get(step)
-            yield None if same else "docs/STEPS.md, law %d, step %d: %r, and the program has %r" % (law, step, told.get(step), there.get(step))
-    text = (shell.TOP / "docs" / "STEPS.md").read_text()
-    for law, name in enumerate(("Rankine", "Drucker-Prager", "NACC"), 1):
-        part = re.search(r"^## %s\n(.*?)(?=^## |\Z)" % name, text, re.M | re.S)[1]
-        for row in re.findall(r"^\| (\d+) \|.*?\|[^|]*\|([^|]*)\|([^|]*)\|$", part, re.M):
-            for held, cell in zip((True, False), row[1:]):
-                named = re.search(r"branch (\d+)", cell)
-                found = BRANCHES.get((law, int(row[0]), held))
-                same = (None if named is None else int(named[1])) == found
-                yield None if same else "docs/STEPS.md, %s, test %s: %r, and the branch is %s" % (name, row[0], cell.strip(), found)
-
-
 @functools.lru_cache
-def calls():
-    return tomllib.loads((shell.TOP / "calls.toml").read_text())
+def steps():
+    """What is done at each step of each law."""
+    record, *laws = printed_steps()
+    own = {0: "parameters and record are finite", **dict(enumerate(record, STORED_DETERMINANT))}
+    return [{**own, **dict(enumerate(law, 1))} for law in laws]
+
+
+# ---- the tables of docs/STEPS.md
+
+MADE = re.compile(r"(<!-- made by tools/reasons.py: (\w+) -->\n).*?(<!-- end -->)", re.S)
+
+
+def branch_cell(law, step, held):
+    test = (law, step, held)
+    return "branch %d: %s" % (BRANCHES[test], WORDS[test][-1].rpartition("; ")[2]) if test in BRANCHES else ""
+
+
+def step_rows(law):
+    tested = any(test[0] == law for test in BRANCHES)
+    head = ["Step", "What is done"] + ["Where it holds", "Where it is the last and doesn't"] * tested
+    rows = [[str(step), words] + [branch_cell(law, step, held) for held in (True, False)] * tested for step, words in sorted(steps()[law].items()) if 0 < step < STORED_DETERMINANT]
+    return "\n".join("| %s |" % " | ".join(row) for row in [head, *rows]).replace("\n", "\n|" + "---|" * len(head) + "\n", 1)
+
+
+def page():
+    """docs/STEPS.md as it stands and as it is made."""
+    text = (shell.TOP / "docs" / "STEPS.md").read_text()
+    names = [law.name for law in cases.TABLE.models]
+    return text, MADE.sub(lambda m: "%s\n%s\n\n%s" % (m[1], step_rows(names.index(m[2])), m[3]), text)
+
+
+def page_faults():
+    """What is wrong with docs/STEPS.md, or None: each law has its table, and they are what is made."""
+    text, made = page()
+    named = [name for _, name, _ in MADE.findall(text)]
+    yield None if named == [law.name for law in cases.TABLE.models] else "docs/STEPS.md: its made tables are %s" % named
+    yield None if text == made else "docs/STEPS.md: its tables are not what the program says: run tools/reasons.py page and commit it"
+
+
+def write_page(args):
+    (shell.TOP / "docs" / "STEPS.md").write_text(page()[1])
+    return 0
 
 
 def name_of(model, whose, place):
     """The name of a float: a parameter's as calls.toml has it, a record's by its part."""
     if whose == "parameter":
-        return calls()["model"][model % len(LAWS)]["parameters"][place]["name"]
+        return cases.TABLE.models[cases.TABLE.law_of[model][0]].parameters[place].name
     parts = ["of F"] * 9 + ["of U"] * 9 + ["of sigma"] * 3 + ["of V^T"] * 9
     return [*parts, "phase", "plastic determinant", "plastic hardening", "elastic hardening", "log gain", "alpha", "the stored determinant"][place]
 
@@ -322,7 +340,7 @@ def line(k, model, p, r):
         test, compared = reason(model, p, r)
     except Stopped as e:
         number, step, *place = e.args
-        told = "%s %d, %s" % (*place, name_of(model, *place)) if place else steps()[model % len(LAWS)][step]
+        told = "%s %d, %s" % (*place, name_of(model, *place)) if place else steps()[cases.TABLE.law_of[model][0]][step]
         return ["%d refused %d at step %d: %s" % (k, number, step, told)], []
     if test == "bounds":
         told = "inside its bounds" if set(compared) == {"neither"} else "clamped, sigma by its bound: " + " ".join(compared)
@@ -362,8 +380,8 @@ def compare(data, answer, name):
 
 
 def check(args):
-    here = shell.TOP / "crates" / "why"
-    counts = [compare((here / "stdin").read_bytes(), (here / "stdout").read_text(), "crates/why")]
+    told = shell.TOP / "tests" / "sheets" / "rankine.why"
+    counts = [compare((shell.TOP / "samples" / "rankine.sheet").read_bytes(), told.read_text(), told.name)]
     told = cases.parts()
     counts += [compare(s.read_bytes(), told.get(s.name + " why", "").rstrip("\n") + "\n", "crates/slope_cases " + s.name) for s in cases.SHEETS]
     program = args.program or os.environ.get("PASOLETU_SLOPE")
@@ -391,12 +409,12 @@ def tell(args):
 
 def main(argv=None):
     about = argparse.ArgumentParser(description=__doc__, formatter_class=argparse.RawDescriptionHelpFormatter)
-    about.add_argument("sheets", nargs="*", metavar="X.sheet", help="or the word check, and sheets after it")
+    about.add_argument("sheets", nargs="*", metavar="X.sheet", help="or the word check, and sheets after it, or the word page")
     about.add_argument("--program", help="the proved program slope")
     args = about.parse_args(argv)
-    checks = args.sheets[:1] == ["check"]
-    args.sheets = args.sheets[checks:]
-    return shell.run("reasons.py", check if checks else tell, args)
+    do = {"check": check, "page": write_page}.get(args.sheets[0]) if args.sheets else None
+    args.sheets = args.sheets[do is not None:]
+    return shell.run("reasons.py", do or tell, args)
 
 
 if __name__ == "__main__":

@@ -79,8 +79,9 @@ def put_together(a, b):
 
 def records_of(data, count):
     """The floats of a sheet of so many particles where they stand, and how many a particle has; nothing where it has other particles."""
-    parameters = len(TABLE.MODELS[data[0] % TABLE.WITH_DETERMINANT].parameters)
-    floats = TABLE.SHEET_FLOATS + (data[0] >= TABLE.WITH_DETERMINANT)
+    law, whole = TABLE.LAW_OF[data[0]]
+    parameters = len(TABLE.MODELS[law].parameters)
+    floats = TABLE.SHEET_FLOATS + whole
     front = 1 + 8 * parameters + (1 if count < 128 else 2)
     fits = len(data) == front + 8 * floats * count
     return (memoryview(data)[front:].cast("d") if fits else None), floats

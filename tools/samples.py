@@ -71,6 +71,17 @@ LAWS = {
 }
 
 
+def drawn_parameters(d):
+    """Of each law parameters of sizes that a user might give, for tests that draw."""
+    young, poisson, flag = 10.0 ** d.uniform(2, 7), d.uniform(0, 0.49), float(d.randint(0, 1))
+    return {
+        "snow": [d.uniform(0, 0.1), d.uniform(0, 0.02), d.uniform(1, 20)],
+        "rankine": [young, poisson, young * 10.0 ** d.uniform(-5, 0), 10.0 ** d.uniform(-2, 6)],
+        "drucker_prager": [d.uniform(0, 1.2), d.uniform(0, 0.4), d.uniform(0, 0.5), d.uniform(0, 0.4), young * d.uniform(0.1, 2), young * d.uniform(0.1, 1), flag, d.uniform(0, 1.5)],
+        "nacc": [young, poisson, d.uniform(0, 1), flag, d.uniform(0, 5), d.uniform(0.1, 3)],
+    }
+
+
 def of_a_law(name):
     """Particle 12 has a phase that is no number and is refused by 1, particle 27 a sigma of 0 and is refused by 2, of Snow a plastic
     determinant far out and is refused by 10."""

@@ -41,6 +41,7 @@ by 1). An F alone that has one goes out with sigma 1 and the identity for U and 
 A sigma of 0 or below is a particle pressed flat or turned inside out. Snow works it all the same, so it is refused here; --inside-out takes it.
 `print --json` writes what `make` (with --inside-out and all) turns into the same bytes again.
 """
+# The help's models, parameters and numbers are made by tools/table.
 import argparse
 import codecs
 import csv
@@ -66,8 +67,7 @@ TABLE = Table(shell.TOP)
 MODELS = [m.name for m in TABLE.models]
 PARAMETERS = {m.name: [p.name for p in m.parameters] for m in TABLE.models}
 FLAGS = [p.name for m in TABLE.models for p in m.parameters if p.flag]
-DEFAULTS = {m.name: {p.name: p.default for p in m.parameters if p.default is not None} for m in TABLE.models}
-DEFAULTS["drucker_prager"]["only_active_when_failed"] = 0.0
+DEFAULTS = {m.name: {p.name: p.taken for p in m.parameters if p.taken is not None} for m in TABLE.models}
 REFUSALS = {r.number: r.what for r in TABLE.refusals}
 ELASTIC = ["young_modulus", "poisson_ratio"]
 SCALARS = {"phase": 1.0, "plastic_determinant": 1.0, "plastic_hardening": 1.0, "elastic_hardening": 1.0, "log_gain": 0.0, "alpha": 0.0}
@@ -448,7 +448,8 @@ def chunks(records, split, where):
 
 def number_of(model, kept):
     """A model's number in a sheet that keeps determinants, or one that doesn't."""
-    return MODELS.index(model) + (len(MODELS) if kept else 0)
+    law = TABLE.models[MODELS.index(model)]
+    return law.whole if kept else law.number
 
 
 def written(model, kept, values, records, where):
@@ -474,7 +475,8 @@ def load(b, name):
         model, values, records = cases.read(b)
     except cases.Refused as e:
         raise Wrong("%s: sheet refused %d at byte %d: %s" % (shell.called(name, "standard input"), e.args[0], e.args[1], REFUSALS[e.args[0]]))
-    return MODELS[model % len(MODELS)], model >= len(MODELS), values, records
+    law, kept = TABLE.law_of[model]
+    return MODELS[law], kept, values, records
 
 
 # ---- printing

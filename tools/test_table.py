@@ -4,6 +4,7 @@ import pathlib
 import re
 import shutil
 import subprocess
+import sys
 import tempfile
 import unittest
 
@@ -22,6 +23,8 @@ MADE = (
     "docs/GUIDE.md",
     "docs/RULES.md",
     "docs/STEPS.md",
+    "man/slope.1",
+    "tools/sheet.py",
 )
 READ = ("VERSION", "calls.toml", "tools/table", "tools/making", "crates/answers/src", "crates/model/specs", "crates/host/src", "crates/replay/src")
 
@@ -63,10 +66,20 @@ class Check(Copy):
     def test_each_stale_file_is_told(self):
         for name in MADE:
             was = (self.top / name).read_text()
-            (self.top / name).write_text(re.sub(r"1\.0\.0|37|pasoletu_exp\(|\"exp\"|A NaN arose|0 is untouched", "7.7.7", was))
+            (self.top / name).write_text(re.sub(r"1\.0\.0|37|pasoletu_exp\(|\"exp\"|[Aa] NaN arose|0 is untouched|hardening_coeff", "7.7.7", was))
             with self.subTest(name):
                 self.told(name + " is stale")
             (self.top / name).write_text(was)
+
+    def test_each_list_of_laws_is_made(self):
+        for name, old in (("README.md", "NACC: alpha<"), ("man/slope.1", "Drucker-Prager or NACC)"), ("man/slope.1", "alpha (NACC)."), ("tools/sheet.py", "drucker_prager or nacc."),
+                          ("tools/sheet.py", "only_active_when_failed (0)"), ("tools/sheet.py", "its model's number is 4 to 7."), ("bindings/rust/src/table.rs", "NaccPlasticity, ")):
+            was = (self.top / name).read_text()
+            self.edit(name, old, old.replace("NACC", "x").replace("nacc", "x").replace("(0)", "(1)").replace("7", "9").replace("Nacc", "X"))
+            with self.subTest(old):
+                self.told(name + " is stale")
+            self.run_table()
+            self.assertEqual((self.top / name).read_text(), was)
 
     def test_a_missing_file_is_told(self):
         (self.top / "fuzz/calls.h").unlink()
@@ -79,6 +92,16 @@ class Check(Copy):
     def test_a_page_without_its_marks_is_told(self):
         self.edit("docs/GUIDE.md", "<!-- made by tools/table: desk -->", "")
         self.told("docs/GUIDE.md: its marked tables are ['record', 'host'], not ['desk', 'record', 'host']")
+
+    def test_a_list_without_its_marks_is_told(self):
+        for name, old, words in (("README.md", "<!-- made by tools/table: amounts -->", "its marked phrases are [], not ['amounts']"),
+                                 ("man/slope.1", '.\\" made by tools/table: laws\n', "its marked parts are ['amounts', 'numbers'], not ['laws', 'amounts', 'numbers']"),
+                                 ("tools/sheet.py", "In brackets: ", "its help must have '^MODEL is ")):
+            was = (self.top / name).read_text()
+            self.edit(name, old, "")
+            with self.subTest(name):
+                self.told(f"{name}: {words}")
+            (self.top / name).write_text(was)
 
     def test_a_refusal_without_its_words_is_told(self):
         self.edit("calls.toml", 'when = "the sheet ends early"\n', "")
@@ -109,11 +132,14 @@ class Check(Copy):
         self.told("crates/replay: call 3 is (None, 1, 1, 0), in the table ('sin', 1, 1, 0)")
 
     def test_another_flag_or_number_of_parameters_is_told(self):
-        self.edit("crates/model/specs/Kinds.antt", "kinds Nacc = false ∷ false", "kinds Nacc = false ∷ true")
-        self.told("crates/model: Nacc is ('nacc', [False, True, False, True, False, False]), in the table")
-        self.edit("crates/model/specs/Kinds.antt", "kinds Snow = false ∷", "kinds Snow =")
-        self.told("crates/model: Snow is ('snow', [False, False]), in the table ('snow', [False, False, False])")
-        self.edit("crates/model/specs/Kinds.antt", "kinds Rankine =", "kinds rankine of =")
+        rows = "crates/model/specs/Rows.antt"
+        self.edit(rows, "kinds = false ∷ false ∷ false ∷ true", "kinds = false ∷ true ∷ false ∷ true")
+        self.told("crates/model: Nacc is ('nacc', (3, 7), [False, True, False, True, False, False]), in the table")
+        self.edit(rows, "kinds = false ∷ false ∷ false ∷ [];", "kinds = false ∷ false ∷ [];")
+        self.told("crates/model: Snow is ('snow', (0, 4), [False, False]), in the table ('snow', (0, 4), [False, False, False])")
+        self.edit(rows, "(cond (either 1 5 number) Rankine", "(cond (either 1 6 number) Rankine")
+        self.told("crates/model: Rankine is ('rankine', (1, 6), [False, False, False, False]), in the table ('rankine', (1, 5), [False, False, False, False])")
+        self.edit(rows, "rowOf Rankine =", "row of Rankine =")
         self.told("crates/model: the models are 3, in the table 4")
 
     def test_another_length_in_replay_is_told(self):
@@ -147,6 +173,27 @@ host = "turn it"
             self.assertIn("turn it", text, name)
             self.assertTrue("UPSIDE_DOWN" in text or name.endswith(".md"), name)
         self.told("crates/answers: UPSIDE_DOWN is None, in the table 250")
+
+    def test_a_new_law_is_a_row(self):
+        self.edit("calls.toml", "# ---- The record:", """[[model]]
+number = 8
+whole = 9
+name = "von_mises"
+title = "von Mises"
+amount = "growth"
+beside = false
+instead = "nothing may stand for the limit"
+parameters = [{ name = "young_modulus" }, { name = "limit", default = 2.5 }, { name = "on", flag = true, left_out = 1.0 }]
+
+# ---- The record:""")
+        self.assertEqual(self.run_table().returncode, 0)
+        for name, words in (("README.md", "NACC: alpha, von Mises: growth<!-- end -->"), ("man/slope.1", "(Snow, Rankine, Drucker-Prager, NACC or von Mises)\n"),
+                            ("man/slope.1", "alpha (NACC), growth (von Mises).\n"), ("tools/sheet.py", "MODEL is snow, rankine, drucker_prager, nacc or von_mises. "),
+                            ("tools/sheet.py", "\n  von_mises       young_modulus limit (2.5) on (1);\n                  nothing may stand for the limit\nIn brackets: "),
+                            ("tools/sheet.py", "its model's number is 4 to 7 or 9."), ("fuzz/calls.h", '"nacc", "von_mises"};'), ("beside/table.rs", "NO_MODEL: u64 = 10;")):
+            self.assertIn(words, (self.top / name).read_text(), name)
+        self.assertNotIn("VonMisesPlasticity", (self.top / "bindings/rust/src/table.rs").read_text())
+        self.told("crates/model: the models are 4, in the table 5")
 
     def test_a_reserved_refusal_needs_no_row_and_may_have_none(self):
         line = next(line for line in (self.top / "calls.toml").read_text().splitlines() if line.startswith("reserved = ["))
@@ -285,12 +332,13 @@ pub fn doubled(%s) -> %s%s
         ("docs/GUIDE.md", "c077f76051bf1a34", "c077f76051bf52c8", "docs/GUIDE.md: no program of the gate prints '5 yielded, test 5"),
         ("docs/PROMISES.md", "<!-- count: replayed -->", "<!-- count: replayed -->2,413 ", "docs/PROMISES.md tells 2,413 "),
         ("docs/PROMISES.md", "`walk/specs/Walk`", "`law/specs/Walk`", "docs/PROMISES.md: there is no crates/law/specs/Walk.antt"),
-        ("docs/FACTORS.md", "`beside/factors/run`", "`beside/factors/runs`", "docs/FACTORS.md: there is no beside/factors/runs"),
+        ("docs/FACTORS.md", "`beside/factors/run --page`", "`beside/factors/runs --page`", "docs/FACTORS.md: there is no beside/factors/runs"),
         ("docs/HOUSE.md", "| `rankine_surface` |", "| `surface` |", "docs/HOUSE.md's table is not what crates.txt says"),
-        ("docs/STEPS.md", "<!-- held by tools/reasons.py -->", "<!-- held by tools/twice.py -->", "docs/STEPS.md: tools/twice.py, which is said to hold a part of it"),
-        ("docs/EXCEPTIONS.md", "`update_particle`", "`update_finite`", "docs/EXCEPTIONS.md: no source has `update_finite`"),
+        ("docs/STEPS.md", "<!-- held by tools/vectors.py -->", "<!-- held by tools/twice.py -->", "docs/STEPS.md: tools/twice.py, which is said to hold a part of it"),
+        ("docs/SITES.md", "<!-- made by beside/run: sites -->", "<!-- made by hand/run: sites -->", "docs/SITES.md: hand/run, which is said to make a part of it"),
+        ("docs/EXCEPTIONS.md", "`expOf`", "`expTold`", "docs/EXCEPTIONS.md: no source has `expTold`"),
         ("docs/CALLS.md", "| `pasoletu_why` | 7 |", "| `pasoletu_why` | 5 |", "docs/CALLS.md is not what the sources say"),
-        ("docs/PROMISES.md", "| `alpha` | 61 |", "| alpha | 61 |", "there is no row with a definition of plasticity_drucker_prager.rs, alpha"),
+        ("docs/PROMISES.md", "- `alpha` (61):", "- alpha (61):", "there is no row with a definition of plasticity_drucker_prager.rs, alpha"),
         ("docs/TOOLS.md", "Works a night of sheets", "Works a day of sheets", "docs/TOOLS.md is not what the commands say"),
     )
 
@@ -311,11 +359,49 @@ pub fn doubled(%s) -> %s%s
         text = (self.top / "docs/LANDINGS.md").read_text()
         (self.top / "docs/LANDINGS.md").unlink()
         (self.top / "docs/LANDINGS.md").write_text(text + "word " * 6000)
+        self.own("docs/landings")
+        (self.top / "docs/landings/more.md").write_text("word " * 6000)
         (self.top / "README.md").unlink()
         (self.top / "README.md").write_text((TOP / "README.md").read_text() + "\n" * 90)
         done = self.run_calls("--check")
-        for words in ("README.md lines kept by hand", "docs/LANDINGS.md words kept by hand", "all words kept by hand"):
+        for words in ("README.md lines kept by hand", "docs/LANDINGS.md words kept by hand", "all words kept by hand", "docs/landings words kept by hand"):
             self.assertIn(words, done.stdout)
+
+    def test_a_section_is_read_from_the_page_of_the_definition(self):
+        self.add(self.CALL % ("x: u64", "u64", ""))
+        page = self.top / "crates/physics/specs/Physics.antt"
+        opening, _, rest = page.read_text().partition("\n")
+        self.assertIn("sections 1 and 4", opening)
+        page.write_text(opening.replace("sections 1 and 4", "sections 1 and 3") + "\n" + rest)
+        self.told("docs/CALLS.md is not what the sources say")
+        page.write_text("-- The formulas.\n" + rest)
+        self.assertIn("physics::inv_exact has no section", self.run_calls("--check").stdout)
+
+    def test_a_heading_that_no_page_bears_out_is_told(self):
+        (self.top / "calls.toml").unlink()
+        (self.top / "calls.toml").write_text((TOP / "calls.toml").read_text().replace("(utils/physics.rs; section 1)", "(utils/physics.rs; section 8)"))
+        done = self.run_calls("--check").stdout
+        self.assertIn("pasoletu_inv_exact: its heading in calls.toml", done)
+        self.assertIn("names a section that no page of its calls' definitions cites: [8]", done)
+
+    def test_words_are_counted_as_wc_counts_them(self):
+        """Bars, code and what a test holds count; what a command makes doesn't, nor its marks."""
+        sys.path.insert(0, str(TOP / "tools"))
+        from making import prose
+        held = "<!-- held by tests/all -->\n| a | `b c` |\n<!-- end -->\n"
+        made = "<!-- made by tools/table: numbers -->\n\n| x | y |\n\n<!-- end -->\n"
+        roff = '.\\" made by tools/table: numbers\n.B 1\n.\\" end\n'
+        for text in ("one two | three\n", "```sh run\nls -l\n```\n", held, "Between `<!-- made by .. -->` and `<!-- end -->` edit nothing.\n"):
+            self.assertEqual(prose.words_in(text), len(text.split()), text)
+            self.assertEqual(prose.words_in(text + made + roff + text), 2 * len(text.split()), text)
+
+    def test_every_page_is_counted(self):
+        """Each page of the repository is made whole, a record of its day, or counted."""
+        sys.path.insert(0, str(TOP / "tools"))
+        from making import prose
+        named = subprocess.run(["git", "ls-files", "*.md", "man/*"], cwd=TOP, capture_output=True, text=True).stdout.split()
+        there = [name for name in named if name not in prose.MADE_PAGES and not name.startswith("docs/landings/")]
+        self.assertEqual(sorted(prose.kept(TOP)), sorted(there) if named else sorted(prose.kept(TOP)))
 
     def test_a_table_that_is_not_made_is_told(self):
         self.own("docs")

@@ -23,6 +23,7 @@ import xml.etree.ElementTree
 
 HERE = pathlib.Path(__file__).resolve().parent
 sys.path.insert(0, str(HERE))
+import believe  # noqa: E402
 import cases  # noqa: E402
 import draw  # noqa: E402
 import night_page  # noqa: E402
@@ -41,6 +42,7 @@ LINES = (HERE.parent / "crates" / "slope_cases" / "stdout").read_text()
 TOOLS = [HERE / name for name in ("sheet.py", "draw.py", "samples.py", "cases.py", "faults.py", "no_division.py", "report.py", "arrive.py", "list_cases.py", "measure/accuracy.py", "measure/surface.py", "measure/replayed.py", "vectors.py")]
 NUMPY = importlib.util.find_spec("numpy")
 NOT_FINITE = (math.nan, math.inf, -math.inf)
+OF_SAMPLES = {model: sheet.parameters(model, given, name) for name, (model, given, _) in samples.LAWS.items()}  # each law's parameters
 PATIENCE = 1200  # seconds after which a tool is taken for one that never ends, on however slow a machine
 
 
@@ -144,6 +146,20 @@ class Twice(InFolder):
     def test_a_local_lemma_is_none(self):
         text = "pub {0} : {1}\n{0} = go\n  where\n    go : (x : ℕ) → x ≡ x\n    go x = refl\n"
         self.assertEqual(self.counted(text.format("a", "A"), text.format("b", "B")), 0)
+
+
+class Believed(unittest.TestCase):
+    """Of a page below specs/, what tools/believe.py takes for a lemma."""
+
+    def lemmas(self, text):
+        return [d.name for d in believe.proved(believe.Page("a", "specs/Page", text))]
+
+    def test_a_lemma_is_told(self):
+        self.assertEqual(self.lemmas("abbrev pub two : ℕ\ntwo = 2\n\npub even : two ≡ 2\neven = refl\n"), ["even"])
+        self.assertEqual(self.lemmas("module _ (n : ℕ) where\n  abbrev pub m : ℕ\n  m = n\n\n  pub same : m ≡ n\n  same = refl\n"), ["same"])
+
+    def test_a_field_is_none(self):
+        self.assertEqual(self.lemmas("pub record Near (n : ℕ) : Type 0 where\n  pub fine : n ≡ n\n\n  -- and\n  pub low : 0 ≤ n\n\nunfoldable pub one : ℕ\none = 1\n"), [])
 
 
 class Vectors(InFolder):
@@ -590,8 +606,8 @@ class Pictures(Drawn):
         self.assertIn("refused by 1: an input is NaN or infinite; no place in the plane particle 0: F22 is nan, sigma2 is nan, determinant is nan", self.told(root))
 
     def test_nothing_that_is_not_finite_has_a_place(self):
-        values = {"snow": cases.SNOW, "rankine": [1e5, 0.3, 500.0, 2.0], "drucker_prager": [0.6, 0.15, 0.2, 0.17, 5e4, 4e4, 0.0, 1.0], "nacc": [1e4, 0.3, 0.05, 1.0, 3.0, 2.36]}
-        for model, p in values.items():
+        self.assertEqual([*OF_SAMPLES], sheet.MODELS)
+        for model, p in OF_SAMPLES.items():
             plane = draw.PLANES[model](p)
             self.assertIsNotNone(draw.place(plane, cases.record((0.98, 0.99, 1.0)), False))
             for place in range(37):
@@ -833,8 +849,7 @@ class Pictures(Drawn):
 
 class FlatLists(Drawn):
     """Lists of flat records, and their pictures."""
-    VALUES = {"snow": cases.SNOW, "rankine": [1e6, 0.3, 3000.0, 1000.0], "drucker_prager": [0.6, 0.15, 0.2, 0.17, 5e5, 4e5, 0.0, 1.0],
-              "nacc": [1e4, 0.3, 0.05, 1.0, 3.0, 2.36]}
+    VALUES = OF_SAMPLES | {"rankine": [1e6, 0.3, 3000.0, 1000.0], "drucker_prager": [0.6, 0.15, 0.2, 0.17, 5e5, 4e5, 0.0, 1.0], "nacc": [1e4, 0.3, 0.05, 1.0, 3.0, 2.36]}
     RECORD = [0.5, -2.0, 1.0, 0.0, 0.0, -1.0, 1.0, 0.0, 1.0, 2.0, 1.0, 0.0, -0.25, 1.0, 0.5, 1.25, 1.5, 1.75, -0.125, -0.0625]
 
     def options(self, model):
@@ -1021,7 +1036,7 @@ class Second(unittest.TestCase):
             self.assertTrue(math.isnan(read[2][36]))
         self.assertEqual(cases.expected(cases.sheet(records))[1:4], ["0 stored %r" % cases.worked(0, cases.SNOW, records[0])[0], "1 stored 1.0", "2 refused 1"])
         self.assertEqual(cases.expected(cases.sheet(records, cases.SNOW, 4))[2:4], ["1 refused 11", "2 refused 1"])
-        for model in (8, 9, 127):
+        for model in (cases.MODELS, cases.MODELS + 1, 127):
             self.assertEqual(cases.expected(cases.number(model) + b"\0" * 25), ["sheet refused 6"])
 
     def test_the_longest_sheet(self):
@@ -1111,8 +1126,8 @@ class ByLibrary(InFolder):
         """4,000 records drawn at random: each outcome, refusal and verdict, and what is stored within 1e-7."""
         d, seen, wrong = random.Random(5), set(), 0
         for _ in range(4000):
-            model, failure = d.randrange(8), None
-            p, r = drawn_parameters(d)[model % 4], drawn_record(d)
+            model, failure = d.randrange(cases.MODELS), None
+            p, r = samples.drawn_parameters(d)[sheet.MODELS[cases.TABLE.law_of[model][0]]], drawn_record(d)
             if d.random() < 0.5:
                 size = 10.0 ** d.uniform(1, 7)
                 failure = [size * d.random(), size * d.random()], [float(d.randint(0, 1)), 0.9, size * d.uniform(0, 2), size]
@@ -1121,7 +1136,7 @@ class ByLibrary(InFolder):
             self.agree(a, b, repr((model, p, failure, r)), 1e-7)
             seen.add((model, a.code))
             wrong += a.code == 2 and a.value == 11
-        self.assertEqual(len(seen), 22)  # three outcomes a law, but Snow leaves nothing untouched
+        self.assertEqual(len(seen), 3 * cases.MODELS - 2)  # three outcomes a law, but Snow leaves nothing untouched
         self.assertGreater(wrong, 50)
 
     def test_it_is_drawn_by_default(self):
@@ -1173,9 +1188,9 @@ plastic hardening
 
     def test_the_guides_table(self):
         guide = (shell.TOP / "docs" / "GUIDE.md").read_text()
-        shown = guide.split("    $ tools/report.py samples\n")[1].split("\n\n")[0]
+        shown = guide.split("tools/report.py samples | head")[1].split("```text prints\n")[1].split("```")[0]
         ended = quiet(report.main, "--second", shell.TOP / "samples")
-        self.assertEqual([line[4:] for line in shown.splitlines()], ended[1].split("elastic hardening")[0].splitlines())
+        self.assertEqual(shown.splitlines(), ended[1].split("elastic hardening")[0].splitlines())
 
     def test_decimals_are_exact(self):
         d = random.Random(7)
@@ -1521,17 +1536,6 @@ class Tools(InFolder):
 
     def test_samples_that_cannot_be_written(self):
         self.one_sentence(ran("samples.py", self.folder / "no", env=self.env), "cannot be written")
-
-
-def drawn_parameters(d):
-    """Parameters of each law, of sizes that a user might give."""
-    young, poisson, flag = 10.0 ** d.uniform(2, 7), d.uniform(0, 0.49), float(d.randint(0, 1))
-    return [
-        [d.uniform(0, 0.1), d.uniform(0, 0.02), d.uniform(1, 20)],
-        [young, poisson, young * 10.0 ** d.uniform(-5, 0), 10.0 ** d.uniform(-2, 6)],
-        [d.uniform(0, 1.2), d.uniform(0, 0.4), d.uniform(0, 0.5), d.uniform(0, 0.4), young * d.uniform(0.1, 2), young * d.uniform(0.1, 1), flag, d.uniform(0, 1.5)],
-        [young, poisson, d.uniform(0, 1), flag, d.uniform(0, 5), d.uniform(0.1, 3)],
-    ]
 
 
 def drawn_record(d):

@@ -20,25 +20,15 @@ HERE = pathlib.Path(__file__).resolve().parent.parent
 # a crate of two axes: those of three that it could repeat
 PAIRS = {
     "flat": ["tensor", "plasticity", "walk"],
-    "flat_snow": ["plasticity_snow"],
-    "flat_rankine": ["plasticity_rankine"],
-    "flat_drucker_prager": ["plasticity_drucker_prager"],
-    "flat_nacc": ["plasticity_nacc"],
     "flat_particles": ["record", "particles"],
     "flat_surface": ["rankine_surface"],
 }
+PAIRS |= {law.name.replace("plasticity", "flat"): [law.name] for law in sorted((HERE / "crates").glob("plasticity_*"))}
 
-# and how many statements it repeats today
+# and how many statements it repeats today, where it does
 MOST = {
-    "flat": 0,
-    "flat_snow": 0,
-    # movedOf and projectedOf: into the record `Projected`, of which each crate's code has its own
-    "flat_rankine": 2,
-    "flat_drucker_prager": 0,
-    "flat_nacc": 0,
     # floats: `whole (widths n)` at 2, and at 3
     "flat_particles": 1,
-    "flat_surface": 0,
 }
 
 WORD = r"[^\s(){}.,;«»]+"
@@ -158,11 +148,11 @@ def main(arguments):
         for here, there in twice:
             print(f"{here} = {there}")
         equal += len(twice)
-        if len(twice) > MOST[crate]:
-            print(f"{crate}: {len(twice)} statements stand twice, and {MOST[crate]} did: state them over the number of axes")
+        if len(twice) > MOST.get(crate, 0):
+            print(f"{crate}: {len(twice)} statements stand twice, and {MOST.get(crate, 0)} did: state them over the number of axes")
             failed += 1
-        elif len(twice) < MOST[crate]:
-            print(f"{crate}: {len(twice)} statements stand twice: write it into MOST of tools/twice.py for {MOST[crate]}")
+        elif len(twice) < MOST.get(crate, 0):
+            print(f"{crate}: {len(twice)} statements stand twice: write it into MOST of tools/twice.py for {MOST.get(crate, 0)}")
     print(f"{equal} statements of two axes stand in three axes too")
     print(f"{len(PAIRS) - failed} passed, {failed} failed")
     return 1 if failed else 0

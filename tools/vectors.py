@@ -189,8 +189,10 @@ CASES = {
 }
 # Inputs that are no number, by place: the first parameter's goes before the record's, which goes before 11.
 PLACES = [(0, 2, None), (1, None, 36), (2, 7, 20), (3, 5, None), (0, None, 0), (1, 0, 5), (2, None, 29), (3, None, 35)]
-# Calls that are refused whole, by 6: a model over 7, a flag.
-WHOLE = [(0, 8, None), (1, 255, None), (2, 2, (6, -0.0)), (3, 7, (3, 0.5)), (2, 6, (6, NAN))]
+# The laws that `replay` has, by their places in the table.
+REPLAYED = [k for k, law in enumerate(cases.TABLE.models) if law.beside]
+# Calls that are refused whole, by 6: an unknown model, a flag.
+WHOLE = [(0, cases.MODELS, None), (1, 255, None), (2, 2, (6, -0.0)), (3, 7, (3, 0.5)), (2, 6, (6, NAN))]
 # docs/STEPS.md, word 0.
 KIND = {"test": 0, "zeros": 1, "flag": 2, "bounds": 3, "refusal": 4}
 BOUND = {"neither": 0, "lower": 1, "upper": 2}
@@ -253,15 +255,16 @@ def reached(number, update, compared_of):
         p, r, _ = CASES[law][0]
         p = broken(*flag, p[:]) if flag else p
         entries.append(Entry(number + law, 6, [model, *words(p), *words(r)], []))
-    wrong += ["why: no entry has law %d's test %d, held %s" % test for test in sorted(set(reasons.BRANCHES) - tests)]
+    wrong += ["why: no entry has law %d's test %d, held %s" % test for test in sorted(set(reasons.BRANCHES) - tests) if test[0] in REPLAYED]
     return entries, wrong, steps
 
 
 def silent():
     """The steps that docs/STEPS.md says refuse nothing: (law, step)."""
     part = (shell.TOP / "docs" / "STEPS.md").read_text().split("## Steps that refuse nothing\n")[1].split("\n## ")[0]
-    for law, steps in re.findall(r"^\| (Snow|Rankine|Drucker-Prager|NACC) \| ([0-9, ]+) \| [^|]+ \|$", part, re.M):
-        yield from ((("Snow", "Rankine", "Drucker-Prager", "NACC").index(law), int(step)) for step in steps.split(","))
+    laws = reasons.titles()
+    for law, steps in re.findall(r"^- (%s) ([0-9, ]+)" % "|".join(laws), part, re.M):
+        yield from ((laws.index(law), int(step)) for step in steps.split(","))
 
 
 def steps_wrong(steps):
@@ -269,7 +272,7 @@ def steps_wrong(steps):
     said, every = list(silent()), [(law, step) for law, rows in enumerate(reasons.steps()) for step in rows]
     wrong = ["docs/STEPS.md: law %d's step %d is said to refuse nothing, and an entry is refused there" % s for s in said if s in steps]
     wrong += ["docs/STEPS.md: law %d has no step %d" % s for s in said if s not in every]
-    wrong += ["why: no entry is refused at law %d's step %d, and docs/STEPS.md doesn't say that none can" % s for s in every if s not in steps and s not in said]
+    wrong += ["why: no entry is refused at law %d's step %d, and docs/STEPS.md doesn't say that none can" % s for s in every if s[0] in REPLAYED and s not in steps and s not in said]
     return len(every), wrong
 
 

@@ -38,14 +38,17 @@ int main(void)
         at_rest(&records[k * PASOLETU_FLOATS], sigma[k]);
     pasoletu_fill_determinants(records, PARTICLES * PASOLETU_FLOATS);
 
+    /* guide: pass */
     uint8_t refusal = pasoletu_pass(PASOLETU_SNOW, snow, PASOLETU_SNOW_PARAMETERS, records, PARTICLES * PASOLETU_FLOATS,
                                     answers, PARTICLES * PASOLETU_ANSWERS, counts, 3);
     if (refusal != 0) {
         fprintf(stderr, "the pass is refused (%d): %s\n", refusal, pasoletu_refusal_text(refusal));
         return 1;
     }
+    /* guide: end */
 
     for (int k = 0; k < PARTICLES; k++) {
+        /* guide: answers */
         uint64_t outcome = answers[2 * k], beside = answers[2 * k + 1];
         if (outcome == PASOLETU_UNTOUCHED)
             printf("particle %d: untouched\n", k);
@@ -54,6 +57,7 @@ int main(void)
                    records[k * PASOLETU_FLOATS + PASOLETU_SIGMA]);
         else
             printf("particle %d: refused (%d), %s\n", k, (int)beside, pasoletu_refusal_text(beside));
+        /* guide: end */
     }
     printf("%d untouched, %d stored, %d refused\n", (int)counts[0], (int)counts[1], (int)counts[2]);
     return 0;

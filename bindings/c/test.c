@@ -22,6 +22,8 @@ static void check(int holds, int line, const char *what)
 /* Room for answers, with a mark that no call gives. */
 static double out[PASOLETU_FLOATS];
 static const double MARK = -12345.678;
+/* A model's number that names no law, now or after some more. */
+enum { NO_MODEL = 99 };
 
 static void mark(void)
 {
@@ -255,8 +257,10 @@ static void stress_and_verdict(void)
     CHECK(marked_from(9) && verdict[0] == 0 && verdict[1] == 7);
     CHECK(pasoletu_neo_hookean_stress_and_verdict(neo, 3, limits, 2, r, 37, out, 9, verdict, 1) == 0 && verdict[0] == 1);
     stretched(r, one, 1, 1);
+    /* guide: judged */
     CHECK(pasoletu_corotated_stress_and_verdict(soft, 4, limits, 2, r, 37, out, 9, verdict, 1) == 0);
     CHECK(out[0] == 5.0 && out[4] == 0.0 && out[8] == 0.0 && verdict[0] == 0); /* P10 */
+    /* guide: end */
     CHECK(pasoletu_corotated_stress_and_verdict(soft, 4, shear, 2, r, 37, out, 9, verdict, 1) == 0 && verdict[0] == 1);
     mark();
     verdict[0] = 7;
@@ -355,7 +359,7 @@ static void update(void)
     CHECK(pasoletu_update(PASOLETU_SNOW, SNOW, 3, r, 37, answer, 1) == 8);
     CHECK(pasoletu_update(PASOLETU_SNOW, SNOW, 2, r, 37, answer, 2) == 8);
     CHECK(pasoletu_update(PASOLETU_SNOW, SNOW, 3, r, PASOLETU_SHEET_FLOATS, answer, 2) == 8); /* a host that still keeps 36 */
-    CHECK(pasoletu_update(8, SNOW, 3, r, 37, answer, 2) == 6);
+    CHECK(pasoletu_update(NO_MODEL, SNOW, 3, r, 37, answer, 2) == 6);
     CHECK(answer[0] == 77 && answer[1] == 77 && same(r, was, 37));
     CHECK(pasoletu_update(PASOLETU_SNOW, SNOW, 3, r, 37, answer, 2) == 0); /* section 7's example */
     CHECK(answer[0] == PASOLETU_STORED && answer[1] == UINT64_C(0x3ff0000000000000) && same(r, was, 37));
@@ -390,7 +394,7 @@ static void passes(void)
     CHECK(pasoletu_pass(PASOLETU_SNOW, SNOW, 3, r, N * 37, a, N * 2 + 1, c, 3) == 8);
     CHECK(pasoletu_pass(PASOLETU_SNOW, SNOW, 3, r, N * 37, a, N * 2, c, 4) == 8);
     CHECK(pasoletu_pass(PASOLETU_SNOW, SNOW, 3, r, N * 36, a, N * 2, c, 3) == 8);
-    CHECK(pasoletu_pass(8, SNOW, 3, r, N * 37, a, N * 2, c, 3) == 6);
+    CHECK(pasoletu_pass(NO_MODEL, SNOW, 3, r, N * 37, a, N * 2, c, 3) == 6);
     CHECK(same(r, was, N * 37) && a[0] == 99 && a[7] == 99 && c[0] == 99);
     CHECK(pasoletu_pass(PASOLETU_SNOW, SNOW, 3, r, N * 37, a, N * 2, c, 3) == 0);
     CHECK(a[0] == PASOLETU_STORED && pasoletu_amount(a[1]) == 1.0);
@@ -509,7 +513,7 @@ static void sheets(void)
     CHECK(pasoletu_run_sheet(s, whole, r, 3 * 37, a, 6, c, 4) == 0);
     CHECK(a[0] == PASOLETU_STORED && a[1] == UINT64_C(0x3ff0000000000000) && a[2] == 99 && r[37] == MARK);
     CHECK(c[0] == 1 && c[1] == 0 && c[2] == 1 && c[3] == 0);
-    s[0] = 8;
+    s[0] = NO_MODEL;
     CHECK(pasoletu_run_sheet(s, whole, r, 37, a, 2, c, 4) == 6);
     s[0] = PASOLETU_SNOW + PASOLETU_WITH_DETERMINANT; /* its records are longer */
     CHECK(pasoletu_run_sheet(s, whole, r, 37, a, 2, c, 4) == 4);
@@ -541,8 +545,8 @@ static void sheets_out(void)
     CHECK(pasoletu_write_sheet(PASOLETU_NACC, p, 5, r, floats, s, whole, n, 1) == 8);
     CHECK(pasoletu_write_sheet(PASOLETU_NACC, p, 7, r, floats, s, whole, n, 1) == 8);
     CHECK(pasoletu_write_sheet(nacc, p, 6, r, 2 * PASOLETU_SHEET_FLOATS, s, whole, n, 1) == 8);
-    CHECK(pasoletu_write_sheet(8, p, 6, r, floats + 1, s, whole, n, 1) == 8);
-    CHECK(pasoletu_write_sheet(8, p, 6, r, floats, s, 0, n, 1) == 6);
+    CHECK(pasoletu_write_sheet(NO_MODEL, p, 6, r, floats + 1, s, whole, n, 1) == 8);
+    CHECK(pasoletu_write_sheet(NO_MODEL, p, 6, r, floats, s, 0, n, 1) == 6);
     CHECK(pasoletu_write_sheet(UINT64_MAX, p, 0, r, floats, s, 0, n, 1) == 6);
     p[3] = -0.0;
     CHECK(pasoletu_write_sheet(PASOLETU_NACC, p, 6, r, floats, s, whole, n, 1) == 6);
@@ -600,6 +604,7 @@ static uint8_t snow(double *r)
     return refusal;
 }
 
+/* guide: widen */
 /* Records of 36 doubles as records of 37, in a room for as many particles. */
 static uint8_t widen(const double *old, size_t particles, double *records)
 {
@@ -607,6 +612,7 @@ static uint8_t widen(const double *old, size_t particles, double *records)
         memcpy(records + k * PASOLETU_FLOATS, old + k * PASOLETU_SHEET_FLOATS, PASOLETU_SHEET_FLOATS * sizeof(double));
     return pasoletu_fill_determinants(records, particles * PASOLETU_FLOATS);
 }
+/* guide: end */
 
 static void determinants(void)
 {
@@ -824,7 +830,7 @@ static void factors(void)
     CHECK(pasoletu_pass_factored(PASOLETU_RANKINE, rankine, 4, r, PASOLETU_FLOATS, a, 2, c, 3) == 0);
     CHECK(a[0] == PASOLETU_UNTOUCHED && c[0] == 1 && same(r + PASOLETU_U, worked + PASOLETU_U, 21));
     CHECK(pasoletu_pass_factored(PASOLETU_RANKINE, rankine, 3, r, PASOLETU_FLOATS, a, 2, c, 3) == 8);
-    CHECK(pasoletu_pass_factored(8, rankine, 4, r, PASOLETU_FLOATS, a, 2, c, 3) == 6);
+    CHECK(pasoletu_pass_factored(NO_MODEL, rankine, 4, r, PASOLETU_FLOATS, a, 2, c, 3) == 6);
 }
 
 /* A column's entries are as told: least, greatest and total as int64_t. */
@@ -1024,7 +1030,7 @@ static void sheets_in_parts(void)
     memset(r, 0, sizeof r);
     memset(a, 0, sizeof a);
     p[0] = p[1] = 9;
-    state[PASOLETU_PARTS_STATE_MODEL] = 9;
+    state[PASOLETU_PARTS_STATE_MODEL] = NO_MODEL;
     memcpy(was, state, sizeof was);
     CHECK(pasoletu_part(s + 26, n - 26, state, STATE, r, WORDS, a, PLACES, p, 2) == 6);
     CHECK(pasoletu_end_parts(r, WORDS, a, PLACES, state, STATE, p, 2) == 6);
@@ -1075,7 +1081,7 @@ static void slices(void)
     CHECK(pasoletu_flat_update(PASOLETU_SNOW, SNOW, 3, r, PASOLETU_FLOATS, a, 2) == 8);
     CHECK(pasoletu_flat_update(PASOLETU_SNOW, SNOW, 3, r, PASOLETU_FLAT_FLOATS - 1, a, 2) == 8);
     CHECK(pasoletu_flat_update(PASOLETU_SNOW, SNOW, 2, r, PASOLETU_FLAT_FLOATS, a, 2) == 8);
-    CHECK(pasoletu_flat_update(8, SNOW, 0, r, PASOLETU_FLAT_FLOATS, a, 2) == 6);
+    CHECK(pasoletu_flat_update(NO_MODEL, SNOW, 0, r, PASOLETU_FLAT_FLOATS, a, 2) == 6);
     CHECK(pasoletu_flat_pass(PASOLETU_SNOW, SNOW, 3, r, LISTED * PASOLETU_FLAT_FLOATS - 1, a, 2 * LISTED, counts, 3) == 8);
     CHECK(pasoletu_flat_pass(PASOLETU_SNOW, SNOW, 3, r, LISTED * PASOLETU_FLAT_FLOATS, a, 2 * LISTED - 1, counts, 3) == 8);
     CHECK(pasoletu_flat_pass(PASOLETU_SNOW, SNOW, 3, r, LISTED * PASOLETU_FLAT_FLOATS, a, 2 * LISTED, counts, 4) == 8);

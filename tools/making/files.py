@@ -1,5 +1,5 @@
 """Which files are made, and from what."""
-from . import fuzz, header, pages, python, rust
+from . import fuzz, header, help, pages, python, rust
 from .rows import BadTable
 
 MANIFESTS = ("bindings/rust/Cargo.toml", "bindings/rust/Cargo.lock", "bindings/rust/parallel/Cargo.toml")
@@ -24,4 +24,6 @@ def made(top, table):
         "fuzz/calls.h": fuzz.made(table),
         **{name: renewed(name, rust.versioned) for name in MANIFESTS},
         **{name: renewed(name, pages.made(name)) for name in pages.PAGES},
+        "man/slope.1": renewed("man/slope.1", pages.manual),
+        "tools/sheet.py": renewed("tools/sheet.py", help.sheet),
     }

@@ -24,10 +24,14 @@ def declared(a):
 def made(table):
     """The whole file."""
     told = {c.name: c.value for group in table.constants for c in group.rows}
-    laws = [m for _ in range(2) for m in table.models]
+    rows = [table.law_of[n] for n in sorted(table.law_of)]
+    laws = [table.models[k] for k, _ in rows]
     lines = [f"#define FLOATS {table.floats}", f"#define FLAT_FLOATS {told['FLAT_FLOATS']}", f"#define MOST {told['SHEET_MOST']}"]
-    lines += ["// Models from LAWS up name the same laws, for sheets whose records have all floats; those below have BARE a record."]
-    lines += [f"#define LAWS {told['WITH_DETERMINANT']}", f"#define MODELS {len(laws)}", f"#define BARE {told['SHEET_FLOATS']}"]
+    lines += ["// Of each model's number its law, and whether the records of its sheets have all floats; else they have BARE."]
+    lines += [f"#define LAWS {len(table.models)}", f"#define MODELS {len(laws)}", f"#define BARE {told['SHEET_FLOATS']}"]
+    lines += ["static const char *const NAMES[LAWS] = {%s};" % ", ".join(f'"{m.name}"' for m in table.models)]
+    lines += ["static const uint64_t LAW_OF[MODELS] = {%s};" % ", ".join(str(k) for k, _ in rows)]
+    lines += ["static const int WHOLE[MODELS] = {%s};" % ", ".join(str(int(whole)) for _, whole in rows)]
     lines += ["// How many parameters each model has, and the place of its flag or -1."]
     lines += ["static const size_t FIELDS[MODELS] = {%s};" % ", ".join(str(len(m.parameters)) for m in laws)]
     lines += ["static const int FLAG[MODELS] = {%s};" % ", ".join(str(-1 if m.flag_at is None else m.flag_at) for m in laws), ""]

@@ -1,7 +1,11 @@
-"""The tables of README.md, docs/GUIDE.md, docs/RULES.md and docs/STEPS.md that repeat calls.toml, each between its marks."""
+"""The tables of README.md, docs/GUIDE.md, docs/RULES.md and docs/STEPS.md, and the numbers, laws and amounts of man/slope.1, that repeat calls.toml, each
+between its marks; README's amounts stand within a line."""
 import re
 
+from .text import either
+
 MARKED = re.compile(r"(<!-- made by tools/table: (\w+) -->\n).*?(<!-- end -->)", re.S)
+WITHIN = re.compile(r"(<!-- made by tools/table: (\w+) -->)[^\n]*?(<!-- end -->)")
 
 
 def capital(text):
@@ -39,6 +43,8 @@ TABLES = {
     "record": record,
     "reason": reason,
 }
+PHRASES = {"amounts": lambda table: ", ".join(f"{m.title}: {m.amount}" for m in table.models)}
+WITHIN_PAGES = {"README.md": ["amounts"]}
 PAGES = {"README.md": ["numbers"], "docs/RULES.md": ["when"], "docs/GUIDE.md": ["desk", "record", "host"], "docs/STEPS.md": ["reason"]}
 
 
@@ -46,9 +52,27 @@ def made(page):
     """How a page is made anew: a function of its text and the table."""
 
     def renewed(text, table):
-        found = [m.group(2) for m in MARKED.finditer(text)]
-        if found != PAGES[page]:
-            raise ValueError(f"its marked tables are {found}, not {PAGES[page]}")
+        for marks, names, what in ((MARKED, PAGES[page], "tables"), (WITHIN, WITHIN_PAGES.get(page, []), "phrases")):
+            found = [m.group(2) for m in marks.finditer(text)]
+            if found != names:
+                raise ValueError(f"its marked {what} are {found}, not {names}")
+        text = WITHIN.sub(lambda m: m.group(1) + PHRASES[m.group(2)](table) + m.group(3), text)
         return MARKED.sub(lambda m: "{}\n{}\n\n{}".format(m.group(1), "\n".join(TABLES[m.group(2)](table)), m.group(3)), text)
 
     return renewed
+
+
+ROFF = re.compile(r'(^\.\\" made by tools/table: (\w+)\n).*?(^\.\\" end$)', re.S | re.M)
+MANUAL = {
+    "laws": lambda table: f"({either([m.title for m in table.models])})\n",
+    "amounts": lambda table: ", ".join(f"{m.amount} ({m.title})" for m in table.models) + ".\n",
+    "numbers": lambda table: "".join(f".TP\n.B {r.number}\n{r.what}: {r.remedy}\n" for r in table.refusals if r.desk),
+}
+
+
+def manual(text, table):
+    """The manual's page with the laws, their amounts and the refusals that a dispatcher sees."""
+    found = [m.group(2) for m in ROFF.finditer(text)]
+    if found != [*MANUAL]:
+        raise ValueError(f"its marked parts are {found}, not {[*MANUAL]}")
+    return ROFF.sub(lambda m: m.group(1) + MANUAL[m.group(2)](table) + m.group(3), text)

@@ -1,9 +1,8 @@
 """Holds the pages that are written by hand: what stands in a code span is there, a line shown as printed is printed, numbers of things are right, and
-there are not more words than can be read before a landing.
+there are not more words than can be read before a landing; the records of runs in docs/landings have a limit of their own.
 
-A word is kept by hand unless it stands between marks as made (by tools/calls.py or tools/table) or as held by a test that reads the page
-(`<!-- held by FILE -->` to `<!-- end -->`), in a fence that a test runs or holds to its file, or in a code span, which is held here. A word has a letter or a digit: the bars of a
-table are none.
+Words are counted as `wc -w` counts them, bars of tables, code and shown output too; only what stands between the marks of a command that makes it is left
+out (`<!-- made by COMMAND .. -->` to `<!-- end -->`; in a man page the same as comments), and pages that are made whole.
 """
 import functools
 import os
@@ -12,9 +11,11 @@ import re
 import struct
 
 MADE_PAGES = ("docs/BELIEVE.md", "docs/CALLS.md", "docs/SPEED.md", "docs/TOOLS.md")
+# Pages of which only the length is held here.
+BESIDE = ("beside/README.md", "beside/factors/README.md", "bindings/README.md", "bindings/python/README.md", "bindings/rust/README.md", "fuzz/README.md", "man/slope.1")
 # Notes of their day, and what a user of an older version sees: they name what is gone.
 HISTORY = ("CHANGELOG.md", "docs/LANDINGS.md")
-MOST = {"README.md lines": 90, "docs/LANDINGS.md words": 6000, "all words": 25000}
+MOST = {"README.md lines": 90, "docs/LANDINGS.md words": 6000, "all words": 25000, "docs/landings words": 6000}
 SOURCES = ("crates", "bindings", "tools", "beside", "fuzz", "bin", "tests", "include", "packaging", "man", ".ci", "samples")
 FILES = ("calls.toml", "crates.txt", "install.sh", "VERSION", ".gitignore")
 TEXT = {".rt", ".antt", ".edit", ".rs", ".py", ".c", ".h", ".toml", ".lock", ".md", ".1", ".txt", ".in", ".cmake", ".pc", ".sh", ".hpp", ".cpp", ""}
@@ -28,7 +29,8 @@ GONE = set("pasoletu_failed kirchhoff_stress_of".split())
 # Programs and options of others, and words of a shell or of a language.
 OTHERS = set("rt ssh alarm cargo pip cc mypy numpy nan inf sh PATH DESTDIR parallel rsync distributed qemu-user -ffast-math apt-get x86-64 crontab".split())
 
-BLOCK = re.compile(r"<!-- (made by|held by) ([^\s:]+).*?-->\n(.*?)<!-- end -->", re.S)
+BLOCK = re.compile(r"<!-- (made by|held by) ([^\s:]+)[^\n]*?-->\n(.*?)<!-- end -->", re.S)
+MADE = re.compile(r"^(<!-- |\.\\\" )made by [^\n]*\n.*?^\1end\b[^\n]*|<!-- made by [^\s:]+: \w+ -->[^\n]*?<!-- end -->", re.S | re.M)
 FENCE = re.compile(r"^```([^\n]*)\n(.*?)^```$", re.M | re.S)
 TRIED = re.compile(r"\brun$|\bprints$|\bpart of |\bof the night\b")
 SPAN = re.compile(r"`([^`\n]+)`")
@@ -45,31 +47,33 @@ def pages(top):
     return {name: (top / name).read_text() for name in named if name not in MADE_PAGES and (top / name).exists()}
 
 
-def by_hand(name, text):
-    """What of a page is kept by hand."""
-    text = BLOCK.sub("", text)
-    text = FENCE.sub(lambda m: "" if TRIED.search(m.group(1)) else m.group(), text)
-    return text if name in HISTORY else SPAN.sub("", text)
+def kept(top):
+    """Every page that is kept by hand."""
+    return {**pages(top), **{name: (top / name).read_text() for name in BESIDE if (top / name).exists()}}
+
+
+def words_in(text):
+    """How many words of a page no command makes, as `wc -w` counts."""
+    return len(MADE.sub("", text).split())
 
 
 def words(top):
-    """How many words of each page are kept by hand."""
-    return {name: sum(1 for word in by_hand(name, text).split() if re.search(r"\w", word)) for name, text in pages(top).items()}
+    return {name: words_in(text) for name, text in kept(top).items()}
 
 
-def plain_words(text):
-    """As `wc -w` counts, of all that no command makes: held parts, tried fences, code spans and the bars of tables too."""
-    return len(BLOCK.sub(lambda m: "" if m.group(1) == "made by" else m.group(), text).split())
+def landing_words(top):
+    """How many words the records of runs have, which aren't among the pages."""
+    return sum(words_in(path.read_text()) for path in (top / "docs/landings").glob("*.md"))
 
 
 def told_words(top):
-    """The table of --words: words kept by hand, and beside them all that no command makes."""
-    kept, plain = words(top), {name: plain_words(text) for name, text in pages(top).items()}
-    for name, number in kept.items():
-        yield "%6d %6d %s" % (number, plain[name], name)
-    yield "%6d %6d in all: kept by hand and held by nothing; all that no command makes, as wc counts" % (sum(kept.values()), sum(plain.values()))
+    """The table of --words."""
+    counted_words = words(top)
+    for name, number in counted_words.items():
+        yield "%6d %s" % (number, name)
     yield "%6d in all, of at most %d; docs/LANDINGS.md of at most %d; README.md has %d lines of at most %d" % (
-        sum(kept.values()), MOST["all words"], MOST["docs/LANDINGS.md words"], lines_of_readme(top), MOST["README.md lines"])
+        sum(counted_words.values()), MOST["all words"], MOST["docs/LANDINGS.md words"], lines_of_readme(top), MOST["README.md lines"])
+    yield "%6d in docs/landings, of at most %d" % (landing_words(top), MOST["docs/landings words"])
 
 
 def lines_of_readme(top):
@@ -77,16 +81,20 @@ def lines_of_readme(top):
 
 
 def length_faults(top):
-    kept = words(top)
-    for what, number in (("README.md lines", lines_of_readme(top)), ("docs/LANDINGS.md words", kept.get("docs/LANDINGS.md", 0)), ("all words", sum(kept.values()))):
+    of = words(top)
+    for what, number in (("README.md lines", lines_of_readme(top)), ("docs/LANDINGS.md words", of.get("docs/LANDINGS.md", 0)), ("all words", sum(of.values())),
+                         ("docs/landings words", landing_words(top))):
         yield None if number <= MOST[what] else "%s kept by hand: %d, over %d (tools/calls.py --words)" % (what, number, MOST[what])
 
 
 def held_faults(top):
-    """A part that is marked as held names a test that reads its page."""
+    """A part that is marked as held names a test that reads its page, and one that is marked as made a command that is there."""
     for name, text in pages(top).items():
         for kind, by, _ in BLOCK.findall(text):
             reader = top / by
+            if kind == "made by":
+                yield None if reader.is_file() else "%s: %s, which is said to make a part of it, is not there" % (name, by)
+                continue
             if kind == "held by" and not (reader.is_file() and name.rsplit("/")[-1].partition(".")[0] in reader.read_text()):
                 yield "%s: %s, which is said to hold a part of it, does not read it" % (name, by)
             else:
@@ -216,7 +224,8 @@ def request_faults(top):
 
 @functools.lru_cache(maxsize=None)
 def printed(top):
-    return {line for path in sorted((top / "crates").glob("*/stdout")) for line in path.read_text(errors="replace").splitlines()}
+    paths = [*sorted((top / "crates").glob("*/stdout")), *sorted((top / "tests" / "sheets").glob("*.why"))]
+    return {line for path in paths for line in path.read_text(errors="replace").splitlines()}
 
 
 SHORT = re.compile(r"(\S+) \(([0-9a-f]{16})\)")

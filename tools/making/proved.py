@@ -6,7 +6,8 @@ from .rust import beside_row
 
 KINDS = {"f64": "f64", "u8": "u8", "u32": "u32", "u64": "u64", "&[u8]": "u8[]", "&[u64]": "[]", "&mut [u8]": "u8[] written", "&mut [u64]": "[] written"}
 REFUSAL = re.compile(r"pub const (\w+): u8 = (\d+);")
-KINDS_OF = re.compile(r"^kinds (\w+) = ((?:(?:true|false) ∷ )+)\[\]$", re.M)
+KINDS_OF = re.compile(r"^rowOf (\w+) =\s+record \{\s+kinds = ((?:(?:true|false) ∷ )+)\[\];", re.M)
+NUMBERS_OF = re.compile(r"^    \(?cond \(either (\d+) (\d+) number\) (\w+)$", re.M)
 EXTERN = re.compile(r'pub extern "C" fn pasoletu_(\w+)\((.*?)\)\s*->\s*u8', re.S)
 BRANCH = re.compile(r"\bk == (\d+) \{|\belse \{|\bhost::(?:\w+::)?pasoletu_(\w+)\(|\bupdated\(\s*(\d+),")
 BELOW = re.compile(r"\b(?:k < (\d+)|else) \{\s*(\w+)\(")
@@ -31,12 +32,13 @@ def refusals(top, table):
 
 
 def models(top, table):
-    """How many parameters each model has and which are flags: crates/model/specs/Kinds alone says it in the crates."""
-    there = KINDS_OF.findall((top / "crates/model/specs/Kinds.antt").read_text())
+    """A model's two numbers, how many parameters it has and which are flags: crates/model/specs/Rows alone says it in the crates."""
+    text = (top / "crates/model/specs/Rows.antt").read_text()
+    there, numbers = KINDS_OF.findall(text), {name: (int(a), int(b)) for a, b, name in NUMBERS_OF.findall(text)}
     yield "crates/model: the models", None if len(there) == len(table.models) else f"are {len(there)}, in the table {len(table.models)}"
     for m, (name, kinds) in zip(table.models, there):
-        wanted = m.title.replace("-", "").lower(), [p.flag for p in m.parameters]
-        found = name.lower(), [kind == "true" for kind in re.findall("true|false", kinds)]
+        wanted = m.name.replace("_", ""), (m.number, m.whole), [p.flag for p in m.parameters]
+        found = name.lower(), numbers.get(name), [kind == "true" for kind in re.findall("true|false", kinds)]
         yield f"crates/model: {name}", None if found == wanted else f"is {found}, in the table {wanted}"
 
 
@@ -81,7 +83,7 @@ def replayed_by_model(top, models):
     for below, name in BELOW.findall(text):
         end = int(below) if below else end + len(models)
         if f"pasoletu_{name}(" in text:
-            yield from ((end - len(models) + m.number, f"{name} {m.number}") for m in models)
+            yield from ((end - len(models) + k, f"{name} {m.number}") for k, m in enumerate(models))
 
 
 def replay_lengths(top, name):
@@ -113,7 +115,7 @@ def replay(top, table):
     numbers = len(table.numbered) + len(table.retired) + len(table.replayed)
     whole = all(len(list) == numbers for list in lists)
     yield "crates/replay: INPUTS, OUTPUTS and LENT", None if whole else f"are {[len(list) for list in lists]} long, in the table {numbers}"
-    there = {**dict(replayed(top, "update")), **dict(replayed_by_model(top, table.models))}
+    there = {**dict(replayed(top, "update")), **dict(replayed_by_model(top, [m for m in table.models if m.beside]))}
 
     def held_to(number, name, lengths):
         found = there.get(number), *(list[number] if number < len(list) else None for list in lists)

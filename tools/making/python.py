@@ -93,6 +93,9 @@ def models(table):
     for m in table.models:
         yield from model_row(m)
     yield "}"
+    yield "# Of each number of a sheet's model the law's own, and whether the sheet's records end with the determinant; and the way back."
+    yield "LAW_OF: dict[int, tuple[int, bool]] = {%s}" % ", ".join(f"{n}: ({table.models[k].number}, {whole})" for n, (k, whole) in sorted(table.law_of.items()))
+    yield "WHOLE: dict[int, int] = {%s}" % ", ".join(f"{m.number}: {m.whole}" for m in table.models)
 
 
 def record(table):

@@ -80,23 +80,33 @@ class Refusal:
 
 @dataclass(frozen=True)
 class Parameter:
-    """A parameter of a model."""
+    """A parameter of a model. `left_out` is what tools/sheet.py takes where one without a default isn't given."""
 
     name: str
     flag: bool
     default: float | None
     meaning: str
+    left_out: float | None
+
+    @property
+    def taken(self):
+        """What tools/sheet.py takes where it isn't given, or None."""
+        return self.left_out if self.default is None else self.default
 
 
 @dataclass(frozen=True)
 class Model:
-    """A plastic law. `amount` is what stands beside `stored`, `arguments_of` the Rust's function that takes the parameters."""
+    """A plastic law. `whole` is its number in sheets whose records end with the determinant, `amount` what stands beside `stored`, `arguments_of` the Rust's
+    function that takes the parameters, `beside` whether the Rust has the law, `instead` what tools/sheet.py takes in place of some."""
 
     number: int
+    whole: int
     name: str
     title: str
     amount: str
     arguments_of: str
+    beside: bool
+    instead: str
     parameters: tuple
 
     @property
@@ -180,9 +190,10 @@ def refusal(row):
 
 def model(row):
     parameters = (
-        Parameter(p["name"], p.get("flag", False), p.get("default"), p.get("meaning", "")) for p in row["parameters"]
+        Parameter(p["name"], p.get("flag", False), p.get("default"), p.get("meaning", ""), p.get("left_out")) for p in row["parameters"]
     )
-    return Model(row["number"], row["name"], row["title"], row["amount"], row.get("arguments_of", ""), tuple(parameters))
+    told = row["number"], row["whole"], row["name"], row["title"], row["amount"], row.get("arguments_of", ""), row.get("beside", True), row.get("instead", "")
+    return Model(*told, tuple(parameters))
 
 
 def record(rows):
@@ -234,6 +245,12 @@ class Table:
     def calls(self):
         return [c for section in self.sections for c in section.calls]
 
+    @cached_property
+    def law_of(self):
+        """Of each model's number its law, by its place in the table, and whether the records of its sheets end with the determinant."""
+        unique("a model's number", (n for m in self.models for n in (m.number, m.whole)))
+        return {n: (k, n == m.whole) for k, m in enumerate(self.models) for n in (m.number, m.whole)}
+
     @property
     def floats(self):
         return sum(part.length for part in self.record)
@@ -255,7 +272,8 @@ class Table:
     def rows(self, calls):
         rows = []
         for number, c in calls:
-            rows += [(number + m.number, c, m) for m in self.models] if c.for_every_model else [(number, c, None)]
+            laws = [m for m in self.models if m.beside]
+            rows += [(number + k, c, m) for k, m in enumerate(laws)] if c.for_every_model else [(number, c, None)]
         return sorted(rows, key=lambda row: row[0])
 
     def check(self):
@@ -266,7 +284,7 @@ class Table:
                 raise BadTable(f"model {m.name}: it has two flags, and beside/ and fuzz/ know only one")
         unique("a refusal's name", (r.name for r in self.refusals))
         rising("the refusals' numbers", [r.number for r in self.refusals], 1)
-        consecutive("the models' numbers", [m.number for m in self.models], 0)
+        consecutive("the models' numbers", self.law_of, 0)
         unique("a call's name", (c.name for c in self.calls))
         numbers = [number for number, _, _ in self.numbered] + self.retired
         consecutive("the numbers of beside/", sorted(numbers), 0)

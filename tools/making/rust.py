@@ -27,6 +27,10 @@ def quoted(text):
     return '"%s"' % text.replace("\\", "\\\\").replace('"', '\\"')
 
 
+def camel(name):
+    return "".join(word.capitalize() for word in name.split("_"))
+
+
 def typed(value):
     return f"f64 = {value!r}" if isinstance(value, float) else f"usize = {value}"
 
@@ -56,6 +60,11 @@ def laws(table):
             if p.default is not None:
                 meaning = f" // {p.meaning}" if p.meaning else ""
                 yield f"pub const {m.name.upper()}_{p.name.upper()}: {typed(p.default)};{meaning}"
+    names = ", ".join(sorted(camel(m.name) + "Plasticity" for m in table.models if m.beside))
+    yield "/// The laws that the Rust has too, by its names."
+    yield f"pub mod plastic {{\n    pub use crate::{{{names}}};\n}}"
+    yield "/// Of each law its number, and that of sheets whose records end with the determinant."
+    yield f"pub const NUMBERS: [(u64, u64); {len(table.models)}] = [%s];" % ", ".join(f"({m.number}, {m.whole})" for m in table.models)
     yield "/// The parameters of the model that has most."
     yield f"pub const MOST_PARAMETERS: usize = {table.most_parameters};"
 
@@ -145,6 +154,7 @@ def beside(table):
     lines += ["", "// Floats of a record, and those before the determinant. Models from LAWS up name the same laws, for sheets whose records have all."]
     lines += [f"pub const FLOATS: usize = {table.floats};", f"pub const BARE: usize = {told['SHEET_FLOATS']};"]
     lines += [f"pub const LAWS: usize = {told['WITH_DETERMINANT']};"]
+    lines += ["", "// The first number that names no law, of the Rust's or not.", f"pub const NO_MODEL: u64 = {len(table.law_of)};"]
     lines += ["", "// How many parameters each model has."]
     lines += [f"pub const PARAMETERS: [usize; {len(table.models)}] = {[len(m.parameters) for m in table.models]};"]
     lines += ["", "// By number: name, arguments, the lengths of the lists that come out, the place of a flag. A number whose call is retired has no name."]

@@ -29,3 +29,20 @@ def filled(items, first, last, width=WIDTH):
 def sentence(text):
     """The words as a sentence of their own."""
     return text[0].upper() + text[1:] + "."
+
+
+def either(names):
+    """Names as a sentence has them: a, b or c."""
+    *others, last = names
+    return f"{', '.join(others)} or {last}" if others else last
+
+
+def ranges(numbers):
+    """Whole numbers, those that follow one another as `4 to 7`."""
+    runs = []
+    for n in sorted(numbers):
+        if runs and runs[-1][1] == n - 1:
+            runs[-1][1] = n
+        else:
+            runs.append([n, n])
+    return [str(a) if a == b else f"{a} to {b}" for a, b in runs]

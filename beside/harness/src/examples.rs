@@ -1,6 +1,7 @@
-//! The smallest inputs of docs/DIFFERENCES.md: what ours answers and what the Rust does, each run; the page has to say the same.
+//! The smallest inputs of docs/DIFFERENCES.md: what ours answers and what the Rust does, each run, as the page has them.
 use crate::calls::{self, CALLS};
 use crate::inside;
+use crate::marked;
 use crate::ours;
 use crate::untouched::Untouched;
 
@@ -180,11 +181,15 @@ fn of_rust(e: &Example, n: usize, i: &[u64], u: Option<&Untouched>) -> Vec<u64> 
     }
 }
 
-/// Runs each: the page has to have the line that comes of it.
-pub fn check(page: &str, u: Option<&Untouched>, failed: &mut bool) {
+/// Runs each: the page's table is made of the lines that come of it. Where one can't be run, each of the others has to be on the page.
+pub fn check(page: &str, u: Option<&Untouched>, write: bool, failed: &mut bool) {
     println!("\nSmallest inputs of the differences (row of the page, call, input, ours, the Rust)");
     let text = std::fs::read_to_string(page).unwrap_or_default();
-    for e in all() {
+    let mut table: Vec<String> = marked::DIFFERENCES.map(String::from).to_vec();
+    let mut examples = all();
+    examples.sort_by_key(|e| e.row);
+    let every = examples.len() + table.len();
+    for e in examples {
         let n = CALLS.iter().position(|c| c.name == e.call).unwrap();
         if !ours::has(n) || (matches!(e.from, Rust::One) && u.is_none()) {
             println!("{}: {}: NOT RUN", e.row, e.call);
@@ -195,8 +200,12 @@ pub fn check(page: &str, u: Option<&Untouched>, failed: &mut bool) {
         let ours = if a.status == 0 { shown(&a.out, e.places) } else { format!("refused {}", a.status) };
         let rust = shown(&of_rust(&e, n, &i, u), e.places);
         let line = format!("| {} | `{}` | {} | {ours} | {rust} |", e.row, e.call, e.input);
-        let there = text.lines().any(|l| l == line);
-        *failed |= !there;
-        println!("{line}{}", if there { "" } else { "  NOT ON THE PAGE" });
+        println!("{line}{}", if text.lines().any(|l| l == line) { "" } else { "  NOT ON THE PAGE" });
+        table.push(line);
     }
+    *failed |= if table.len() == every {
+        !marked::holds(page, "beside/run: smallest", &table, write)
+    } else {
+        table.iter().any(|line| text.lines().all(|l| l != line))
+    };
 }

@@ -322,7 +322,7 @@ fn one_pass(d: &mut Draw, with_failure: bool, t: &mut Tally) {
     let mut j = with_failure.then(|| judge(d, model as usize, &p, &records));
     let (mut answers, mut counts) = (vec![MARK; records.len() / FLOATS * 2], vec![MARK; if with_failure { 4 } else { 3 }]);
     if d.one_in(24) {
-        model = 2 * LAWS as u64 + d.below(3);
+        model = calls::NO_MODEL + d.below(3);
     }
     for l in [&mut p, &mut records, &mut answers, &mut counts] {
         bend(d, l);

@@ -13,6 +13,8 @@ mod flags;
 mod library;
 mod listed;
 mod lists;
+#[path = "../../marked.rs"]
+mod marked;
 mod ours;
 mod principal;
 mod replay;
@@ -34,10 +36,11 @@ struct Arguments {
     seed: u64,
     count: u64,
     replay: Option<String>,
+    page: bool,
 }
 
 fn arguments() -> Arguments {
-    let mut a = Arguments { work: String::new(), docs: String::new(), seed: 1, count: 20_000, replay: None };
+    let mut a = Arguments { work: String::new(), docs: String::new(), seed: 1, count: 20_000, replay: None, page: false };
     let mut rest = std::env::args().skip(1);
     a.work = rest.next().unwrap_or_default();
     while let Some(x) = rest.next() {
@@ -47,6 +50,7 @@ fn arguments() -> Arguments {
             "--count" => a.count = v.parse().unwrap_or(20_000),
             "--replay" => a.replay = Some(v),
             "--docs" => a.docs = v,
+            "--page" => a.page = v == "yes",
             _ => {}
         }
     }
@@ -266,10 +270,10 @@ fn main() {
     let mut r = compare(&a, u.as_ref());
     table(&r, &mut failed);
     lengths(&a, &mut failed);
-    examples::check(&format!("{}/DIFFERENCES.md", a.docs), u.as_ref(), &mut failed);
+    examples::check(&format!("{}/DIFFERENCES.md", a.docs), u.as_ref(), a.page, &mut failed);
     lists::compare(a.seed, a.count, &mut failed);
     sites::table(&mut r.sites, u.is_some(), &mut failed);
-    sites::listed(&format!("{}/SITES.md", a.docs), &r.sites, &mut failed);
+    failed |= !marked::holds(&format!("{}/SITES.md", a.docs), "beside/run: sites", &sites::listed(&r.sites), a.page);
     match &u {
         Some(u) => far::table(a.seed, a.count, u),
         None => println!("\nBuild 1 was LEFT OUT: nothing was run beside the untouched Rust or nalgebra."),

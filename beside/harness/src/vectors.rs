@@ -190,7 +190,7 @@ fn failure(list: &mut List, d: &mut Draw) {
         one(&[wrong, (k + 3 + model % 3, f64::INFINITY.to_bits())]);
         one(&[(k + 5, f64::MAX.to_bits()), (k + 4, f64::MAX.to_bits()), (at + SIGMA, 1.5f64.to_bits())]);
         one(&[(k + 2, [0.5, -0.0, f64::NAN, 2.0][model].to_bits())]);
-        one(&[(0, [8, 9, 255, u64::MAX][model])]);
+        one(&[(0, [NO_MODEL, NO_MODEL + 1, 255, u64::MAX][model])]);
         if let Some(flag) = CALLS[UPDATE + model].flag {
             one(&[(1 + flag, (-0.0f64).to_bits())]);
         }

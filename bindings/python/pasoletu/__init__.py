@@ -12,25 +12,13 @@ pasoletu.chunks works a Dask array of them.
 The shared library is opened at the first call: the file that PASOLETU_LIB names; else that of the PREFIX which the package is
 installed in; else the system's libpasoletu.so.1. NoLibrary says how to get it where there is none.
 """
-from . import elementary, raw, refusal, utils
+from . import elementary, laws, raw, refusal, utils
 from ._find import NoLibrary
 from ._mode import float_mode
 from ._table import FLOATS, MODELS, SHEET_MOST
 from ._table import VERSION as __version__
 from .arrival import Arrival
-from .laws import (
-    CorotatedLinearElasticity,
-    DruckerPragerPlasticity,
-    FlatNaccPlasticity,
-    MaximumStressFailure,
-    MonaghanSphEos,
-    NaccPlasticity,
-    NeoHookeanElasticity,
-    Plasticity,
-    RankinePlasticity,
-    SnowPlasticity,
-    StressVerdict,
-)
+from .laws import *
 from .lists import (
     Ran,
     Sheet,
@@ -58,32 +46,21 @@ __all__ = [
     "Arrival",
     "Clamped",
     "Column",
-    "CorotatedLinearElasticity",
-    "DruckerPragerPlasticity",
     "FLOATS",
-    "FlatNaccPlasticity",
     "FlatParticle",
     "MODELS",
-    "MaximumStressFailure",
-    "MonaghanSphEos",
-    "NaccPlasticity",
-    "NeoHookeanElasticity",
     "NoLibrary",
     "Outcomes",
     "Particle",
     "Passed",
-    "Plasticity",
     "REFUSALS",
     "Ran",
-    "RankinePlasticity",
     "Refused",
     "Report",
     "SHEET_MOST",
     "Sheet",
-    "SnowPlasticity",
     "Stopped",
     "Stored",
-    "StressVerdict",
     "Tally",
     "Tested",
     "Untouched",
@@ -108,3 +85,4 @@ __all__ = [
     "utils",
     "write_sheet",
 ]
+__all__ += laws.__all__

@@ -190,6 +190,9 @@ MODELS: dict[int, Model] = {
         {},
     ),
 }
+# Of each number of a sheet's model the law's own, and whether the sheet's records end with the determinant; and the way back.
+LAW_OF: dict[int, tuple[int, bool]] = {0: (0, False), 1: (1, False), 2: (2, False), 3: (3, False), 4: (0, True), 5: (1, True), 6: (2, True), 7: (3, True)}
+WHOLE: dict[int, int] = {0: 4, 1: 5, 2: 6, 3: 7}
 
 FLOATS = 37
 RECORD: tuple[Part, ...] = (

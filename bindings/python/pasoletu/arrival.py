@@ -8,6 +8,7 @@ from ._library import ask, words
 from ._table import (
     ANSWERS,
     FLOATS,
+    LAW_OF,
     MODELS,
     PARTS_COMPLETE,
     PARTS_COUNT,
@@ -17,7 +18,6 @@ from ._table import (
     PARTS_STATE_PARAMETERS,
     PARTS_STATE_WANTS,
     SHEET_MOST,
-    WITH_DETERMINANT,
 )
 from .laws import Plasticity
 from .lists import Pass, Ran, _bytes, law
@@ -98,7 +98,7 @@ class Arrival:
         """The law, None before it is known."""
         if not self._known:
             return None
-        number = self._state[PARTS_STATE_MODEL] % WITH_DETERMINANT
+        number, _ = LAW_OF[self._state[PARTS_STATE_MODEL]]
         bits = self._state[PARTS_STATE_PARAMETERS:PARTS_STATE_PARAMETERS + len(MODELS[number].parameters)]
         return law(number, map(as_float, bits))
 
@@ -113,4 +113,4 @@ class Arrival:
         codes = answers[::ANSWERS]
         counts = [codes.count(code) for code in range(3)]
         passed = Passed(answers, counts, Pass("Arrival", model, room, None).refusal)
-        return Ran(model, room, passed, self._state[PARTS_STATE_MODEL] >= WITH_DETERMINANT)
+        return Ran(model, room, passed, LAW_OF[self._state[PARTS_STATE_MODEL]][1])

@@ -28,6 +28,21 @@ from .reasons import Reason
 from .reasons import told as told_by
 from .refusal import NOT_FINITE, Refused
 
+# What the package exports of this file.
+__all__ = [
+    "CorotatedLinearElasticity",
+    "DruckerPragerPlasticity",
+    "FlatNaccPlasticity",
+    "MaximumStressFailure",
+    "MonaghanSphEos",
+    "NaccPlasticity",
+    "NeoHookeanElasticity",
+    "Plasticity",
+    "RankinePlasticity",
+    "SnowPlasticity",
+    "StressVerdict",
+]
+
 _Answer = TypeVar("_Answer")
 _SNOW = MODELS[SNOW].defaults
 _DRUCKER_PRAGER = MODELS[DRUCKER_PRAGER].defaults

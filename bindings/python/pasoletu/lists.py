@@ -17,10 +17,11 @@ from ._table import (
     HEADER_COUNT,
     HEADER_MODEL,
     HEADER_PARAMETERS,
+    LAW_OF,
     MODELS,
     SHEET_BYTES,
     SHEET_MOST,
-    WITH_DETERMINANT,
+    WHOLE,
 )
 from .laws import PLASTICITIES, CorotatedLinearElasticity, MaximumStressFailure, Plasticity
 from .outcome import Passed, as_float
@@ -207,7 +208,7 @@ class Sheet:
     """A sheet that was read.
 
     model         the law
-    determinants  whether its bytes keep each particle's determinant (models 4 to 7); where they don't, it was filled in
+    determinants  whether its bytes keep each particle's determinant (by the model's number); where they don't, it was filled in
     records       its records, a record a row: numpy's array where numpy is installed, else a memoryview
     particles     copies of them as objects, made when they are first asked for
 
@@ -271,7 +272,7 @@ def _read(told: str, data: bytes) -> Sheet:
     if status:
         raise Refused(status, told)
     number, count = header[HEADER_MODEL], header[HEADER_COUNT]
-    model, kept = number % WITH_DETERMINANT, number >= WITH_DETERMINANT
+    model, kept = LAW_OF[number]
     parameters = header[HEADER_PARAMETERS:HEADER_PARAMETERS + len(MODELS[model].parameters)]
     return Sheet(law(model, map(as_float, parameters)), (ctypes.c_double * (count * FLOATS)).from_buffer(room), kept)
 
@@ -312,7 +313,7 @@ def write_sheet(model: Plasticity, particles: Union[Iterable[Particle], Records]
 
 def _written(told: str, model: Plasticity, records: ctypes.Array[ctypes.c_double], determinants: bool) -> bytes:
     room, written = (ctypes.c_uint8 * SHEET_BYTES)(), words(1)
-    number = model.model + (WITH_DETERMINANT if determinants else 0)
+    number = WHOLE[model.model] if determinants else model.model
     status = ask("write_sheet", number, _list(model), records, room, written)
     if status:
         raise Refused(status, told)

@@ -23,8 +23,7 @@ class Untouched:
 
 @dataclass(frozen=True)
 class Stored:
-    """Updated. The amount is, for Snow, the elastic hardening; Rankine, the plastic hardening; Drucker-Prager, dq; NACC,
-    alpha."""
+    """Updated. The amount is the law's own: `MODELS` names it (docs/RULES.md, section 5)."""
 
     amount: float
 

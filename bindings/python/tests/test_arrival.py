@@ -33,9 +33,9 @@ def bits(ran):
 
 def named(state):
     """Whether a state's words name one of the models, each flag 0.0 or 1.0 (docs/RULES.md, section 7: the model is word 2, its parameters begin at 7)."""
-    if state[2] >= 2 * len(_table.MODELS):
+    if state[2] not in _table.LAW_OF:
         return False
-    law = _table.MODELS[state[2] % len(_table.MODELS)]
+    law = _table.MODELS[_table.LAW_OF[state[2]][0]]
     return all(state[7 + k] in (0, 0x3FF0000000000000) for k, name in enumerate(law.parameters) if name in law.flags)
 
 
@@ -138,7 +138,7 @@ class Faults(unittest.TestCase):
     def test_faults_before_the_records(self):
         flagged = pasoletu.write_sheet(pasoletu.DruckerPragerPlasticity.new(1000.0, 0.25), [])
         bad = flagged[:1 + 6 * 8] + b"\1" + flagged[2 + 6 * 8:]
-        for data, number in ((b"\x80\x00", NOT_SHORTEST), (b"\x80\x80", NOT_SHORTEST), (b"\x08", UNKNOWN), (bad, UNKNOWN),
+        for data, number in ((b"\x80\x00", NOT_SHORTEST), (b"\x80\x80", NOT_SHORTEST), (bytes([len(_table.LAW_OF)]), UNKNOWN), (bad, UNKNOWN),
                              (small(0)[:-1] + b"\xc9\x01", TOO_MANY)):
             self.assertEqual(refusal(pasoletu.run, data), number)
             for k in range(len(data)):

@@ -28,6 +28,7 @@ from pasoletu import (
     elementary,
     utils,
 )
+from pasoletu._table import LAW_OF
 from pasoletu.refusal import ABOVE_RANGE, BELOW_RANGE, REFUSALS
 
 HERE = pathlib.Path(__file__).resolve().parent.parent
@@ -67,7 +68,7 @@ def groups(n):
 
 def sheet(model, parameters, particles):
     head = bytes([model]) + struct.pack("<%dd" % len(parameters), *parameters)
-    return head + groups(len(particles)) + b"".join(bits(p)[:8 * (36 if model < 4 else 37)] for p in particles)
+    return head + groups(len(particles)) + b"".join(bits(p)[:8 * (37 if LAW_OF.get(model, (0, True))[1] else 36)] for p in particles)
 
 
 class Tests(unittest.TestCase):
@@ -400,7 +401,7 @@ class Refusals(Tests):
         self.refused(7, pasoletu.run, good + b"\0")
         self.refused(7, pasoletu.run, sheet(0, snow, [Particle()] * 201))
         self.refused(5, pasoletu.run, b"\x80\0" + good[1:])
-        self.refused(6, pasoletu.read_sheet, sheet(8, snow, []))
+        self.refused(6, pasoletu.read_sheet, sheet(len(LAW_OF), snow, []))
         self.refused(6, pasoletu.read_sheet, sheet(2, [0.0, 0.0, 0.0, 0.0, 1.0, 1.0, -0.0, 1.0], []))
 
     def test_sheets_are_read_as_bits(self):

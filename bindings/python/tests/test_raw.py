@@ -20,7 +20,7 @@ from pasoletu import (
     raw,
     utils,
 )
-from pasoletu._table import CALLS, MODELS
+from pasoletu._table import CALLS, LAW_OF, MODELS
 from pasoletu.laws import PLASTICITIES
 
 NAN = math.nan
@@ -42,7 +42,7 @@ class Raw(unittest.TestCase):
         clay = array.array("d", [1e4, 0.3, 0.05, 0.5, 3.0, 2.36])
         answer, counts = array.array("Q", [7, 7]), array.array("Q", [7] * 3)
         self.assertEqual(raw.call("pass", 3, clay, record(), answer, counts), 6)
-        self.assertEqual(raw.call("pass", 8, SNOW, record(), answer, counts), 6)
+        self.assertEqual(raw.call("pass", len(LAW_OF), SNOW, record(), answer, counts), 6)
         self.assertEqual(raw.call("pass", 0, SNOW, record()[:36], answer, counts), 8)
         self.assertEqual(raw.call("pass", 0, SNOW[:2], record(), answer, counts), 8)
         self.assertEqual(answer.tolist() + counts.tolist(), [7] * 5)

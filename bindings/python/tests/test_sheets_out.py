@@ -10,7 +10,7 @@ import unittest
 
 import pasoletu
 from pasoletu import DruckerPragerPlasticity, NaccPlasticity, Particle, RankinePlasticity, Refused, SnowPlasticity, raw
-from pasoletu._table import MODELS, SHEET_BYTES
+from pasoletu._table import LAW_OF, MODELS, SHEET_BYTES
 
 TOP = pathlib.Path(__file__).resolve().parent.parent.parent.parent
 sys.path.insert(0, str(TOP / "tools"))
@@ -45,7 +45,7 @@ def spelled(model, parameters, words):
 
 
 def any_parameters(draw, model):
-    m = MODELS[model % 4]
+    m = MODELS[LAW_OF[model][0]]
     return [draw.choice((0, ONE)) if name in m.flags else draw.getrandbits(64) for name in m.parameters]
 
 
@@ -121,7 +121,7 @@ class AsTheyAre(unittest.TestCase):
             (8, 3, nacc[1:], two, 0),
             (8, 3, nacc + [0], many, 0),
             (8, 3, nacc, [7] * 72, 700),
-            (6, 8, nacc, two, 0),
+            (6, len(LAW_OF), nacc, two, 0),
             (6, 7, [0, 0, 0, 1 << 63, 0, 0], two, 700),
             (6, 1 << 63, [], many, 0),
             (6, 3, [0, 0, 0, 1 << 63, 0, 0], two, 700),
@@ -138,7 +138,7 @@ class AsTheyAre(unittest.TestCase):
     def test_random_sheets_in_rooms_of_any_size(self):
         draw = random.Random(2)
         for _ in range(300):
-            model, n = draw.randrange(8), draw.choice((0, 1, 2, 3, 127, 128, 200) if draw.random() < 0.1 else (0, 1, 2, 3))
+            model, n = draw.randrange(len(LAW_OF)), draw.choice((0, 1, 2, 3, 127, 128, 200) if draw.random() < 0.1 else (0, 1, 2, 3))
             parameters, words = any_parameters(draw, model), drawn(draw, n)
             data = spelled(model, parameters, words)
             for room in (len(data), len(data) + draw.randrange(1, 99), len(data) - 1, draw.randrange(len(data))):
@@ -157,10 +157,10 @@ class TheTool(unittest.TestCase):
         """tools/sheet.py's own writer beside the proved one, byte by byte."""
         draw = random.Random(3)
         for _ in range(500):
-            model, n = draw.randrange(8), draw.choice((0, 1, 2, 5) if draw.random() < 0.95 else (127, 128, 200))
+            model, n = draw.randrange(len(LAW_OF)), draw.choice((0, 1, 2, 5) if draw.random() < 0.95 else (127, 128, 200))
             parameters, words = any_parameters(draw, model), drawn(draw, n)
             records = [doubles(words[37 * k:37 * (k + 1)]).tolist() for k in range(n)]
-            made = tool.written(MODELS[model % 4].name, model > 3, doubles(parameters).tolist(), records, "a test")
+            made = tool.written(MODELS[LAW_OF[model][0]].name, LAW_OF[model][1], doubles(parameters).tolist(), records, "a test")
             room, written = bytearray(SHEET_BYTES), array.array("Q", [0])
             self.assertEqual(raw.call("write_sheet", model, doubles(parameters), doubles(words), room, written), 0)
             self.assertEqual(made, bytes(room[:written[0]]))

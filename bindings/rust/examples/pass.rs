@@ -6,6 +6,7 @@ use pasoletu::{pass, Outcome, Particle, SnowPlasticity};
 fn main() {
     let mut particles =
         [Particle::stretched([1.0, 1.0, 1.0]), Particle::stretched([0.9, 1.0, 1.0]), Particle::stretched([f64::NAN, 1.0, 1.0])];
+    // guide: pass
     let passed = pass(SnowPlasticity::new(), &mut particles);
     for (k, outcome) in passed.outcomes.iter().enumerate() {
         match outcome {
@@ -16,5 +17,6 @@ fn main() {
             Err(refusal) => println!("{refusal}"),
         }
     }
+    // guide: end
     println!("{} untouched, {} stored, {} refused", passed.untouched, passed.stored, passed.refused);
 }

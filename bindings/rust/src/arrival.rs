@@ -1,9 +1,10 @@
 //! Sheets that come in parts, over a slow line (docs/RULES.md, section 7).
 use crate::lists::{floats_of, Answer, Counts, Pass};
 use crate::mode::held;
+use crate::plasticity::law_of;
 use crate::table::{
     pasoletu_begin_parts, pasoletu_end_parts, pasoletu_part, ANSWERS, MOST_PARAMETERS, PARTS_COMPLETE, PARTS_COUNT,
-    PARTS_PROGRESS, PARTS_STATE, PARTS_STATE_MODEL, PARTS_STATE_PARAMETERS, PARTS_STATE_WANTS, SHEET_MOST, WITH_DETERMINANT,
+    PARTS_PROGRESS, PARTS_STATE, PARTS_STATE_MODEL, PARTS_STATE_PARAMETERS, PARTS_STATE_WANTS, SHEET_MOST,
 };
 use crate::vectors::belongs;
 use crate::{Model, Particle, Ran, Refusal};
@@ -110,7 +111,7 @@ impl Arrival {
             }
         }
         let passed = Pass::plain("Arrival::ran", model).told(self.particles(), self.answers(), counts);
-        let determinants = self.state[PARTS_STATE_MODEL] >= WITH_DETERMINANT as u64;
+        let determinants = law_of(self.state[PARTS_STATE_MODEL]).1;
         Some(Ran { model, determinants, particles: self.particles().to_vec(), passed })
     }
 

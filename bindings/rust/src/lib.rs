@@ -74,9 +74,7 @@ pub use lists::{
 };
 pub use mode::float_mode;
 pub use particle::Particle;
-pub use plasticity::{
-    DruckerPragerPlasticity, FlatModel, FlatNaccPlasticity, Model, NaccPlasticity, Outcome, RankinePlasticity, SnowPlasticity,
-};
+pub use plasticity::*;
 pub use refusal::Refusal;
 pub use reasons::{Bound, Place, Reason};
 pub use reports::{report, Column, Report};
@@ -95,9 +93,7 @@ pub const VERSION: &str = env!("CARGO_PKG_VERSION");
 pub mod dynamics {
     /// The plastic and elastic laws, the equation of state and the failure rule.
     pub mod models {
-        pub use crate::{
-            CorotatedLinearElasticity, DruckerPragerPlasticity, MaximumStressFailure, MonaghanSphEos, NaccPlasticity,
-            NeoHookeanElasticity, RankinePlasticity, SnowPlasticity,
-        };
+        pub use crate::table::plastic::*;
+        pub use crate::{CorotatedLinearElasticity, MaximumStressFailure, MonaghanSphEos, NeoHookeanElasticity};
     }
 }

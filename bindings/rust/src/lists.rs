@@ -1,10 +1,10 @@
 //! The passes, and the reading and writing of a sheet, in the caller's room (docs/RULES.md, section 7): nothing is allocated.
 use crate::mode::held;
-use crate::plasticity::Parameters;
+use crate::plasticity::{law_of, number_of, Parameters};
 use crate::table::{
     pasoletu_factor_list, pasoletu_fill_determinants, pasoletu_pass, pasoletu_pass_factored, pasoletu_pass_factored_with_failure,
     pasoletu_pass_with_failure, pasoletu_read_sheet, pasoletu_write_sheet, ANSWERS, HEADER, HEADER_COUNT, HEADER_MODEL,
-    HEADER_PARAMETERS, MOST_PARAMETERS, STORED, UNTOUCHED, WITH_DETERMINANT,
+    HEADER_PARAMETERS, MOST_PARAMETERS, STORED, UNTOUCHED,
 };
 use crate::{CorotatedLinearElasticity, MaximumStressFailure, Model, Outcome, Particle, Refusal};
 
@@ -221,7 +221,7 @@ pub fn fill_determinants(particles: &mut [Particle]) {
 pub struct Header {
     /// The law that the sheet names.
     pub model: Model,
-    /// Whether the sheet keeps each particle's determinant (models 4 to 7). Where it doesn't, the determinant was filled in.
+    /// Whether the sheet keeps each particle's determinant (by the model's number). Where it doesn't, the determinant was filled in.
     pub determinants: bool,
     /// How many particles it has.
     pub count: usize,
@@ -240,7 +240,7 @@ pub fn read_sheet_into(bytes: &[u8], particles: &mut [Particle]) -> Result<Heade
     let (model, parameters) = (header[HEADER_MODEL], &header[HEADER_PARAMETERS..HEADER_PARAMETERS + MOST_PARAMETERS]);
     Ok(Header {
         model: Model::of_sheet(model, parameters),
-        determinants: model >= WITH_DETERMINANT as u64,
+        determinants: law_of(model).1,
         count: header[HEADER_COUNT] as usize,
     })
 }
@@ -270,7 +270,7 @@ pub(crate) fn written(
     bytes: &mut [u8],
 ) -> Result<usize, Refusal> {
     let law = model.parameters();
-    let number = law.model + if determinants { WITH_DETERMINANT as u64 } else { 0 };
+    let number = number_of(law.model, determinants);
     let (records, floats) = (particles.as_ptr().cast(), particles.len() * Particle::FLOATS);
     let mut written = 0u64;
     let status = unsafe {

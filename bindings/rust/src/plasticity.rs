@@ -12,8 +12,7 @@ use crate::{utils, Answer, Particle, Refusal};
 pub enum Outcome {
     /// Inside the yield surface: nothing changed.
     Untouched,
-    /// Updated. The amount is, for Snow, the elastic hardening; Rankine, the plastic hardening; Drucker-Prager, dq;
-    /// NACC, alpha.
+    /// Updated. The amount is the law's own (docs/RULES.md, section 5): Snow's elastic hardening, Rankine's plastic hardening, and so on.
     Stored(f64),
 }
 
@@ -302,6 +301,17 @@ impl Parameters {
     }
 }
 
+/// The law's own number of a sheet's model, and whether the sheet's records end with the determinant. A number of no law is refused by 6 before.
+pub(crate) fn law_of(model: u64) -> (u64, bool) {
+    let row = table::NUMBERS.iter().find(|row| row.0 == model || row.1 == model);
+    row.map_or((model, false), |row| (row.0, row.1 == model))
+}
+
+/// The number of a law's sheets, with determinants or without.
+pub(crate) fn number_of(law: u64, determinants: bool) -> u64 {
+    table::NUMBERS.iter().find(|row| determinants && row.0 == law).map_or(law, |row| row.1)
+}
+
 impl Model {
     pub(crate) fn parameters(&self) -> Parameters {
         match self {
@@ -315,7 +325,7 @@ impl Model {
     /// The law that a sheet names: its number, of a sheet with determinants or without, and the parameters' bits.
     pub(crate) fn of_sheet(model: u64, bits: &[u64]) -> Model {
         let p = |k: usize| f64::from_bits(bits[k]);
-        match model % table::WITH_DETERMINANT as u64 {
+        match law_of(model).0 {
             0 => Model::Snow(SnowPlasticity { min_epsilon: p(0), max_epsilon: p(1), hardening_coeff: p(2) }),
             1 => Model::Rankine(RankinePlasticity { arguments: [p(0), p(1), p(2), p(3)] }),
             2 => Model::DruckerPrager(DruckerPragerPlasticity {
@@ -329,7 +339,7 @@ impl Model {
                 volume_correction: p(7),
             }),
             3 => Model::Nacc(NaccPlasticity { arguments: [p(0), p(1), p(2), p(3), p(4), p(5)], angled: false }),
-            _ => unreachable!("there are four laws"),
+            _ => unreachable!("a sheet with another number is refused by 6"),
         }
     }
 

@@ -11,7 +11,7 @@ use alloc::vec::Vec;
 pub struct Sheet {
     /// The law that the sheet names.
     pub model: Model,
-    /// Whether its bytes keep each particle's determinant (models 4 to 7). Where they don't, a reader fills it in.
+    /// Whether its bytes keep each particle's determinant (by the model's number). Where they don't, a reader fills it in.
     pub determinants: bool,
     /// Its particles, in order.
     pub particles: Vec<Particle>,

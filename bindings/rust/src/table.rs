@@ -77,6 +77,12 @@ pub const DRUCKER_PRAGER_H2: f64 = 0.2;
 pub const DRUCKER_PRAGER_H3: f64 = 0.17453292519943295; // 10 degrees
 pub const DRUCKER_PRAGER_VOLUME_CORRECTION: f64 = 1.0;
 pub const NACC: Law = Law { number: 3, names: &["the law's young_modulus", "the law's poisson_ratio", "the law's cohesion", "the law's hardening_enabled", "the law's hardening_factor", "the law's m"] };
+/// The laws that the Rust has too, by its names.
+pub mod plastic {
+    pub use crate::{DruckerPragerPlasticity, NaccPlasticity, RankinePlasticity, SnowPlasticity};
+}
+/// Of each law its number, and that of sheets whose records end with the determinant.
+pub const NUMBERS: [(u64, u64); 4] = [(0, 4), (1, 5), (2, 6), (3, 7)];
 /// The parameters of the model that has most.
 pub const MOST_PARAMETERS: usize = 8;
 

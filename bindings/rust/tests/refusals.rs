@@ -190,7 +190,7 @@ fn sheets_refuse() {
     assert_eq!(number(run_sheet(&[good.clone(), vec![0]].concat())), Refusal::TOO_MANY);
     assert_eq!(number(run_sheet(&sheet(0, &snow, &[Particle::REST; 201]))), Refusal::TOO_MANY);
     assert_eq!(number(run_sheet(&[&[0x80, 0], &good[1..]].concat())), Refusal::NOT_SHORTEST);
-    assert_eq!(number(read_sheet(&sheet(8, &snow, &[]))), Refusal::UNKNOWN);
+    assert_eq!(number(read_sheet(&sheet(99, &snow, &[]))), Refusal::UNKNOWN);
     assert_eq!(number(read_sheet(&sheet(2, &[0.0, 0.0, 0.0, 0.0, 1.0, 1.0, -0.0, 1.0], &[]))), Refusal::UNKNOWN);
 }
 

@@ -6,8 +6,6 @@ pub const SEED: u64 = 6;
 
 pub const COUNT: u64 = 10000;
 
-const HALF: u64 = 0x1_0000_0000;
-
 pub struct Drawn {
     pub seed: u64,
     pub word: u64,
@@ -15,13 +13,8 @@ pub struct Drawn {
 
 // The product modulo 2^64.
 fn times(u: u64, v: u64) -> u64 {
-    let u0 = u % HALF;
-    let u1 = u / HALF;
-    let v0 = v % HALF;
-    let v1 = v / HALF;
-    let w0 = u0 * v0;
-    let w1 = u1 * v0 % HALF + u0 * v1 % HALF;
-    std::num::wrapping_add_u64(w0, w1 % HALF * HALF)
+    let p = fixed_point::both_halves(u, v);
+    p.low
 }
 
 fn number(seed: u64) -> Drawn {

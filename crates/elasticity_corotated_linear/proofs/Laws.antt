@@ -16,16 +16,22 @@ use Rattle.tensor.specs.Matrix as tensor
 use Rattle.tensor.specs.Matrix.{add, sub, mul, detOf, sumOf, productOf}
 use Rattle.tensor.specs.Answer.{answered, answeredVector, refusedMatrix, refusedVector}
 use Rattle.tensor.specs.Finite.{rowFinite, matFinite}
-use Rattle.walk.specs.Expr.{Expr, num, _+_, _*_, value, values, whole-tells, add-left, add-right, sub-left, mul-left, mul-right}
+use Rattle.walk.specs.Expr.{Expr, num, _+_, _*_, value, values}
+use Rattle.walk.proofs.Expr.{whole-tells, add-left, add-right, sub-left, mul-left, mul-right}
 use Rattle.walk.specs.Walk.{Walk, less, work, works, mosts, leasts, split, Ended, refused, result, answerAs}
-use Rattle.walk.proofs.Number.{finite-number, sub-number}
+use Rattle.walk.proofs.Number.{sub-number}
+use Rattle.numbers.proofs.Laws.{finite-number}
 use Rattle.walk.proofs.Steps.{mosts-answer, leasts-answer}
-use Rattle.walk.specs.Every.{flat, every, all-every, all-append, all-flat, and-left, and-right}
-use Rattle.walk.specs.Matrix.{value-total, value-product}
-use Rattle.walk.specs.Power.{power, value-power}
+use Rattle.walk.specs.Matrix.{flat, value-total}
+use Rattle.walk.proofs.Every.{every, all-every, all-append, all-flat, and-left, and-right}
+use Rattle.walk.proofs.Matrix.{value-product}
+use Rattle.walk.specs.Power.{power}
+use Rattle.walk.proofs.Power.{value-power}
 use Rattle.walk.proofs.Inner.{Inner, inner-mosts, inner-leasts}
-use Rattle.walk.specs.Tensor.{one, one-number, worth, rows, plus, times, scaled, identity-times, row-plus, determinant, worth-rows, worth-plus, worth-scaled}
-use Rattle.walk.specs.Answers.{returned, returnedMatrix, returnedVector, returned-law, returned-matrix, returned-vector, matrixAs, vectorAs, split-number, split-matrix, split-vector, number-split, matrix-split, vector-split}
+use Rattle.walk.specs.Tensor.{one, worth, rows, plus, times, scaled, identity-times, row-plus, determinant}
+use Rattle.walk.proofs.Tensor.{one-number, worth-rows, worth-plus, worth-scaled}
+use Rattle.walk.specs.Answers.{returned, returnedMatrix, returnedVector, matrixAs, vectorAs}
+use Rattle.walk.proofs.Answers.{returned-law, returned-matrix, returned-vector, split-number, split-matrix, split-vector, number-split, matrix-split, vector-split}
 use Rattle.elasticity_corotated_linear.specs.declared.CorotatedLinearElasticity.{CorotatedLinearElasticity}
 use Rattle.elasticity_corotated_linear.specs.Law.{parametersOf, floats, lawFinite}
 use Rattle.elasticity_corotated_linear.specs.Stress as stress

@@ -4,8 +4,7 @@ use lib.Ieee.{Float}
 use Rattle.answers.specs.declared.Answer.{Answer}
 use Rattle.walk.specs.Expr.{Expr, num, _+_, _-_, _*_, _/_}
 use Rattle.walk.specs.Walk.{Walk, less, inputs, work, works, mosts, split, result, answerAs}
-use Rattle.walk.specs.Every.{flat}
-use Rattle.walk.specs.Matrix.{total, product, dot}
+use Rattle.walk.specs.Matrix.{flat, total, product, dot}
 use Rattle.walk.specs.Tensor.{one, determinant}
 use Rattle.walk.specs.Power.{power}
 use Rattle.walk.specs.Answers.{returned}

@@ -1,4 +1,4 @@
--- The corotated law's own floats and its `new` (RULES, section 6; elasticity_corotated_linear.rs).
+-- The corotated law's own floats and its `new` (RULES, sections 5 and 6; elasticity_corotated_linear.rs).
 use mathlib.Core.Bool.{Bool, true, cond, _&&_}
 use mathlib.Core.List.{List, [], _∷_, _++_}
 use lib.Ieee.{Float, binary64, ofBits}

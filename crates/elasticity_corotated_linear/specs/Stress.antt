@@ -8,7 +8,7 @@ use Rattle.tensor.specs.declared.MatrixAnswer.{MatrixAnswer}
 use Rattle.walk.specs.Expr.{Expr, num, _-_, _*_}
 pub use Rattle.walk.specs.Constants.{zero, two}
 use Rattle.walk.specs.Walk.{Walk, Test, less, flag, inputs, work, works, mosts, leasts, split, result}
-use Rattle.walk.specs.Every.{flat}
+use Rattle.walk.specs.Matrix.{flat}
 use Rattle.walk.specs.Update.{recomposed}
 use Rattle.walk.specs.Tensor.{one, rows, turned, times, plus, scaled, identity-times, determinant}
 use Rattle.walk.specs.Answers.{returnedMatrix, matrixAs}

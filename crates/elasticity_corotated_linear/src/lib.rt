@@ -1,4 +1,4 @@
-// Corotated linear elasticity: the stress, the principal stresses and the energies of a record's F and its factors. The
+// Corotated linear elasticity (RULES, section 5): the stress, the principal stresses and the energies of a record's F and its factors. The
 // steps take F's determinant, which a record stores.
 mod energy;
 mod principal;

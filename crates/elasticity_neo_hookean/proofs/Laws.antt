@@ -20,9 +20,12 @@ use Rattle.walk.specs.Expr.{Expr, num, _+_, _*_, value}
 use Rattle.walk.specs.Walk.{Walk, Function, minus-third, minus-two-thirds, ln, less, at-most, answerOf, asked, ask, Ended, refused, result, answerAs}
 use Rattle.walk.specs.Power.{power}
 use Rattle.walk.proofs.Inner.{Inner}
-use Rattle.walk.specs.Every.{flat, all-append, all-flat}
-use Rattle.walk.specs.Tensor.{one, one-number, worth, rows, plus, times, determinant, cofactors-over, worth-cofactors, numbers-flat}
-use Rattle.walk.specs.Answers.{matrix, returnedMatrix, returned-matrix, matrixAs, split-number, split-matrix, asked-number, both, same, tested-later, asked-nan, asked-later}
+use Rattle.walk.specs.Matrix.{flat}
+use Rattle.walk.proofs.Every.{all-append, all-flat}
+use Rattle.walk.specs.Tensor.{one, worth, rows, plus, times, determinant, cofactors-over}
+use Rattle.walk.proofs.Tensor.{one-number, worth-cofactors, numbers-flat}
+use Rattle.walk.specs.Answers.{matrix, returnedMatrix, matrixAs}
+use Rattle.walk.proofs.Answers.{returned-matrix, split-number, split-matrix, asked-number, both, same, tested-later, asked-nan, asked-later}
 use Rattle.elasticity_neo_hookean.specs.declared.NeoHookeanElasticity.{NeoHookeanElasticity}
 use Rattle.elasticity_neo_hookean.specs.Law.{parametersOf, lawFinite, floats, coefficient, bulk, cauchyGreen}
 use Rattle.elasticity_neo_hookean.specs.Stress.{shear, inverted, fpkVolumetric, fpkFrom, fpkSteps, volumetric, tensile, compressed, splitWalk, kirchhoffFrom, kirchhoffSteps}

@@ -13,11 +13,15 @@ use Rattle.answers.specs.declared.Answer.the-variants.{Value, Refused}
 use Rattle.numbers.specs.Floats.{finite, isNumber}
 use Rattle.tensor.specs.Matrix as tensor
 use Rattle.tensor.specs.Matrix.{detOf}
-use Rattle.walk.specs.Expr.{Expr, num, _+_, _*_, value, whole-tells}
+use Rattle.walk.specs.Expr.{Expr, num, _+_, _*_, value}
+use Rattle.walk.proofs.Expr.{whole-tells}
 use Rattle.walk.specs.Walk.{Walk, at-most, inputs, Ended, given, refused, result, answerAs}
-use Rattle.walk.specs.Exact.{path, final, first, answer, exactly, Refusal, andThen, result-then}
-use Rattle.walk.specs.Tensor.{one, one-number, determinant}
-use Rattle.walk.specs.Answers.{refusalIn, accepted-when, split-number}
+use Rattle.walk.specs.Exact.{path, final, first, answer, Refusal, andThen}
+use Rattle.walk.proofs.Exact.{exactly, result-then}
+use Rattle.walk.specs.Tensor.{one, determinant}
+use Rattle.walk.proofs.Tensor.{one-number}
+use Rattle.walk.specs.Answers.{refusalIn}
+use Rattle.walk.proofs.Answers.{accepted-when, split-number}
 use Rattle.elasticity_neo_hookean.specs.declared.NeoHookeanElasticity.{NeoHookeanElasticity}
 use Rattle.elasticity_neo_hookean.specs.Law.{floats, coefficient}
 use Rattle.elasticity_neo_hookean.specs.Energy.{Parts, partsFrom, partsWalk, below, sumWalk, energySteps, energyWalkIn, elasticEnergyDensityIn, elasticEnergyDensity}

@@ -1,4 +1,4 @@
-// Neo-Hookean elasticity: the stresses and the energies of a record's F. Module `plain` has `phase_coeff` as the text has
+// Neo-Hookean elasticity (RULES, section 5): the stresses and the energies of a record's F. Module `plain` has `phase_coeff` as the text has
 // it, on every input. The steps take F's determinant, which a record stores.
 mod energy;
 pub mod plain;

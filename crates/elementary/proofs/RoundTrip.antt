@@ -8,24 +8,31 @@ use lib.Dec.{lit<, lit≤}
 use lib.IntN.{ℤ, pos, negsuc, _+ℤ_, _*ℤ_, _-ℤ_}
 use lib.Ieee as Ieee
 use lib.Ieee.{Float, ofBits, fits}
-use Rattle.exact.specs.Units.{L, L-pos, mag, sgn, Fin64}
-use Rattle.exact.specs.Integers.{p, n, _≤ᶻ_, abs-is}
-use Rattle.exact.specs.Value.{val, abs-val, abs-near}
+use Rattle.exact.specs.Units.{L, mag, sgn, Fin64}
+use Rattle.exact.proofs.Units.{L-pos}
+use Rattle.exact.specs.Integers.{p, n, _≤ᶻ_}
+use Rattle.exact.proofs.Integers.{abs-is}
+use Rattle.exact.specs.Value.{val}
+use Rattle.exact.proofs.Value.{abs-val, abs-near}
 use Rattle.exact.proofs.Distances.{le-is}
-use Rattle.series.specs.Exponential.{num, den, den-pos}
-use Rattle.series.specs.Remainder.{Above, Under, above}
-use Rattle.series.specs.Bounds.{above-mono, above-weak, above-pow, under-add, under-mono, one-plus}
+use Rattle.series.specs.Exponential.{num, den}
+use Rattle.series.proofs.Exponential.{den-pos}
+use Rattle.series.specs.Remainder.{Above, Under}
+use Rattle.series.proofs.Remainder.{above}
+use Rattle.series.proofs.Bounds.{above-mono, above-weak, above-pow, under-add, under-mono, one-plus}
 use Rattle.series.proofs.Scale.{above-scale, under-scale}
-use Rattle.series.specs.ExpNear as exp
-use Rattle.series.specs.ExpNear.{AtMost, AtLeast, ExpNear, at-most-weak, at-least-weak}
-use Rattle.series.specs.LogNear as log
-use Rattle.series.specs.LogNear.{LogNear, at-most, at-least, low-parts, high-parts}
+use Rattle.series.proofs.ExpNear as exp
+use Rattle.series.specs.ExpNear.{AtMost, AtLeast, ExpNear}
+use Rattle.series.proofs.ExpNear.{at-most-weak, at-least-weak}
+use Rattle.series.proofs.LogNear as log
+use Rattle.series.specs.LogNear.{LogNear}
+use Rattle.series.proofs.LogNear.{at-most, at-least, low-parts, high-parts}
 use Rattle.answers.specs.Range.{inRange}
 use Rattle.exponential.specs.Worked as exponential
 use Rattle.exponential.proofs.Near.{exp-near, sized-ranged}
 use Rattle.logarithm.specs.Worked as logarithm
 use Rattle.logarithm.proofs.Laws.{ln-near}
-use Rattle.elementary.specs.RoundTrip.{Back, ReturnsOurs, Taken, RoundTrip}
+use Rattle.elementary.specs.RoundTrip.{Back, ReturnsOurs, InBoth, RoundTrip}
 
 -- ---- a bound at z / q, and u / w ≤ exp (b / (q c)), bound exp b below and b above, over the denominator q c
 lower : (z z' : ℤ) (b q c x y u w : ℕ) → 0 < c → 0 < q * c → AtMost z q x y → Under b (q * c) u w → p z' + b + n z * c ≤ p z * c + n z'
@@ -161,8 +168,8 @@ by-ln e r h E =
     over : (m l : ℕ) → m < 2 ^ 60 * l → pos (2 ^ 60 * l) ≤ᶻ pos m → ⊥
     over m l h k = omega arith
 
-taken : (e : Float) → Fin64 e → mag e ≤ 40 * L → Taken e
-taken e f h = let r = by-exp e f h in record { by-exp = r; by-ln = by-ln e (exponential.expOf e) h (exp-near e (f .1) r) }
+in-both : (e : Float) → Fin64 e → mag e ≤ 40 * L → InBoth e
+in-both e f h = let r = by-exp e f h in record { by-exp = r; by-ln = by-ln e (exponential.expOf e) h (exp-near e (f .1) r) }
 
 ours : ReturnsOurs
 ours e f i j =
@@ -170,4 +177,4 @@ ours e f i j =
     back e (exponential.expOf e) (logarithm.lnOf (exponential.expOf e)) E (ln-near (exponential.expOf e) (E .fine .1) j)
 
 pub round-trip : RoundTrip
-round-trip = record { returns = back; ours = ours; taken = taken }
+round-trip = record { returns = back; ours = ours; in-both = in-both }

@@ -7,7 +7,7 @@ use native.Mathlib.Omega.{arith}
 use lib.Dec.{T}
 use lib.IntN.{ℤ}
 use lib.Ieee as Ieee
-use lib.Ieee.{Float, nan, inf, fin, binary64, ofBits, fits}
+use lib.Ieee.{Float, binary64, ofBits, fits}
 use lib.Ieee.Bits.{is-true}
 use lib.Ieee.Scale as Scale
 use Rattle.exact.specs.Units.{mag, L}
@@ -20,7 +20,7 @@ use Rattle.series.specs.LogNear.{LogNear}
 use Rattle.series.specs.SinNear.{SinNear}
 use Rattle.series.specs.ThirdsNear.{CbrtNear, CbrtSquaredNear, InvCbrtNear, InvCbrtSquaredNear}
 use Rattle.numbers.specs.Floats.{finite, isNumber}
-use Rattle.numbers.proofs.Laws.{finite-is}
+use Rattle.numbers.proofs.Laws.{finite-is, finite-number}
 use Rattle.answers.specs.Refusals.{belowRange, aboveRange}
 use Rattle.answers.specs.Range.{inRange, sideOf, ranged, bare}
 use Rattle.answers.specs.declared.Answer.the-variants.{Value, Refused}
@@ -39,12 +39,6 @@ use Rattle.square_root.proofs.InRange.{rooted}
 use Rattle.thirds.specs.Thirds as thirds
 use Rattle.thirds.proofs.Near.{cbrt-near, cbrt-squared-near, inv-cbrt-near, inv-cbrt-squared-near, cbrt-one, cbrt-squared-one, inv-cbrt-one, inv-cbrt-squared-one}
 use Rattle.elementary.specs.Section3.{Promised, Section3}
-
-finite-number : (x : Float) → finite x ≡ true → isNumber x ≡ true
-unfolding finite isNumber
-finite-number nan q = q
-finite-number (inf s) q = refl
-finite-number (fin s m e) q = refl
 
 -- ---- the side
 refused-by : {m n : ℕ} → Refused m ≡ Refused n → m ≡ n

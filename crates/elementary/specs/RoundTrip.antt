@@ -30,11 +30,11 @@ ReturnsOurs = (e : Float) → T (fits binary64 e) → inRange exponential.low ex
     → Back e (logarithm.lnOf (exponential.expOf e))
 
 -- and both do for every e in -40 to 40
-pub record Taken (e : Float) : Type 0 where
+pub record InBoth (e : Float) : Type 0 where
   pub by-exp : inRange exponential.low exponential.high e ≡ true
   pub by-ln : inRange logarithm.low logarithm.high (exponential.expOf e) ≡ true
 
 pub record RoundTrip : Type 0 where
   pub returns : Returns
   pub ours : ReturnsOurs
-  pub taken : (e : Float) → Fin64 e → mag e ≤ 40 * L → Taken e
+  pub in-both : (e : Float) → Fin64 e → mag e ≤ 40 * L → InBoth e

@@ -24,14 +24,17 @@ use Rattle.square_root.proofs.InRange.{in-range, rooted}
 use Rattle.tensor.specs.Axes.{pairwise}
 use Rattle.tensor.specs.Matrix.{add, mul, div, one, sumOf, dotOf}
 use Rattle.tensor.specs.Finite.{rowFinite}
-use Rattle.walk.specs.Expr.{Expr, num, _/_, value, zero-number}
+use Rattle.walk.specs.Expr.{Expr, num, _/_, value}
+use Rattle.walk.proofs.Expr.{zero-number}
 use Rattle.walk.specs.Walk.{root, answerOf, Walk, ask, least, asked, result, answerAs}
 use Rattle.walk.proofs.Steps.{most-answers, least-answers}
-use Rattle.walk.specs.Every.{every, all-every, and-left, and-right}
-use Rattle.walk.specs.Matrix.{dot, value-dot}
+use Rattle.walk.proofs.Every.{every, all-every, and-left, and-right}
+use Rattle.walk.specs.Matrix.{dot}
+use Rattle.walk.proofs.Matrix.{value-dot}
 use Rattle.walk.specs.Tensor as tensor
-use Rattle.walk.specs.Tensor.{one-number}
-use Rattle.walk.specs.Answers.{returned, returned-law}
+use Rattle.walk.proofs.Tensor.{one-number}
+use Rattle.walk.specs.Answers.{returned}
+use Rattle.walk.proofs.Answers.{returned-law}
 use Rattle.eos_monaghan_sph.specs.Timestep.{densityFluctuation, cSquare, cfl}
 
 -- ---- what is rounded is a number of its sign

@@ -18,12 +18,16 @@ use Rattle.tensor.specs.Finite.{rowFinite, matFinite}
 use Rattle.physics.specs.Physics.{strainRateOf}
 use Rattle.walk.specs.Expr.{num, neg, _*_, _/_, value}
 use Rattle.walk.specs.Walk.{Walk, most, end, _then_, refused, result, answerAs, asked}
-use Rattle.walk.proofs.Number.{finite-number, neg-number}
+use Rattle.walk.proofs.Number.{neg-number}
+use Rattle.numbers.proofs.Laws.{finite-number}
 use Rattle.walk.proofs.Steps.{most-answers}
-use Rattle.walk.specs.Exact.{number-then}
-use Rattle.walk.specs.Every.{flat, and-left, and-right, all-append, all-flat}
-use Rattle.walk.specs.Tensor.{worth, deviatoric, worth-rows, worth-turned, worth-plus, worth-scaled, worth-deviatoric}
-use Rattle.walk.specs.Answers.{returned, number-split}
+use Rattle.walk.proofs.Exact.{number-then}
+use Rattle.walk.specs.Matrix.{flat}
+use Rattle.walk.proofs.Every.{and-left, and-right, all-append, all-flat}
+use Rattle.walk.specs.Tensor.{worth, deviatoric}
+use Rattle.walk.proofs.Tensor.{worth-rows, worth-turned, worth-plus, worth-scaled, worth-deviatoric}
+use Rattle.walk.specs.Answers.{returned}
+use Rattle.walk.proofs.Answers.{number-split}
 use Rattle.eos_monaghan_sph.specs.declared.MonaghanSphEos.{MonaghanSphEos}
 use Rattle.eos_monaghan_sph.specs.Pressure.{shared, floats, inputsFinite, density0, unbounded, pressureSteps}
 use Rattle.eos_monaghan_sph.specs.Stress.{strainRate, viscousPart}

@@ -1,4 +1,4 @@
--- Monaghan's law and its pressure, from eos_monaghan_sph.rs, with the refusals of RULES, section 6.
+-- Monaghan's law and its pressure, from eos_monaghan_sph.rs, with the refusals of RULES, sections 5 and 6.
 use mathlib.Core.Bool.{Bool, cond, _&&_}
 use mathlib.Core.List.{List, [], _∷_, _++_}
 use Prim.Native.Nat.{ℕ}

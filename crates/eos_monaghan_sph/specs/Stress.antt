@@ -1,4 +1,4 @@
--- Monaghan's Kirchhoff stress, from eos_monaghan_sph.rs, with the refusals of RULES, section 6.
+-- Monaghan's Kirchhoff stress, from eos_monaghan_sph.rs, with the refusals of RULES, sections 5 and 6.
 use mathlib.Core.List.{List, _∷_}
 use lib.Ieee as Ieee
 use lib.Ieee.{Float}
@@ -6,7 +6,7 @@ use Rattle.numbers.specs.Constants as constants
 use Rattle.tensor.specs.declared.MatrixAnswer.{MatrixAnswer}
 use Rattle.walk.specs.Expr.{Expr, num, neg, _*_}
 use Rattle.walk.specs.Walk.{Walk, flag, inputs, split, _then_, result}
-use Rattle.walk.specs.Every.{flat}
+use Rattle.walk.specs.Matrix.{flat}
 use Rattle.walk.specs.Tensor.{rows, turned, plus, scaled, identity-times, deviatoric}
 use Rattle.walk.specs.Answers.{returnedMatrix, matrixAs}
 use Rattle.eos_monaghan_sph.specs.Pressure.{floats, pressureSteps}

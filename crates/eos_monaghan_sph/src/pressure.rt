@@ -1,3 +1,4 @@
+// Monaghan's law and its pressure (RULES, section 5).
 use crate::Made;
 use crate::MonaghanSphEos;
 use answers::Answer;

@@ -7,7 +7,8 @@ use native.Mathlib.Omega.{arith, sub-cases}
 use mathlib.Core.Bool.{Bool, true, false, not, cond}
 use lib.Dec.{T, leb, leb→le, nleb→lt}
 use lib.IntN.{ℤ, pos, negsuc, negℤ, _*ℤ_}
-use Rattle.exact.specs.Integers.{p, n, +-parts, neg-parts, *-parts, _≤ᶻ_, *-comm}
+use Rattle.exact.specs.Integers.{p, n, _≤ᶻ_}
+use Rattle.exact.proofs.Integers.{+-parts, neg-parts, *-parts, *-comm}
 use Rattle.exact.proofs.Ring.{bound, var, con, _:-_, _:*_, hyp, _⊗_}
 
 abbrev leq : ℤ → ℤ → Bool

@@ -5,7 +5,8 @@ use native.Mathlib.Nat.{le-trans, le-of-eq, add-le-add, mul-le-mul-right, mul-le
 use native.Mathlib.Omega.{arith}
 use lib.IntN.{ℤ, pos, negℤ, _+ℤ_, _*ℤ_, _-ℤ_}
 use Rattle.exact.specs.Units.{L}
-use Rattle.exact.specs.Integers.{abs, abs-+, abs-*, abs-pos, abs-neg}
+use Rattle.exact.specs.Integers.{abs}
+use Rattle.exact.proofs.Integers.{abs-+, abs-*, abs-pos, abs-neg}
 use Rattle.exact.proofs.Ring.{ring, var, _:+_, _:-_, _:*_}
 
 -- X / c is near n, Y / d near m (each den a whole number, of either sign), and Y is at least lo + f in size

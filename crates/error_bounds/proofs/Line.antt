@@ -1,18 +1,22 @@
 -- One operation on floats beside the same on fractions, and a bound on the error. An exact value is a fraction num / den of units, den of
 -- either sign and not 0. Assumes nothing.
-use mathlib.Core.Path.{_≡_, sym, ap, _∙_}
+use mathlib.Core.Path.{_≡_, sym, ap}
 use Prim.Native.Nat.{ℕ, zero, suc, _+_, _-_, _*_, _/_, _^_, _≤_, _<_, zero-le, suc-le-suc}
 use native.Mathlib.Nat.{le-refl, le-trans, le-of-eq, le-of-lt, add-le-add, mul-le-mul-right, mul-le-mul-left, mul-le-mul, mul-pos, le-div-iff-mul-le, le-of-mul-le-mul-right, lt-div-mul-add, div-le-of-le-mul, mul-assoc}
 use native.Mathlib.Omega.{arith}
 use native.Mathlib.Numerals.{add-one}
 use mathlib.Core.Bool.{Bool, _&&_}
 use lib.Dec.{T, leb, ltb, leb→le, ltb→lt}
-use lib.IntN.{ℤ, pos, negℤ, _+ℤ_, _*ℤ_, _-ℤ_, negℤ-negℤ, negℤ-+ℤ}
+use lib.IntN.{ℤ, pos, negℤ, _+ℤ_, _*ℤ_, _-ℤ_}
 use lib.Ieee.{Float, binary64, add, mul, div}
-use Rattle.exact.specs.Units.{L, L-pos, mag, Fin64}
-use Rattle.exact.specs.Integers.{abs, abs-+, abs-*, abs-*pos, abs-neg}
+use Rattle.exact.specs.Units.{L, mag, Fin64}
+use Rattle.exact.proofs.Units.{L-pos}
+use Rattle.exact.specs.Integers.{abs}
+use Rattle.exact.proofs.Integers.{abs-+, abs-*, abs-*pos, abs-neg}
+use Rattle.exact.proofs.Distances.{abs-shift, abs-back}
 use Rattle.exact.proofs.Ring.{ring, var, _:+_, _:-_, _:*_}
-use Rattle.exact.specs.Value.{val, abs-val, add-val, mul-val, div-val}
+use Rattle.exact.specs.Value.{val}
+use Rattle.exact.proofs.Value.{abs-val, add-val, mul-val, div-val}
 use Rattle.error_bounds.proofs.DivStep.{div-step}
 
 -- ---- an exact value, and what is known of a float that stands for it
@@ -63,15 +67,6 @@ sum-step Z X Y n m c d e f δ h k l =
   where
     go : (a b g c d : ℕ) {x : ℕ} → a ≤ δ → b ≤ e * c → g ≤ f * d → x ≤ a * (c * d) + b * d + g * c → x ≤ (e + f + δ) * (c * d)
     go a b g c d h k l q = omega (arith, mul-le-mul-right (c * d) h, mul-le-mul-right d k, mul-le-mul-right c l)
-
-pub abs-shift : (a b : ℤ) → abs a ≤ abs b + abs (a -ℤ b)
-abs-shift a b = le-trans (le-of-eq (ap abs (ring 2 (a, (b, tt)) (var 0) (var 1 :+ (var 0 :- var 1)) tt))) (abs-+ b (a -ℤ b))
-
-pub abs-back : (a b : ℤ) → abs b ≤ abs a + abs (a -ℤ b)
-abs-back a b = le-trans (le-of-eq (ap abs (ring 2 (a, (b, tt)) (var 1) (var 0 :+ (var 1 :- var 0)) tt))) (le-trans (abs-+ a (b -ℤ a)) (add-le-add (le-refl (abs a)) (le-of-eq (swap a b))))
-  where
-    swap : (a b : ℤ) → abs (b -ℤ a) ≡ abs (a -ℤ b)
-    swap a b = sym (abs-neg (b -ℤ a)) ∙ ap abs (negℤ-+ℤ b (negℤ a) ∙ ap (λ z. negℤ b +ℤ z) (negℤ-negℤ a) ∙ ring 2 (a, (negℤ b, tt)) (var 1 :+ var 0) (var 0 :+ var 1) tt)
 
 -- ||a| - |b|| ≤ |a + b|
 abs-less : (a b : ℤ) → abs a ≤ abs (a +ℤ b) + abs b

@@ -13,7 +13,8 @@ use lib.Ieee.Fits.{and-l, and-r}
 use lib.Ieee.Scale.{finite}
 use Rattle.exact.specs.Units.{L, mag, Fin64}
 use Rattle.exact.proofs.Distances.{neg-val, neg-fine}
-use Rattle.exact.specs.Integers.{abs, abs-neg, abs-pos, neg-*, _≤ᶻ_, neg-parts}
+use Rattle.exact.specs.Integers.{abs, _≤ᶻ_}
+use Rattle.exact.proofs.Integers.{abs-neg, abs-pos, neg-*, neg-parts}
 use Rattle.exact.proofs.Ring.{ring, var, con, _:-_, _:*_}
 use Rattle.exact.specs.Value.{val}
 use Rattle.error_bounds.proofs.Line.{Q, sumQ, negQ, prodQ, quotQ}

@@ -8,9 +8,12 @@ use lib.Dec.{T, leb, ltb, leb→le, ltb→lt}
 use lib.Ieee.Fits.{and-l, and-r}
 use lib.IntN.{ℤ, pos, negsuc, negℤ, _+ℤ_, _*ℤ_, _-ℤ_}
 use lib.Ieee.{Float, binary64, add, mul, div}
-use Rattle.exact.specs.Units.{L, L-pos, mag, Fin64}
-use Rattle.exact.specs.Integers.{p, n, +-parts, neg-parts, *-parts, _≤ᶻ_, abs, abs-+, abs-is}
-use Rattle.exact.specs.Value.{val, abs-val, add-val, mul-val, div-val, near-abs}
+use Rattle.exact.specs.Units.{L, mag, Fin64}
+use Rattle.exact.proofs.Units.{L-pos}
+use Rattle.exact.specs.Integers.{p, n, _≤ᶻ_, abs}
+use Rattle.exact.proofs.Integers.{+-parts, neg-parts, *-parts, abs-+, abs-is}
+use Rattle.exact.specs.Value.{val}
+use Rattle.exact.proofs.Value.{abs-val, add-val, mul-val, div-val, near-abs}
 use Rattle.error_bounds.proofs.Line.{Q, B, Stands, sumQ, sumB, prodQ, prodB, quotQ, quotB, add-stands, mul-stands, div-stands}
 use Rattle.error_bounds.proofs.Box.{least4, most4, prod-in, floor, ceil, floor-le, le-ceil}
 

@@ -7,7 +7,8 @@ use native.Mathlib.Omega.{arith}
 use lib.Pow.{pow-pos, pow-mono}
 use lib.Ieee.{binary64, ofBits}
 use Rattle.exact.specs.Units.{mag, sgn}
-use Rattle.exact.specs.Fields.{signAt, exponentAt, digitsAt, normal-units, small-units}
+use Rattle.exact.specs.Fields.{signAt, exponentAt, digitsAt}
+use Rattle.exact.proofs.Fields.{normal-units, small-units}
 
 within-53 : (t : ℕ) → t < 2 ^ 52 → 2 ^ 52 + t < 2 ^ 53
 within-53 t h = omega arith

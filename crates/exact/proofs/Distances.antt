@@ -8,7 +8,8 @@ use lib.IntN.{ℤ, pos, negℤ, _+ℤ_, _-ℤ_, negℤ-negℤ, negℤ-+ℤ}
 use lib.Ieee.{Float, nan, inf, fin, binary64, up, down, neg, lt, eq, le}
 use lib.Ieee.Fits.{neg-fits}
 use Rattle.exact.specs.Units.{L, mag, sgn, Fin64}
-use Rattle.exact.specs.Integers.{_≤ᶻ_, abs, abs-+, abs-neg}
+use Rattle.exact.specs.Integers.{_≤ᶻ_, abs}
+use Rattle.exact.proofs.Integers.{abs-+, abs-neg}
 use Rattle.exact.proofs.Ring.{ring, Ex, var, con, _:+_, _:-_}
 use Rattle.exact.specs.Value.{val}
 use Rattle.exact.proofs.Order.{lt-val}

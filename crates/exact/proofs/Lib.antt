@@ -1,6 +1,5 @@
 pub mod Ring
 pub mod Order
-pub mod Halves
 pub mod Both
 pub mod Match
 pub mod Shift
@@ -12,3 +11,17 @@ pub mod Patterns
 pub mod Symmetric
 pub mod RootCases
 pub mod Distances
+pub mod Digits
+pub mod Fields
+pub mod Integers
+pub mod Midpoints
+pub mod Products
+pub mod RootDigits
+pub mod RootLaws
+pub mod RootNearest
+pub mod RootZero
+pub mod Rounding
+pub mod Sums
+pub mod Units
+pub mod Value
+pub mod WholeRoot

@@ -11,8 +11,9 @@ use lib.Ieee.{Float, nan, inf, binary64, ofFields, ofBits, toBits, le}
 use lib.Ieee.Scale.{finite}
 use Rattle.exact.specs.Units.{mag, sgn, Fin64}
 use Rattle.exact.specs.Sums.{pl, mi}
-use Rattle.exact.specs.Value.{p-val, n-val}
-use Rattle.exact.specs.Fields.{signAt, exponentAt, digitsAt, normal-units, small-units, of-own}
+use Rattle.exact.proofs.Value.{p-val, n-val}
+use Rattle.exact.specs.Fields.{signAt, exponentAt, digitsAt}
+use Rattle.exact.proofs.Fields.{normal-units, small-units, of-own}
 use Rattle.exact.proofs.OrderLe.{le-val}
 
 -- ---- `<=` between positive values

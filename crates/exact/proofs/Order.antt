@@ -8,10 +8,13 @@ use lib.IntN.{ℤ}
 use lib.Dec.{T, ltb, ltb→lt, nltb→le}
 use lib.Ieee.{Float, nan, inf, fin, binary64, up, down, below, lt, fits}
 use lib.Ieee.Fits.{down-pos}
-use Rattle.exact.specs.Units.{L, L-pos, mag, sgn, mag-exact, Fin64}
-use Rattle.exact.specs.Sums.{over-left, over-right, pl, mi, plus, minus, ltb-same, add-same}
+use Rattle.exact.specs.Units.{L, mag, sgn, Fin64}
+use Rattle.exact.proofs.Units.{L-pos, mag-exact}
+use Rattle.exact.specs.Sums.{pl, mi}
+use Rattle.exact.proofs.Sums.{over-left, over-right, plus, minus, ltb-same, add-same}
 use Rattle.exact.specs.Integers.{p, n, _≤ᶻ_}
-use Rattle.exact.specs.Value.{val, p-val, n-val}
+use Rattle.exact.specs.Value.{val}
+use Rattle.exact.proofs.Value.{p-val, n-val}
 
 below-same : (s t : Bool) (a b c x y l : ℕ) → 0 < c → 0 < l → a * l ≡ x * c → b * l ≡ y * c → below s a t b ≡ below s x t y
 below-same false false a b c x y l C H p q = ltb-same a b c x y l C H p q

@@ -7,7 +7,8 @@ use lib.Dec.{T, eqb}
 use lib.Ieee.{Float, nan, inf, fin, binary64, ofFields, ofBits, isNan, nanBits}
 use lib.Ieee.Bits.{nanBits-is}
 use lib.Ieee.Scale.{finite}
-use Rattle.exact.specs.Fields.{Has, signAt, exponentAt, digitsAt, normal-units, plus-sign, plus-exponent, plus-digits}
+use Rattle.exact.specs.Fields.{signAt, exponentAt, digitsAt}
+use Rattle.exact.proofs.Fields.{Has, normal-units, plus-sign, plus-exponent, plus-digits}
 
 pub finite-not-nan : (x : Float) → T (finite x) → T (not (isNan x))
 unfolding isNan

@@ -13,10 +13,12 @@ use lib.Ieee.Order.{round-mono}
 use lib.Ieee.Bits.{is-false}
 use lib.Ieee.Fits.{neg-fits}
 use lib.Ieee.Scale.{finite}
-use Rattle.exact.specs.Units.{L, mag, sgn, Fin64, div-units}
-use Rattle.exact.specs.Sums.{pl, mi, add-units, Unit64, unit-near}
-use Rattle.exact.specs.Products.{div-mag}
-use Rattle.exact.specs.Value.{p-val, n-val}
+use Rattle.exact.specs.Units.{L, mag, sgn, Fin64}
+use Rattle.exact.proofs.Units.{div-units}
+use Rattle.exact.specs.Sums.{pl, mi}
+use Rattle.exact.proofs.Sums.{add-units, Unit64, unit-near}
+use Rattle.exact.proofs.Products.{div-mag}
+use Rattle.exact.proofs.Value.{p-val, n-val}
 use Rattle.exact.proofs.OrderLe.{le-val}
 
 pub neg-mag : (x : Float) → mag (neg x) ≡ mag x

@@ -6,7 +6,8 @@ use mathlib.Core.Bool.{Bool, true, false, _&&_}
 use lib.IntN.{ℤ, pos, negsuc, negℤ, _+ℤ_, _*ℤ_}
 use lib.Dec.{T}
 use lib.Ieee.Fits.{and-l, and-r}
-use Rattle.exact.specs.Integers.{+-comm, +-assoc, *-comm, *-assoc, *-+, +-*, +-left-comm, *-left-comm, 0+, +0, *0, 0*, 1*, *1, neg-is, eq-of-sub, _≤ᶻ_, +-nn, *-nn, sqr-nn, le-of-sub}
+use Rattle.exact.specs.Integers.{_≤ᶻ_}
+use Rattle.exact.proofs.Integers.{+-comm, +-assoc, *-comm, *-assoc, *-+, +-*, +-left-comm, *-left-comm, 0+, +0, *0, 0*, 1*, *1, neg-is, eq-of-sub, +-nn, *-nn, sqr-nn, le-of-sub}
 
 -- k variables: a list of coefficients in the first one, each a polynomial in the others
 abbrev Pol : ℕ → Type 0

@@ -6,8 +6,10 @@ use lib.Dec.{T}
 use lib.IntN.{ℤ, pos, negsuc, negℤ}
 use lib.Ieee.{Float, binary64, fits, le}
 use Rattle.exact.specs.Units.{mag, Fin64}
-use Rattle.exact.specs.Integers.{p, n, abs, abs-is, _≤ᶻ_}
-use Rattle.exact.specs.Value.{val, abs-val}
+use Rattle.exact.specs.Integers.{p, n, abs, _≤ᶻ_}
+use Rattle.exact.proofs.Integers.{abs-is}
+use Rattle.exact.specs.Value.{val}
+use Rattle.exact.proofs.Value.{abs-val}
 use Rattle.exact.proofs.OrderLe.{le-val, between-finite}
 
 within-ends : (z : ℤ) (m : ℕ) → negℤ (pos (suc m)) ≤ᶻ z → z ≤ᶻ pos (suc m) → abs z ≤ suc m

@@ -2,14 +2,7 @@ pub mod Integers
 pub mod Rounding
 pub mod Units
 pub mod Sums
-pub mod Products
 pub mod Value
-pub mod Digits
 pub mod Fields
-pub mod Midpoints
 pub mod RootOf
 pub mod WholeRoot
-pub mod RootDigits
-pub mod RootNearest
-pub mod RootZero
-pub mod RootLaws

@@ -14,6 +14,10 @@ pub record Rooted (x r : Float) : Type 0 where
   pub above : (a c : ℕ) → 0 < c → a * a * L ≤ mag x * (c * c) → T (le (round binary64 false a c) r)
   pub below : (a c : ℕ) → 0 < c → mag x * (c * c) ≤ a * a * L → T (le r (round binary64 false a c))
 
+-- what has a root: what is not below zero
+abbrev pub NotBelow : Float → Type 0
+NotBelow x = 0 < mag x → sgn x ≡ false
+
 -- the largest r with r * r ≤ n, for an n below 2 ^ k, two binary digits of n after the other
 unfoldable pub rootIn : ℕ → ℕ → ℕ
 rootIn zero n = 0

@@ -10,14 +10,19 @@ use lib.Pow.{pow-pos, pow-mono}
 use lib.IntN.{ℤ, pos, negℤ, _+ℤ_, _-ℤ_, _*ℤ_}
 use lib.Ieee as Ieee
 use lib.Ieee.{Float, binary64, ofBits, toBits}
-use Rattle.exact.specs.Units.{L, L-pos, mag, sgn, Fin64}
-use Rattle.exact.specs.Value.{val, abs-val, near-abs}
-use Rattle.exact.specs.Fields.{Has}
-use Rattle.exact.specs.Integers.{p, n, abs, abs-is, +-parts, neg-parts}
+use Rattle.exact.specs.Units.{L, mag, sgn, Fin64}
+use Rattle.exact.proofs.Units.{L-pos}
+use Rattle.exact.specs.Value.{val}
+use Rattle.exact.proofs.Value.{abs-val, near-abs}
+use Rattle.exact.proofs.Fields.{Has}
+use Rattle.exact.specs.Integers.{p, n, abs}
+use Rattle.exact.proofs.Integers.{abs-is, +-parts, neg-parts}
 use Rattle.series.specs.Exponential.{num, den}
-use Rattle.series.specs.Remainder.{Above, above}
+use Rattle.series.specs.Remainder.{Above}
+use Rattle.series.proofs.Remainder.{above}
 use Rattle.series.proofs.Scale.{above-scale}
-use Rattle.series.specs.ExpNear.{AtMost, AtLeast, at-most-weak, at-least-weak}
+use Rattle.series.specs.ExpNear.{AtMost, AtLeast}
+use Rattle.series.proofs.ExpNear.{at-most-weak, at-least-weak}
 use Rattle.series.proofs.ExpSigned.{most-add, least-add}
 use Rattle.exponential.specs.Entries.{powerOf}
 use Rattle.exponential.specs.Worked.{shift, nearestOf, restOf, seriesOf, scaleBits, expOf}

@@ -11,15 +11,18 @@ use lib.IntN.{ℤ, pos, _-ℤ_, _*ℤ_}
 use lib.Ieee as Ieee
 use lib.Ieee.{Float, binary64, ofBits, round, sum, le, unlike}
 use lib.Ieee.Order.{round-mono}
-use Rattle.exact.specs.Units.{L, L-pos, mag, sgn, Fin64}
-use Rattle.exact.specs.Sums.{pl, mi, add-units}
-use Rattle.exact.specs.Value.{val, abs-val, near-abs, p-val, n-val}
+use Rattle.exact.specs.Units.{L, mag, sgn, Fin64}
+use Rattle.exact.proofs.Units.{L-pos}
+use Rattle.exact.specs.Sums.{pl, mi}
+use Rattle.exact.proofs.Sums.{add-units}
+use Rattle.exact.specs.Value.{val}
+use Rattle.exact.proofs.Value.{abs-val, near-abs, p-val, n-val}
 use Rattle.exact.specs.Integers.{p, n, abs}
-use Rattle.exact.specs.Fields.{Has}
-use Rattle.error_bounds.proofs.Sharp.{digits}
+use Rattle.exact.proofs.Fields.{Has}
+use Rattle.exact.proofs.Digits.{digits}
 use Rattle.exact.proofs.Positives.{one, one-fine, one-is, le-mag}
 use Rattle.series.specs.Exponential.{num, den}
-use Rattle.series.specs.Powers.{pow1}
+use Rattle.series.proofs.Powers.{pow1}
 use Rattle.series.proofs.Ln2.{ln2}
 use Rattle.exponential.specs.Entries.{powerOf}
 use Rattle.exponential.specs.Worked.{seriesOf, timesOf, expOf}

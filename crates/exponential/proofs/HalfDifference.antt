@@ -9,8 +9,9 @@ use lib.Pow.{pow-pos}
 use lib.Ieee as Ieee
 use lib.Ieee.{Float, binary64, ofBits, fits, unlike}
 use Rattle.exact.specs.Rounding.{Near}
-use Rattle.exact.specs.Units.{L, L-pos, mag, sgn, Fin64}
-use Rattle.exact.specs.Products.{mul-mag, div-mag}
+use Rattle.exact.specs.Units.{L, mag, sgn, Fin64}
+use Rattle.exact.proofs.Units.{L-pos}
+use Rattle.exact.proofs.Products.{mul-mag, div-mag}
 use Rattle.exact.proofs.Positives.{one-fine, one-is, times-le, sub-near, div-le-one}
 use Rattle.numbers.specs.Power.{one}
 use Rattle.exponential.specs.Sinh.{half, halfOf}

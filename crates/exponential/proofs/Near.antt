@@ -9,12 +9,16 @@ use lib.Pow.{pow-pos}
 use lib.IntN.{ℤ, pos, negℤ}
 use lib.Ieee as Ieee
 use lib.Ieee.{Float, binary64, ofBits, toBits, fits}
-use Rattle.exact.specs.Units.{L, L-pos, mag, Fin64}
-use Rattle.exact.specs.Integers.{p, n, _≤ᶻ_, neg-parts, abs-is}
-use Rattle.exact.specs.Value.{val, abs-val}
+use Rattle.exact.specs.Units.{L, mag, Fin64}
+use Rattle.exact.proofs.Units.{L-pos}
+use Rattle.exact.specs.Integers.{p, n, _≤ᶻ_}
+use Rattle.exact.proofs.Integers.{neg-parts, abs-is}
+use Rattle.exact.specs.Value.{val}
+use Rattle.exact.proofs.Value.{abs-val}
 use Rattle.exact.proofs.Distances.{le-is}
 use Rattle.exact.proofs.Symmetric.{symmetric-finite, symmetric-mag}
-use Rattle.series.specs.ExpNear.{ExpNear, at-most-weak, at-least-weak}
+use Rattle.series.specs.ExpNear.{ExpNear}
+use Rattle.series.proofs.ExpNear.{at-most-weak, at-least-weak}
 use Rattle.answers.specs.Range.{inRange}
 use Rattle.answers.proofs.Values.{between}
 use Rattle.exponential.specs.Worked.{low, high, nearestOf, restOf, seriesOf, scaleBits, timesOf, expOf}

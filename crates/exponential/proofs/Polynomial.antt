@@ -9,9 +9,12 @@ use native.Mathlib.Bridge.{le-by-compare, IsLe}
 use lib.Dec.{T, leb, leb→le}
 use lib.IntN.{ℤ, pos, negsuc, negℤ, _+ℤ_, _-ℤ_, _*ℤ_}
 use lib.Ieee.{Float, ofBits, fits}
-use Rattle.exact.specs.Units.{L, L-pos, mag, Fin64}
-use Rattle.exact.specs.Value.{val, abs-val}
-use Rattle.exact.specs.Integers.{p, n, abs, abs-*pos, abs-pos, abs-is, _≤ᶻ_, neg-parts}
+use Rattle.exact.specs.Units.{L, mag, Fin64}
+use Rattle.exact.proofs.Units.{L-pos}
+use Rattle.exact.specs.Value.{val}
+use Rattle.exact.proofs.Value.{abs-val}
+use Rattle.exact.specs.Integers.{p, n, abs, _≤ᶻ_}
+use Rattle.exact.proofs.Integers.{abs-*pos, abs-pos, abs-is, neg-parts}
 use Rattle.exact.proofs.Ring.{ring, var, con, _:+_, _:-_, _:*_}
 use Rattle.numbers.specs.Constants.{half}
 use Rattle.error_bounds.proofs.Line.{Q}

@@ -9,12 +9,15 @@ use lib.IntN.{ℤ, pos, _+ℤ_, _-ℤ_, _*ℤ_}
 use lib.Ieee as Ieee
 use lib.Ieee.{Float, binary64}
 use Rattle.exact.specs.Rounding.{Near}
-use Rattle.exact.specs.Units.{L, L-pos, mag, sgn, Fin64}
+use Rattle.exact.specs.Units.{L, mag, sgn, Fin64}
+use Rattle.exact.proofs.Units.{L-pos}
 use Rattle.exact.specs.Sums.{pl, mi}
-use Rattle.exact.specs.Value.{val, abs-val, near-abs, p-val, n-val, AddVal, add-val, MulVal, mul-val}
+use Rattle.exact.specs.Value.{val}
+use Rattle.exact.proofs.Value.{abs-val, near-abs, p-val, n-val, AddVal, add-val, MulVal, mul-val}
 use Rattle.exact.proofs.Distances.{abs-shift}
-use Rattle.exact.specs.Fields.{Has}
-use Rattle.exact.specs.Integers.{p, n, abs, abs-+, abs-*, abs-*pos, abs-pos, ext, *-parts, +-parts}
+use Rattle.exact.proofs.Fields.{Has}
+use Rattle.exact.specs.Integers.{p, n, abs}
+use Rattle.exact.proofs.Integers.{abs-+, abs-*, abs-*pos, abs-pos, ext, *-parts, +-parts}
 use Rattle.exact.proofs.Ring.{ring, var, _:+_, _:-_, _:*_}
 use Rattle.exponential.specs.Worked.{timesOf}
 

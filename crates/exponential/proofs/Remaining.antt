@@ -10,12 +10,15 @@ use lib.IntN.{ℤ, pos, negℤ, _+ℤ_, _-ℤ_, _*ℤ_}
 use lib.Ieee as Ieee
 use lib.Ieee.{Float, binary64, ofBits, fits, sub, unlike}
 use Rattle.exact.specs.Rounding.{Near}
-use Rattle.exact.specs.Units.{L, L-pos, mag, sgn, Fin64}
+use Rattle.exact.specs.Units.{L, mag, sgn, Fin64}
+use Rattle.exact.proofs.Units.{L-pos}
 use Rattle.exact.specs.Sums.{pl, mi}
-use Rattle.exact.specs.Value.{val, abs-val, abs-near, p-val, n-val, add-val, mul-val}
+use Rattle.exact.specs.Value.{val}
+use Rattle.exact.proofs.Value.{abs-val, abs-near, p-val, n-val, add-val, mul-val}
 use Rattle.exact.proofs.Distances.{neg-val, neg-fine, abs-shift}
 use Rattle.exact.proofs.Positives.{neg-mag}
-use Rattle.exact.specs.Integers.{p, n, abs, abs-+, abs-*pos, abs-neg, abs-is, +-parts, neg-parts, *-parts}
+use Rattle.exact.specs.Integers.{p, n, abs}
+use Rattle.exact.proofs.Integers.{abs-+, abs-*pos, abs-neg, abs-is, +-parts, neg-parts, *-parts}
 use Rattle.exact.proofs.Ring.{ring, var, _:+_, _:-_, _:*_}
 use Rattle.series.proofs.Ln2.{ln2}
 use Rattle.exponential.specs.Worked.{shift, first, second, restOf}

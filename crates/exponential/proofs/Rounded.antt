@@ -12,13 +12,19 @@ use lib.Ieee.{Float, binary64, round, sum, neg, sub, mul, add, unlike}
 use lib.Ieee.Fits.{round-fits}
 use lib.Ieee.Digits.{size-le}
 use lib.Ieee.Scale.{grid, round-same}
-use Rattle.exact.specs.Rounding.{Near, grid-near, grid-under}
-use Rattle.exact.specs.Units.{L, L-pos, mag, sgn, Fin64, round-mag, mul-units}
-use Rattle.exact.specs.Sums.{pl, mi, add-units}
-use Rattle.exact.specs.Value.{val, p-val, n-val}
-use Rattle.exact.specs.Integers.{p, n, ext}
+use Rattle.exact.specs.Rounding.{Near}
+use Rattle.exact.proofs.Rounding.{grid-near, grid-under}
+use Rattle.exact.specs.Units.{L, mag, sgn, Fin64}
+use Rattle.exact.proofs.Units.{L-pos, round-mag, mul-units}
+use Rattle.exact.specs.Sums.{pl, mi}
+use Rattle.exact.proofs.Sums.{add-units}
+use Rattle.exact.specs.Value.{val}
+use Rattle.exact.proofs.Value.{p-val, n-val}
+use Rattle.exact.specs.Integers.{p, n}
+use Rattle.exact.proofs.Integers.{ext}
 use Rattle.exact.proofs.Positives.{neg-mag, neg-fine, neg-sign}
-use Rattle.error_bounds.proofs.Sharp.{Digits, exact-round}
+use Rattle.exact.proofs.Digits.{Digits}
+use Rattle.error_bounds.proofs.Sharp.{exact-round}
 
 -- ---- rounding to a whole number: below 2^53, the error is at most a half
 cancel : (l g a u : ℕ) → 0 < l → Near (2 * (g * l)) (2 * (a * l)) (l * u) → Near (2 * g) (2 * a) u

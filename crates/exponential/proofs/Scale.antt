@@ -11,17 +11,20 @@ use lib.IntN.{ℤ, pos, negℤ, _+ℤ_, _-ℤ_, _*ℤ_}
 use lib.Ieee.{binary64, ofBits}
 use Rattle.exact.proofs.Both.{both, both-left, both-right}
 use Rattle.exact.proofs.Match.{at-or-last}
-use Rattle.exact.specs.Units.{L, L-pos}
-use Rattle.exact.specs.Fields.{Has}
+use Rattle.exact.specs.Units.{L}
+use Rattle.exact.proofs.Units.{L-pos}
+use Rattle.exact.proofs.Fields.{Has}
 use Rattle.exact.proofs.Patterns.{units-at}
-use Rattle.exact.specs.Integers.{p, n, +-parts, neg-parts, *-parts}
+use Rattle.exact.specs.Integers.{p, n}
+use Rattle.exact.proofs.Integers.{+-parts, neg-parts, *-parts}
 use Rattle.series.specs.Exponential.{num, den}
-use Rattle.series.specs.Remainder.{Above, Under, above}
-use Rattle.series.specs.Bounds.{above-add, under-add}
+use Rattle.series.specs.Remainder.{Above, Under}
+use Rattle.series.proofs.Remainder.{above}
+use Rattle.series.proofs.Bounds.{above-add, under-add}
 use Rattle.series.proofs.Scale.{above-scale, under-scale}
 use Rattle.series.proofs.Ln2.{ln2, two-above, two-under}
 use Rattle.series.specs.ExpNear.{AtMost, AtLeast}
-use Rattle.series.specs.LogNear.{at-most, at-least}
+use Rattle.series.proofs.LogNear.{at-most, at-least}
 use Rattle.exponential.specs.Entries.{power-entries, powerOf}
 use Rattle.exponential.specs.Worked.{scaleBits}
 use Rattle.exponential.proofs.Remaining.{step}

@@ -9,7 +9,8 @@ use lib.Pow.{pow-pos}
 use lib.IntN.{ℤ, pos}
 use lib.Ieee as Ieee
 use lib.Ieee.{Float, binary64, ofBits, toBits, fits}
-use Rattle.exact.specs.Units.{L, L-pos, mag, sgn, Fin64}
+use Rattle.exact.specs.Units.{L, mag, sgn, Fin64}
+use Rattle.exact.proofs.Units.{L-pos}
 use Rattle.exact.specs.Value.{val}
 use Rattle.exact.specs.Integers.{n}
 use Rattle.exact.proofs.Positives.{neg-mag, neg-fine, neg-sign}

@@ -8,9 +8,12 @@ use lib.Pow.{pow-pos}
 use lib.IntN.{ℤ, pos, negsuc, _+ℤ_, _-ℤ_, _*ℤ_}
 use lib.Ieee.{Float}
 use Rattle.exact.specs.Rounding.{Near}
-use Rattle.exact.specs.Units.{L, L-pos, mag, Fin64}
-use Rattle.exact.specs.Value.{val, abs-val, near-abs}
-use Rattle.exact.specs.Integers.{p, n, abs, abs-is, ext, neg-is, +-parts}
+use Rattle.exact.specs.Units.{L, mag, Fin64}
+use Rattle.exact.proofs.Units.{L-pos}
+use Rattle.exact.specs.Value.{val}
+use Rattle.exact.proofs.Value.{abs-val, near-abs}
+use Rattle.exact.specs.Integers.{p, n, abs}
+use Rattle.exact.proofs.Integers.{abs-is, ext, neg-is, +-parts}
 use Rattle.exact.proofs.Ring.{ring, var, con, _:+_, _:-_, _:*_}
 use Rattle.series.specs.ExpNear.{AtMost, AtLeast}
 use Rattle.series.proofs.ExpSmall.{evens, odds, Small, Five, small-most, small-least, at-negative}

@@ -7,7 +7,8 @@ use lib.Dec.{T}
 use lib.Ieee.{Float, binary64, ofBits, toBits, fits, isNan, nanBits}
 use lib.Ieee.Scale as Scale
 use Rattle.exact.specs.Units.{sgn}
-use Rattle.exact.specs.Fields.{signAt, of-own}
+use Rattle.exact.specs.Fields.{signAt}
+use Rattle.exact.proofs.Fields.{of-own}
 use Rattle.exact.proofs.Patterns.{finite-not-nan, not-nan-bits, exponent-lt}
 use Rattle.exact.proofs.Cut.{Unpacked, unpacked}
 use Rattle.answers.specs.Range.{inRange}

@@ -9,11 +9,14 @@ use lib.Pow.{pow-pos}
 use lib.Ieee as Ieee
 use lib.Ieee.{Float, binary64, ofBits, toBits, fits}
 use Rattle.exact.specs.Rounding.{Near}
-use Rattle.exact.specs.Units.{L, L-pos, mag, sgn, Fin64}
-use Rattle.exact.specs.Sums.{pl, mi, plus, minus}
-use Rattle.exact.specs.Value.{val, p-val, n-val}
+use Rattle.exact.specs.Units.{L, mag, sgn, Fin64}
+use Rattle.exact.proofs.Units.{L-pos}
+use Rattle.exact.specs.Sums.{pl, mi}
+use Rattle.exact.proofs.Sums.{plus, minus}
+use Rattle.exact.specs.Value.{val}
+use Rattle.exact.proofs.Value.{p-val, n-val}
 use Rattle.exact.specs.Integers.{p, n}
-use Rattle.exact.specs.Products.{mul-mag, mul-near}
+use Rattle.exact.proofs.Products.{mul-mag, mul-near}
 use Rattle.exact.proofs.Normal.{Normal, normal}
 use Rattle.exponential.specs.Worked.{shift, rate, nearestOf}
 use Rattle.exponential.proofs.Rounded.{Whole, whole-add}

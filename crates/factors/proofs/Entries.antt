@@ -16,7 +16,7 @@ use Rattle.factors.specs.declared.Turn.{Turn}
 use Rattle.factors.specs.declared.Work.{Work}
 use Rattle.factors.specs.declared.Factors.{Factors}
 use Rattle.factors.specs.Turns.{sizeOf, afterOf, backOf}
-use Rattle.factors.specs.Sweeps.{sweeps, upOf, downOf, turnedOf, mixedOf, columnsOf, bothOf, entry, unlikeOf, alikeOf, restingOf, nextOf, pairOf, sweepBy, settledOf, stepOf, times, startOf, workedOf, signedRowOf, takenOf, factorsOf, identityRows}
+use Rattle.factors.specs.Sweeps.{sweeps, upOf, downOf, turnedOf, mixedOf, columnsOf, bothOf, entry, unlikeOf, alikeOf, restingOf, nextOf, pairOf, sweepBy, settledOf, stepOf, times, startOf, workedOf, signedRowOf, factorsIn, factorsOf, identityRows}
 
 abbrev F64 : Float → Type 0
 F64 x = T (fits binary64 x)
@@ -135,7 +135,7 @@ pub record FactorRows (x : Factors) : Type 0 where
   pub sigma : Row (x .sigma)
   pub vt : AllRows (x .vt)
 
-taken : (w : Work) → Works w → FactorRows (takenOf w)
+taken : (w : Work) → Works w → FactorRows (factorsIn w)
 taken w h =
     let a = signed-row (entry w 0 0) (w .u .r0) (h .u .row0) in
     let b = signed-row (entry w 1 1) (w .u .r1) (h .u .row1) in

@@ -7,7 +7,7 @@ use lib.ListN.{length, getD}
 use lib.Ieee.{Float, nan}
 use Rattle.exact.specs.Units.{mag}
 use Rattle.numbers.specs.Floats.{finite}
-use Rattle.tensor.specs.Axes.{of-one}
+use Rattle.tensor.proofs.Axes.{of-one}
 use Rattle.tensor.specs.Matrix.{transposeOf, ofRows}
 use Rattle.tensor.specs.Finite.{rowFinite, matFinite, rowsFinite}
 use Rattle.tensor.specs.declared.Rows.{Rows}

@@ -20,7 +20,8 @@ use Rattle.exact.proofs.Positives.{neg-mag, neg-fine, neg-sign}
 use Rattle.numbers.specs.Floats.{finite}
 use Rattle.numbers.proofs.Laws.{finite-is, and-both}
 use Rattle.nearness.proofs.Rounded.{naught-fine, naught-val}
-use Rattle.tensor.specs.Axes.{allOf, of-one}
+use Rattle.tensor.specs.Axes.{allOf}
+use Rattle.tensor.proofs.Axes.{of-one}
 use Rattle.tensor.specs.Matrix.{zero}
 use Rattle.factors.specs.Check.{Size, larger}
 

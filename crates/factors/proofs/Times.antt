@@ -1,12 +1,17 @@
 -- Work done over and over, as a loop counts it. Assumes nothing.
 use mathlib.Core.Path.{_≡_, refl, sym, ap, _∙_, subst}
 use mathlib.Core.Bool.{Bool, true, false, not, _&&_}
-use Prim.Native.Nat.{ℕ, suc, _+_, _-_, _≤_, _<_}
+use Prim.Native.Nat.{ℕ, zero, suc, _+_, _-_, _≤_, _<_}
 use native.Mathlib.Omega.{arith}
 use lib.Dec.{T, ltb, ltb→lt, nltb→le}
 use Rattle.numbers.proofs.Laws.{and-both}
 use Rattle.factors.specs.declared.Work.{Work}
-use Rattle.factors.specs.Sweeps.{times, stays, sweepBy, settledOf, stepBy}
+use Rattle.factors.specs.Sweeps.{times, sweepBy, settledOf, stepBy}
+
+-- what g leaves alone stays
+pub stays : (n : ℕ) (g : Work → Work) (w : Work) → g w ≡ w → times n g w ≡ w
+stays zero g w e = refl
+stays (suc n) g w e = ap (times n g) e ∙ stays n g w e
 
 module _ (n i : ℕ) (g : Work → Work) (w : Work) where
   pub once-more : i < n → times (n - i) g w ≡ times (n - (i + 1)) g (g w)

@@ -1,7 +1,6 @@
--- The sweeps and the check as one (ticket 6: "14 comes exactly when the factors after the last sweep miss the check"; ticket 9: "14 here
+-- The sweeps and the check as one (RULES, sections 5 and 7; ticket 6: "14 comes exactly when the factors after the last sweep miss the check"; ticket 9: "14 here
 -- also for principal values"). Zeros stand beside a refusal.
-use mathlib.Core.Path.{_≡_}
-use mathlib.Core.Bool.{true, false, cond}
+use mathlib.Core.Bool.{cond}
 use mathlib.Core.List.{List}
 use Prim.Native.Nat.{ℕ}
 use lib.Ieee.{Float}
@@ -21,21 +20,3 @@ factoredOf f = cond (acceptedOf f (factorsOf f)) (record { refusal = 0; factors 
 
 unfoldable pub principalsOf : List (List Float) → VectorAnswer
 principalsOf f = cond (principalAccepted f (principalOf f)) (record { refusal = 0; vector = principalOf f .values }) (refusedVector notAccepted)
-
--- ---- 14 exactly where the check is missed
-module _ (f : List (List Float)) where
-  pub factors-accepted : acceptedOf f (factorsOf f) ≡ true → factoredOf f ≡ record { refusal = 0; factors = factorsOf f }
-  unfolding factoredOf
-  factors-accepted h = simp h
-
-  pub factors-refused : acceptedOf f (factorsOf f) ≡ false → factoredOf f ≡ refusedFactors notAccepted
-  unfolding factoredOf
-  factors-refused h = simp h
-
-  pub principals-accepted : principalAccepted f (principalOf f) ≡ true → principalsOf f ≡ record { refusal = 0; vector = principalOf f .values }
-  unfolding principalsOf
-  principals-accepted h = simp h
-
-  pub principals-refused : principalAccepted f (principalOf f) ≡ false → principalsOf f ≡ refusedVector notAccepted
-  unfolding principalsOf
-  principals-refused h = simp h

@@ -1,4 +1,4 @@
--- The check of factors (ticket 6), exact over whole numbers, for any number of axes. With m the largest size of an entry of F: "each entry of
+-- The check of factors (RULES, section 7; ticket 6), exact over whole numbers, for any number of axes. With m the largest size of an entry of F: "each entry of
 -- U sigma V^T is within m/2^40 of F; U and V times their transposes are within 2^-40 of the identity; no sigma is negative"; "a factor that isn't finite misses it".
 use mathlib.Core.Path.{_≡_}
 use mathlib.Core.Bool.{Bool, cond, _&&_}

@@ -1,4 +1,4 @@
--- Principal values (ticket 9: "the symmetric form of ticket 6's work on the stress's lower triangle with its diagonal"): the sweeps with
+-- Principal values (RULES, section 5; ticket 9: "the symmetric form of ticket 6's work on the stress's lower triangle with its diagonal"): the sweeps with
 -- both sides turned alike, and the same kind of check, signs free.
 use mathlib.Core.Bool.{Bool, cond, _&&_}
 use mathlib.Core.List.{List}

@@ -1,6 +1,5 @@
--- The sweeps (ticket 6: "by a number of sweeps fixed in docs"), as they are worked: each works the first two axes three times over,
+-- The sweeps (RULES, section 7; ticket 6: "by a number of sweeps fixed in docs"), as they are worked: each works the first two axes three times over,
 -- counting the axes from the next one after each time. docs/FACTORS.md has them in words.
-use mathlib.Core.Path.{_≡_, refl, ap, _∙_}
 use mathlib.Core.Bool.{Bool, cond, _&&_}
 use mathlib.Core.List.{List}
 use Prim.Native.Nat.{ℕ, zero, suc}
@@ -103,10 +102,6 @@ abbrev pub times : ℕ → (Work → Work) → Work → Work
 times zero g w = w
 times (suc n) g w = times n g (g w)
 
-pub stays : (n : ℕ) (g : Work → Work) (w : Work) → g w ≡ w → times n g w ≡ w
-stays zero g w e = refl
-stays (suc n) g w e = ap (times n g) e ∙ stays n g w e
-
 -- ---- from F to its factors
 abbrev pub identityRows : Rows
 identityRows = record { r0 = three one Matrix.zero Matrix.zero; r1 = three Matrix.zero one Matrix.zero; r2 = three Matrix.zero Matrix.zero one }
@@ -127,12 +122,12 @@ workedOf f = times sweeps stepOf (startOf f)
 unfoldable pub signedRowOf : Float → List Float → List Float
 signedRowOf x a = cond (Ieee.lt x Matrix.zero) (three (Ieee.neg (getD a 0 nan)) (Ieee.neg (getD a 1 nan)) (Ieee.neg (getD a 2 nan))) a
 
-abbrev pub takenOf : Work → Factors
-takenOf w = record {
+abbrev pub factorsIn : Work → Factors
+factorsIn w = record {
   u = rowsOf (transposeOf (three (signedRowOf (entry w 0 0) (w .u .r0)) (signedRowOf (entry w 1 1) (w .u .r1)) (signedRowOf (entry w 2 2) (w .u .r2))));
   sigma = three (sizeOf (entry w 0 0)) (sizeOf (entry w 1 1)) (sizeOf (entry w 2 2));
   vt = w .v;
 }
 
 unfoldable pub factorsOf : List (List Float) → Factors
-factorsOf f = takenOf (workedOf f)
+factorsOf f = factorsIn (workedOf f)

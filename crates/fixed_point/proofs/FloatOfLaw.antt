@@ -3,7 +3,8 @@ use mathlib.Core.Path.{refl}
 use mathlib.Core.Bool.{Bool, true, false}
 use Prim.Native.Nat.{ℕ, zero, suc, _≤_, _<_, _^_}
 use native.Mathlib.Nat.{zero-lt-suc}
-use Rattle.fixed_point.specs.ToFloat.{toFloatOf, FloatOf, packs, from-pattern, at-zero}
+use Rattle.fixed_point.specs.ToFloat.{toFloatOf, FloatOf}
+use Rattle.fixed_point.proofs.ToFloat.{packs, from-pattern, at-zero}
 
 pub float-of : (l u : ℕ) (s : Bool) → l < 2 ^ 64 → u ≤ 1000 → FloatOf l u s (toFloatOf l u s)
 unfolding toFloatOf

@@ -1,1 +1,3 @@
 pub mod FloatOfLaw
+pub mod ToFloat
+pub mod Halves

@@ -1,1 +1,2 @@
 pub mod ToFloat
+pub mod Halved

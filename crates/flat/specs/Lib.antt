@@ -1,3 +1,2 @@
-pub mod Axes
 pub mod State
 pub mod Update

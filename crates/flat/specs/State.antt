@@ -1,4 +1,4 @@
--- A matrix of two rows as a field of a struct.
+-- A matrix of two rows as a field of a struct (RULES, section 5, "Slices of a slope").
 use mathlib.Core.Bool.{Bool, _&&_}
 use mathlib.Core.List.{List, [], _∷_}
 use lib.ListN.{getD}

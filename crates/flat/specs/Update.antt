@@ -1,4 +1,4 @@
--- Two axes: the state and what a flat law hands back as an instance of `walk`'s `Body` (RULES, sections 6 and 7).
+-- Two axes: the state and what a flat law hands back as an instance of `walk`'s `Body` (RULES, sections 5, 6 and 7).
 use mathlib.Core.Bool.{Bool}
 use mathlib.Core.List.{List}
 use mathlib.Core.Path.{refl}

@@ -13,7 +13,8 @@ use Rattle.tensor.specs.Finite.{rowFinite}
 use Rattle.walk.specs.Expr.{Expr, num, value, values}
 use Rattle.walk.specs.Walk as walk
 use Rattle.walk.specs.Walk.{Function, Walk, ln, exp, asks, answerOf, asked, _then_, Ended, given, refused, result}
-use Rattle.walk.specs.Exact.{andThen, result-then}
+use Rattle.walk.specs.Exact.{andThen}
+use Rattle.walk.proofs.Exact.{result-then}
 use Rattle.walk.specs.Matrix.{values-nums}
 use Rattle.plasticity_drucker_prager.specs.declared.DruckerPragerPlasticity.{DruckerPragerPlasticity}
 use Rattle.plasticity_drucker_prager.specs.Projection.{Way, isotropic, expanding, inside, surface, Returned, strain, tipWalk, surfaceWalk, yieldWalk, strainedWalk, projectWalk, returnedWalk}

@@ -10,7 +10,7 @@ use Rattle.tensor.specs.Matrix.{one}
 use Rattle.physics.specs.Norm.{normOf}
 use Rattle.walk.specs.Expr.{num}
 use Rattle.walk.specs.Walk.{Walk, exp, asks, end, _then_, Ended, given, refused, answerOf, asked, result}
-use Rattle.walk.specs.Matrix.{value-dot}
+use Rattle.walk.proofs.Matrix.{value-dot}
 use Rattle.plasticity_drucker_prager.specs.declared.DruckerPragerPlasticity.{DruckerPragerPlasticity}
 use Rattle.plasticity_drucker_prager.specs.Projection.{Way, isotropic, expanding, surface, Returned, tipWalk, surfaceWalk}
 use Rattle.plasticity_drucker_prager.specs.Over.{outcomeOf}

@@ -1,4 +1,4 @@
--- Drucker-Prager on two axes (document 02, ticket 13; plasticity_drucker_prager.rs with DIM = 2): the walk of three axes with 2 for their number.
+-- Drucker-Prager on two axes (RULES, section 5; document 02, ticket 13; plasticity_drucker_prager.rs with DIM = 2): the walk of three axes with 2 for their number.
 use mathlib.Core.List.{List, [], _∷_}
 use Prim.Native.Nat.{ℕ}
 use lib.Ieee.{Float}

@@ -1,4 +1,4 @@
--- Drucker-Prager's projection on two axes as a call by itself (RULES, section 6; plasticity_drucker_prager.rs, `project_deformation_gradient` with
+-- Drucker-Prager's projection on two axes as a call by itself (RULES, sections 5 and 6; plasticity_drucker_prager.rs, `project_deformation_gradient` with
 -- DIM = 2).
 use mathlib.Core.Bool.{cond, _&&_}
 use mathlib.Core.List.{List}

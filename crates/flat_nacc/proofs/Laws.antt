@@ -16,7 +16,8 @@ use Rattle.numbers.specs.Floats.{finite, isNumber, maxOf}
 use Rattle.tensor.specs.Matrix.{zero}
 use Rattle.walk.specs.Expr.{num, value}
 use Rattle.walk.specs.Walk.{Walk, root, itself, lowOf, highOf, answerOf, _then_, Ended, given, refused, result}
-use Rattle.walk.specs.Exact.{andThen, result-then}
+use Rattle.walk.specs.Exact.{andThen}
+use Rattle.walk.proofs.Exact.{result-then}
 use Rattle.reason.specs.declared.Number.{Number}
 use Rattle.reason.specs.declared.Number.the-variants as number
 use Rattle.reason.specs.Traced.{Traced, reached, stopped, traced, untraced, numberAs}

@@ -1,4 +1,4 @@
--- NACC made by a friction angle on two axes (plasticity_nacc.rs, `new` with DIM = 2): the arguments of `with_m` with the angle's m.
+-- NACC made by a friction angle on two axes (RULES, section 5; plasticity_nacc.rs, `new` with DIM = 2): the arguments of `with_m` with the angle's m.
 use lib.Ieee.{Float}
 use Rattle.numbers.specs.Constants.{two}
 use Rattle.answers.specs.declared.Answer.{Answer}

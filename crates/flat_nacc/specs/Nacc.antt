@@ -1,4 +1,4 @@
--- NACC on two axes (document 02, ticket 13; plasticity_nacc.rs with DIM = 2): the walk over any number of axes with the state and the axes of two.
+-- NACC on two axes (RULES, section 5; document 02, ticket 13; plasticity_nacc.rs with DIM = 2): the walk over any number of axes with the state and the axes of two.
 use mathlib.Core.List.{List, [], _∷_}
 use Prim.Native.Nat.{ℕ}
 use lib.Ieee.{Float}

@@ -1,4 +1,4 @@
--- NACC's projection on two axes as a call by itself (RULES, section 6; plasticity_nacc.rs, `project_deformation_gradient` with DIM = 2): what the
+-- NACC's projection on two axes as a call by itself (RULES, sections 5 and 6; plasticity_nacc.rs, `project_deformation_gradient` with DIM = 2): what the
 -- update, which stores nothing else, makes of a particle with this F, sigma and alpha. No step asks for its other scalars.
 use mathlib.Core.List.{List, [], _∷_}
 use lib.Ieee.{Float}

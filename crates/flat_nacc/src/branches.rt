@@ -12,7 +12,8 @@ ghost use mathlib.Core.Bool.{true, _&&_};
 ghost use Rattle.numbers.specs.Floats.{finite, isNumber};
 ghost use Rattle.walk.specs.Walk.{result};
 ghost use Rattle.plasticity_nacc.specs.Axes.{two-axes};
-ghost use Rattle.plasticity_nacc.specs.Projection.{settled, yieldWalk, lowerWalk, branchWalk, stepsWalk};
+ghost use Rattle.plasticity_nacc.specs.Projection.{yieldWalk, lowerWalk, branchWalk, stepsWalk};
+ghost use Rattle.plasticity_nacc.specs.Inner.{settled};
 ghost use Rattle.flat_nacc.specs.Nacc.{stressedOf, steppedOf};
 
 // Between the tips.

@@ -14,7 +14,8 @@ ghost use Rattle.walk.specs.Expr.{num, values};
 ghost use Rattle.walk.specs.Walk.{works, result, root, answerOf};
 ghost use Rattle.plasticity_nacc.specs.Axes.{two-axes};
 ghost use Rattle.plasticity_nacc.specs.Formulas.{spread};
-ghost use Rattle.plasticity_nacc.specs.Projection.{tipWalk, rootsWalk, landWalk, surfaceWalk, settled};
+ghost use Rattle.plasticity_nacc.specs.Projection.{tipWalk, rootsWalk, landWalk, surfaceWalk};
+ghost use Rattle.plasticity_nacc.specs.Inner.{settled};
 ghost use Rattle.flat_nacc.specs.Nacc.{refusedStep, shapedOf};
 
 // The root of (6 - 2) / 2.

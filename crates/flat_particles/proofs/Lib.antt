@@ -1,2 +1,3 @@
 pub mod PassLaws
 pub mod Refusals
+pub mod Places

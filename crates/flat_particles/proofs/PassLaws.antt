@@ -7,6 +7,7 @@ use lib.ListN.{length-set}
 use Rattle.plasticity.specs.declared.Outcome.{Outcome}
 use Rattle.plasticity.specs.declared.Outcome.the-variants.{Untouched, Stored, Refused}
 use Rattle.model.specs.declared.Model.{Model}
+use Rattle.model.specs.Rows.{actsOf}
 use Rattle.particles.specs.declared.list.Counts.{Counts}
 use Rattle.particles.specs.declared.failure.FailureCounts.{FailureCounts}
 use Rattle.particles.specs.Pass.{Worked, counted, threeOf, recordOver, countsOver}
@@ -26,7 +27,7 @@ pub flat-keeps : (m : Model) → Keeps (flatLaw m)
 unfolding flatLaw
 flat-keeps m r =
     let s = updatedAt m r .state in
-    laws.outcome-length (updatedAt m r .outcome) r (putState m r s) (laws.named-length (widths 2) m (putShape r s) (s .scalars) ∙ simp length-set)
+    laws.outcome-length (updatedAt m r .outcome) r (putState m r s) (laws.named-length (widths 2) (actsOf m .law) (putShape r s) (s .scalars) ∙ simp length-set)
 
 -- the first three counts of a pass
 module _ (w : ℕ) (law : List ℕ → Worked) (l : List ℕ) where

@@ -14,7 +14,8 @@ use Rattle.answers.specs.Refusals.{wrongLength}
 use Rattle.plasticity.specs.declared.Outcome.the-variants.{Untouched, Refused}
 use Rattle.walk.specs.Exact.{path}
 use Rattle.walk.specs.Update.{refusalOf}
-use Rattle.walk.specs.Numbers.{refused-when, accepted-when, Stops, Clear}
+use Rattle.walk.specs.Numbers.{Stops, Clear}
+use Rattle.walk.proofs.Numbers.{refused-when, accepted-when}
 use Rattle.model.specs.declared.Model.{Model}
 use Rattle.particles.specs.declared.list.Counts.{Counts}
 use Rattle.particles.specs.declared.list.Passed.{Passed}

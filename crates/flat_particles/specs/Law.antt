@@ -1,4 +1,4 @@
--- What the model's flat law makes of one flat record (RULES, sections 6 and 7; ticket 13).
+-- What the model's flat law makes of one flat record (RULES, sections 5, 6 and 7; ticket 13).
 use mathlib.Core.Bool.{false, cond}
 use mathlib.Core.List.{List}
 use Prim.Native.Nat.{ℕ}
@@ -12,7 +12,9 @@ use Rattle.walk.specs.Walk.{Walk, result}
 use Rattle.model.specs.declared.Model.{Model}
 use Rattle.model.specs.declared.Model.the-variants.{Snow, Rankine, DruckerPrager, Nacc}
 use Rattle.record.specs.Layout.{widths}
-use Rattle.particles.specs.Named.{snowNamed, rankineNamed, druckerPragerNamed, naccNamed, named, storedOver, keptOver}
+use Rattle.model.specs.Rows.{actsOf}
+use Rattle.model.specs.Named.{named}
+use Rattle.particles.specs.Named.{storedOver, keptOver}
 use Rattle.particles.specs.Pass.{Worked}
 use Rattle.flat.specs.declared.State.{State}
 use Rattle.flat.specs.declared.Updated.{Updated}
@@ -34,20 +36,8 @@ abbrev pub flatUpdate : Model → List (List Float) → List (List Float) → St
 flatUpdate m u vt s = updatedOf s (result (walkOf m u vt s))
 
 -- of the six scalars an update writes only those that its law names
-abbrev pub snowScalars : List ℕ → State → List ℕ
-snowScalars r s = snowNamed (widths 2) r (s .scalars)
-
-abbrev pub rankineScalars : List ℕ → State → List ℕ
-rankineScalars r s = rankineNamed (widths 2) r (s .scalars)
-
-abbrev pub druckerPragerScalars : List ℕ → State → List ℕ
-druckerPragerScalars r s = druckerPragerNamed (widths 2) r (s .scalars)
-
-abbrev pub naccScalars : List ℕ → State → List ℕ
-naccScalars r s = naccNamed (widths 2) r (s .scalars)
-
 abbrev pub putScalars : Model → List ℕ → State → List ℕ
-putScalars m r s = named (widths 2) m r (s .scalars)
+putScalars m r s = named (widths 2) (actsOf m .law) r (s .scalars)
 
 abbrev pub putState : Model → List ℕ → State → List ℕ
 putState m r s = storedOver (widths 2) putShape (λ x. x .scalars) m r s

@@ -1,22 +1,12 @@
 -- A flat record (ticket 13): F, U, sigma and V^T by rows, then the six scalars, each float as its bits, and no determinant. Layout, reading and writing
 -- are `record`'s over any number of axes, with 2.
 use mathlib.Core.List.{List}
-use mathlib.Core.Path.{_≡_}
-use native.Mathlib.Omega.{arith}
-use Prim.Native.Nat.{ℕ, _+_, _*_}
+use Prim.Native.Nat.{ℕ}
 use lib.Ieee.{Float}
 use Rattle.record.specs.Layout.{widths, place, whole, rowOver, matOver, uOver, vtOver, scalarsOver, putOver}
 use Rattle.flat.specs.State.{ofRows, rowsOf}
 use Rattle.flat.specs.declared.State.{State}
 
--- ---- over any number of axes
--- where the parts of a record over n axes begin
-pub places : (n : ℕ)
-    → (place (widths n) 0 ≡ 0) × (place (widths n) 1 ≡ n * n) × (place (widths n) 2 ≡ 2 * (n * n)) × (place (widths n) 3 ≡ 2 * (n * n) + n)
-    × (place (widths n) 4 ≡ 3 * (n * n) + n) × (whole (widths n) ≡ 3 * (n * n) + n + 6)
-places n = (omega arith, omega arith, omega arith, omega arith, omega arith, omega arith)
-
--- ---- two axes
 abbrev pub floats : ℕ
 floats = whole (widths 2)
 

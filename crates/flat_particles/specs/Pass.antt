@@ -1,4 +1,4 @@
--- The pass over a list of flat records is `particles`' over records of any width; it counts three ways (RULES, sections 6 and 7; ticket 13).
+-- The pass over a list of flat records is `particles`' over records of any width; it counts three ways (RULES, sections 5, 6 and 7; ticket 13).
 use mathlib.Core.List.{List}
 use mathlib.Core.Logic.{_⊎_}
 use mathlib.Core.Path.{_≡_}

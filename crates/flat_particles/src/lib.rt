@@ -1,8 +1,8 @@
 // Flat records (ticket 13): one record by its model's law in two axes, and the pass over a lent list of them.
 mod answer;
-mod choice;
 mod flat_record;
 mod list;
+mod rows;
 mod step;
 mod stored;
 

@@ -1,6 +1,6 @@
 // One flat record by its law.
-use crate::choice;
 use crate::flat_record;
+use crate::rows;
 use crate::stored;
 use flat::Updated;
 use model::Model;
@@ -14,7 +14,7 @@ fn updated(m: Model, r: &[u64]) -> Updated
     ensures { λ x. ⌜ x ≡ updatedAt m (now (r .entry)) ⌝ }
 {
     let s = flat_record::read_state(r);
-    choice::update(m, flat_record::read_u(r), flat_record::read_vt(r), s)
+    rows::update(m, flat_record::read_u(r), flat_record::read_vt(r), s)
 }
 
 // What the law leaves of the record: one that is refused or untouched keeps its bits.

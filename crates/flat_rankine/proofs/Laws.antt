@@ -7,8 +7,8 @@ use lib.Ieee.{Float, nan, le}
 use Rattle.numbers.specs.Floats.{finite, isNumber}
 use Rattle.walk.specs.Expr.{Expr, num, value, values, nums}
 use Rattle.walk.specs.Walk.{result}
-use Rattle.walk.specs.Body.{finite-scalars}
-use Rattle.walk.specs.Every.{and-left, and-right}
+use Rattle.walk.proofs.Body.{finite-scalars}
+use Rattle.walk.proofs.Every.{and-left, and-right}
 use Rattle.plasticity_rankine.specs.declared.RankineArguments.{RankineArguments}
 use Rattle.plasticity_rankine.specs.declared.RankinePlasticity.{RankinePlasticity}
 use Rattle.plasticity_rankine.specs.Law.{argumentsFinite, elasticFinite}
@@ -18,7 +18,7 @@ use Rattle.plasticity_rankine.specs.Over as over
 use Rattle.plasticity_rankine.specs.Over.{softStrength}
 use Rattle.plasticity_rankine.proofs.Laws.{hardening-of, strained-over}
 use Rattle.flat.specs.declared.State.{State}
-use Rattle.flat.specs.Axes.{of-one}
+use Rattle.flat.proofs.Axes.{of-one}
 use Rattle.flat.specs.Update.{inTwo, inputsFinite, updatedOf}
 use Rattle.flat_rankine.specs.declared.Sorted.{Sorted}
 use Rattle.flat_rankine.specs.Projection.{pair, indexesOf, sortedOf, branchOf, projectWalk, movedOf, projectedOf}

@@ -5,10 +5,12 @@ use native.Mathlib.Omega.{arith}
 use lib.Dec.{T}
 use lib.IntN.{ℤ, pos, _+ℤ_, _*ℤ_, _-ℤ_}
 use lib.Ieee.{Float, le}
-use Rattle.exact.specs.Units.{L, L-pos, mag}
+use Rattle.exact.specs.Units.{L, mag}
+use Rattle.exact.proofs.Units.{L-pos}
 use Rattle.exact.specs.Integers.{_≤ᶻ_, abs}
 use Rattle.exact.proofs.Ring.{ring, var, con, _:+_, _:-_, _:*_}
-use Rattle.exact.specs.Value.{val, abs-val}
+use Rattle.exact.specs.Value.{val}
+use Rattle.exact.proofs.Value.{abs-val}
 use Rattle.walk.specs.Expr.{num, value}
 use Rattle.plasticity_rankine.specs.declared.RankinePlasticity.{RankinePlasticity}
 use Rattle.plasticity_rankine.specs.Projection.{two, firstSide, secondSide, backOne}

@@ -38,10 +38,10 @@ of x = rows (rows (x ∷ unit ∷ rows (unit ∷ unit ∷ unit ∷ unit ∷ 0 �
 in-pass : (x : ℕ) → InPassOver floats (of x) answers 0
 in-pass x = record { sized = tt; index = lit< tt }
 
-abbrev Taken : ℕ → Type 0
-Taken x = Premises arguments (of x) (flatLaw (Rankine arguments) (of x) .outcome)
+abbrev Assumed : ℕ → Type 0
+Assumed x = Premises arguments (of x) (flatLaw (Rankine arguments) (of x) .outcome)
 
-taken : Taken two × Taken unit × T (not (firstTestAtIn flat arguments (of two))) × T (firstTestAtIn flat arguments (of unit))
+taken : Assumed two × Assumed unit × T (not (firstTestAtIn flat arguments (of two))) × T (firstTestAtIn flat arguments (of unit))
 unfolding flatLaw updatedAt walkOf over.argumentsWalk over.floats body.floatsOf over.runWalk over.strainedWalk firstWalk secondWalk over.wayWalk over.movedWalk over.hardenWalk over.expsWalk body.storeWalk logsOf formula.total formula.sum formula.entry orderOf lambdaOf shearModulusOf ln.lnOf ln.exponentOf ln.fractionOf ln.partOf exp.expOf exp.nearestOf exp.restOf exp.seriesOf exp.scaleBits exp.timesOf sqrtOf floorRoot rootIn mag val L fits finite isNumber ofBits toBits round size Ieee.add Ieee.sub Ieee.mul Ieee.div Ieee.neg Ieee.le Ieee.lt Ieee.eq sumOf dotOf scaledRowOf
 taken =
     let g : RangesIn 2 (lawOf arguments) (softenedAtIn flat arguments (of two)) = record { mu-low = lit≤ tt; mu-high = lit≤ tt; la-low = lit≤ tt; la-high = lit≤ tt; s-size = lit≤ tt } in (

@@ -17,9 +17,9 @@ use Rattle.rankine_surface.proofs.Over.{Stays, Strained, demand-by}
 use Rattle.rankine_surface.proofs.Hardening.{by}
 use Rattle.rankine_surface.proofs.Left.{archives}
 use Rattle.flat.specs.declared.State.{State}
-use Rattle.flat.specs.Axes.{pair-entries}
+use Rattle.flat.proofs.Axes.{pair-entries}
 use Rattle.flat_rankine.specs.Projection.{pair, projectWalk}
-use Rattle.flat_surface.specs.Surface.{twoAxes, firstTest, Taken, Demand3, Archives}
+use Rattle.flat_surface.specs.Surface.{twoAxes, firstTest, Assumed, Demand3, Archives}
 use Rattle.flat_surface.proofs.Indexed.{inside, outside, same}
 
 -- two axes
@@ -35,9 +35,9 @@ strained-two {law} {s} g =
       outside = λ e m. of-pair (λ l. Each Strain l → T (not (firstTest law l s)) → Given (result (projectWalk law l (num s))) → ReturnsIn 2 law s (result (projectWalk law l (num s)))) (λ x y i h k. outside g x y i h k) e m;
     }
 
-pub demand-3 : {a : RankineArguments} (u vt : List (List Float)) {st : State} → Taken a u vt st → Demand3 a u vt st
+pub demand-3 : {a : RankineArguments} (u vt : List (List Float)) {st : State} → Assumed a u vt st → Demand3 a u vt st
 unfolding over.argumentsWalk
 demand-3 {a} u vt {st} g = demand-by twoAxes a u vt st strained-two g
 
-pub update-archived : {a : RankineArguments} (u vt : List (List Float)) {st : State} → Taken a u vt st → Archives a u vt st
+pub update-archived : {a : RankineArguments} (u vt : List (List Float)) {st : State} → Assumed a u vt st → Archives a u vt st
 update-archived u vt g = archives twoAxes (demand-3 u vt g)

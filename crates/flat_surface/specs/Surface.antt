@@ -6,7 +6,7 @@ use lib.Ieee.{Float}
 use Rattle.plasticity_rankine.specs.declared.RankineArguments.{RankineArguments}
 use Rattle.plasticity_rankine.specs.declared.RankinePlasticity.{RankinePlasticity}
 use Rattle.plasticity_rankine.specs.Law.{lawOf}
-use Rattle.rankine_surface.specs.Surface.{Axes, firstTestIn, TakenByIn, Demand3In, ArchivesIn}
+use Rattle.rankine_surface.specs.Surface.{Axes, firstTestIn, AssumedByIn, Demand3In, ArchivesIn}
 use Rattle.flat.specs.declared.State.{State}
 use Rattle.flat.specs.declared.Updated.{Updated}
 use Rattle.flat.specs.Update.{inTwo}
@@ -26,9 +26,9 @@ twoAxes =
 abbrev pub firstTest : RankinePlasticity → List Float → Float → Bool
 firstTest p e s = firstTestIn twoAxes p e s
 
--- what is taken, and what is promised, of an update
-abbrev pub Taken : RankineArguments → List (List Float) → List (List Float) → State → Type 0
-Taken a u vt st = TakenByIn twoAxes a st (argumentsUpdate a u vt st)
+-- what is assumed, and what is promised, of an update
+abbrev pub Assumed : RankineArguments → List (List Float) → List (List Float) → State → Type 0
+Assumed a u vt st = AssumedByIn twoAxes a st (argumentsUpdate a u vt st)
 
 abbrev pub Demand3 : RankineArguments → List (List Float) → List (List Float) → State → Type 0
 Demand3 a u vt st = Demand3In twoAxes (lawOf a) st (argumentsUpdate a u vt st)

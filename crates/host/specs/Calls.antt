@@ -30,7 +30,9 @@ use Rattle.plasticity_nacc.specs.Friction.{frictionOf}
 use Rattle.record.specs.Layout.{rowAt, matAt}
 use Rattle.host_lists.specs.Refused.{has, sizedNumber, sizedVector, sizedMatrix, flaggedNumber}
 use Rattle.host_lists.specs.Read.{decomposedOf}
-use Rattle.model.specs.Fields.{neoHookeanOf, corotatedOf, rankineOf, druckerPragerOf}
+use Rattle.model.specs.Fields.{rankineOf}
+use Rattle.host_lists.specs.Laws.{neoHookeanOf, corotatedOf}
+use Rattle.model.specs.Rows.{druckerPragerOf}
 
 -- ---- physics.rs
 unfoldable pub spinTensor : List ℕ → MatrixAnswer

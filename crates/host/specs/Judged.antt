@@ -4,7 +4,7 @@ use mathlib.Core.List.{List}
 use Prim.Native.Nat.{ℕ}
 use lib.ListN.{getD}
 use Rattle.record.specs.Layout.{floats}
-use Rattle.model.specs.Fields.{neoHookeanOf, corotatedOf, limitsOf}
+use Rattle.host_lists.specs.Laws.{neoHookeanOf, corotatedOf, limitsOf}
 use Rattle.solid.specs.NeoHookean as neo
 use Rattle.solid.specs.Corotated as corotated
 use Rattle.solid.specs.declared.StressVerdict.{StressVerdict}

@@ -1,11 +1,6 @@
 pub mod Calls
-pub mod Factored
+pub mod Determinants
 pub mod Judged
 pub mod OfRecord
-pub mod Passes
-pub mod Reports
-pub mod Sheets
-pub mod Slices
-pub mod Update
+pub mod Parts
 pub mod Zones
-pub mod Causes

@@ -8,7 +8,7 @@ use lib.Ieee.{Float, binary64, toBits}
 use Rattle.answers.specs.declared.Answer.{Answer}
 use Rattle.tensor.specs.declared.MatrixAnswer.{MatrixAnswer}
 use Rattle.record.specs.Layout.{floats}
-use Rattle.model.specs.Fields.{neoHookeanOf, corotatedOf}
+use Rattle.host_lists.specs.Laws.{neoHookeanOf, corotatedOf}
 use Rattle.solid.specs.NeoHookean as neo
 use Rattle.solid.specs.Corotated as corotated
 use Rattle.host_lists.specs.Refused.{has, sizedNumber, sizedMatrix, flaggedNumber}

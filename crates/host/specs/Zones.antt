@@ -1,51 +1,13 @@
--- What the calls with tallies by zone answer and write (RULES, sections 6 and 7).
-use mathlib.Core.Bool.{Bool, cond, _&&_}
-use mathlib.Core.List.{List}
+-- What clearing the tallies and moving one particle leave of a host's zones and tallies (RULES, sections 6 and 7).
+use mathlib.Core.List.{List, [], _∷_}
 use Prim.Native.Nat.{ℕ}
-use lib.Dec.{eqb}
-use lib.ListN.{length}
-use Rattle.answers.specs.Refusals.{unknown, wrongLength}
-use Rattle.particles.specs.Pass.{wellSized}
-use Rattle.model.specs.Kinds.{parametersFit, modelKnown}
-use Rattle.tallies.specs.Words.{whole, passed, passedRecords, passedAnswers, passedWords}
-use Rattle.host.specs.Passes.{passLaw, failureKnown, judgedLaw}
+use Rattle.tallies.specs.Words.{cleared, clearedWords, moved, movedZones, movedWords}
+use Rattle.host_lists.specs.Called.{Called, called}
 
--- lengths that fit; else 8
-abbrev pub zonesSized : ℕ → List ℕ → List ℕ → List ℕ → List ℕ → Bool
-zonesSized model p xs out ws = parametersFit model p && wellSized xs out && whole ws
+-- the zones are only read
+unfoldable pub clearBy : ℕ → List ℕ → List ℕ → Called
+clearBy particles zones ws = called (cleared particles zones ws) (clearedWords particles zones ws ∷ [])
 
--- 8, then 6, then 12 and 13
-abbrev pub zonesCode : ℕ → List ℕ → List ℕ → List ℕ → List ℕ → List ℕ → ℕ
-zonesCode model p zones xs out ws = cond (zonesSized model p xs out ws) (cond (modelKnown model p) (passed xs out zones ws) unknown) wrongLength
-
-abbrev pub zonesGo : ℕ → List ℕ → List ℕ → List ℕ → List ℕ → Bool
-zonesGo model p xs out ws = zonesSized model p xs out ws && modelKnown model p
-
-abbrev pub recordsZoned : ℕ → List ℕ → List ℕ → List ℕ → List ℕ → List ℕ → List ℕ
-recordsZoned model p zones xs out ws = cond (zonesGo model p xs out ws) (passedRecords (passLaw model p) xs out zones ws) xs
-
-abbrev pub answersZoned : ℕ → List ℕ → List ℕ → List ℕ → List ℕ → List ℕ → List ℕ
-answersZoned model p zones xs out ws = cond (zonesGo model p xs out ws) (passedAnswers (passLaw model p) xs out zones ws) out
-
-abbrev pub talliesZoned : ℕ → List ℕ → List ℕ → List ℕ → List ℕ → List ℕ → List ℕ
-talliesZoned model p zones xs out ws = cond (zonesGo model p xs out ws) (passedWords (passLaw model p) xs out zones ws) ws
-
--- with failure, l the limits and e the corotated law
-abbrev pub failureZonesSized : ℕ → List ℕ → List ℕ → List ℕ → List ℕ → List ℕ → List ℕ → Bool
-failureZonesSized model p l e xs out ws = parametersFit model p && eqb (length l) 2 && eqb (length e) 4 && wellSized xs out && whole ws
-
-abbrev pub failureZonesCode : ℕ → List ℕ → List ℕ → List ℕ → List ℕ → List ℕ → List ℕ → List ℕ → ℕ
-failureZonesCode model p l e zones xs out ws =
-    cond (failureZonesSized model p l e xs out ws) (cond (failureKnown model p e) (passed xs out zones ws) unknown) wrongLength
-
-abbrev pub failureZonesGo : ℕ → List ℕ → List ℕ → List ℕ → List ℕ → List ℕ → List ℕ → Bool
-failureZonesGo model p l e xs out ws = failureZonesSized model p l e xs out ws && failureKnown model p e
-
-abbrev pub recordsJudgedZoned : ℕ → List ℕ → List ℕ → List ℕ → List ℕ → List ℕ → List ℕ → List ℕ → List ℕ
-recordsJudgedZoned model p l e zones xs out ws = cond (failureZonesGo model p l e xs out ws) (passedRecords (judgedLaw model p l e) xs out zones ws) xs
-
-abbrev pub answersJudgedZoned : ℕ → List ℕ → List ℕ → List ℕ → List ℕ → List ℕ → List ℕ → List ℕ → List ℕ
-answersJudgedZoned model p l e zones xs out ws = cond (failureZonesGo model p l e xs out ws) (passedAnswers (judgedLaw model p l e) xs out zones ws) out
-
-abbrev pub talliesJudgedZoned : ℕ → List ℕ → List ℕ → List ℕ → List ℕ → List ℕ → List ℕ → List ℕ → List ℕ
-talliesJudgedZoned model p l e zones xs out ws = cond (failureZonesGo model p l e xs out ws) (passedWords (judgedLaw model p l e) xs out zones ws) ws
+unfoldable pub moveBy : ℕ → ℕ → ℕ → List ℕ → List ℕ → Called
+moveBy particles p z zones ws =
+    called (moved particles p z zones ws) (movedZones particles p z zones ws ∷ movedWords particles p z zones ws ∷ [])

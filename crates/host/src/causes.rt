@@ -1,33 +1,12 @@
 // Why a record moves, or why it doesn't.
-use particles::copy;
-use record_why::Cause;
 ghost use mathlib.Core.Path.{_≡_};
-ghost use lib.ListN.{length};
-ghost use Rattle.record_why.specs.Words.{callRefusal};
-ghost use Rattle.host.specs.Causes.{causeRoom, whyCode, whyWritten};
-
-fn put_cause(model: u64, w: Cause, room: &mut [u64]) -> u8
-    requires { ⌜ length (now room) ≡ 11 ⌝ }
-    ensures { λ n. ⌜ n ≡ callRefusal w ⌝ }
-    ensures { λ n. ⌜ now (room .exit) ≡ causeRoom model w (now (room .entry)) ⌝ }
-{
-    let n = record_why::call_refusal(w);
-    if n != 0 {
-        return n;
-    }
-    let words = record_why::words(model, w);
-    copy(&words, room);
-    0
-}
+ghost use mathlib.Core.List.{[], _∷_};
+ghost use Rattle.host_lists.specs.Called.{called};
+ghost use Rattle.host_sheets.specs.Causes.{whyBy};
 
 #[no_mangle]
 pub extern "C" fn pasoletu_why(model: u64, parameters: &[u64], r: &[u64], reason: &mut [u64]) -> u8
-    ensures { λ n. ⌜ n ≡ whyCode model (now (parameters .entry)) (now (r .entry)) (now (reason .entry)) ⌝ }
-    ensures { λ n. ⌜ now (reason .exit) ≡ whyWritten model (now (parameters .entry)) (now (r .entry)) (now (reason .entry)) ⌝ }
+    ensures { λ n. ⌜ called n (now (reason .exit) ∷ []) ≡ whyBy model (now (parameters .entry)) (now (r .entry)) (now (reason .entry)) ⌝ }
 {
-    if reason.len() != 11 {
-        return answers::LENGTH;
-    }
-    let w = record_why::why(model, parameters, r);
-    put_cause(model, w, reason)
+    host_sheets::tell_why(model, parameters, r, reason)
 }

@@ -1,8 +1,10 @@
 // Monaghan's equation of state for hosts.
 use eos_monaghan_sph::MonaghanSphEos;
 ghost use mathlib.Core.Path.{_≡_};
+ghost use mathlib.Core.List.{[], _∷_};
 ghost use Rattle.eos_monaghan_sph.specs.Pressure.{pressureOf};
-ghost use Rattle.host_lists.specs.Out.{numberCode, numberOut, matrixCode, matrixOut};
+ghost use Rattle.host_lists.specs.Called.{called};
+ghost use Rattle.host_lists.specs.Out.{numberIn, matrixIn};
 ghost use Rattle.host.specs.Calls.{eosOf, monaghanKirchhoffStress, monaghanTimestepBound};
 
 fn eos(pressure0: f64, gamma: u32, viscosity: f64, max_neg_pressure: f64) -> MonaghanSphEos
@@ -27,8 +29,7 @@ pub extern "C" fn pasoletu_monaghan_pressure(
     density: f64,
     out: &mut [u64],
 ) -> u8
-    ensures { λ r. ⌜ r ≡ numberCode (pressureOf (eosOf pressure0 gamma viscosity «max_neg_pressure») mass volume density) (now (out .entry)) ⌝ }
-    ensures { λ r. ⌜ now (out .exit) ≡ numberOut (pressureOf (eosOf pressure0 gamma viscosity «max_neg_pressure») mass volume density) (now (out .entry)) ⌝ }
+    ensures { λ r. ⌜ called r (now (out .exit) ∷ []) ≡ numberIn (pressureOf (eosOf pressure0 gamma viscosity «max_neg_pressure») mass volume density) (now (out .entry)) ⌝ }
 {
     let law = eos(pressure0, gamma, viscosity, max_neg_pressure);
     host_lists::put(law.pressure(mass, volume, density), out)
@@ -47,8 +48,7 @@ pub extern "C" fn pasoletu_monaghan_kirchhoff_stress(
     gradient: &[u64],
     out: &mut [u64],
 ) -> u8
-    ensures { λ r. ⌜ r ≡ matrixCode (monaghanKirchhoffStress (eosOf pressure0 gamma viscosity «max_neg_pressure») mass volume density det (now (gradient .entry))) (now (out .entry)) ⌝ }
-    ensures { λ r. ⌜ now (out .exit) ≡ matrixOut (monaghanKirchhoffStress (eosOf pressure0 gamma viscosity «max_neg_pressure») mass volume density det (now (gradient .entry))) (now (out .entry)) ⌝ }
+    ensures { λ r. ⌜ called r (now (out .exit) ∷ []) ≡ matrixIn (monaghanKirchhoffStress (eosOf pressure0 gamma viscosity «max_neg_pressure») mass volume density det (now (gradient .entry))) (now (out .entry)) ⌝ }
 {
     let ok = gradient.len() == 9;
     let law = eos(pressure0, gamma, viscosity, max_neg_pressure);
@@ -70,8 +70,7 @@ pub extern "C" fn pasoletu_monaghan_timestep_bound(
     width: f64,
     out: &mut [u64],
 ) -> u8
-    ensures { λ r. ⌜ r ≡ numberCode (monaghanTimestepBound (eosOf pressure0 gamma viscosity «max_neg_pressure») j mass volume density (now (velocity .entry)) width) (now (out .entry)) ⌝ }
-    ensures { λ r. ⌜ now (out .exit) ≡ numberOut (monaghanTimestepBound (eosOf pressure0 gamma viscosity «max_neg_pressure») j mass volume density (now (velocity .entry)) width) (now (out .entry)) ⌝ }
+    ensures { λ r. ⌜ called r (now (out .exit) ∷ []) ≡ numberIn (monaghanTimestepBound (eosOf pressure0 gamma viscosity «max_neg_pressure») j mass volume density (now (velocity .entry)) width) (now (out .entry)) ⌝ }
 {
     let ok = velocity.len() == 3;
     let law = eos(pressure0, gamma, viscosity, max_neg_pressure);

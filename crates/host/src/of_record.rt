@@ -1,6 +1,8 @@
 // Stresses and energies of a record by the solid laws, with its stored determinant. The laws' lists are those of `elasticity`.
 ghost use mathlib.Core.Path.{_≡_};
-ghost use Rattle.host_lists.specs.Out.{numberCode, numberOut, matrixCode, matrixOut};
+ghost use mathlib.Core.List.{[], _∷_};
+ghost use Rattle.host_lists.specs.Called.{called};
+ghost use Rattle.host_lists.specs.Out.{numberIn, matrixIn};
 ghost use Rattle.host.specs.OfRecord.{recordNeoHookeanFpkStress, recordNeoHookeanElasticEnergyDensity, recordNeoHookeanElasticEnergyDensityIn, recordNeoHookeanPosEnergy, recordCorotatedElasticEnergyDensity, recordCorotatedPosEnergy};
 
 #[no_mangle]
@@ -9,11 +11,10 @@ pub extern "C" fn pasoletu_record_neo_hookean_fpk_stress(
     r: &[u64],
     out: &mut [u64],
 ) -> u8
-    ensures { λ n. ⌜ n ≡ matrixCode (recordNeoHookeanFpkStress (now (law .entry)) (now (r .entry))) (now (out .entry)) ⌝ }
-    ensures { λ n. ⌜ now (out .exit) ≡ matrixOut (recordNeoHookeanFpkStress (now (law .entry)) (now (r .entry))) (now (out .entry)) ⌝ }
+    ensures { λ n. ⌜ called n (now (out .exit) ∷ []) ≡ matrixIn (recordNeoHookeanFpkStress (now (law .entry)) (now (r .entry))) (now (out .entry)) ⌝ }
 {
     let ok = (law.len() == 3) & (r.len() == record::FLOATS);
-    let p = model::neo_hookean(law);
+    let p = host_lists::neo_hookean(law);
     host_lists::put_matrix(
         host_lists::sized_matrix(ok, solid::neo_hookean::fpk_stress(p, r)),
         out,
@@ -26,11 +27,10 @@ pub extern "C" fn pasoletu_record_neo_hookean_elastic_energy_density(
     r: &[u64],
     out: &mut [u64],
 ) -> u8
-    ensures { λ n. ⌜ n ≡ numberCode (recordNeoHookeanElasticEnergyDensity (now (law .entry)) (now (r .entry))) (now (out .entry)) ⌝ }
-    ensures { λ n. ⌜ now (out .exit) ≡ numberOut (recordNeoHookeanElasticEnergyDensity (now (law .entry)) (now (r .entry))) (now (out .entry)) ⌝ }
+    ensures { λ n. ⌜ called n (now (out .exit) ∷ []) ≡ numberIn (recordNeoHookeanElasticEnergyDensity (now (law .entry)) (now (r .entry))) (now (out .entry)) ⌝ }
 {
     let ok = (law.len() == 3) & (r.len() == record::FLOATS);
-    let p = model::neo_hookean(law);
+    let p = host_lists::neo_hookean(law);
     host_lists::put(
         host_lists::sized(ok, solid::neo_hookean::elastic_energy_density(p, r)),
         out,
@@ -45,11 +45,10 @@ pub extern "C" fn pasoletu_record_neo_hookean_elastic_energy_density_in(
     r: &[u64],
     out: &mut [u64],
 ) -> u8
-    ensures { λ n. ⌜ n ≡ numberCode (recordNeoHookeanElasticEnergyDensityIn (now (law .entry)) «one_split» (now (r .entry))) (now (out .entry)) ⌝ }
-    ensures { λ n. ⌜ now (out .exit) ≡ numberOut (recordNeoHookeanElasticEnergyDensityIn (now (law .entry)) «one_split» (now (r .entry))) (now (out .entry)) ⌝ }
+    ensures { λ n. ⌜ called n (now (out .exit) ∷ []) ≡ numberIn (recordNeoHookeanElasticEnergyDensityIn (now (law .entry)) «one_split» (now (r .entry))) (now (out .entry)) ⌝ }
 {
     let ok = (law.len() == 3) & (r.len() == record::FLOATS);
-    let p = model::neo_hookean(law);
+    let p = host_lists::neo_hookean(law);
     let w = numbers::bits_of(one_split);
     let a = solid::neo_hookean::elastic_energy_density_in(w != 0, p, r);
     host_lists::put(host_lists::sized(ok, host_lists::flagged(w, a)), out)
@@ -61,11 +60,10 @@ pub extern "C" fn pasoletu_record_neo_hookean_pos_energy(
     r: &[u64],
     out: &mut [u64],
 ) -> u8
-    ensures { λ n. ⌜ n ≡ numberCode (recordNeoHookeanPosEnergy (now (law .entry)) (now (r .entry))) (now (out .entry)) ⌝ }
-    ensures { λ n. ⌜ now (out .exit) ≡ numberOut (recordNeoHookeanPosEnergy (now (law .entry)) (now (r .entry))) (now (out .entry)) ⌝ }
+    ensures { λ n. ⌜ called n (now (out .exit) ∷ []) ≡ numberIn (recordNeoHookeanPosEnergy (now (law .entry)) (now (r .entry))) (now (out .entry)) ⌝ }
 {
     let ok = (law.len() == 3) & (r.len() == record::FLOATS);
-    let p = model::neo_hookean(law);
+    let p = host_lists::neo_hookean(law);
     host_lists::put(
         host_lists::sized(ok, solid::neo_hookean::pos_energy(p, r)),
         out,
@@ -78,11 +76,10 @@ pub extern "C" fn pasoletu_record_corotated_elastic_energy_density(
     r: &[u64],
     out: &mut [u64],
 ) -> u8
-    ensures { λ n. ⌜ n ≡ numberCode (recordCorotatedElasticEnergyDensity (now (law .entry)) (now (r .entry))) (now (out .entry)) ⌝ }
-    ensures { λ n. ⌜ now (out .exit) ≡ numberOut (recordCorotatedElasticEnergyDensity (now (law .entry)) (now (r .entry))) (now (out .entry)) ⌝ }
+    ensures { λ n. ⌜ called n (now (out .exit) ∷ []) ≡ numberIn (recordCorotatedElasticEnergyDensity (now (law .entry)) (now (r .entry))) (now (out .entry)) ⌝ }
 {
     let ok = (law.len() == 4) & (r.len() == record::FLOATS);
-    let a = solid::corotated_linear::elastic_energy_density(model::corotated(law), r);
+    let a = solid::corotated_linear::elastic_energy_density(host_lists::corotated(law), r);
     host_lists::put(
         host_lists::sized(ok, host_lists::flagged(record::word(law, 0), a)),
         out,
@@ -95,11 +92,10 @@ pub extern "C" fn pasoletu_record_corotated_pos_energy(
     r: &[u64],
     out: &mut [u64],
 ) -> u8
-    ensures { λ n. ⌜ n ≡ numberCode (recordCorotatedPosEnergy (now (law .entry)) (now (r .entry))) (now (out .entry)) ⌝ }
-    ensures { λ n. ⌜ now (out .exit) ≡ numberOut (recordCorotatedPosEnergy (now (law .entry)) (now (r .entry))) (now (out .entry)) ⌝ }
+    ensures { λ n. ⌜ called n (now (out .exit) ∷ []) ≡ numberIn (recordCorotatedPosEnergy (now (law .entry)) (now (r .entry))) (now (out .entry)) ⌝ }
 {
     let ok = (law.len() == 4) & (r.len() == record::FLOATS);
-    let a = solid::corotated_linear::pos_energy(model::corotated(law), r);
+    let a = solid::corotated_linear::pos_energy(host_lists::corotated(law), r);
     host_lists::put(
         host_lists::sized(ok, host_lists::flagged(record::word(law, 0), a)),
         out,

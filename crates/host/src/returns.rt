@@ -3,7 +3,9 @@ use answers::Answer;
 use plasticity_snow::SnowPlasticity;
 use tensor::VectorAnswer;
 ghost use mathlib.Core.Path.{_≡_};
-ghost use Rattle.host_lists.specs.Out.{numberCode, numberOut, vectorCode, vectorOut};
+ghost use mathlib.Core.List.{[], _∷_};
+ghost use Rattle.host_lists.specs.Called.{called};
+ghost use Rattle.host_lists.specs.Out.{numberIn, vectorIn};
 ghost use Rattle.host.specs.Calls.{snowOf, snowClamp, vectorOf, rankineProject, druckerPragerAlpha, naccFriction, decomposedTimes};
 
 #[no_mangle]
@@ -14,8 +16,7 @@ pub extern "C" fn pasoletu_snow_clamp(
     sigma: &[u64],
     out: &mut [u64],
 ) -> u8
-    ensures { λ r. ⌜ r ≡ vectorCode (snowClamp (snowOf «min_epsilon» «max_epsilon» «hardening_coeff») (now (sigma .entry))) (now (out .entry)) ⌝ }
-    ensures { λ r. ⌜ now (out .exit) ≡ vectorOut (snowClamp (snowOf «min_epsilon» «max_epsilon» «hardening_coeff») (now (sigma .entry))) (now (out .entry)) ⌝ }
+    ensures { λ r. ⌜ called r (now (out .exit) ∷ []) ≡ vectorIn (snowClamp (snowOf «min_epsilon» «max_epsilon» «hardening_coeff») (now (sigma .entry))) (now (out .entry)) ⌝ }
 {
     let ok = sigma.len() == 3;
     let law = SnowPlasticity {
@@ -44,8 +45,7 @@ pub extern "C" fn pasoletu_rankine_project(
     strains: &[u64],
     out: &mut [u64],
 ) -> u8
-    ensures { λ r. ⌜ r ≡ vectorCode (rankineProject (now (arguments .entry)) s (now (strains .entry))) (now (out .entry)) ⌝ }
-    ensures { λ r. ⌜ now (out .exit) ≡ vectorOut (rankineProject (now (arguments .entry)) s (now (strains .entry))) (now (out .entry)) ⌝ }
+    ensures { λ r. ⌜ called r (now (out .exit) ∷ []) ≡ vectorIn (rankineProject (now (arguments .entry)) s (now (strains .entry))) (now (out .entry)) ⌝ }
 {
     let ok = (arguments.len() == 4) & (strains.len() == 3);
     let a = model::rankine(arguments);
@@ -57,8 +57,7 @@ pub extern "C" fn pasoletu_rankine_project(
 
 #[no_mangle]
 pub extern "C" fn pasoletu_drucker_prager_alpha(fields: &[u64], q: f64, out: &mut [u64]) -> u8
-    ensures { λ r. ⌜ r ≡ numberCode (druckerPragerAlpha (now (fields .entry)) q) (now (out .entry)) ⌝ }
-    ensures { λ r. ⌜ now (out .exit) ≡ numberOut (druckerPragerAlpha (now (fields .entry)) q) (now (out .entry)) ⌝ }
+    ensures { λ r. ⌜ called r (now (out .exit) ∷ []) ≡ numberIn (druckerPragerAlpha (now (fields .entry)) q) (now (out .entry)) ⌝ }
 {
     let ok = fields.len() == 8;
     let p = model::drucker_prager(fields);
@@ -83,8 +82,7 @@ fn friction_in(axes: u64, angle: f64) -> Answer
 
 #[no_mangle]
 pub extern "C" fn pasoletu_nacc_friction(axes: u64, friction_angle: f64, out: &mut [u64]) -> u8
-    ensures { λ r. ⌜ r ≡ numberCode (naccFriction axes «friction_angle») (now (out .entry)) ⌝ }
-    ensures { λ r. ⌜ now (out .exit) ≡ numberOut (naccFriction axes «friction_angle») (now (out .entry)) ⌝ }
+    ensures { λ r. ⌜ called r (now (out .exit) ∷ []) ≡ numberIn (naccFriction axes «friction_angle») (now (out .entry)) ⌝ }
 {
     host_lists::put(friction_in(axes, friction_angle), out)
 }
@@ -96,8 +94,7 @@ pub extern "C" fn pasoletu_decomposed_times(
     v: &[u64],
     out: &mut [u64],
 ) -> u8
-    ensures { λ r. ⌜ r ≡ vectorCode (decomposedTimes spherical (now (deviatoric .entry)) (now (v .entry))) (now (out .entry)) ⌝ }
-    ensures { λ r. ⌜ now (out .exit) ≡ vectorOut (decomposedTimes spherical (now (deviatoric .entry)) (now (v .entry))) (now (out .entry)) ⌝ }
+    ensures { λ r. ⌜ called r (now (out .exit) ∷ []) ≡ vectorIn (decomposedTimes spherical (now (deviatoric .entry)) (now (v .entry))) (now (out .entry)) ⌝ }
 {
     let ok = (deviatoric.len() == 9) & (v.len() == 3);
     let t = host_lists::decomposed(spherical, deviatoric);

@@ -1,8 +1,11 @@
 // Slices of a slope: the update of one flat record, and the pass over a list of them.
-use crate::counts_out::put_counts;
-use crate::update::put_outcome;
 ghost use mathlib.Core.Path.{_≡_};
-ghost use Rattle.host.specs.Slices.{flatCode, flatUpdated, flatAnswer, flatPassCode, flatRecords, flatAnswers, flatCounts};
+ghost use mathlib.Core.List.{[], _∷_};
+ghost use Rattle.flat_particles.specs.Layout as flat;
+ghost use Rattle.flat_particles.specs.Law.{flatLaw};
+ghost use Rattle.host_lists.specs.Called.{called};
+ghost use Rattle.host_passes.specs.Update.{updateBy};
+ghost use Rattle.host_passes.specs.Passes.{passBy};
 
 #[no_mangle]
 pub extern "C" fn pasoletu_flat_update(
@@ -11,18 +14,9 @@ pub extern "C" fn pasoletu_flat_update(
     r: &mut [u64],
     answer: &mut [u64],
 ) -> u8
-    ensures { λ n. ⌜ n ≡ flatCode model (now (parameters .entry)) (now (r .entry)) (now (answer .entry)) ⌝ }
-    ensures { λ n. ⌜ now (r .exit) ≡ flatUpdated model (now (parameters .entry)) (now (r .entry)) (now (answer .entry)) ⌝ }
-    ensures { λ n. ⌜ now (answer .exit) ≡ flatAnswer model (now (parameters .entry)) (now (r .entry)) (now (answer .entry)) ⌝ }
+    ensures { λ n. ⌜ called n (now (r .exit) ∷ now (answer .exit) ∷ []) ≡ updateBy flat.floats flatLaw model (now (parameters .entry)) (now (r .entry)) (now (answer .entry)) ⌝ }
 {
-    if model::fit(model, parameters) & (r.len() == flat_particles::FLOATS) & (answer.len() == 2) {
-        if model::known(model, parameters) {
-            let o = flat_particles::update_record(model::model_of(model, parameters), r);
-            return put_outcome(o, answer);
-        }
-        return answers::UNKNOWN;
-    }
-    answers::LENGTH
+    host_passes::flat_update(model, parameters, r, answer)
 }
 
 #[no_mangle]
@@ -33,20 +27,7 @@ pub extern "C" fn pasoletu_flat_pass(
     answers: &mut [u64],
     counts: &mut [u64],
 ) -> u8
-    ensures { λ r. ⌜ r ≡ flatPassCode model (now (parameters .entry)) (now (records .entry)) (now (answers .entry)) (now (counts .entry)) ⌝ }
-    ensures { λ r. ⌜ now (records .exit) ≡ flatRecords model (now (parameters .entry)) (now (records .entry)) (now (answers .entry)) (now (counts .entry)) ⌝ }
-    ensures { λ r. ⌜ now (answers .exit) ≡ flatAnswers model (now (parameters .entry)) (now (records .entry)) (now (answers .entry)) (now (counts .entry)) ⌝ }
-    ensures { λ r. ⌜ now (counts .exit) ≡ flatCounts model (now (parameters .entry)) (now (records .entry)) (now (answers .entry)) (now (counts .entry)) ⌝ }
+    ensures { λ r. ⌜ called r (now (records .exit) ∷ now (answers .exit) ∷ now (counts .exit) ∷ []) ≡ passBy flat.floats flatLaw model (now (parameters .entry)) (now (records .entry)) (now (answers .entry)) (now (counts .entry)) ⌝ }
 {
-    if model::fit(model, parameters)
-        & flat_particles::well_sized(records.len(), answers.len())
-        & (counts.len() == 3)
-    {
-        if model::known(model, parameters) {
-            let passed = flat_particles::pass(model::model_of(model, parameters), records, answers);
-            return put_counts(passed, counts);
-        }
-        return answers::UNKNOWN;
-    }
-    answers::LENGTH
+    host_passes::flat_pass(model, parameters, records, answers, counts)
 }

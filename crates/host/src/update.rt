@@ -1,28 +1,10 @@
 // The update of one record by a plastic law.
-use particles::copy;
-use plasticity::Outcome;
 ghost use mathlib.Core.Path.{_≡_};
-ghost use lib.ListN.{length};
-ghost use Rattle.host.specs.Update.{outcomeCode, outcomeAnswer, updateCode, recordUpdated, answerUpdated};
-
-// A refusal of the law is the call's; else the two answers are written.
-pub(crate) fn put_outcome(o: Outcome, answer: &mut [u64]) -> u8
-    requires { ⌜ length (now answer) ≡ 2 ⌝ }
-    ensures { λ r. ⌜ r ≡ outcomeCode o ⌝ }
-    ensures { λ r. ⌜ now (answer .exit) ≡ outcomeAnswer o (now (answer .entry)) ⌝ }
-{
-    match o {
-        Outcome::Untouched => {
-            copy(&[0u64, 0u64], answer);
-            0
-        }
-        Outcome::Stored(a) => {
-            copy(&[1u64, numbers::bits_of(a)], answer);
-            0
-        }
-        Outcome::Refused(n) => n,
-    }
-}
+ghost use mathlib.Core.List.{[], _∷_};
+ghost use Rattle.record.specs.Layout.{floats};
+ghost use Rattle.particles.specs.Plain.{recordLaw};
+ghost use Rattle.host_lists.specs.Called.{called};
+ghost use Rattle.host_passes.specs.Update.{updateBy};
 
 #[no_mangle]
 pub extern "C" fn pasoletu_update(
@@ -31,16 +13,7 @@ pub extern "C" fn pasoletu_update(
     r: &mut [u64],
     answer: &mut [u64],
 ) -> u8
-    ensures { λ n. ⌜ n ≡ updateCode model (now (parameters .entry)) (now (r .entry)) (now (answer .entry)) ⌝ }
-    ensures { λ n. ⌜ now (r .exit) ≡ recordUpdated model (now (parameters .entry)) (now (r .entry)) (now (answer .entry)) ⌝ }
-    ensures { λ n. ⌜ now (answer .exit) ≡ answerUpdated model (now (parameters .entry)) (now (r .entry)) (now (answer .entry)) ⌝ }
+    ensures { λ n. ⌜ called n (now (r .exit) ∷ now (answer .exit) ∷ []) ≡ updateBy floats recordLaw model (now (parameters .entry)) (now (r .entry)) (now (answer .entry)) ⌝ }
 {
-    if model::fit(model, parameters) & (r.len() == record::FLOATS) & (answer.len() == 2) {
-        if model::known(model, parameters) {
-            let o = particles::update_record(model::model_of(model, parameters), r);
-            return put_outcome(o, answer);
-        }
-        return answers::UNKNOWN;
-    }
-    answers::LENGTH
+    host_passes::update(model, parameters, r, answer)
 }

@@ -1,3 +1,5 @@
+pub mod Called
+pub mod Laws
 pub mod Out
 pub mod Refused
 pub mod Read

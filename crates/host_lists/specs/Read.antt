@@ -1,4 +1,4 @@
--- What is read of a host's lists beside rows and matrices.
+-- What is read of a host's lists beside rows and matrices (RULES, section 6).
 use mathlib.Core.List.{List}
 use Prim.Native.Nat.{ℕ}
 use lib.Ieee.{Float}

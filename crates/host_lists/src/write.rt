@@ -5,11 +5,12 @@ use solid::StressVerdict;
 use tensor::MatrixAnswer;
 use tensor::VectorAnswer;
 ghost use mathlib.Core.Path.{_≡_};
-ghost use Rattle.host_lists.specs.Out.{numberCode, numberOut, pairCode, pairOut, vectorCode, vectorOut, matrixCode, matrixOut, verdictWord, judgedCode, stressOut, verdictOut};
+ghost use mathlib.Core.List.{[], _∷_};
+ghost use Rattle.host_lists.specs.Called.{called};
+ghost use Rattle.host_lists.specs.Out.{numberIn, pairIn, vectorIn, matrixIn, verdictWord, judgedIn};
 
 pub fn put(a: Answer, out: &mut [u64]) -> u8
-    ensures { λ r. ⌜ r ≡ numberCode a (now (out .entry)) ⌝ }
-    ensures { λ r. ⌜ now (out .exit) ≡ numberOut a (now (out .entry)) ⌝ }
+    ensures { λ r. ⌜ called r (now (out .exit) ∷ []) ≡ numberIn a (now (out .entry)) ⌝ }
 {
     if out.len() != 1 {
         return answers::LENGTH;
@@ -24,8 +25,7 @@ pub fn put(a: Answer, out: &mut [u64]) -> u8
 }
 
 pub fn put_pair(a: Pair, out: &mut [u64]) -> u8
-    ensures { λ r. ⌜ r ≡ pairCode a (now (out .entry)) ⌝ }
-    ensures { λ r. ⌜ now (out .exit) ≡ pairOut a (now (out .entry)) ⌝ }
+    ensures { λ r. ⌜ called r (now (out .exit) ∷ []) ≡ pairIn a (now (out .entry)) ⌝ }
 {
     if out.len() != 2 {
         return answers::LENGTH;
@@ -41,8 +41,7 @@ pub fn put_pair(a: Pair, out: &mut [u64]) -> u8
 }
 
 pub fn put_vector(a: VectorAnswer, out: &mut [u64]) -> u8
-    ensures { λ r. ⌜ r ≡ vectorCode a (now (out .entry)) ⌝ }
-    ensures { λ r. ⌜ now (out .exit) ≡ vectorOut a (now (out .entry)) ⌝ }
+    ensures { λ r. ⌜ called r (now (out .exit) ∷ []) ≡ vectorIn a (now (out .entry)) ⌝ }
 {
     if out.len() != 3 {
         return answers::LENGTH;
@@ -57,8 +56,7 @@ pub fn put_vector(a: VectorAnswer, out: &mut [u64]) -> u8
 }
 
 pub fn put_matrix(a: MatrixAnswer, out: &mut [u64]) -> u8
-    ensures { λ r. ⌜ r ≡ matrixCode a (now (out .entry)) ⌝ }
-    ensures { λ r. ⌜ now (out .exit) ≡ matrixOut a (now (out .entry)) ⌝ }
+    ensures { λ r. ⌜ called r (now (out .exit) ∷ []) ≡ matrixIn a (now (out .entry)) ⌝ }
 {
     if out.len() != 9 {
         return answers::LENGTH;
@@ -81,9 +79,7 @@ fn verdict_word(failed: bool) -> u64
 
 // A stress into one room and its verdict into another: both are written or neither.
 pub fn put_judged(a: StressVerdict, stress: &mut [u64], verdict: &mut [u64]) -> u8
-    ensures { λ r. ⌜ r ≡ judgedCode a (now (stress .entry)) (now (verdict .entry)) ⌝ }
-    ensures { λ r. ⌜ now (stress .exit) ≡ stressOut a (now (stress .entry)) (now (verdict .entry)) ⌝ }
-    ensures { λ r. ⌜ now (verdict .exit) ≡ verdictOut a (now (stress .entry)) (now (verdict .entry)) ⌝ }
+    ensures { λ r. ⌜ called r (now (stress .exit) ∷ now (verdict .exit) ∷ []) ≡ judgedIn a (now (stress .entry)) (now (verdict .entry)) ⌝ }
 {
     if stress.len() != 9 {
         return answers::LENGTH;

@@ -3,26 +3,24 @@ use mathlib.Core.Path.{_≡_, refl}
 use mathlib.Core.List.{List, [], _∷_}
 use Prim.Native.Nat.{ℕ}
 use Rattle.particles.specs.declared.list.Counts.{Counts}
-use Rattle.particles.specs.declared.list.Passed.the-variants as pass
 use Rattle.particles.specs.declared.failure.FailureCounts.{FailureCounts}
-use Rattle.particles.specs.declared.failure.PassedWithFailure.the-variants as failure-pass
 use Rattle.sheet.specs.declared.Header.{Header}
 use Rattle.sheet_run.specs.declared.Ran.{Ran}
 use Rattle.report.specs.declared.Report.{Report}
 use Rattle.parts.specs.declared.Told.{Told}
 use Rattle.parts_words.specs.Calls.{progressOf}
-use Rattle.host.specs.Passes.{countsOf, failureCountsOf}
-use Rattle.host.specs.Sheets.{headerRoom, ranCounts}
-use Rattle.host.specs.Reports.{reportWords, reportAt}
+use Rattle.host_passes.specs.Passes.{countsOf, failureCountsOf}
+use Rattle.host_sheets.specs.Sheets.{headerRoom, ranCounts}
+use Rattle.host_sheets.specs.Reports.{reportWords, reportAt}
 use Rattle.host_words.specs.Places.{countsRead, failureCountsRead, ranRead, headerRead, reportRead, completeRead, saidRead}
 
+pub counts-back : (c : Counts) → countsRead (countsOf c) ≡ c
+counts-back c = refl
+
+pub failure-counts-back : (c : FailureCounts) → failureCountsRead (failureCountsOf c) ≡ c
+failure-counts-back c = refl
+
 module _ (room : List ℕ) where
-  pub counts-back : (c : Counts) → countsRead (countsOf (pass.Done c) room) ≡ c
-  counts-back c = refl
-
-  pub failure-counts-back : (c : FailureCounts) → failureCountsRead (failureCountsOf (failure-pass.Done c) room) ≡ c
-  failure-counts-back c = refl
-
   abbrev ran : ℕ → Counts → Ran
   ran n c = record { refusal = 0; particles = n; counts = c }
 

@@ -1,4 +1,4 @@
--- What a reading of a whole input says: no more bytes came than the room has places. Which bytes, the operating system decides.
+-- What a reading of a whole input says (RULES, section 7): no more bytes came than the room has places. Which bytes, the operating system decides.
 use Prim.Native.Nat.{ℕ, _≤_}
 use Rattle.lines.specs.declared.whole.Input.{Input}
 use Rattle.lines.specs.declared.whole.Input.the-variants.{Bytes, Failed}

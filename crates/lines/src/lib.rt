@@ -1,7 +1,6 @@
 // What is printed of a sheet (RULES, section 7): the count, a line a particle, and "end"; or the refusal alone. Or the sheet itself,
 // with its updated records.
 mod frames;
-mod text;
 mod whole;
 
 pub use frames::ALL_FRAMES;
@@ -14,6 +13,8 @@ ghost use mathlib.Core.Path.{_≡_};
 ghost use mathlib.Core.Bool.{false};
 ghost use Prim.Native.Nat.{_<_};
 ghost use lib.ListN.{length};
+ghost use Rattle.answer_text.specs.Text.{Puts};
+ghost use Rattle.lines.specs.Answer.{answerText};
 
 // A byte more than the longest sheet has, so that every longer input is refused: by 5, 6 or 7, as the reader meets them.
 pub const ROOM: usize = sheet::LONGEST + 1;
@@ -21,18 +22,17 @@ pub const ROOM: usize = sheet::LONGEST + 1;
 // More bytes than an answer has: its heading, its first line, 28 bytes a particle and "end".
 pub const TEXT: usize = 8192;
 
-// No text reaches to this place.
-const FULL: usize = 18446744073709551615;
-
 // Runs a sheet and puts its answer into the text from a place on; the place behind it.
-fn put_answer(s: &[u8], text: &mut [u8], at: usize) -> usize {
+fn put_answer(s: &[u8], text: &mut [u8], at: usize) -> usize
+    ensures { λ r. ⌜ Puts (answerText (now (s .entry))) (now (text .entry)) at r (now (text .exit)) ⌝ }
+{
     let mut records = [0u64; sheet::MOST_WORDS];
     let mut answers = [0u64; sheet::MOST_ANSWERS];
     let r = sheet_run::run_sheet(s, &mut records, &mut answers);
     if r.refusal != 0 {
-        text::put_refused(text, at, r.refusal)
+        answer_text::put_refused(text, at, r.refusal)
     } else {
-        text::put_sheet(text, at, &answers, r.particles)
+        answer_text::put_sheet(text, at, &answers, r.particles)
     }
 }
 
@@ -46,7 +46,7 @@ fn print_run(s: &[u8]) -> bool {
 // The same under a heading with a number.
 fn print_headed(number: u64, s: &[u8]) -> bool {
     let mut text = [0u8; TEXT];
-    let at = text::put_heading(&mut text, 0, number);
+    let at = answer_text::put_heading(&mut text, 0, number);
     let k = put_answer(s, &mut text, at);
     write_front(&text, k)
 }

@@ -13,7 +13,8 @@ use lib.Ieee.{Float, binary64, ofBits, fits}
 use lib.Ieee.Scale.{finite}
 use Rattle.exact.proofs.Both.{both, both-left, both-right}
 use Rattle.exact.specs.Units.{L, mag, sgn, Fin64}
-use Rattle.exact.specs.Sums.{pl, mi, plus, minus, add-near}
+use Rattle.exact.specs.Sums.{pl, mi}
+use Rattle.exact.proofs.Sums.{plus, minus, add-near}
 use Rattle.logarithm.specs.Worked.{ln2}
 
 -- 2^-57 in units of 2^-1074, shut

@@ -10,11 +10,14 @@ use lib.IntN.{pos}
 use lib.Ieee as Ieee
 use lib.Ieee.{Float, binary64, ofBits, toBits, fits, isNan}
 use lib.Ieee.Scale as Scale
-use Rattle.exact.specs.Units.{L, L-pos, mag, sgn, Fin64}
+use Rattle.exact.specs.Units.{L, mag, sgn, Fin64}
+use Rattle.exact.proofs.Units.{L-pos}
 use Rattle.exact.specs.Sums.{pl, mi}
-use Rattle.exact.specs.Value.{val, signed, p-val, n-val}
+use Rattle.exact.specs.Value.{val, signed}
+use Rattle.exact.proofs.Value.{p-val, n-val}
 use Rattle.exact.proofs.OrderLe.{le-val, between-finite}
-use Rattle.exact.specs.Fields.{Has, exponentAt, of-own}
+use Rattle.exact.specs.Fields.{exponentAt}
+use Rattle.exact.proofs.Fields.{Has, of-own}
 use Rattle.exact.proofs.Patterns.{finite-not-nan, exponent-lt, units-at}
 use Rattle.answers.specs.Range.{inRange}
 use Rattle.answers.proofs.Values.{between}

@@ -9,14 +9,18 @@ use lib.Pow.{pow-pos, pow-add}
 use lib.IntN.{ℤ, pos, negsuc, _+ℤ_, _*ℤ_, _-ℤ_}
 use lib.Ieee.{Float}
 use Rattle.exact.specs.Integers.{p, n}
-use Rattle.exact.specs.Units.{L, L-pos, mag, Fin64}
-use Rattle.exact.specs.Sums.{plus, minus}
-use Rattle.exact.specs.Value.{val, p-val, n-val}
+use Rattle.exact.specs.Units.{L, mag, Fin64}
+use Rattle.exact.proofs.Units.{L-pos}
+use Rattle.exact.proofs.Sums.{plus, minus}
+use Rattle.exact.specs.Value.{val}
+use Rattle.exact.proofs.Value.{p-val, n-val}
 use Rattle.series.specs.Remainder.{Above, Under}
-use Rattle.series.specs.Bounds.{above-add, under-add, above-mono, under-mono, above-cancel, under-cancel, above-pow, under-pow, one-plus}
+use Rattle.series.proofs.Bounds.{above-add, under-add, above-mono, under-mono, above-cancel, under-cancel, above-pow, under-pow, one-plus}
 use Rattle.series.proofs.Scale.{above-scale, above-unscale, under-scale, under-unscale}
-use Rattle.series.specs.ExpNear.{AtMost, AtLeast, at-most-weak, at-least-weak}
-use Rattle.series.specs.LogNear.{LogNear, low-parts, high-parts}
+use Rattle.series.specs.ExpNear.{AtMost, AtLeast}
+use Rattle.series.proofs.ExpNear.{at-most-weak, at-least-weak}
+use Rattle.series.specs.LogNear.{LogNear}
+use Rattle.series.proofs.LogNear.{low-parts, high-parts}
 use Rattle.series.proofs.Logs.{Between, betweenTest, between}
 use Rattle.series.proofs.LogTail.{risen, fallen, whole, LogTail}
 use Rattle.logarithm.proofs.Floats.{K, L-is, ln2Whole, Times, Summed}

@@ -7,8 +7,10 @@ use native.Mathlib.Omega.{arith, by-contra}
 use lib.Dec.{T, nleb→lt}
 use lib.Pow.{pow-add, pow-pos, pow-mono}
 use lib.Ieee.{binary64, ofBits}
-use Rattle.exact.specs.Units.{mag, sgn, le-of-pow}
-use Rattle.exact.specs.Fields.{exponentAt, digitsAt, normal-units, small-units}
+use Rattle.exact.specs.Units.{mag, sgn}
+use Rattle.exact.proofs.Units.{le-of-pow}
+use Rattle.exact.specs.Fields.{exponentAt, digitsAt}
+use Rattle.exact.proofs.Fields.{normal-units, small-units}
 
 below-52 : (n : ℕ) → digitsAt n < 2 ^ 52
 below-52 n = omega arith

@@ -10,11 +10,13 @@ use lib.IntN.{pos}
 use lib.Ieee as Ieee
 use lib.Ieee.{Float, binary64, ofBits, fits, round, unlike}
 use lib.Ieee.Order.{round-mono}
-use Rattle.exact.specs.Units.{L, L-pos, mag, sgn, Fin64, mul-units}
+use Rattle.exact.specs.Units.{L, mag, sgn, Fin64}
+use Rattle.exact.proofs.Units.{L-pos, mul-units}
 use Rattle.exact.specs.Rounding.{Near}
-use Rattle.exact.specs.Sums.{pl, mi, plus, minus, add-near}
-use Rattle.exact.specs.Products.{mul-mag}
-use Rattle.exact.specs.Fields.{Has}
+use Rattle.exact.specs.Sums.{pl, mi}
+use Rattle.exact.proofs.Sums.{plus, minus, add-near}
+use Rattle.exact.proofs.Products.{mul-mag}
+use Rattle.exact.proofs.Fields.{Has}
 use Rattle.exact.proofs.Normal.{above-positive}
 use Rattle.exact.specs.Value.{val, signed}
 use Rattle.logarithm.proofs.Floats.{K, K-pos, L-is, D, D-pos, square, few}

@@ -10,7 +10,7 @@ use lib.Ieee.Scale.{finite}
 use Rattle.exact.proofs.Both.{both, both-left, both-right}
 use Rattle.exact.proofs.Match.{at-or-last}
 use Rattle.exact.specs.Units.{L, mag, sgn}
-use Rattle.exact.specs.Fields.{Has}
+use Rattle.exact.proofs.Fields.{Has}
 use Rattle.series.proofs.Logs.{Between, betweenTest, between}
 use Rattle.logarithm.specs.Entries.{scales, last-scale, scaleOf, logOf, cOf}
 use Rattle.logarithm.proofs.Floats.{K, D}

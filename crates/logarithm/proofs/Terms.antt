@@ -3,18 +3,21 @@ use mathlib.Core.Path.{_≡_, refl, ap, ap₂, _∙_}
 use mathlib.Core.Bool.{true}
 use mathlib.Core.List.{List, [], _∷_}
 use Prim.Native.Nat.{ℕ, suc, _+_, _*_, _^_, _≤_, _<_, zero-le}
-use native.Mathlib.Nat.{le-trans, mul-le-mul, mul-le-mul-right, le-of-mul-le-mul-right, pow-suc}
+use native.Mathlib.Nat.{le-trans, mul-le-mul, mul-le-mul-right, le-of-mul-le-mul-right}
 use native.Mathlib.Omega.{arith}
 use lib.Dec.{T, leb, leb→le}
 use lib.IntN.{ℤ, pos, negℤ, _*ℤ_, _-ℤ_}
 use lib.Ieee as Ieee
 use lib.Ieee.{Float, binary64, ofBits, fits}
-use Rattle.exact.specs.Units.{L, L-pos, mag, sgn, Fin64}
-use Rattle.exact.specs.Integers.{p, n, abs, abs-pos, +-parts, neg-parts, *-parts}
+use Rattle.exact.specs.Units.{L, mag, sgn, Fin64}
+use Rattle.exact.proofs.Units.{L-pos}
+use Rattle.exact.specs.Integers.{p, n, abs}
+use Rattle.exact.proofs.Integers.{abs-pos, +-parts, neg-parts, *-parts}
 use Rattle.exact.proofs.Ring.{ring, Ex, var, con, _:+_, _:-_, _:*_, Env, den}
-use Rattle.exact.specs.Value.{val, near-abs, p-val, n-val}
-use Rattle.exact.specs.Sums.{plus, minus}
-use Rattle.series.specs.Powers.{pow2, pow3, pow4}
+use Rattle.exact.specs.Value.{val}
+use Rattle.exact.proofs.Value.{near-abs, p-val, n-val}
+use Rattle.exact.proofs.Sums.{plus, minus}
+use Rattle.series.proofs.Powers.{pow2, pow3, pow4, pow5}
 use Rattle.error_bounds.proofs.Line.{Q}
 use Rattle.error_bounds.proofs.Box.{minZ, maxZ, floor, ceil}
 use Rattle.error_bounds.proofs.Span.{S, In}
@@ -150,9 +153,6 @@ parts v d P M E e h k =
     let c = mul-le-mul-right d h in
     (omega (arith, a, b, c, *-parts v (pos d), +-parts (pos P) (negℤ (pos M)), neg-parts (pos M)), omega (arith, a, b, c, *-parts v (pos d), +-parts (pos P) (negℤ (pos M)), neg-parts (pos M)))
 
-fifth : (m : ℕ) → m ^ 5 ≡ m * m * m * m * m
-fifth m = pow-suc m 4 ∙ ap (λ x. x * m) (pow4 m)
-
 -- 60 times what is meant is L (risen - fallen), but for the last digits of 1 / 3 and 1 / 5
 down-is : (m a2 a4 l : ℕ) → 2 * a2 ≡ l → 4 * a4 ≡ l → 60 * down m a2 a4 l ≡ l * (30 * (m * m * (l * l * l)) + 15 * (m * m * m * m * l))
 down-is m a2 a4 l e2 e4 = omega (arith, ap (λ v. m * m * (l * l * l) * v) e2, ap (λ v. m * m * m * m * l * v) e4)
@@ -237,8 +237,8 @@ module _ (r g : Float) (fr : Fin64 r) (fg : Fin64 g) (vr : val r ≡ pos (mag r)
       record {
         fine = within .fine;
         size = size;
-        most = rw (pow2 m, pow3 m, pow4 m, fifth m, pow2 L, pow3 L, pow4 L) (most-plain (plus z) (minus z) b _ _ _ _ (L * L * L * L) L K _ _ L-pos e f (small-5 m L K h) (near .0));
-        least = rw (pow2 m, pow3 m, pow4 m, fifth m, pow2 L, pow3 L, pow4 L) (least-plain (plus z) (minus z) b _ _ _ _ (L * L * L * L) L K _ _ L-pos e f (small-3 m L K h) (near .1));
+        most = rw (pow2 m, pow3 m, pow4 m, pow5 m, pow2 L, pow3 L, pow4 L) (most-plain (plus z) (minus z) b _ _ _ _ (L * L * L * L) L K _ _ L-pos e f (small-5 m L K h) (near .0));
+        least = rw (pow2 m, pow3 m, pow4 m, pow5 m, pow2 L, pow3 L, pow4 L) (least-plain (plus z) (minus z) b _ _ _ _ (L * L * L * L) L K _ _ L-pos e f (small-3 m L K h) (near .1));
       }
 
   pub terms : Terms (mag r) (mag g) (Ieee.add binary64 g (partOf r))

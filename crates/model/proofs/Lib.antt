@@ -1,4 +1,5 @@
 pub mod Ends
 pub mod KindLaws
 pub mod ReadyLaws
+pub mod RowLaws
 pub mod StoredFinite

@@ -1,37 +1,17 @@
--- The model numbers and the kinds of their parameters (RULES, sections 5 and 7). This alone says which number is which law.
-use mathlib.Core.Bool.{Bool, true, false, cond, _&&_, _||_}
+-- The kinds of a model's parameters (RULES, sections 5 and 7), by its number: `Rows` says which number is which law, and of each law the kinds.
+use mathlib.Core.Bool.{Bool, true, false, _&&_, _||_}
 use mathlib.Core.List.{List, [], _∷_}
-use Prim.Native.Nat.{ℕ, _+_, _%_}
+use Prim.Native.Nat.{ℕ, suc, _+_}
 use lib.Dec.{eqb, ltb, leb}
 use lib.ListN.{length, getD}
 use Rattle.model.specs.declared.Law.{Law}
-use Rattle.model.specs.declared.Law.the-variants.{Snow, Rankine, DruckerPrager, Nacc}
+use Rattle.model.specs.declared.rows.Shape.{Shape}
+use Rattle.model.specs.Rows.{rowOf}
+pub use Rattle.model.specs.Rows.{last, whole}
+unfoldable pub use Rattle.model.specs.Rows.{lawOf}
 
--- a number above the last is refused by 6
-abbrev pub last : ℕ
-last = 7
-
--- 4 to 7 name the laws of 0 to 3 again
-abbrev pub laws : ℕ
-laws = 4
-
-abbrev pub numbered : ℕ → Law
-numbered k = cond (eqb k 0) Snow (cond (eqb k 1) Rankine (cond (eqb k 2) DruckerPrager Nacc))
-
-unfoldable pub lawOf : ℕ → Law
-lawOf number = numbered (number % laws)
-
--- of a sheet: whether its records end with the determinant
-abbrev pub whole : ℕ → Bool
-whole number = leb laws number
-
--- Of each parameter whether it is a flag: Snow's 3 fields, Rankine's 4 arguments of `new`, Drucker-Prager's 8 fields with
--- only_active_when_failed, NACC's 6 arguments of `with_m` with hardening_enabled.
 abbrev pub kinds : Law → List Bool
-kinds Snow = false ∷ false ∷ false ∷ []
-kinds Rankine = false ∷ false ∷ false ∷ false ∷ []
-kinds DruckerPrager = false ∷ false ∷ false ∷ false ∷ false ∷ false ∷ true ∷ false ∷ []
-kinds Nacc = false ∷ false ∷ false ∷ true ∷ false ∷ false ∷ []
+kinds law = rowOf law .kinds
 
 -- no law has more parameters
 abbrev pub places : ℕ
@@ -39,6 +19,15 @@ places = 8
 
 unfoldable pub kindsOf : ℕ → List Bool
 kindsOf number = kinds (lawOf number)
+
+-- the place of the first flag, or how many parameters there are
+abbrev pub flagOf : List Bool → ℕ
+flagOf [] = 0
+flagOf (true ∷ l) = 0
+flagOf (false ∷ l) = suc (flagOf l)
+
+abbrev pub shapeOf : ℕ → Shape
+shapeOf number = record { law = lawOf number; count = length (kindsOf number); flag = flagOf (kindsOf number) }
 
 -- the bits of 1.0
 abbrev pub one : ℕ

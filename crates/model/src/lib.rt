@@ -1,23 +1,14 @@
 // The models (RULES, sections 5 to 7): which number names which plastic law, what parameters it has, the law from their bits,
-// and the update by it.
-mod choice;
-mod fields;
+// and the update by it. Which law is which stands in `rows`.
 mod kinds;
 mod readied;
+mod rows;
 
-pub use choice::model_finite;
-pub use choice::reason_of;
-pub use choice::update;
-pub use fields::corotated;
-pub use fields::drucker_prager;
-pub use fields::limits;
-pub use fields::model_of;
-pub use fields::neo_hookean;
-pub use fields::rankine;
 pub use kinds::fit;
 pub use kinds::is_flag;
 pub use kinds::is_flag_of;
 pub use kinds::known;
+pub use kinds::law_of;
 pub use kinds::parameters_of;
 use plasticity_drucker_prager::DruckerPragerPlasticity;
 use plasticity_nacc::NaccArguments;
@@ -25,9 +16,17 @@ use plasticity_nacc::NaccPlasticity;
 use plasticity_rankine::RankineArguments;
 use plasticity_rankine::RankinePlasticity;
 use plasticity_snow::SnowPlasticity;
-pub use readied::make_ready;
-pub use readied::parameters_ready;
-pub use readied::update_ready;
+pub use readied::model_finite;
+pub use rows::branch;
+pub use rows::drucker_prager;
+pub use rows::make_ready;
+pub use rows::model_of;
+pub use rows::parameters_ready;
+pub use rows::rankine;
+pub use rows::reason_of;
+pub use rows::update_ready;
+pub use rows::whole;
+pub use rows::write_scalars;
 
 // The plastic laws.
 pub enum Law {
@@ -35,6 +34,8 @@ pub enum Law {
     Rankine,
     DruckerPrager,
     Nacc,
+    // That of a number which names none.
+    Unknown,
 }
 
 // A plastic law with its parameters as a sheet has them.
@@ -54,10 +55,8 @@ pub enum Ready {
     Refused(u8),
 }
 
-// The last model number, and how many laws there are: 4 to 7 name those of 0 to 3 again, for sheets whose records end with the determinant.
+// The last model number.
 pub const LAST: u64 = 7;
-
-pub const LAWS: u64 = 4;
 
 // How many parameters a model has at most.
 pub const PARAMETERS: usize = 8;

@@ -11,8 +11,10 @@ use lib.IntN.{ℤ, pos, negsuc, negℤ, _+ℤ_, _-ℤ_, _*ℤ_}
 use lib.Ieee.{Float, nan, inf, fin, unlike, neg, binary64, ofBits}
 use Rattle.exact.specs.Units.{L, mag}
 use Rattle.exact.specs.Sums.{pl, mi}
-use Rattle.exact.specs.Integers.{p, n, ext, abs, abs-pos, abs-neg, abs-*pos, +-parts, neg-parts, *-parts, neg-*, *-assoc}
-use Rattle.exact.specs.Value.{val, signed, abs-val}
+use Rattle.exact.specs.Integers.{p, n, abs}
+use Rattle.exact.proofs.Integers.{ext, abs-pos, abs-neg, abs-*pos, +-parts, neg-parts, *-parts, neg-*, *-assoc}
+use Rattle.exact.specs.Value.{val, signed}
+use Rattle.exact.proofs.Value.{abs-val}
 use Rattle.nearness.specs.declared.Whole.{Whole}
 use Rattle.nearness.specs.declared.Term.{Term}
 use Rattle.nearness.specs.Whole.{WholeOf}

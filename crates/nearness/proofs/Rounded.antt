@@ -9,17 +9,20 @@ use lib.Dec.{T, leb, leb→le, le→leb, lit≤}
 use lib.IntN.{ℤ, pos, negsuc, negℤ, _+ℤ_, _-ℤ_, _*ℤ_}
 use lib.ListN.{length, getD}
 use lib.Ieee.{Float, nan, binary64, neg, add, mul, le, fits, ofBits}
-use Rattle.exact.specs.Units.{L, L-pos, mag, sgn, Fin64}
+use Rattle.exact.specs.Units.{L, mag, sgn, Fin64}
+use Rattle.exact.proofs.Units.{L-pos}
 use lib.Ieee.Bits.{is-true}
 use Rattle.exact.proofs.Positives.{neg-mag}
-use Rattle.exact.specs.Integers.{p, n, ext, +-parts, neg-*, *-comm, *1, _≤ᶻ_, abs, abs-is, abs-+, abs-*, abs-*pos, abs-pos}
+use Rattle.exact.specs.Integers.{p, n, _≤ᶻ_, abs}
+use Rattle.exact.proofs.Integers.{ext, +-parts, neg-*, *-comm, *1, abs-is, abs-+, abs-*, abs-*pos, abs-pos}
 use Rattle.exact.proofs.Ring.{ring, var, con, _:+_, _:-_, _:*_}
-use Rattle.exact.specs.Value.{val, signed, abs-val, add-val, mul-val}
+use Rattle.exact.specs.Value.{val, signed}
+use Rattle.exact.proofs.Value.{abs-val, add-val, mul-val}
 use Rattle.exact.proofs.OrderLe.{le-val, between-finite}
 use Rattle.exact.proofs.Normal.{above-positive, below-positive}
 use Rattle.numbers.specs.Floats.{finite}
 use Rattle.numbers.proofs.Laws.{finite-is}
-use Rattle.tensor.specs.Axes.{entries}
+use Rattle.tensor.proofs.Axes.{entries}
 use Rattle.nearness.specs.Near.{exactSum, near}
 use Rattle.nearness.specs.Quick.{Tame, Bounded, RowBounded, Sound, two, fourfold}
 use Rattle.exact.proofs.Distances.{neg-val, neg-fine, abs-shift, abs-back}

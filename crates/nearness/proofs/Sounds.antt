@@ -10,7 +10,8 @@ use lib.ListN.{getD}
 use lib.Ieee.{Float, add, fits, ofBits, round}
 use Rattle.exact.specs.Units.{L, mag, Fin64}
 use Rattle.exact.proofs.Positives.{one-is}
-use Rattle.exact.specs.Integers.{abs, *-comm, *-assoc}
+use Rattle.exact.specs.Integers.{abs}
+use Rattle.exact.proofs.Integers.{*-comm, *-assoc}
 use Rattle.exact.specs.Value.{val}
 use Rattle.numbers.specs.Floats.{finite}
 use Rattle.tensor.specs.Matrix.{zero, one, three}

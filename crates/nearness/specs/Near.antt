@@ -1,4 +1,4 @@
--- Sums of products of three floats, one for each axis, near a float (ticket 6: "each entry of U sigma V^T is within m/2^40 of F; U and V times
+-- Sums of products of three floats, one for each axis, near a float (RULES, section 7; ticket 6: "each entry of U sigma V^T is within m/2^40 of F; U and V times
 -- their transposes are within 2^-40 of the identity"). Exact over whole numbers, for any number of axes: `val` counts units of 2 ^ -1074, of which 1 has L.
 use mathlib.Core.Bool.{Bool, true, _&&_}
 use mathlib.Core.List.{List, [], _∷_}

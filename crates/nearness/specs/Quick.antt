@@ -1,4 +1,4 @@
--- What the quick test in floats rests on: entries of U and V up to 2, sigma up to 4 m, m far from both ends of the floats.
+-- What the quick test in floats rests on (RULES, section 7): entries of U and V up to 2, sigma up to 4 m, m far from both ends of the floats.
 use mathlib.Core.Path.{_≡_}
 use mathlib.Core.Bool.{true}
 use mathlib.Core.List.{List, []}

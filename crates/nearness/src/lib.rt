@@ -18,12 +18,6 @@ pub struct Whole {
     pub e: u64,
 }
 
-// A product of two u64 in two halves.
-pub struct Wide {
-    pub low: u64,
-    pub high: u64,
-}
-
 // A signed whole number in cells, the first of which has the weight 2^(32 place).
 pub struct Term {
     pub negative: bool,

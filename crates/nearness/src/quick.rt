@@ -5,7 +5,7 @@ ghost use Rattle.exact.specs.Units.{mag, Fin64};
 ghost use Rattle.nearness.specs.Near.{near, nearRow};
 ghost use Rattle.nearness.specs.Quick.{Tame, Bounded, RowBounded, RowsBounded, Sound, SoundRow, SurelyNear, SurelyOrthogonal, two};
 
-// 2^-1000 and 2^60: beyond them the exact walk decides.
+// 2^-1000 and 2^60: beyond them the exact sum decides.
 const LOWEST: f64 = 9.332636185032189e-302;
 
 const HIGHEST: f64 = 1.152921504606847e18;

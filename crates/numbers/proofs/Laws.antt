@@ -33,12 +33,11 @@ above (inf true) p = sym p
 above (inf false) p = refl
 above (fin s m e) p = refl
 
-pub not-above : (x : Float) → lt (inf true) x ≡ false → lt (inf true) x ≡ finite x
-unfolding lt finite
-not-above nan p = refl
-not-above (inf true) p = refl
-not-above (inf false) p = p
-not-above (fin s m e) p = refl
+pub finite-number : (x : Float) → finite x ≡ true → isNumber x ≡ true
+unfolding finite isNumber
+finite-number nan h = h
+finite-number (inf s) h = refl
+finite-number (fin s m e) h = refl
 
 pub number-not-nan : (x : Float) → eq x x ≡ true → T (not (isNan x))
 unfolding eq isNan

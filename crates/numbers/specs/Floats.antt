@@ -1,4 +1,4 @@
--- Finite and NaN tests, minimum and maximum (RULES, section 4: of a NaN and a number the number, of two zeros or two NaNs the second).
+-- Finite and NaN tests, minimum and maximum (RULES, sections 4 and 6: of a NaN and a number the number, of two zeros or two NaNs the second).
 use mathlib.Core.Bool.{Bool, true, false, cond}
 use lib.Ieee as Ieee
 use lib.Ieee.{Float, nan, inf, fin}

@@ -1,3 +1,4 @@
+// Bit patterns and the numbers that they stand for (RULES, section 7).
 ghost use mathlib.Core.Path.{_≡_};
 ghost use lib.Ieee as Ieee;
 ghost use lib.Ieee.{binary64};

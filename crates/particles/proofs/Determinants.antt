@@ -37,7 +37,8 @@ use Rattle.particles.specs.Fill.{fillLaw}
 use Rattle.particles.specs.declared.step.Step.{Step}
 use Rattle.particles.specs.declared.step.Step.the-variants.{Plain, Judged, Factors, FactoredPlain, FactoredJudged}
 use Rattle.particles.specs.Step.{stepLaw}
-use Rattle.particles.proofs.NotFinite.{not-finite, last-finite, law-wrong}
+use Rattle.model.proofs.RowLaws.{not-finite}
+use Rattle.particles.proofs.NotFinite.{last-finite, law-wrong}
 use Rattle.particles.proofs.FactoredLaws.{fine, factors-length}
 use Rattle.particles.proofs.PassLaws.{outcome-same}
 use Rattle.particles.proofs.Written.{kept-right, take-kept}

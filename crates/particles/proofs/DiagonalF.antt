@@ -18,7 +18,8 @@ use Rattle.record.specs.Layout.{floats, placeF, placeU, placeSigma, placeVT, fl
 use Rattle.record.proofs.Parts.{finite-number, rows-parts, row-parts, state-parts}
 use Rattle.factors.specs.declared.Factors.{Factors}
 use Rattle.factors.specs.Sweeps.{identityRows}
-use Rattle.factors.specs.Diagonal.{Zero, diagonal-factored}
+use Rattle.factors.specs.Diagonal.{Zero}
+use Rattle.factors.proofs.Diagonal.{diagonal-factored}
 use Rattle.particles.specs.Pass.{Worked}
 use Rattle.particles.specs.Factored.{factorsAt, putFactors, withFactors, factorRefusal, factorLaw}
 use Rattle.particles.proofs.Fourteen.{stored}

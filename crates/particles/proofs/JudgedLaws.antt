@@ -12,7 +12,8 @@ use Rattle.tensor.specs.Matrix.{zero}
 use lib.Ieee.{Float}
 use Rattle.walk.specs.Walk.{Walk, Ended, given, refused, result}
 use Rattle.walk.specs.Exact.{path}
-use Rattle.walk.specs.Answers.{vectorAs, refusalIn, refused-when, stops-positive}
+use Rattle.walk.specs.Answers.{vectorAs, refusalIn}
+use Rattle.walk.proofs.Answers.{refused-when, stops-positive}
 use Rattle.failure_maximum_stress.specs.Failure.{verdictOf}
 use Rattle.plasticity.specs.declared.Outcome.{Outcome}
 use Rattle.plasticity.specs.declared.Outcome.the-variants as outcome

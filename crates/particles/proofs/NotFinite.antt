@@ -3,57 +3,23 @@ use mathlib.Core.Path.{_≡_, refl, sym, ap, _∙_}
 use mathlib.Core.Bool.{Bool, true, false, cond, _&&_, false≢true}
 use mathlib.Core.List.{List}
 use Prim.Native.Nat.{ℕ}
-use lib.Ieee.{Float}
 use Rattle.numbers.specs.Floats.{finite}
 use Rattle.numbers.proofs.Laws.{and-both}
-use Rattle.walk.specs.Update.{inThree, Change, updatedOf}
-use Rattle.walk.specs.Walk as walk
 use Rattle.answers.specs.Refusals.{notFinite, wrongDeterminant}
 use Rattle.plasticity.specs.State.{inputsFinite, refused}
-use Rattle.plasticity.specs.declared.State.{State}
 use Rattle.plasticity.specs.declared.Updated.{Updated}
 use Rattle.record.specs.Layout.{placeDeterminant, floatAt, uAt, vtAt, stateAt, recordFinite, determinantRight}
-use Rattle.plasticity_snow.specs.Over as snow
-use Rattle.plasticity_snow.proofs.Laws as snow-laws
-use Rattle.plasticity_rankine.proofs.Laws as rankine-laws
-use Rattle.plasticity_rankine.specs.Law as rankine-law
-use Rattle.plasticity_rankine.specs.Rankine as rankine
-use Rattle.plasticity_drucker_prager.proofs.Laws as drucker-prager-laws
-use Rattle.plasticity_drucker_prager.specs.DruckerPrager as drucker-prager
-use Rattle.plasticity_nacc.proofs.Laws as nacc-laws
-use Rattle.plasticity_nacc.specs.Law as nacc-law
-use Rattle.plasticity_nacc.specs.Projection as nacc-projection
-use Rattle.plasticity_nacc.specs.Over as nacc-over
-use Rattle.plasticity_nacc.specs.Nacc as nacc
-use Rattle.plasticity_rankine.specs.Over as rankine-over
-use Rattle.plasticity_drucker_prager.specs.Over as drucker-over
 use Rattle.failure_maximum_stress.specs.declared.MaximumStressFailure.{MaximumStressFailure}
 use Rattle.failure_maximum_stress.specs.declared.Verdict.{Verdict}
 use Rattle.elasticity_corotated_linear.specs.declared.CorotatedLinearElasticity.{CorotatedLinearElasticity}
 use Rattle.model.specs.declared.Model.{Model}
-use Rattle.model.specs.declared.Model.the-variants.{Snow, Rankine, DruckerPrager, Nacc}
-use Rattle.model.specs.Model.{modelFinite, modelUpdate}
+use Rattle.model.specs.Model.{modelFinite}
+use Rattle.model.proofs.RowLaws.{not-finite}
 use Rattle.particles.specs.Plain.{updatedAt, measured, lawAt, keptBy, recordLaw}
 use Rattle.particles.specs.declared.judged.Judge.{Judge}
 use Rattle.particles.specs.declared.judged.Judge.the-variants.{Nobody, By}
 use Rattle.particles.specs.Pass.{Worked}
 use Rattle.particles.specs.Judged.{judgeFinite, unlessRefused, judgedAt, refusedRecord, marked, failureLaw, markedBy, finiteBy, lawBy}
-
--- ---- a law whose inputs aren't all finite
-module _ (u vt : List (List Float)) (s : State) where
-  first : (w : walk.Ended Change) {b c : Bool} → b ≡ c → c ≡ false → updatedOf s (cond b w (walk.refused notFinite)) ≡ refused notFinite s
-  first w p q = ap (λ (t : Bool). updatedOf s (cond t w (walk.refused notFinite))) (p ∙ q)
-
-  pub not-finite : (m : Model) → modelFinite m && inputsFinite u vt s ≡ false → modelUpdate m u vt s ≡ refused notFinite s
-  unfolding snow.snowWalk rankine-over.argumentsWalk drucker-over.druckerWalk nacc-over.argumentsWalk
-  not-finite (Snow p) q = first (walk.result (snow.runWalk inThree p u vt s)) (snow-laws.inputs-law inThree p u vt s) q
-  not-finite (Rankine a) q =
-      let p = rankine-law.lawOf a in
-      first (walk.result (rankine-law.moduli p (rankine.runWalk p (s .sigma) u vt s))) (rankine-laws.inputs-law inThree (rankine-law.argumentsFloats a) u vt s) q
-  not-finite (DruckerPrager p) q = first (walk.result (drucker-prager.runWalk p u vt s)) (drucker-prager-laws.inputs-law inThree p u vt s) q
-  not-finite (Nacc a) q =
-      let p = nacc-law.lawOf a in
-      first (walk.result (nacc-projection.moduli p (nacc.runWalk p u vt s))) (nacc-laws.inputs-law inThree (nacc-law.argumentsFloats a) u vt s) q
 
 -- a finite record's determinant is finite
 pub last-finite : (r : List ℕ) → recordFinite r ≡ true → finite (floatAt r placeDeterminant) ≡ true

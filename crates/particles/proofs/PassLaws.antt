@@ -15,13 +15,15 @@ use Rattle.plasticity.specs.declared.Outcome.{Outcome}
 use Rattle.plasticity.specs.declared.Outcome.the-variants.{Untouched, Stored, Refused}
 use Rattle.plasticity.specs.declared.Scalars.{Scalars}
 use Rattle.plasticity.specs.declared.State.{State}
-use Rattle.record.specs.Layout.{layout, placeDeterminant, determinantAt, putShape}
+use Rattle.record.specs.Layout.{layout, place, placeDeterminant, bits, determinantAt, putShape}
 use Rattle.model.specs.declared.Model.{Model}
-use Rattle.model.specs.declared.Model.the-variants.{Snow, Rankine, DruckerPrager, Nacc}
+use Rattle.model.specs.declared.Law.{Law}
+use Rattle.model.specs.Rows.{rowOf, actsOf}
+use Rattle.model.specs.Named.{scalarOf, partsWritten, named}
 use Rattle.particles.specs.declared.list.Passed.the-variants as passed-variants
 use Rattle.particles.specs.declared.failure.FailureCounts.{FailureCounts}
 use Rattle.particles.specs.declared.failure.PassedWithFailure.the-variants as failure-variants
-use Rattle.particles.specs.Named.{named, byOutcome}
+use Rattle.particles.specs.Named.{byOutcome}
 use Rattle.particles.specs.Plain.{recordLaw, kept, lawAt, putState}
 use Rattle.particles.specs.Fill.{fillLaw}
 use Rattle.particles.specs.Pass.{Worked, codeOf, valueOf, answered, countedIf, counted, recordOver, replacedOver, workedOver, answersOver, countsOver, threeOf, withoutVerdicts}
@@ -31,11 +33,12 @@ abbrev pub Keeps : (List ℕ → Worked) → Type 0
 Keeps law = (r : List ℕ) → length (law r .after) ≡ length r
 
 -- of any layout
-pub named-length : (ws : List ℕ) (m : Model) (r : List ℕ) (x : Scalars) → length (named ws m r x) ≡ length r
-named-length ws (Snow p) r x = simp length-set
-named-length ws (Rankine a) r x = simp length-set
-named-length ws (DruckerPrager p) r x = simp length-set
-named-length ws (Nacc a) r x = simp length-set
+parts-length : (ws parts r : List ℕ) (x : Scalars) → length (partsWritten ws parts r x) ≡ length r
+parts-length ws [] r x = refl
+parts-length ws (part ∷ parts) r x = parts-length ws parts (set r (place ws part) (bits (scalarOf x part))) x ∙ length-set r (place ws part) (bits (scalarOf x part))
+
+pub named-length : (ws : List ℕ) (l : Law) (r : List ℕ) (x : Scalars) → length (named ws l r x) ≡ length r
+named-length ws l r x = parts-length ws (rowOf l .written) r x
 
 pub outcome-length : (o : Outcome) (r q : List ℕ) → length q ≡ length r → length (byOutcome o r q) ≡ length r
 outcome-length Untouched r q h = refl
@@ -49,7 +52,7 @@ outcome-same (Stored a) r q h = absurd (h refl)
 outcome-same (Refused n) r q h = refl
 
 pub kept-length : (m : Model) (o : Outcome) (r : List ℕ) (s : State) → length (kept m o r s) ≡ length r
-kept-length m o r s = outcome-length o r (putState m r s) (named-length layout m (putShape r s) (s .scalars) ∙ simp length-set)
+kept-length m o r s = outcome-length o r (putState m r s) (named-length layout (actsOf m .law) (putShape r s) (s .scalars) ∙ simp length-set)
 
 pub record-keeps : (m : Model) → Keeps (recordLaw m)
 unfolding recordLaw

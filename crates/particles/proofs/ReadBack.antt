@@ -9,7 +9,7 @@ use lib.Dec.{T}
 use lib.ListN.{length, getD, length-set}
 use lib.Ieee.{Float, nan, binary64, fits}
 use lib.Ieee.Bits.{ofBits-fits}
-use Rattle.tensor.specs.Axes.{entries}
+use Rattle.tensor.proofs.Axes.{entries}
 use Rattle.tensor.specs.declared.Rows.{Rows}
 use Rattle.record.specs.Layout.{floats, placeF, placeU, placeSigma, placeVT, floatAt, rowAt, rowsAt, matAt, putRow, putRows}
 use Rattle.record.proofs.Places.{row-same, row-beside}

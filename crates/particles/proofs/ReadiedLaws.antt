@@ -3,7 +3,7 @@
 use mathlib.Core.Path.{_≡_, refl, sym, ap, _∙_}
 use mathlib.Core.Bool.{Bool, true, false, cond, _&&_}
 use mathlib.Core.List.{List}
-use mathlib.Core.Logic.{_⊎_, inl, inr}
+use mathlib.Core.Logic.{inl, inr}
 use Prim.Native.Nat.{ℕ}
 use lib.Dec.{eqb}
 use lib.Ieee as Ieee
@@ -20,18 +20,18 @@ use Rattle.plasticity.specs.declared.Outcome.{Outcome}
 use Rattle.plasticity.specs.declared.Outcome.the-variants.{Untouched, Stored, Refused}
 use Rattle.plasticity.specs.declared.State.{State}
 use Rattle.plasticity.specs.declared.Updated.{Updated}
-use Rattle.plasticity_rankine.specs.Law as rankine-law
-use Rattle.plasticity_nacc.specs.Law as nacc-law
-use Rattle.record.specs.Layout.{placeDeterminant, floatAt, uAt, vtAt, stateAt, recordFinite, determinantRight, putShape}
+use Rattle.record.specs.Layout.{layout, placeDeterminant, floatAt, uAt, vtAt, stateAt, recordFinite, determinantRight, putShape}
 use Rattle.record.proofs.Parts.{record-inputs}
 use Rattle.model.specs.declared.Model.{Model}
-use Rattle.model.specs.declared.Model.the-variants.{Snow, Rankine, DruckerPrager, Nacc}
+use Rattle.model.specs.declared.Law.{Law}
 use Rattle.model.specs.declared.Ready.{Ready}
 use Rattle.model.specs.declared.Ready.the-variants as ready
+use Rattle.model.specs.Rows.{actsOf, preparedOf}
+use Rattle.model.specs.Named.{named}
 use Rattle.model.specs.Model.{modelFinite}
 use Rattle.model.specs.Ready.{readyOf, parametersReady, readyUpdate}
 use Rattle.model.proofs.KindLaws.{and-true}
-use Rattle.model.proofs.ReadyLaws.{ready-finite, ready-parameters, ready-update}
+use Rattle.model.proofs.ReadyLaws.{ready-finite, ready-parameters, Lawful, ready-lawful, ready-update}
 use Rattle.model.proofs.StoredFinite.{stored-finite}
 use Rattle.particles.specs.declared.judged.Judge.{Judge}
 use Rattle.particles.specs.declared.judged.Judge.the-variants.{Nobody, By}
@@ -41,31 +41,16 @@ use Rattle.particles.specs.declared.step.How.{How}
 use Rattle.particles.specs.declared.step.How.the-variants as hows
 use Rattle.particles.specs.declared.step.Taken.{Taken}
 use Rattle.particles.specs.Pass.{Worked, AmountFinite}
-use Rattle.particles.specs.Plain.{putScalars, kept, keptBy, updatedAt, lawAt, recordLaw}
+use Rattle.particles.specs.Plain.{kept, keptBy, updatedAt, lawAt, recordLaw}
 use Rattle.particles.specs.Judged.{verdictBy, refusedRecord, marked, finiteBy, lawBy}
 use Rattle.particles.specs.Factored.{withFactors, factorRefusal, factorLaw, orAsItCame, factoredLaw}
-use Rattle.particles.specs.Readied.{readyScalars, shaped, readyKept, readyKeptBy, readyAt, readyMarked, readyLaw, readyFirst}
+use Rattle.particles.specs.Readied.{shaped, readyKept, readyKeptBy, readyAt, readyMarked, readyLaw, readyFirst}
 use Rattle.particles.specs.Step.{stepLaw, takenOf, takenFinite, howLaw, takenLaw}
 use Rattle.particles.proofs.Written.{scalars-last}
 use Rattle.particles.proofs.NotFinite.{law-right, law-wrong, refused-first, finite-first}
-use Rattle.particles.proofs.PassLaws.{Keeps}
+use Rattle.particles.proofs.PassLaws.{Keeps, named-length}
 use Rattle.particles.proofs.JudgedLaws.{marked-length}
 use Rattle.particles.proofs.FactoredLaws.{factor-keeps, factored-keeps}
-
--- ---- what is written: the scalars of the model's law, or the model is refused
-abbrev Writes : Ready → Model → Type 0
-Writes q m = ((r : List ℕ) (s : State) → readyScalars q r s ≡ putScalars m r s) ⊎ ((n : ℕ) × (q ≡ ready.Refused n))
-
-refused-or : {q : Ready} (m : Model) (b : Bool) → Writes q m → (n : ℕ) → Writes (cond b q (ready.Refused n)) m
-refused-or m true h n = h
-refused-or m false h n = inr (n, refl)
-
-writes : (m : Model) → Writes (readyOf m) m
-unfolding readyOf
-writes (Snow p) = refused-or (Snow p) (modelFinite (Snow p)) (inl (λ r s. refl)) notFinite
-writes (Rankine a) = refused-or (Rankine a) (modelFinite (Rankine a)) (refused-or (Rankine a) (rankine-law.moduliFinite (rankine-law.lawOf a)) (inl (λ r s. refl)) noNumber) notFinite
-writes (DruckerPrager p) = refused-or (DruckerPrager p) (modelFinite (DruckerPrager p)) (inl (λ r s. refl)) notFinite
-writes (Nacc a) = refused-or (Nacc a) (modelFinite (Nacc a)) (refused-or (Nacc a) (nacc-law.moduliFinite (nacc-law.lawOf a)) (inl (λ r s. refl)) noNumber) notFinite
 
 -- a refused model refuses
 refused-at : (n : ℕ) (r : List ℕ) → (k : ℕ) × (readyAt (ready.Refused n) r ≡ refused k (stateAt r))
@@ -81,15 +66,15 @@ refused-at n r = go (determinantRight r) (finite (floatAt r placeDeterminant)) (
     go false b c = (cond c wrongDeterminant notFinite, refl)
 
 module _ (m : Model) (r : List ℕ) where
-  kept-same : ((t : List ℕ) (s : State) → readyScalars (readyOf m) t s ≡ putScalars m t s) → (o : Outcome) (s : State) → readyKept (readyOf m) o r s ≡ kept m o r s
+  kept-same : preparedOf (readyOf m) .law ≡ actsOf m .law → (o : Outcome) (s : State) → readyKept (readyOf m) o r s ≡ kept m o r s
   kept-same h Untouched s = refl
-  kept-same h (Stored a) s = h (putShape r s) s
+  kept-same h (Stored a) s = ap (λ (l : Law). named layout l (putShape r s) (s .scalars)) h
   kept-same h (Refused n) s = refl
 
   kept-by : readyKeptBy (readyOf m) (readyAt (readyOf m) r) r ≡ keptBy m (readyAt (readyOf m) r) r
-  kept-by = go (writes m)
+  kept-by = go (ready-lawful m)
     where
-      go : Writes (readyOf m) m → readyKeptBy (readyOf m) (readyAt (readyOf m) r) r ≡ keptBy m (readyAt (readyOf m) r) r
+      go : Lawful (readyOf m) m → readyKeptBy (readyOf m) (readyAt (readyOf m) r) r ≡ keptBy m (readyAt (readyOf m) r) r
       go (inl h) =
           let d = readyAt (readyOf m) r in
           ap (λ (l : List ℕ). record { outcome = d .outcome; failed = false; after = l }) (kept-same h (d .outcome) (d .state))
@@ -143,16 +128,9 @@ taken-law (steps.FactoredPlain m) = ready-first m Nobody ∙ ap (λ (b : Bool). 
 taken-law (steps.FactoredJudged m l e) = ready-first m (By l e)
 
 -- ---- every record keeps its length
-scalars-length : (q : Ready) (r : List ℕ) (s : State) → length (readyScalars q r s) ≡ length r
-scalars-length (ready.Snow p) r s = simp length-set
-scalars-length (ready.Rankine p) r s = simp length-set
-scalars-length (ready.DruckerPrager p) r s = simp length-set
-scalars-length (ready.Nacc p) r s = simp length-set
-scalars-length (ready.Refused n) r s = refl
-
 ready-kept-length : (q : Ready) (o : Outcome) (r : List ℕ) (s : State) → length (readyKept q o r s) ≡ length r
 ready-kept-length q Untouched r s = refl
-ready-kept-length q (Stored a) r s = scalars-length q (putShape r s) s ∙ simp length-set
+ready-kept-length q (Stored a) r s = named-length layout (preparedOf q .law) (putShape r s) (s .scalars) ∙ simp length-set
 ready-kept-length q (Refused n) r s = refl
 
 ready-keeps : (q : Ready) (j : Judge) → Keeps (readyLaw q j)

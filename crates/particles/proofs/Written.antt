@@ -1,18 +1,24 @@
 -- What an update writes: the determinant is that of the F written, and no scalar touches either. Assumes nothing.
 use mathlib.Core.Path.{_≡_, refl, ap, _∙_}
-use mathlib.Core.List.{List}
+use mathlib.Core.List.{List, [], _∷_}
 use Prim.Native.Nat.{ℕ, _+_, _<_}
 use native.Mathlib.Omega.{arith}
-use mathlib.Core.Bool.{true}
+use mathlib.Core.Bool.{true, _&&_}
+use lib.Dec.{ltb}
+use borrow.Author.Tests.{ltb-true}
 use lib.ListN.{length, getD, set, take, length-set}
 use lib.Seq.{getD-set-same, getD-set-other, take-set-le}
+use Rattle.numbers.proofs.Laws.{and-both}
 use Rattle.plasticity.specs.declared.Outcome.{Outcome}
 use Rattle.plasticity.specs.declared.Outcome.the-variants.{Untouched, Stored, Refused}
+use Rattle.plasticity.specs.declared.Scalars.{Scalars}
 use Rattle.plasticity.specs.declared.State.{State}
-use Rattle.record.specs.Layout.{floats, bare, placeF, placeSigma, placePlasticDeterminant, placePlasticHardening, placeElasticHardening, placeLogGain, placeAlpha, placeDeterminant, determinantAt, determinantRight, putRow, putRows, putBare, putShape, putPlasticDeterminant, putPlasticHardening, putElasticHardening, putLogGain}
+use Rattle.record.specs.Layout.{layout, floats, bare, place, placeF, placeSigma, placeDeterminant, bits, determinantAt, determinantRight, putRow, putRows, putBare, putShape}
 use Rattle.record.proofs.Places.{determinant-row, filled-right, right-other, take-set, take-row}
 use Rattle.model.specs.declared.Model.{Model}
-use Rattle.model.specs.declared.Model.the-variants.{Snow, Rankine, DruckerPrager, Nacc}
+use Rattle.model.specs.Rows.{rowOf, actsOf}
+use Rattle.model.specs.Named.{scalarOf, partsWritten}
+use Rattle.model.proofs.RowLaws.{aside, written-aside}
 use Rattle.particles.specs.Plain.{putScalars, kept}
 use Rattle.particles.specs.Bare.{bareKept}
 
@@ -27,31 +33,41 @@ shape-length r s v = simp length-set
 apart : (r : List ℕ) (i v : ℕ) → i < placeDeterminant → getD (set r i v) placeDeterminant 0 ≡ getD r placeDeterminant 0
 apart r i v h = getD-set-other r i placeDeterminant v 0 (λ e. omega arith)
 
+-- of parts that stand behind F and before its determinant
+module _ (x : Scalars) where
+  parts-last : (parts : List ℕ) → aside parts ≡ true → (r : List ℕ) → getD (partsWritten layout parts r x) placeDeterminant 0 ≡ getD r placeDeterminant 0
+  parts-last [] h r = refl
+  parts-last (part ∷ parts) h r =
+      let i = place layout part in
+      let q = and-both (ltb 8 i && ltb i placeDeterminant) (aside parts) h in
+      let between = and-both (ltb 8 i) (ltb i placeDeterminant) (q .0) in
+      parts-last parts (q .1) (set r i (bits (scalarOf x part))) ∙ apart r i _ (ltb-true i placeDeterminant (between .1))
+
+  -- the determinant stays right under them
+  parts-right : (parts : List ℕ) → aside parts ≡ true → (r : List ℕ) → determinantRight (partsWritten layout parts r x) ≡ determinantRight r
+  parts-right [] h r = refl
+  parts-right (part ∷ parts) h r =
+      let i = place layout part in
+      let q = and-both (ltb 8 i && ltb i placeDeterminant) (aside parts) h in
+      let between = and-both (ltb 8 i) (ltb i placeDeterminant) (q .0) in
+      let low = ltb-true i placeDeterminant (between .1) in
+      parts-right parts (q .1) (set r i (bits (scalarOf x part))) ∙ right-other r i _ (ltb-true 8 i (between .0)) (λ e. omega (arith, low, e))
+
+  take-parts : (n : ℕ) (parts r : List ℕ) → take n (partsWritten layout parts r x) ≡ partsWritten layout parts (take n r) x
+  take-parts n [] r = refl
+  take-parts n (part ∷ parts) r =
+      let v = bits (scalarOf x part) in
+      take-parts n parts (set r (place layout part) v) ∙ ap (λ (t : List ℕ). partsWritten layout parts t x) (take-set n r (place layout part) v)
+
 pub scalars-last : (m : Model) (r : List ℕ) (s : State) → getD (putScalars m r s) placeDeterminant 0 ≡ getD r placeDeterminant 0
-scalars-last (Snow p) r s =
-    let q = putPlasticDeterminant r (s .scalars .«plastic_determinant») in
-    apart q placeElasticHardening _ (omega arith) ∙ apart r placePlasticDeterminant _ (omega arith)
-scalars-last (Rankine a) r s = apart r placePlasticHardening _ (omega arith)
-scalars-last (DruckerPrager p) r s =
-    let q = putPlasticDeterminant r (s .scalars .«plastic_determinant») in
-    let t = putPlasticHardening q (s .scalars .«plastic_hardening») in
-    apart t placeLogGain _ (omega arith) ∙ apart q placePlasticHardening _ (omega arith) ∙ apart r placePlasticDeterminant _ (omega arith)
-scalars-last (Nacc a) r s = apart r placeAlpha _ (omega arith)
+scalars-last m r s = parts-last (s .scalars) (rowOf (actsOf m .law) .written) (written-aside (actsOf m .law)) r
 
 pub shape-last : (r : List ℕ) (s : State) → length r ≡ floats → getD (putShape r s) placeDeterminant 0 ≡ determinantAt (putRows r placeF (s .f))
 shape-last r s k = getD-set-same (putBare r s) placeDeterminant (determinantAt (putBare r s)) 0 (simp length-set (omega arith)) ∙ bare-determinant r s
 
--- ---- the determinant stays right under the scalars
+-- ---- what is kept
 scalars-right : (m : Model) (r : List ℕ) (s : State) → determinantRight (putScalars m r s) ≡ determinantRight r
-scalars-right (Snow p) r s =
-    let q = putPlasticDeterminant r (s .scalars .«plastic_determinant») in
-    right-other q placeElasticHardening _ (omega arith) (λ e. omega arith) ∙ right-other r placePlasticDeterminant _ (omega arith) (λ e. omega arith)
-scalars-right (Rankine a) r s = right-other r placePlasticHardening _ (omega arith) (λ e. omega arith)
-scalars-right (DruckerPrager p) r s =
-    let q = putPlasticDeterminant r (s .scalars .«plastic_determinant») in
-    let t = putPlasticHardening q (s .scalars .«plastic_hardening») in
-    right-other t placeLogGain _ (omega arith) (λ e. omega arith) ∙ right-other q placePlasticHardening _ (omega arith) (λ e. omega arith) ∙ right-other r placePlasticDeterminant _ (omega arith) (λ e. omega arith)
-scalars-right (Nacc a) r s = right-other r placeAlpha _ (omega arith) (λ e. omega arith)
+scalars-right m r s = parts-right (s .scalars) (rowOf (actsOf m .law) .written) (written-aside (actsOf m .law)) r
 
 pub kept-right : (m : Model) (o : Outcome) (r : List ℕ) (s : State) → length r ≡ floats → determinantRight r ≡ true → determinantRight (kept m o r s) ≡ true
 kept-right m Untouched r s k h = h
@@ -60,17 +76,7 @@ kept-right m (Refused n) r s k h = h
 
 -- ---- the floats before it
 take-scalars : (n : ℕ) (m : Model) (r : List ℕ) (s : State) → take n (putScalars m r s) ≡ putScalars m (take n r) s
-take-scalars n (Snow p) r s =
-    let q = putPlasticDeterminant r (s .scalars .«plastic_determinant») in
-    take-set n q placeElasticHardening _ ∙ ap (λ (t : List ℕ). putElasticHardening t (s .scalars .«elastic_hardening»)) (take-set n r placePlasticDeterminant _)
-take-scalars n (Rankine a) r s = take-set n r placePlasticHardening _
-take-scalars n (DruckerPrager p) r s =
-    let q = putPlasticDeterminant r (s .scalars .«plastic_determinant») in
-    let t = putPlasticHardening q (s .scalars .«plastic_hardening») in
-    take-set n t placeLogGain _
-    ∙ ap (λ (l : List ℕ). putLogGain l (s .scalars .«log_gain»)) (take-set n q placePlasticHardening _
-    ∙ ap (λ (l : List ℕ). putPlasticHardening l (s .scalars .«plastic_hardening»)) (take-set n r placePlasticDeterminant _))
-take-scalars n (Nacc a) r s = take-set n r placeAlpha _
+take-scalars n m r s = take-parts (s .scalars) n (rowOf (actsOf m .law) .written) r
 
 take-shape : (r : List ℕ) (s : State) → take bare (putShape r s) ≡ putBare (take bare r) s
 take-shape r s =

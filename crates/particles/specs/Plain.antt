@@ -14,25 +14,15 @@ use Rattle.plasticity.specs.declared.State.{State}
 use Rattle.plasticity.specs.declared.Updated.{Updated}
 use Rattle.record.specs.Layout.{layout, floats, placeDeterminant, floatAt, uAt, vtAt, stateAt, recordFinite, determinantAt, determinantRight, putBare, putShape}
 use Rattle.model.specs.declared.Model.{Model}
+use Rattle.model.specs.Rows.{actsOf}
 use Rattle.model.specs.Model.{modelFinite, modelUpdate}
-use Rattle.particles.specs.Named.{snowNamed, rankineNamed, druckerPragerNamed, naccNamed, named, storedOver, keptOver}
+use Rattle.model.specs.Named.{named}
+use Rattle.particles.specs.Named.{storedOver, keptOver}
 use Rattle.particles.specs.Pass.{Worked}
 
 -- ---- three axes
-abbrev pub snowScalars : List ℕ → State → List ℕ
-snowScalars r s = snowNamed layout r (s .scalars)
-
-abbrev pub rankineScalars : List ℕ → State → List ℕ
-rankineScalars r s = rankineNamed layout r (s .scalars)
-
-abbrev pub druckerPragerScalars : List ℕ → State → List ℕ
-druckerPragerScalars r s = druckerPragerNamed layout r (s .scalars)
-
-abbrev pub naccScalars : List ℕ → State → List ℕ
-naccScalars r s = naccNamed layout r (s .scalars)
-
 abbrev pub putScalars : Model → List ℕ → State → List ℕ
-putScalars m r s = named layout m r (s .scalars)
+putScalars m r s = named layout (actsOf m .law) r (s .scalars)
 
 abbrev pub putState : Model → List ℕ → State → List ℕ
 putState m r s = storedOver layout putShape (λ x. x .scalars) m r s

@@ -11,21 +11,12 @@ use Rattle.plasticity.specs.declared.State.{State}
 use Rattle.plasticity.specs.declared.Updated.{Updated}
 use Rattle.record.specs.Layout.{placeDeterminant, floatAt, uAt, vtAt, stateAt, recordFinite, determinantRight, putShape}
 use Rattle.model.specs.declared.Ready.{Ready}
-use Rattle.model.specs.declared.Ready.the-variants.{Snow, Rankine, DruckerPrager, Nacc, Refused}
 use Rattle.model.specs.Ready.{parametersReady, readyUpdate}
+use Rattle.model.specs.Named.{readyScalars}
 use Rattle.particles.specs.declared.judged.Judge.{Judge}
 use Rattle.particles.specs.Pass.{Worked}
-use Rattle.particles.specs.Plain.{snowScalars, rankineScalars, druckerPragerScalars, naccScalars}
 use Rattle.particles.specs.Judged.{verdictBy, refusedRecord, marked, finiteBy}
 use Rattle.particles.specs.Factored.{factoredLaw}
-
--- a model that is refused stores nothing
-abbrev pub readyScalars : Ready → List ℕ → State → List ℕ
-readyScalars (Snow p) r s = snowScalars r s
-readyScalars (Rankine p) r s = rankineScalars r s
-readyScalars (DruckerPrager p) r s = druckerPragerScalars r s
-readyScalars (Nacc p) r s = naccScalars r s
-readyScalars (Refused n) r s = r
 
 -- the record but for the scalars
 abbrev pub shaped : Outcome → List ℕ → State → List ℕ

@@ -1,4 +1,4 @@
-// A whole list into a lent one of its length.
+// A whole list into a lent one of its length (RULES, section 7).
 ghost use mathlib.Core.Path.{_≡_};
 ghost use lib.ListN.{length};
 

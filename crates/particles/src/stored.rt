@@ -5,63 +5,11 @@ use plasticity::State;
 ghost use mathlib.Core.Path.{_≡_};
 ghost use mathlib.Core.Bool.{true};
 ghost use lib.ListN.{length};
-ghost use Rattle.plasticity.specs.State.{scalarsFinite, stateFinite};
+ghost use Rattle.plasticity.specs.State.{stateFinite};
 ghost use Rattle.record.specs.Layout.{floats, determinantAt, putBare, putShape};
-ghost use Rattle.particles.specs.Plain.{snowScalars, rankineScalars, druckerPragerScalars, naccScalars, Beside};
-ghost use Rattle.particles.specs.Readied.{readyScalars, readyKept};
-
-fn write_snow(r: &mut [u64], s: State)
-    requires { ⌜ (length (now r) ≡ floats) × (scalarsFinite (s .scalars) ≡ true) ⌝ }
-    ensures { λ _. ⌜ now (r .exit) ≡ snowScalars (now (r .entry)) s ⌝ }
-{
-    r[record::PLASTIC_DETERMINANT] = record::finite_bits(s.scalars.plastic_determinant);
-    r[record::ELASTIC_HARDENING] = record::finite_bits(s.scalars.elastic_hardening);
-}
-
-fn write_rankine(r: &mut [u64], s: State)
-    requires { ⌜ (length (now r) ≡ floats) × (scalarsFinite (s .scalars) ≡ true) ⌝ }
-    ensures { λ _. ⌜ now (r .exit) ≡ rankineScalars (now (r .entry)) s ⌝ }
-{
-    r[record::PLASTIC_HARDENING] = record::finite_bits(s.scalars.plastic_hardening);
-}
-
-fn write_drucker_prager(r: &mut [u64], s: State)
-    requires { ⌜ (length (now r) ≡ floats) × (scalarsFinite (s .scalars) ≡ true) ⌝ }
-    ensures { λ _. ⌜ now (r .exit) ≡ druckerPragerScalars (now (r .entry)) s ⌝ }
-{
-    r[record::PLASTIC_DETERMINANT] = record::finite_bits(s.scalars.plastic_determinant);
-    r[record::PLASTIC_HARDENING] = record::finite_bits(s.scalars.plastic_hardening);
-    r[record::LOG_GAIN] = record::finite_bits(s.scalars.log_gain);
-}
-
-fn write_nacc(r: &mut [u64], s: State)
-    requires { ⌜ (length (now r) ≡ floats) × (scalarsFinite (s .scalars) ≡ true) ⌝ }
-    ensures { λ _. ⌜ now (r .exit) ≡ naccScalars (now (r .entry)) s ⌝ }
-{
-    r[record::ALPHA] = record::finite_bits(s.scalars.alpha);
-}
-
-// Of the six scalars those that the law names; a model that is refused stores nothing.
-fn write_scalars(q: Ready, r: &mut [u64], s: State)
-    requires { ⌜ (length (now r) ≡ floats) × (scalarsFinite (s .scalars) ≡ true) ⌝ }
-    ensures { λ _. ⌜ now (r .exit) ≡ readyScalars q (now (r .entry)) s ⌝ }
-{
-    match q {
-        Ready::Snow(_) => {
-            write_snow(r, s);
-        }
-        Ready::Rankine(_) => {
-            write_rankine(r, s);
-        }
-        Ready::DruckerPrager(_) => {
-            write_drucker_prager(r, s);
-        }
-        Ready::Nacc(_) => {
-            write_nacc(r, s);
-        }
-        Ready::Refused(_) => {}
-    }
-}
+ghost use Rattle.model.specs.Named.{readyScalars};
+ghost use Rattle.particles.specs.Plain.{Beside};
+ghost use Rattle.particles.specs.Readied.{readyKept};
 
 // F and sigma are written, and w, the determinant of that F.
 fn write_shape(r: &mut [u64], s: State, w: u64)
@@ -81,7 +29,7 @@ fn write_state(q: Ready, r: &mut [u64], s: State, w: u64)
     ensures { λ _. ⌜ now (r .exit) ≡ readyScalars q (putShape (now (r .entry)) s) s ⌝ }
 {
     write_shape(r, s, w);
-    write_scalars(q, r, s);
+    model::write_scalars(q, r, s);
 }
 
 // What an outcome leaves of the record: one that is refused or untouched keeps its bits.

@@ -1,4 +1,4 @@
--- The formulas of physics.rs, in its order of operations (RULES, section 4).
+-- The formulas of physics.rs, in its order of operations (RULES, sections 1 and 4).
 use mathlib.Core.Bool.{cond}
 use mathlib.Core.List.{List}
 use lib.Ieee as Ieee

@@ -1,4 +1,4 @@
--- `solve_quadratic` of physics.rs with RULES' refusals (section 6).
+-- `solve_quadratic` of physics.rs with RULES' refusals (sections 1 and 6).
 use mathlib.Core.Bool.{Bool, cond, _&&_}
 use lib.Ieee as Ieee
 use lib.Ieee.{Float}

@@ -17,16 +17,16 @@ use Rattle.walk.specs.Expr.{num, value, _/_}
 use Rattle.walk.specs.Walk.{root, answerOf, result, answerAs, given}
 use Rattle.reason.specs.Traced.{reached, traced, untraced}
 use Rattle.reason.proofs.Laws.{result-traced}
-use Rattle.walk.specs.Exact.{number-then}
-use Rattle.walk.specs.Body.{store-law}
+use Rattle.walk.proofs.Exact.{number-then}
+use Rattle.walk.proofs.Body.{store-law}
 use Rattle.walk.specs.Update.{inThree, updatedOf}
-use Rattle.walk.specs.Matrix.{value-sum, value-product, value-dot}
+use Rattle.walk.proofs.Matrix.{value-sum, value-product, value-dot}
 use Rattle.plasticity_drucker_prager.specs.declared.DruckerPragerPlasticity.{DruckerPragerPlasticity}
 use Rattle.plasticity_drucker_prager.specs.Law.{defaultsOf}
 use Rattle.plasticity_drucker_prager.specs.Alpha.{two, dim, alphaWalk}
 use Rattle.plasticity_drucker_prager.specs.Projection.{isotropic, Returned, tipWalk, strainedWalk, projectWalk}
 use Rattle.plasticity_drucker_prager.specs.Over as over
-use Rattle.plasticity_drucker_prager.specs.DruckerPrager.{movedWalk, runWalk, druckerUpdate}
+use Rattle.plasticity_drucker_prager.specs.DruckerPrager.{runWalk, druckerUpdate, movedWalk}
 use Rattle.plasticity_drucker_prager.proofs.Laws.{way-then, inputs-law}
 
 -- a degree as Rust's `to_radians` has it: pi over 180

@@ -2,13 +2,10 @@
 use mathlib.Core.Bool.{Bool, true, false, cond, _&&_}
 use mathlib.Core.List.{List, [], _∷_, _++_, map}
 use mathlib.Core.Path.{_≡_, refl, ap, _∙_}
-use Prim.Native.Nat.{ℕ}
-use lib.ListN.{length}
 use lib.Ieee.{Float, ofBits}
 use Rattle.numbers.specs.Floats.{finite}
 use Rattle.answers.specs.declared.Answer.{Answer}
 use Rattle.answers.specs.declared.Answer.the-variants as answers
-use Rattle.answers.specs.declared.Triple.{Triple}
 use Rattle.tensor.specs.Axes.{allOf}
 use Rattle.tensor.specs.Finite.{rowFinite}
 use Rattle.tensor.specs.Matrix.{one, productOf, recomposeOf}
@@ -19,26 +16,29 @@ use Rattle.plasticity.specs.declared.Outcome.the-variants.{Stored}
 use Rattle.plasticity.specs.declared.Scalars.{Scalars}
 use Rattle.plasticity.specs.declared.State.{State}
 use Rattle.walk.specs.Expr.{Expr, value}
-use Rattle.walk.specs.Walk.{Function, Walk, asks, _then_, Ended, given, refused, result}
-use Rattle.walk.proofs.Three.{answersOf, byThree, asks-by}
-use Rattle.walk.specs.Exact.{andThen, result-then}
+use Rattle.walk.specs.Walk.{Walk, _then_, Ended, given, refused, byAnswer, result}
+use Rattle.walk.specs.Exact.{andThen}
+use Rattle.walk.proofs.Exact.{result-then}
 use Rattle.reason.specs.declared.Number.{Number}
 use Rattle.reason.specs.declared.Number.the-variants as number
-use Rattle.reason.specs.Traced.{Traced, reached, stopped, askedAt, traced, untraced, onwards, numberAs}
+use Rattle.reason.specs.Traced.{Traced, reached, stopped, traced, untraced, onwards, numberAs}
 use Rattle.reason.proofs.Laws.{traced-then, result-traced}
-use Rattle.walk.specs.Every.{all-append}
+use Rattle.walk.proofs.Every.{all-append}
 use Rattle.walk.specs.Body as body
-use Rattle.walk.specs.Body.{Body, Change, updatedOf, keptOf, inputs-finite}
+use Rattle.walk.specs.Body.{Body, Change, updatedOf, keptOf}
+use Rattle.walk.proofs.Body.{inputs-finite, store-law as walk-store}
 use Rattle.walk.specs.Update as update
 use Rattle.walk.specs.Update.{inThree}
-use Rattle.walk.specs.Matrix.{product, value-product, value-dot, values-nums}
+use Rattle.walk.specs.Matrix.{product, values-nums}
+use Rattle.walk.proofs.Matrix.{value-product, value-dot}
 use Rattle.plasticity_drucker_prager.specs.declared.DruckerPragerPlasticity.{DruckerPragerPlasticity}
 use Rattle.plasticity_drucker_prager.specs.declared.Measured.{Measured}
 use Rattle.plasticity_drucker_prager.specs.declared.Measured.the-variants as measured
 use Rattle.plasticity_drucker_prager.specs.Law.{parametersOf, parametersFinite}
-use Rattle.plasticity_drucker_prager.specs.Projection.{projectFloats, Way, isotropic, expanding, inside, surface, Returned, returnedWalk, tipWalk, branchOf, refusedProjection, walkedOf, projectedOf, tipOf, returnedOf, outcomeOf, resultsOf}
+use Rattle.plasticity_drucker_prager.specs.Projection.{projectFloats, Way, isotropic, expanding, inside, surface, Returned, returnedWalk, tipWalk, branchOf, refusedProjection, walkedOf, projectedOf, outcomeOf, resultsOf}
+use Rattle.plasticity_drucker_prager.specs.Inner.{tipOf, returnedOf, finiteResults, followedOf}
+use Rattle.plasticity_drucker_prager.specs.DruckerPrager.{stateOf, storeWalk, scalarsOf, Measures, measureWalk, measuredAs, measuredOf, wayWalk}
 use Rattle.plasticity_drucker_prager.specs.Over as over
-use Rattle.plasticity_drucker_prager.specs.DruckerPrager.{scalarsOf, stateOf, storeWalk, Measures, measureWalk, measuredAs, measuredOf, finiteResults, wayWalk, followedOf}
 
 -- the inputs, over any number of axes
 pub inputs-law : {S R : Type 0} (b : Body S R) (p : DruckerPragerPlasticity) (u vt : List (List Float)) (s : S)
@@ -58,13 +58,8 @@ project-inputs p sigma gain alpha =
     all-append finite (parametersOf p) (sigma ++ (gain ∷ alpha ∷ []))
     ∙ rw (all-append finite sigma (gain ∷ alpha ∷ [])) (leftwards (parametersFinite p) (rowFinite sigma) (finite gain) (finite alpha))
 
--- a function of three entries, by their indexes, at once
-pub asks-law : {A : Type 0} (n : ℕ) (f : Function) (l : List Float) (k : List Float → Walk A) (t : Triple) → length l ≡ 3 → answersOf f l ≡ t
-    → byThree (λ m. stopped m n) t (λ v. traced (k v)) ≡ traced (asks n f l k)
-asks-law n f l k t = asks-by (askedAt n) (λ m. stopped m n) (λ v k. refl) (λ m k. refl) (λ v. traced (asks n f v k)) (λ v. traced (k v)) f l t (λ x y z. refl)
-
 -- the tip, once the norm is known
-tipped : (w : Way) (ones : List Float) (a : Answer) → walkedOf (askedAt 10 a (λ v. reached (record { way = w; sigma = ones; dq = v }))) ≡ tipOf (branchOf w) ones a
+tipped : (w : Way) (ones : List Float) (a : Answer) → walkedOf (byAnswer (λ m. stopped m 10) a (λ v. reached (record { way = w; sigma = ones; dq = v }))) ≡ tipOf (branchOf w) ones a
 tipped w ones (answers.Value v) = refl
 tipped w ones (answers.Refused n) = refl
 
@@ -152,7 +147,7 @@ pub store-law : (u : List (List Float)) (sigma : List Float) (vt : List (List Fl
     → update.updatedOf s (result (storeWalk u sigma vt d h gain dq s))
     ≡ cond (finiteResults (recomposeOf u sigma vt) sigma (value d) (value h) (value gain))
     (record { state = stateOf (recomposeOf u sigma vt) sigma (value d) (value h) (value gain) s; outcome = Stored dq }) (law.refused 3 s)
-store-law u sigma vt d h gain dq s = body.store-law inThree 19 u sigma vt (d ∷ h ∷ gain ∷ []) (scalarsOf (value d) (value h) (value gain) (s .scalars)) dq s
+store-law u sigma vt d h gain dq s = walk-store inThree 19 u sigma vt (d ∷ h ∷ gain ∷ []) (scalarsOf (value d) (value h) (value gain) (s .scalars)) dq s
 
 -- what is stored beside F and sigma is told of the products' values
 pub measured-law : (p : DruckerPragerPlasticity) (old sigma : List Float) (dq : Float) (x : Scalars)
@@ -171,7 +166,7 @@ module _ {S R : Type 0} (b : Body S R) (p : DruckerPragerPlasticity) (sigma : Li
 
   measures : (x : Traced Measures) → updatedOf b s (andThen (untraced x) (λ m. result (afterMeasures m))) ≡ storedBy (measuredAs x)
   measures (reached m) =
-      body.store-law b 19 u sigma vt (m .determinant ∷ m .hardening ∷ m .gain ∷ []) (scalarsOf (value (m .determinant)) (value (m .hardening)) (value (m .gain)) (b .scalars s)) dq s
+      walk-store b 19 u sigma vt (m .determinant ∷ m .hardening ∷ m .gain ∷ []) (scalarsOf (value (m .determinant)) (value (m .hardening)) (value (m .gain)) (b .scalars s)) dq s
   measures (stopped n step) = refl
 
   pub moved-law : updatedOf b s (result (over.movedWalk b p sigma dq u vt s)) ≡ storedBy (measuredOf p (productOf (b .sigma s)) (productOf sigma) dq (b .scalars s))

@@ -13,9 +13,10 @@ use Rattle.exact.specs.RootOf.{sqrtOf}
 use Rattle.walk.specs.Expr.{Expr, num, value, values, nums}
 use Rattle.walk.specs.Matrix.{sum, dot, values-nums}
 use Rattle.walk.specs.Walk.{Walk, exp, ln, zeros, less, at-most, works, branch, end, _then_, result, answerAs}
-use Rattle.walk.specs.Exact.{path, final, first, Refusal, answer, exactly, last, lastFrom, Reason}
+use Rattle.walk.specs.Exact.{path, final, first, Refusal, answer, last, lastFrom, Reason}
+use Rattle.walk.proofs.Exact.{exactly}
 use Rattle.walk.specs.Body as body
-use Rattle.walk.specs.Body.{refused-exactly}
+use Rattle.walk.proofs.Body.{refused-exactly}
 use Rattle.walk.specs.Update.{inThree, Change, untouched, refusalOf, numberOf}
 use Rattle.walk.proofs.Reason.{final-then, last-then, Told, asks-told, branch-told}
 use Rattle.plasticity_drucker_prager.specs.declared.Branch.{Branch}
@@ -27,22 +28,7 @@ use Rattle.plasticity_drucker_prager.specs.Over as over
 use Rattle.plasticity_drucker_prager.specs.DruckerPrager.{wayWalk, staysOf, druckerWalk, druckerUpdate}
 
 -- ---- the refusal
-pub drucker-refused : (p : DruckerPragerPlasticity) (u vt : List (List Float)) (s : State)
-    → refusalOf (druckerUpdate p u vt s .outcome) ≡ numberOf (first (path (druckerWalk p u vt s)))
-drucker-refused p u vt s = refused-exactly inThree s (druckerWalk p u vt s)
-
 -- the two calls by themselves
-abbrev pub elementaryRefusal : Answer → Option ℕ
-elementaryRefusal (answers.Value x) = none
-elementaryRefusal (answers.Refused n) = some n
-
-alpha-told : (o : Option Refusal) (x : Float) → elementaryRefusal (answerAs (answer o x)) ≡ numberOf o
-alpha-told none x = refl
-alpha-told (some r) x = refl
-
-pub alpha-refused : (p : DruckerPragerPlasticity) (q : Float) → elementaryRefusal (answerAs (result (alphaCall p q))) ≡ numberOf (first (path (alphaCall p q)))
-alpha-refused p q = ap (λ a. elementaryRefusal (answerAs a)) (exactly (alphaCall p q)) ∙ alpha-told (first (path (alphaCall p q))) (final (alphaCall p q))
-
 abbrev pub branchRefusal : Branch → Option ℕ
 branchRefusal (branches.Isotropic x y z) = none
 branchRefusal (branches.Expanding x y) = none

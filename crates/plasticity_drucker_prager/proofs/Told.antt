@@ -12,18 +12,18 @@ use Rattle.tensor.specs.Matrix.{zero, productOf, recomposeOf}
 use Rattle.plasticity.specs.State.{inputsFinite}
 use Rattle.plasticity.specs.declared.State.{State}
 use Rattle.walk.specs.Expr.{Expr, num, _+_, _/_, value, values}
-use Rattle.walk.specs.Matrix.{sum, product, dot, value-entry, values-nums}
+use Rattle.walk.specs.Matrix.{sum, product, dot}
 use Rattle.walk.specs.Walk.{Walk, Function, at, exp, ln, zeros, less, at-most, holds, asks, branch, end, _then_}
 use Rattle.walk.specs.Exact.{path, final, last}
-use Rattle.walk.specs.Body as body
-use Rattle.walk.specs.Update.{inThree, Change, untouched, stored}
+use Rattle.walk.specs.Update.{inThree, Change}
 use Rattle.reason.specs.declared.Number.{Number}
 use Rattle.reason.specs.declared.Number.the-variants as number
 use Rattle.reason.specs.declared.Reason.{Reason}
 use Rattle.reason.specs.declared.Reason.the-variants.{Flagged, Refused}
-use Rattle.reason.specs.Reason.{reasonOf, lastAs, testAs}
-use Rattle.reason.specs.Traced.{Traced, reached, stopped, traced, numberAs, onwards, reasonWith}
-use Rattle.reason.proofs.Laws.{traced-then, reason-traced, reason-inputs, reason-then}
+use Rattle.reason.specs.Reason.{reasonOf, lastOr, testAs, untold}
+use Rattle.reason.specs.Traced.{Traced, reached, stopped, traced, numberAs, follow}
+use Rattle.reason.specs.Why.{why}
+use Rattle.reason.proofs.Why.{why-of, why-then, told-read, store-why}
 use Rattle.plasticity_drucker_prager.specs.declared.DruckerPragerPlasticity.{DruckerPragerPlasticity}
 use Rattle.plasticity_drucker_prager.specs.declared.Measured.{Measured}
 use Rattle.plasticity_drucker_prager.specs.declared.Projected.{Projected}
@@ -32,11 +32,11 @@ use Rattle.plasticity_drucker_prager.specs.Law.{parametersFinite}
 use Rattle.plasticity_drucker_prager.specs.Alpha.{dim, alphaWalk}
 use Rattle.plasticity_drucker_prager.specs.Projection.{Way, isotropic, expanding, inside, surface, Returned, deviatoric, gamma, back, tipWalk, surfaceWalk, yieldWalk, strainedWalk, projectWalk, branchOf, walkedOf}
 use Rattle.plasticity_drucker_prager.specs.Over as over
-use Rattle.plasticity_drucker_prager.specs.DruckerPrager.{stateOf, storeWalk, Measures, measureWalk, measuredAs, measuredOf, finiteResults, wayWalk, staysOf, runWalk, druckerWalk}
-use Rattle.plasticity_drucker_prager.specs.Told.{testOf, movedTold, branchTold, followWalk}
+use Rattle.plasticity_drucker_prager.specs.DruckerPrager.{scalarsOf, Measures, measureWalk, measuredAs, measuredOf, wayWalk, staysOf, runWalk, druckerWalk, storeWalk, movedWalk}
+use Rattle.plasticity_drucker_prager.specs.Inner.{finiteResults, testOf, branchTold, followWalk}
 use Rattle.plasticity_drucker_prager.proofs.Laws.{inputs-law, measured-law}
 use Rattle.plasticity_drucker_prager.proofs.Reason as walk
-use Rattle.plasticity_drucker_prager.proofs.Reason.{follow-reason, drucker-reason, drucker-stays}
+use Rattle.plasticity_drucker_prager.proofs.Reason.{project-told}
 
 -- ---- on three axes the walk's last test is the one that the code's branch tells
 abbrev Same : Returned → Type 0
@@ -86,15 +86,7 @@ project-same p (x ∷ y ∷ z ∷ []) gain alpha h =
 project-same p (x ∷ y ∷ z ∷ w ∷ l) gain alpha h = absurd (omega arith)
 
 -- ---- after the projection
-kept : (b : Bool) (c : Change) (r : Reason) → reasonWith (cond b (reached c) (stopped 3 19)) (λ x. r) ≡ cond b r (Refused 3 19)
-kept true c r = refl
-kept false c r = refl
-
 module _ (r : Reason) (p : DruckerPragerPlasticity) (sigma : List Float) (dq : Float) (u vt : List (List Float)) (s : State) where
-  store-told : (d h gain : Expr) → reasonWith (traced (storeWalk u sigma vt d h gain dq s)) (λ c. r) ≡ cond (finiteResults (recomposeOf u sigma vt) sigma (value d) (value h) (value gain)) r (Refused 3 19)
-  unfolding body.storeWalk
-  store-told d h gain = simp (value-entry, values-nums) (kept (finiteResults (recomposeOf u sigma vt) sigma (value d) (value h) (value gain)) (stored (stateOf (recomposeOf u sigma vt) sigma (value d) (value h) (value gain) s) dq) r)
-
   abbrev pub measuresTold : Measured → Reason
   measuresTold (measured.Values d h gain) = cond (finiteResults (recomposeOf u sigma vt) sigma d h gain) r (Refused 3 19)
   measuresTold (measured.Refused n step) = Refused n step
@@ -102,15 +94,16 @@ module _ (r : Reason) (p : DruckerPragerPlasticity) (sigma : List Float) (dq : F
   abbrev after : Measures → Walk Change
   after m = storeWalk u sigma vt (m .determinant) (m .hardening) (m .gain) dq s
 
-  measures : (x : Traced Measures) → reasonWith (onwards x (λ m. traced (after m))) (λ c. r) ≡ measuresTold (measuredAs x)
-  measures (reached m) = store-told (m .determinant) (m .hardening) (m .gain)
+  measures : (x : Traced Measures) → follow Refused (λ m. why r (after m)) x ≡ measuresTold (measuredAs x)
+  measures (reached m) =
+      store-why inThree r 19 u sigma vt (m .determinant ∷ m .hardening ∷ m .gain ∷ []) (scalarsOf (value (m .determinant)) (value (m .hardening)) (value (m .gain)) (s .scalars)) dq
   measures (stopped n step) = refl
 
-  pub moved-told : movedTold r p sigma dq u vt s ≡ measuresTold (measuredOf p (productOf (s .sigma)) (productOf sigma) dq (s .scalars))
-  unfolding movedTold over.movedWalk
+  pub moved-told : why r (movedWalk p sigma dq u vt s) ≡ measuresTold (measuredOf p (productOf (s .sigma)) (productOf sigma) dq (s .scalars))
+  unfolding over.movedWalk
   moved-told =
       let w = measureWalk p (product (s .sigma)) (product sigma) dq (s .scalars) in
-      ap (λ x. reasonWith x (λ c. r)) (traced-then w after) ∙ measures (traced w) ∙ ap measuresTold (measured-law p (s .sigma) sigma dq (s .scalars))
+      why-then r w after ∙ told-read Refused (λ q m. why q (after m)) (λ m. r) r w refl ∙ measures (traced w) ∙ ap measuresTold (measured-law p (s .sigma) sigma dq (s .scalars))
 
 -- ---- the law
 module _ (p : DruckerPragerPlasticity) (u vt : List (List Float)) (s : State) where
@@ -120,8 +113,8 @@ module _ (p : DruckerPragerPlasticity) (u vt : List (List Float)) (s : State) wh
   abbrev T : Returned → Reason
   T q = testOf (branchOf (q .way))
 
-  way-told : (w : Way) (sigma : List Float) (dq : Float) → reasonWith (traced (wayWalk p w sigma dq u vt s)) (λ c. testOf (branchOf w)) ≡ branchTold (branchOf w) p sigma dq u vt s
-  unfolding over.wayWalk movedTold
+  way-told : (w : Way) (sigma : List Float) (dq : Float) → why (testOf (branchOf w)) (wayWalk p w sigma dq u vt s) ≡ branchTold (branchOf w) p sigma dq u vt s
+  unfolding over.wayWalk
   way-told (isotropic d) sigma dq = refl
   way-told (expanding x) sigma dq = refl
   way-told (inside x) sigma dq = refl
@@ -130,59 +123,61 @@ module _ (p : DruckerPragerPlasticity) (u vt : List (List Float)) (s : State) wh
   abbrev pub projectionTold : Projected → Reason
   projectionTold q = branchTold (q .branch) p (q .sigma) (q .dq) u vt s
 
-  branches-told : (x : Traced Returned) → reasonWith x (λ q. reasonWith (traced (W q)) (λ c. T q)) ≡ projectionTold (walkedOf x)
+  branches-told : (x : Traced Returned) → follow Refused (λ q. why (T q) (W q)) x ≡ projectionTold (walkedOf x)
   branches-told (reached q) = way-told (q .way) (q .sigma) (q .dq)
   branches-told (stopped n step) = refl
 
-  -- the projection and what follows it: the walk's last test, and on three axes as the branch tells it
-  follow-last : (sigma : List Float) (a : Float) → let g = projectWalk dim p sigma (s .scalars .«log_gain») a in
-      reasonOf (followWalk p sigma a u vt s) ≡ reasonWith (traced (g then W)) (λ c. testAs (walk.reasonOf (final g .way)))
+  abbrev project : List Float → Float → Walk Returned
+  project sigma a = projectWalk dim p sigma (s .scalars .«log_gain») a
+
+  -- the projection and what follows it: by what its end tells of the last test, whatever was told before
+  follow-why : (K : Returned → Reason) (d : Reason) (sigma : List Float) (a : Float) → testAs (walk.reasonOf (final (project sigma a) .way)) ≡ K (final (project sigma a))
+      → why d (project sigma a then W) ≡ follow Refused (λ q. why (K q) (W q)) (traced (project sigma a))
+  follow-why K d sigma a h =
+      let g = project sigma a in
+      why-then d g W ∙ told-read Refused (λ q m. why q (W m)) K d g (ap (lastOr d) (project-told dim p sigma (s .scalars .«log_gain») a none) ∙ h)
+
+  -- on three axes as the branch tells it
+  pub follow-told : (sigma : List Float) (a : Float) → length sigma ≡ 3 → reasonOf (followWalk p sigma a u vt s) ≡ projectionTold (walkedOf (traced (project sigma a)))
   unfolding followWalk
-  follow-last sigma a =
-      let w = projectWalk dim p sigma (s .scalars .«log_gain») a then W in
-      reason-traced w ∙ ap (λ l. reasonWith (traced w) (λ c. lastAs l)) (follow-reason p u vt s sigma a none)
-
-  pub follow-told : (sigma : List Float) (a : Float) → length sigma ≡ 3
-      → reasonOf (followWalk p sigma a u vt s) ≡ projectionTold (walkedOf (traced (projectWalk dim p sigma (s .scalars .«log_gain») a)))
   follow-told sigma a n =
-      let g = projectWalk dim p sigma (s .scalars .«log_gain») a in
-      follow-last sigma a ∙ ap (λ r. reasonWith (traced (g then W)) (λ c. r)) (project-same p sigma (s .scalars .«log_gain») a n)
-      ∙ ap (λ x. reasonWith x (λ c. T (final g))) (traced-then g W) ∙ reason-then T (λ q. traced (W q)) g ∙ branches-told (traced g)
-
-  abbrev G : Float → Walk Returned
-  G a = projectWalk dim p (s .sigma) (s .scalars .«log_gain») a
-
-  abbrev A : Walk Float
-  A = alphaWalk p (s .scalars .«plastic_hardening»)
-
-  abbrev K : Float → Reason
-  K a = testAs (walk.reasonOf (final (G a) .way))
+      sym (why-of (project sigma a then W)) ∙ follow-why T untold sigma a (project-same p sigma (s .scalars .«log_gain») a n) ∙ branches-told (traced (project sigma a))
 
   -- once alpha is known
   abbrev pub alphaTold : Number → Reason
   alphaTold (number.Value a) = reasonOf (followWalk p (s .sigma) a u vt s)
   alphaTold (number.Refused n step) = Refused n step
 
-  slopes-told : (x : Traced Float) → reasonWith x (λ a. reasonWith (traced (G a then W)) (λ c. K a)) ≡ alphaTold (numberAs x)
-  slopes-told (reached a) = sym (follow-last (s .sigma) a)
+  abbrev A : Walk Float
+  A = alphaWalk p (s .scalars .«plastic_hardening»)
+
+  abbrev F : Float → Walk Change
+  F a = project (s .sigma) a then W
+
+  -- the flag's test
+  abbrev left : Reason
+  left = Flagged 1 false
+
+  slopes-told : (x : Traced Float) → follow Refused (λ a. why left (F a)) x ≡ alphaTold (numberAs x)
+  unfolding followWalk
+  slopes-told (reached a) =
+      let K : Returned → Reason = λ q. testAs (walk.reasonOf (q .way)) in
+      follow-why K left (s .sigma) a refl ∙ sym (follow-why K untold (s .sigma) a refl) ∙ why-of (F a)
   slopes-told (stopped n step) = refl
 
-  alpha-told : reasonWith (traced (A then (λ a. G a then W))) (λ c. K (final A)) ≡ alphaTold (numberAs (traced A))
-  alpha-told =
-      ap (λ x. reasonWith x (λ c. K (final A))) (traced-then A (λ a. G a then W)) ∙ reason-then K (λ a. traced (G a then W)) A ∙ slopes-told (traced A)
-
-  abbrev L : Reason
-  L = lastAs (last (path (druckerWalk p u vt s)))
-
-  flag-told : (b : Bool) → staysOf p (s .scalars .phase) ≡ b
-      → reasonWith (cond b (reached untouched) (traced (A then (λ a. G a then W)))) (λ c. L) ≡ cond b (Flagged 1 true) (alphaTold (numberAs (traced A)))
-  flag-told true e = ap lastAs (drucker-stays p u vt s e .0)
-  flag-told false e = ap (λ l. reasonWith (traced (A then (λ a. G a then W))) (λ c. lastAs l)) (drucker-reason p u vt s e .0) ∙ alpha-told
+  alpha-quiet : lastOr left (last (path A)) ≡ left
+  unfolding alphaWalk
+  alpha-quiet = refl
 
   pub run-told : reasonOf (runWalk p u vt s) ≡ cond (staysOf p (s .scalars .phase)) (Flagged 1 true) (alphaTold (numberAs (traced A)))
-  unfolding over.runWalk over.druckerWalk
-  run-told = reason-traced (runWalk p u vt s) ∙ flag-told (staysOf p (s .scalars .phase)) refl
+  unfolding over.runWalk
+  run-told =
+      sym (why-of (runWalk p u vt s))
+      ∙ ap (cond (staysOf p (s .scalars .phase)) (Flagged 1 true)) (why-then left A F ∙ told-read Refused (λ q a. why q (F a)) (λ a. left) left A alpha-quiet ∙ slopes-told (traced A))
 
   pub drucker-told : reasonOf (druckerWalk p u vt s) ≡ cond (parametersFinite p && inputsFinite u vt s) (reasonOf (runWalk p u vt s)) (Refused 1 0)
   unfolding over.druckerWalk
-  drucker-told = reason-inputs (over.floats inThree p u vt s) (runWalk p u vt s) ∙ ap (λ b. cond b (reasonOf (runWalk p u vt s)) (Refused 1 0)) (inputs-law inThree p u vt s)
+  drucker-told =
+      let w = runWalk p u vt s in
+      sym (why-of (druckerWalk p u vt s)) ∙ ap (λ b. cond b (why untold w) (Refused 1 0)) (inputs-law inThree p u vt s)
+      ∙ ap (λ r. cond (parametersFinite p && inputsFinite u vt s) r (Refused 1 0)) (why-of w)

@@ -1,4 +1,4 @@
--- The slope of the Drucker-Prager cone at a hardening q (plasticity_drucker_prager.rs, `alpha`; RULES, section 6).
+-- The slope of the Drucker-Prager cone at a hardening q (plasticity_drucker_prager.rs, `alpha`; RULES, sections 5 and 6).
 use mathlib.Core.List.{[], _∷_, _++_}
 use lib.Ieee.{Float}
 use Rattle.numbers.specs.Constants as constants

@@ -1,10 +1,6 @@
--- The Drucker-Prager update in three axes: `Over` with the state and the number of three.
-use mathlib.Core.Bool.{Bool, _&&_}
+-- The Drucker-Prager update in three axes (RULES, section 5): `Over` with the state and the number of three.
 use mathlib.Core.List.{List}
 use lib.Ieee.{Float}
-use Rattle.numbers.specs.Floats.{finite}
-use Rattle.tensor.specs.Finite.{rowFinite, matFinite}
-use Rattle.plasticity.specs.declared.Outcome.the-variants as outcome
 use Rattle.plasticity.specs.declared.Scalars.{Scalars}
 use Rattle.plasticity.specs.declared.State.{State}
 use Rattle.plasticity.specs.declared.Updated.{Updated}
@@ -13,14 +9,13 @@ use Rattle.walk.specs.Walk.{Walk, less, picked}
 use Rattle.walk.specs.Update as update
 use Rattle.walk.specs.Update.{inThree, Change}
 use Rattle.reason.specs.Traced.{Traced, reached, stopped, traced}
-use Rattle.plasticity_drucker_prager.specs.declared.Branch.{Branch}
 use Rattle.plasticity_drucker_prager.specs.declared.DruckerPragerPlasticity.{DruckerPragerPlasticity}
 use Rattle.plasticity_drucker_prager.specs.declared.Measured.{Measured}
 use Rattle.plasticity_drucker_prager.specs.declared.Measured.the-variants as measured
 use Rattle.plasticity_drucker_prager.specs.Alpha.{dim}
 use Rattle.plasticity_drucker_prager.specs.Over as over
 pub use Rattle.plasticity_drucker_prager.specs.Over.{scalarsOf, Measures, measureWalk, staysOf, lawWalk}
-use Rattle.plasticity_drucker_prager.specs.Projection.{zero, Way, outcomeOf}
+use Rattle.plasticity_drucker_prager.specs.Projection.{zero, Way}
 
 -- F, sigma and the three scalars are new
 abbrev pub stateOf : List (List Float) → List Float → Float → Float → Float → State → State
@@ -51,16 +46,6 @@ measuredAs (stopped n step) = measured.Refused n step
 
 unfoldable pub measuredOf : DruckerPragerPlasticity → Float → Float → Float → Scalars → Measured
 measuredOf p prev grown dq x = measuredAs (traced (measureWalk p (num prev) (num grown) dq x))
-
-abbrev pub finiteResults : List (List Float) → List Float → Float → Float → Float → Bool
-finiteResults f sigma d h gain = (matFinite f && rowFinite sigma) && ((finite d && finite h) && finite gain)
-
-abbrev pub untouchedOf : State → Updated
-untouchedOf s = record { state = s; outcome = outcome.Untouched }
-
--- the outcome is that of the projection
-abbrev pub followedOf : Branch → DruckerPragerPlasticity → List Float → Float → List (List Float) → List (List Float) → State → Updated
-followedOf b p sigma dq u vt s = over.followedOf inThree (outcomeOf b dq) p sigma u vt s
 
 abbrev pub druckerUpdate : DruckerPragerPlasticity → List (List Float) → List (List Float) → State → Updated
 druckerUpdate p u vt s = over.druckerOver inThree dim p u vt s

@@ -1,15 +1,9 @@
 -- The Drucker-Prager projection (RULES, section 5; plasticity_drucker_prager.rs, `project_deformation_gradient`), over however many axes.
-use mathlib.Core.Bool.{cond, _&&_}
 use mathlib.Core.List.{List, [], _∷_, _++_, map}
 use Prim.Native.Nat.{ℕ}
 use lib.ListN.{getD}
 use lib.Ieee.{Float, nan}
-use Rattle.answers.specs.Refusals.{noNumber}
-use Rattle.numbers.specs.Floats.{finite}
-use Rattle.answers.specs.declared.Answer.{Answer}
-use Rattle.answers.specs.declared.Answer.the-variants as answers
 use Rattle.tensor.specs.Matrix as tensor
-use Rattle.tensor.specs.Finite.{rowFinite}
 use Rattle.tensor.specs.Answer.{zeroRow}
 use Rattle.plasticity.specs.declared.Outcome.{Outcome}
 use Rattle.plasticity.specs.declared.Outcome.the-variants as outcome
@@ -131,13 +125,6 @@ walkedOf (stopped n step) = refusedProjection n step
 -- where the step isn't told
 abbrev pub projectedOf : Ended Returned → Projected
 projectedOf x = walkedOf (stepless x)
-
-abbrev pub tipOf : Branch → List Float → Answer → Projected
-tipOf b ones (answers.Value norm) = record { branch = b; sigma = ones; dq = norm }
-tipOf b ones (answers.Refused n) = refusedProjection n 10
-
-abbrev pub returnedOf : Projected → Projected
-returnedOf q = cond (rowFinite (q .sigma) && finite (q .dq)) q (refusedProjection noNumber 19)
 
 -- ---- as it is handed out: the branch and what it compared stay inside
 abbrev pub outcomeOf : Branch → Float → Outcome

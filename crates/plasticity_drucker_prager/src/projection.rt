@@ -15,7 +15,8 @@ ghost use Rattle.walk.specs.Expr.{num, value};
 ghost use Rattle.walk.specs.Walk.{result};
 ghost use Rattle.reason.specs.Traced.{traced};
 ghost use Rattle.plasticity_drucker_prager.specs.Alpha.{dim};
-ghost use Rattle.plasticity_drucker_prager.specs.Projection.{gamma, surfaceWalk, yieldWalk, strainedWalk, projectWalk, projectCall, refusedProjection, walkedOf, projectedOf, tipOf, returnedOf, outcomeOf, resultsOf};
+ghost use Rattle.plasticity_drucker_prager.specs.Projection.{gamma, surfaceWalk, yieldWalk, strainedWalk, projectWalk, projectCall, refusedProjection, walkedOf, projectedOf, outcomeOf, resultsOf};
+ghost use Rattle.plasticity_drucker_prager.specs.Inner.{tipOf, returnedOf};
 
 fn refused_projection(n: u8, step: u8) -> Projected
     ensures { λ r. ⌜ r ≡ refusedProjection n step ⌝ }

@@ -10,28 +10,29 @@ use reason::Number;
 use reason::Reason;
 ghost use mathlib.Core.Path.{_≡_};
 ghost use Rattle.reason.specs.Reason.{reasonOf};
-ghost use Rattle.plasticity_drucker_prager.specs.DruckerPrager.{runWalk, druckerWalk};
-ghost use Rattle.plasticity_drucker_prager.specs.Told.{movedTold, branchTold, followWalk};
+ghost use Rattle.reason.specs.Why.{why};
+ghost use Rattle.plasticity_drucker_prager.specs.DruckerPrager.{runWalk, druckerWalk, movedWalk};
+ghost use Rattle.plasticity_drucker_prager.specs.Inner.{branchTold, followWalk};
 
 impl DruckerPragerPlasticity {
     // Of new singular values: the reason of their branch, unless a step after it refuses.
     fn moved_reason(
         self,
-        why: Reason,
+        told: Reason,
         sigma: [f64; 3],
         dq: f64,
         u: [[f64; 3]; 3],
         vt: [[f64; 3]; 3],
         s: State,
     ) -> Reason
-        ensures { λ r. ⌜ r ≡ movedTold why self sigma dq u vt s ⌝ }
+        ensures { λ r. ⌜ r ≡ why told (movedWalk self sigma dq u vt s) ⌝ }
     {
         let old = s.sigma;
         match self.measured(tensor::product(old), tensor::product(sigma), dq, s.scalars) {
             Measured::Values(d, hardening, gain) => {
                 let f = tensor::recompose(u, sigma, vt);
                 if update::finite_results(f, sigma, d, hardening, gain) {
-                    why
+                    told
                 } else {
                     Reason::Refused(answers::NO_NUMBER, steps::RESULTS)
                 }

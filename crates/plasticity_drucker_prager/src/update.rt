@@ -17,7 +17,8 @@ ghost use Rattle.walk.specs.Expr.{num};
 ghost use Rattle.walk.specs.Walk.{result};
 ghost use Rattle.walk.specs.Update.{updatedOf};
 ghost use Rattle.plasticity_drucker_prager.specs.Law.{parametersFinite};
-ghost use Rattle.plasticity_drucker_prager.specs.DruckerPrager.{untouchedOf, scalarsOf, stateOf, storeWalk, movedWalk, measuredOf, finiteResults, staysOf, runWalk, correctedOf, followedOf, druckerUpdate};
+ghost use Rattle.plasticity_drucker_prager.specs.DruckerPrager.{scalarsOf, measuredOf, staysOf, runWalk, correctedOf, druckerUpdate, stateOf, storeWalk, movedWalk};
+ghost use Rattle.plasticity_drucker_prager.specs.Inner.{untouchedOf, finiteResults, followedOf};
 
 fn untouched(s: State) -> Updated
     ensures { λ r. ⌜ r ≡ untouchedOf s ⌝ }

@@ -16,14 +16,18 @@ use Rattle.plasticity.specs.declared.Outcome.the-variants as outcome
 use Rattle.plasticity.specs.declared.Scalars.{Scalars}
 use Rattle.plasticity.specs.declared.State.{State}
 use Rattle.plasticity.specs.declared.Updated.{Updated}
-use Rattle.walk.specs.Expr.{Expr, num, neg, value, zero-number}
+use Rattle.walk.specs.Expr.{Expr, num, neg, value}
+use Rattle.walk.proofs.Expr.{zero-number}
 use Rattle.walk.specs.Walk.{Walk, end, _then_, holds, Ended, given, refused, result}
-use Rattle.walk.proofs.Number.{finite-number, neg-number, add-number, sub-number, finite-sub, picked-number, zero-finite}
-use Rattle.walk.specs.Exact.{andThen, result-then}
-use Rattle.walk.specs.Every.{and-left, and-right, flat, all-append, all-flat}
-use Rattle.walk.specs.Matrix.{value-entry, values-nums}
+use Rattle.walk.proofs.Number.{neg-number, add-number, sub-number, finite-sub, picked-number, zero-finite}
+use Rattle.numbers.proofs.Laws.{finite-number}
+use Rattle.walk.specs.Exact.{andThen}
+use Rattle.walk.proofs.Exact.{result-then}
+use Rattle.walk.specs.Matrix.{flat, value-entry, values-nums}
+use Rattle.walk.proofs.Every.{and-left, and-right, all-append, all-flat}
 use Rattle.walk.specs.Body as body
-use Rattle.walk.specs.Body.{Body, keptOf, inputs-finite, finite-scalars, store-law}
+use Rattle.walk.specs.Body.{Body, keptOf}
+use Rattle.walk.proofs.Body.{inputs-finite, finite-scalars, store-law}
 use Rattle.walk.specs.Update.{inThree, Change, updatedOf}
 use Rattle.reason.specs.declared.Number.{Number}
 use Rattle.reason.specs.declared.Number.the-variants as number
@@ -39,10 +43,11 @@ use Rattle.plasticity_nacc.specs.declared.Trial.{Trial}
 use Rattle.plasticity_nacc.specs.Law.{small, lawOf, parametersOf, argumentsFloats, elasticFinite, parametersFinite}
 use Rattle.plasticity_nacc.specs.Axes.{Axes, three-axes}
 use Rattle.plasticity_nacc.specs.Formulas as of
-use Rattle.plasticity_nacc.specs.Projection.{Way, upper, lower, inside, surface, Shape, Landed, Result, sizeOf, tipWalk, hardenWalk, conditions, hardenedWalk, settled, ends, pressWalk, stepsWalk, recomposedWalk, wayWalk, projectWalk, moduli, projectInputs, projectFloats, branchOf, asBranch, steppedOf, refusedProjection, walkedOf, projectedOf, resultsOf, recomposedOf, outcomeOf, byBranch}
+use Rattle.plasticity_nacc.specs.Projection.{Way, upper, lower, inside, surface, Shape, Landed, Result, tipWalk, hardenWalk, conditions, hardenedWalk, ends, pressWalk, stepsWalk, recomposedWalk, wayWalk, projectWalk, moduli, projectFloats, branchOf, refusedProjection, walkedOf, projectedOf, resultsOf, outcomeOf}
+use Rattle.plasticity_nacc.specs.Inner.{sizeOf, settled, projectInputs, asBranch, steppedOf, recomposedOf, byBranch, stateOf, byOutcome, storedBy}
 use Rattle.plasticity_nacc.specs.Over as over
 use Rattle.plasticity_nacc.specs.Over.{scalarsOf}
-use Rattle.plasticity_nacc.specs.Nacc.{stateOf, runWalk, argumentsWalk, byOutcome, storedBy, naccUpdate}
+use Rattle.plasticity_nacc.specs.Nacc.{runWalk, argumentsWalk, naccUpdate}
 
 pub small-finite : finite small ≡ true
 unfolding finite ofBits

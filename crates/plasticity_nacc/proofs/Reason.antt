@@ -16,7 +16,8 @@ use Rattle.walk.specs.Exact.{path, final, last, lastFrom, Reason}
 use Rattle.walk.specs.Body.{Body, storeWalk}
 use Rattle.walk.specs.Update.{inThree}
 use Rattle.walk.proofs.Reason.{final-then, last-then, Told, branch-told, Branchless, quiet, branchless-when, branchless-asks, branchless-then}
-use Rattle.walk.specs.Numbers.{Stops, refused-when}
+use Rattle.walk.specs.Numbers.{Stops}
+use Rattle.walk.proofs.Numbers.{refused-when}
 use Rattle.plasticity_nacc.specs.declared.NaccArguments.{NaccArguments}
 use Rattle.plasticity_nacc.specs.declared.NaccPlasticity.{NaccPlasticity}
 use Rattle.plasticity_nacc.specs.declared.Trial.{Trial}
@@ -29,9 +30,6 @@ use Rattle.plasticity_nacc.specs.Over as over
 use Rattle.plasticity_nacc.specs.Nacc.{wayWalk, naccWalk, argumentsWalk, naccUpdate, argumentsUpdate}
 
 -- ---- the refusal
-pub nacc-refused : (p : NaccPlasticity) (u vt : List (List Float)) (s : State) (n : ℕ) → (naccUpdate p u vt s .outcome ≡ Refused n) ↔ Stops n (path (naccWalk p u vt s))
-nacc-refused p u vt s n = refused-when inThree s (naccWalk p u vt s) n
-
 pub arguments-refused : (a : NaccArguments) (u vt : List (List Float)) (s : State) (n : ℕ) → (argumentsUpdate a u vt s .outcome ≡ Refused n) ↔ Stops n (path (argumentsWalk a u vt s))
 arguments-refused a u vt s n = refused-when inThree s (argumentsWalk a u vt s) n
 

@@ -1,4 +1,4 @@
--- The NACC law of its arguments: `with_m` (RULES, section 6; plasticity_nacc.rs).
+-- The NACC law of its arguments: `with_m` (RULES, sections 5 and 6; plasticity_nacc.rs).
 use mathlib.Core.Bool.{Bool, cond, _&&_}
 use mathlib.Core.List.{List, [], _∷_}
 use lib.Ieee.{Float, binary64, ofBits}
@@ -21,14 +21,7 @@ small = ofBits binary64 0x3f1a_36e2_eb1c_432d
 
 abbrev pub argumentsOf : Float → Float → Float → Bool → Float → Float → NaccArguments
 argumentsOf young poisson beta enabled xi m =
-    record {
-      «young_modulus» = young;
-      «poisson_ratio» = poisson;
-      cohesion = beta;
-      «hardening_enabled» = enabled;
-      «hardening_factor» = xi;
-      m = m;
-    }
+    record { «young_modulus» = young; «poisson_ratio» = poisson; cohesion = beta; «hardening_enabled» = enabled; «hardening_factor» = xi; m = m }
 
 abbrev pub lawOf : NaccArguments → NaccPlasticity
 lawOf a =

@@ -1,24 +1,18 @@
 -- The NACC projection (RULES, sections 5 and 6; plasticity_nacc.rs, `project_deformation_gradient`): its steps over however many axes, and in three axes F
 -- recomposed, as a call by itself.
-use mathlib.Core.Bool.{Bool, cond, _&&_}
 use mathlib.Core.List.{List, [], _∷_, _++_}
 use Prim.Native.Nat.{ℕ}
 use lib.ListN.{getD}
-use lib.Ieee as Ieee
 use lib.Ieee.{Float, nan}
-use Rattle.answers.specs.Refusals.{noNumber}
-use Rattle.numbers.specs.Floats.{finite, isNumber}
 use Rattle.tensor.specs.Matrix as tensor
 use Rattle.tensor.specs.Matrix.{recomposeOf, rowsOf}
-use Rattle.tensor.specs.Finite.{rowFinite, matFinite}
 use Rattle.tensor.specs.Answer.{zeroRow, zeroRows}
 use Rattle.tensor.specs.declared.Rows.{Rows}
 use Rattle.plasticity.specs.declared.Outcome.{Outcome}
 use Rattle.plasticity.specs.declared.Outcome.the-variants as outcome
 use Rattle.walk.specs.Expr.{Expr, num, neg, _+_, _-_, _*_, _/_, value, values, nums}
 use Rattle.walk.specs.Walk.{Walk, Test, ln, root, sinh, less, flag, inputs, ask, asks, work, works, most, size, branch, split, when, results, end, _then_, Ended}
-use Rattle.walk.specs.Matrix.{product}
-use Rattle.walk.specs.Every.{flat}
+use Rattle.walk.specs.Matrix.{product, flat}
 use Rattle.walk.specs.Update.{recomposed}
 use Rattle.reason.specs.Traced.{Traced, reached, stopped, stepless}
 use Rattle.plasticity_nacc.specs.declared.Branch.{Branch}
@@ -26,9 +20,8 @@ use Rattle.plasticity_nacc.specs.declared.Branch.the-variants.{Upper, Lo
 use Rattle.plasticity_nacc.specs.declared.NaccPlasticity.{NaccPlasticity}
 use Rattle.plasticity_nacc.specs.declared.Projected.{Projected}
 use Rattle.plasticity_nacc.specs.declared.Results.{Results}
-use Rattle.plasticity_nacc.specs.declared.Stepped.{Stepped}
 use Rattle.plasticity_nacc.specs.declared.Trial.{Trial}
-use Rattle.plasticity_nacc.specs.Law.{parametersOf, parametersFinite}
+use Rattle.plasticity_nacc.specs.Law.{parametersOf}
 use Rattle.plasticity_nacc.specs.Axes.{Axes, three-axes, dimOf, alike, inverse, rooted, squared}
 use Rattle.plasticity_nacc.specs.Formulas as of
 use Rattle.plasticity_nacc.specs.Formulas.{zero, small, trialOf}
@@ -64,10 +57,6 @@ tipWalk axes p x j alpha =
     rooted axes 11 x (λ e. raiseWalk p x j alpha then (λ a. end (record { sigma = alike axes (value e); alpha = a })))
 
 -- ---- the hardening step: the new alpha
--- of a zero of either sign 0
-abbrev pub sizeOf : Float → Float
-sizeOf x = cond (Ieee.le x tensor.zero) (tensor.sub tensor.zero x) x
-
 -- at the crossing's pressure x: the volume there, above 1e-4 the logarithm of j over it
 unfoldable pub growWalk : NaccPlasticity → Expr → Float → Float → Walk Float
 growWalk p x j alpha =
@@ -105,10 +94,6 @@ conditions p t =
 
 unfoldable pub hardenedWalk : Expr → NaccPlasticity → Trial → Float → Walk Float
 hardenedWalk d p t alpha = when 13 (conditions p t) (hardenWalk d p t alpha) (end alpha)
-
--- what the branches before it have tested
-abbrev pub settled : NaccPlasticity → Trial → Bool
-settled p t = isNumber (t .p0) && isNumber (t .p) && isNumber (value (of.low p (num (t .p0))))
 
 -- ---- the surface
 unfoldable pub rootsWalk : List Float → Float → Walk Shape
@@ -191,10 +176,6 @@ projectWalk p f u sigma vt alpha = stepsWalk three-axes p sigma alpha then (λ q
 abbrev pub moduli : {A : Type 0} → NaccPlasticity → Walk A → Walk A
 moduli p w = results 1 ((num (p .mu) ∷ num (p .kappa) ∷ []) ∷ []) w
 
-abbrev pub projectInputs : NaccPlasticity → List (List Float) → List (List Float) → List Float → List (List Float) → Float → Bool
-projectInputs p f u sigma vt alpha =
-    parametersFinite p && matFinite f && matFinite u && rowFinite sigma && matFinite vt && finite alpha
-
 unfoldable pub projectFloats : NaccPlasticity → List (List Float) → List (List Float) → List Float → List (List Float) → Float → List Float
 projectFloats p f u sigma vt alpha = parametersOf p ++ (flat f ++ (flat u ++ (sigma ++ (flat vt ++ (alpha ∷ [])))))
 
@@ -207,17 +188,6 @@ branchOf (upper x y) = Upper x y
 branchOf (lower x y) = Lower x y
 branchOf (inside x y) = Inside x y
 branchOf (surface x y) = Surface x y
-
-abbrev pub refusedStep : ℕ → ℕ → Stepped
-refusedStep n step = record { branch = Refused n step; sigma = zeroRow; alpha = tensor.zero }
-
-abbrev pub asBranch : Branch → Traced Shape → Stepped
-asBranch b (reached q) = record { branch = b; sigma = q .sigma; alpha = q .alpha }
-asBranch b (stopped n step) = refusedStep n step
-
-abbrev pub steppedOf : Traced Landed → Stepped
-steppedOf (reached q) = record { branch = branchOf (q .way); sigma = q .shape .sigma; alpha = q .shape .alpha }
-steppedOf (stopped n step) = refusedStep n step
 
 abbrev pub besideZeros : Branch → Projected
 besideZeros b = record { branch = b; f = zeroRows; sigma = zeroRow; alpha = tensor.zero }
@@ -233,12 +203,6 @@ walkedOf (stopped n step) = refusedProjection n step
 abbrev pub projectedOf : Ended Result → Projected
 projectedOf x = walkedOf (stepless x)
 
-unfoldable pub recomposedOf : Branch → List (List Float) → List Float → List (List Float) → Float → Projected
-recomposedOf b u sigma vt alpha =
-    cond ((matFinite (recomposeOf u sigma vt) && rowFinite sigma) && finite alpha)
-    (record { branch = b; f = rowsOf (recomposeOf u sigma vt); sigma = sigma; alpha = alpha })
-    (refusedProjection noNumber 30)
-
 -- whether the values are new
 abbrev pub outcomeOf : Branch → Float → Outcome
 outcomeOf (Upper x y) alpha = outcome.Stored alpha
@@ -246,15 +210,6 @@ outcomeOf (Lower x y) alpha = outcome.Stored alpha
 outcomeOf (Inside x y) alpha = outcome.Untouched
 outcomeOf (Surface x y) alpha = outcome.Stored alpha
 outcomeOf (Refused n step) alpha = outcome.Refused n
-
--- F is recomposed where they are
-abbrev pub recomposedBy : Outcome → Branch → List Float → Float → Rows → List (List Float) → List (List Float) → Projected
-recomposedBy outcome.Untouched b sigma alpha f u vt = record { branch = b; f = f; sigma = sigma; alpha = alpha }
-recomposedBy (outcome.Stored new) b sigma alpha f u vt = recomposedOf b u sigma vt new
-recomposedBy (outcome.Refused n) b sigma alpha f u vt = besideZeros b
-
-abbrev pub byBranch : Branch → List Float → Float → Rows → List (List Float) → List (List Float) → Projected
-byBranch b sigma alpha f u vt = recomposedBy (outcomeOf b alpha) b sigma alpha f u vt
 
 -- as it is handed out: the branch and what it compared stay inside
 abbrev pub resultsOf : Projected → Results

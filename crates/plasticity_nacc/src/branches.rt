@@ -13,7 +13,8 @@ ghost use Rattle.numbers.specs.Floats.{finite, isNumber};
 ghost use Rattle.reason.specs.Traced.{traced};
 ghost use Rattle.plasticity_nacc.specs.Axes.{three-axes, dimOf};
 ghost use Rattle.plasticity_nacc.specs.Formulas.{stressedOf};
-ghost use Rattle.plasticity_nacc.specs.Projection.{steppedOf, settled, yieldWalk, lowerWalk, branchWalk, stepsWalk};
+ghost use Rattle.plasticity_nacc.specs.Projection.{yieldWalk, lowerWalk, branchWalk, stepsWalk};
+ghost use Rattle.plasticity_nacc.specs.Inner.{steppedOf, settled};
 
 impl NaccPlasticity {
     // Between the tips.

@@ -1,4 +1,4 @@
-// The formulas of one number each, over however many axes.
+// The formulas of one number each (RULES, section 5), over however many axes.
 use crate::NaccPlasticity;
 use crate::Trial;
 use crate::steps;

@@ -12,7 +12,8 @@ ghost use Rattle.walk.specs.Expr.{num, value};
 ghost use Rattle.walk.specs.Walk.{holds, root, answerOf};
 ghost use Rattle.reason.specs.Traced.{traced, numberAs};
 ghost use Rattle.plasticity_nacc.specs.Formulas.{quadratic, linear, constant, half};
-ghost use Rattle.plasticity_nacc.specs.Projection.{sizeOf, growWalk, crossWalk, hardenWalk, conditions, hardenedWalk, settled};
+ghost use Rattle.plasticity_nacc.specs.Projection.{growWalk, crossWalk, hardenWalk, conditions, hardenedWalk};
+ghost use Rattle.plasticity_nacc.specs.Inner.{sizeOf, settled};
 
 // The size of x; of either zero 0.0.
 fn size(x: f64) -> f64

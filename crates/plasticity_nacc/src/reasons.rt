@@ -12,7 +12,7 @@ ghost use Rattle.numbers.specs.Floats.{finite};
 ghost use Rattle.reason.specs.Reason.{reasonOf};
 ghost use Rattle.plasticity_nacc.specs.Projection.{moduli};
 ghost use Rattle.plasticity_nacc.specs.Nacc.{runWalk, argumentsWalk};
-ghost use Rattle.plasticity_nacc.specs.Told.{testOf};
+ghost use Rattle.plasticity_nacc.specs.Inner.{testOf};
 
 // The branch's own test is the last: p0 < p, p < -beta p0, y < 1e-4.
 fn branch_reason(q: Projected) -> Reason

@@ -13,7 +13,8 @@ ghost use Rattle.walk.specs.Walk.{root, answerOf};
 ghost use Rattle.reason.specs.Traced.{traced};
 ghost use Rattle.plasticity_nacc.specs.Axes.{three-axes};
 ghost use Rattle.plasticity_nacc.specs.Formulas.{spread};
-ghost use Rattle.plasticity_nacc.specs.Projection.{refusedStep, asBranch, tipWalk, rootsWalk, landWalk, surfaceWalk, settled};
+ghost use Rattle.plasticity_nacc.specs.Projection.{tipWalk, rootsWalk, landWalk, surfaceWalk};
+ghost use Rattle.plasticity_nacc.specs.Inner.{refusedStep, asBranch, settled};
 
 // The root of 3/2.
 const HALF_ROOT: f64 = 1.224744871391589;

@@ -18,9 +18,10 @@ ghost use Rattle.walk.specs.Walk.{result};
 ghost use Rattle.walk.specs.Update.{updatedOf};
 ghost use Rattle.reason.specs.Traced.{traced};
 ghost use Rattle.plasticity_nacc.specs.Law.{parametersFinite, moduliFinite};
-ghost use Rattle.plasticity_nacc.specs.Projection.{outcomeOf, resultsOf, besideZeros, refusedProjection, recomposedOf, byBranch, walkedOf, projectedOf, projectInputs, projectWalk, projectCall};
+ghost use Rattle.plasticity_nacc.specs.Projection.{outcomeOf, resultsOf, besideZeros, refusedProjection, walkedOf, projectedOf, projectWalk, projectCall};
+ghost use Rattle.plasticity_nacc.specs.Inner.{recomposedOf, byBranch, projectInputs, stateOf, storedBy};
 ghost use Rattle.plasticity_nacc.specs.Over.{scalarsOf};
-ghost use Rattle.plasticity_nacc.specs.Nacc.{stateOf, storedBy, runWalk, naccUpdate};
+ghost use Rattle.plasticity_nacc.specs.Nacc.{runWalk, naccUpdate};
 
 // Zeros beside the branch.
 fn beside_zeros(b: Branch) -> Projected

@@ -7,7 +7,8 @@ use Rattle.tensor.specs.Matrix.{zero, one, three, sumOf}
 use Rattle.walk.specs.Matrix.{total, sum}
 use Rattle.plasticity_rankine.specs.declared.RankinePlasticity.{RankinePlasticity}
 use Rattle.plasticity_rankine.specs.Sorting.{orderOf}
-use Rattle.plasticity_rankine.specs.Projection.{thirdWalk, secondWalk, firstWalk, callOver, callFloats, projectedOf, projectOf}
+use Rattle.plasticity_rankine.specs.Projection.{thirdWalk, secondWalk, firstWalk, callOver, callFloats, projectOf}
+use Rattle.plasticity_rankine.specs.Inner.{projectedOf}
 
 -- the law of two moduli; strength and rate play no part here
 abbrev of : Float → Float → RankinePlasticity

@@ -4,11 +4,12 @@ use mathlib.Core.List.{List, [], _∷_, reverse}
 use mathlib.Core.Path.{_≡_, refl, sym, _∙_}
 use lib.ListN.{length, getD}
 use lib.Ieee.{Float, nan, le}
-use Rattle.tensor.specs.Axes.{of-one}
+use Rattle.tensor.proofs.Axes.{of-one}
 use Rattle.tensor.specs.Matrix.{three}
 use Rattle.plasticity_rankine.specs.declared.Rank.{Rank}
 use Rattle.plasticity_rankine.specs.declared.Rank.the-variants.{R012, R021, R102, R120, R201, R210}
-use Rattle.plasticity_rankine.specs.Sorting.{placedOf, orderOf, indexesOf}
+use Rattle.plasticity_rankine.specs.Sorting.{placedOf, orderOf}
+use Rattle.plasticity_rankine.specs.Inner.{indexesOf}
 
 -- x <= y, y <= z and x <= z tell the six apart
 abbrev pub rankOf : Bool → Bool → Bool → Rank

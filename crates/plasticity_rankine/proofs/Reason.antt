@@ -13,10 +13,12 @@ use Rattle.plasticity.specs.declared.State.{State}
 use Rattle.walk.specs.Expr.{Expr, num, value, values, nums}
 use Rattle.walk.specs.Matrix.{sum}
 use Rattle.walk.specs.Walk.{Function, ln, exp, at, at-most, Walk, asks, end, _then_, given, result}
-use Rattle.walk.specs.Exact.{Met, path, final, first, Refusal, answer, exactly, last, lastFrom, Reason}
+use Rattle.walk.specs.Exact.{Met, path, final, first, Refusal, answer, last, lastFrom, Reason}
+use Rattle.walk.proofs.Exact.{exactly}
 use Rattle.walk.proofs.Reason.{final-then, last-then, Told, branch-told, Branchless, quiet, branchless-asks}
-use Rattle.walk.specs.Numbers.{Stops, Clear, first-stops, first-clear, refused-when, accepted-when}
-use Rattle.walk.specs.Answers.{stops-positive}
+use Rattle.walk.specs.Numbers.{Stops, Clear}
+use Rattle.walk.proofs.Numbers.{first-stops, first-clear, refused-when, accepted-when}
+use Rattle.walk.proofs.Answers.{stops-positive}
 use Rattle.walk.specs.Body as body
 use Rattle.walk.specs.Update.{inThree, Change, refusalOf, numberOf}
 use Rattle.plasticity_rankine.specs.declared.RankineArguments.{RankineArguments}
@@ -26,20 +28,11 @@ use Rattle.plasticity_rankine.specs.Law.{lawOf}
 use Rattle.plasticity_rankine.specs.Sorting.{orderOf, arrangeOf}
 use Rattle.plasticity_rankine.specs.Projection.{firstSide, secondSide, thirdSide, backOne, backTwo, backAll, Way, none-moves, one-moves, two-move, all-move, Moved, ends, thirdWalk, secondWalk, firstWalk, projectWalk, projectCall, argumentsCall, vectorOf, projectOf, argumentsProject}
 use Rattle.plasticity_rankine.specs.Over as over
-use Rattle.plasticity_rankine.specs.Rankine.{storeWalk, movedWalk, wayWalk, softStrength, strainedWalk, runWalk, rankineWalk, argumentsWalk, rankineUpdate, argumentsUpdate}
+use Rattle.plasticity_rankine.specs.Rankine.{movedWalk, wayWalk, softStrength, runWalk, rankineWalk, argumentsWalk, rankineUpdate, argumentsUpdate, storeWalk, strainedWalk}
 
 -- ---- the refusal
-pub rankine-refused : (p : RankinePlasticity) (u vt : List (List Float)) (s : State) (n : ℕ) → (rankineUpdate p u vt s .outcome ≡ Refused n) ↔ Stops n (path (rankineWalk p u vt s))
-rankine-refused p u vt s n = refused-when inThree s (rankineWalk p u vt s) n
-
-pub rankine-accepted : (p : RankinePlasticity) (u vt : List (List Float)) (s : State) → (refusalOf (rankineUpdate p u vt s .outcome) ≡ none) ↔ Clear (path (rankineWalk p u vt s))
-rankine-accepted p u vt s = accepted-when inThree s (rankineWalk p u vt s)
-
 pub arguments-refused : (a : RankineArguments) (u vt : List (List Float)) (s : State) (n : ℕ) → (argumentsUpdate a u vt s .outcome ≡ Refused n) ↔ Stops n (path (argumentsWalk a u vt s))
 arguments-refused a u vt s n = refused-when inThree s (argumentsWalk a u vt s) n
-
-pub arguments-accepted : (a : RankineArguments) (u vt : List (List Float)) (s : State) → (refusalOf (argumentsUpdate a u vt s .outcome) ≡ none) ↔ Clear (path (argumentsWalk a u vt s))
-arguments-accepted a u vt s = accepted-when inThree s (argumentsWalk a u vt s)
 
 -- of a call that answers a vector, 0 where it refuses nothing
 abbrev codeOf : Option ℕ → ℕ
@@ -79,26 +72,11 @@ module _ (w : Walk (List Float)) where
     λ q. code ∙ ap codeOf (first-stops (path w) (suc n) .1 q),
   )
 
-  vector-accepted : (vectorOf (result w) .refusal ≡ 0) ↔ Clear (path w)
-  vector-accepted = (
-    λ e. first-clear (path w) .0 (nothing (path w) (numberOf (first (path w))) refl (sym code ∙ e)),
-    λ q. code ∙ ap codeOf (first-clear (path w) .1 q),
-  )
-
   pub vector-given : vectorOf (result w) .refusal ≡ 0 → result w ≡ given (final w)
   vector-given e = exactly w ∙ given-by (first (path w)) (final w) (nothing (path w) (numberOf (first (path w))) refl (sym code ∙ e))
 
 pub project-refused : (p : RankinePlasticity) (e : List Float) (s : Float) (n : ℕ) → (projectOf p e s .refusal ≡ suc n) ↔ Stops (suc n) (path (projectCall p e s))
 project-refused p e s n = vector-refused (projectCall p e s) n
-
-pub project-accepted : (p : RankinePlasticity) (e : List Float) (s : Float) → (projectOf p e s .refusal ≡ 0) ↔ Clear (path (projectCall p e s))
-project-accepted p e s = vector-accepted (projectCall p e s)
-
-pub arguments-project-refused : (a : RankineArguments) (e : List Float) (s : Float) (n : ℕ) → (argumentsProject a e s .refusal ≡ suc n) ↔ Stops (suc n) (path (argumentsCall a e s))
-arguments-project-refused a e s n = vector-refused (argumentsCall a e s) n
-
-pub arguments-project-accepted : (a : RankineArguments) (e : List Float) (s : Float) → (argumentsProject a e s .refusal ≡ 0) ↔ Clear (path (argumentsCall a e s))
-arguments-project-accepted a e s = vector-accepted (argumentsCall a e s)
 
 -- ---- the reason
 abbrev pub reasonOf : Way → Reason
@@ -141,6 +119,9 @@ module _ (p : RankinePlasticity) (k : List ℕ) (e : List Float) (r : Sorted) (s
       branch-told R 4 (at-most side s) (end (record { way = none-moves (value side) (value s); strains = nums e })) (secondWalk p k e r s) o (λ h. refl)
       (λ h. second-told (some (record { test = 4; compares = value side ∷ value s ∷ []; held = false })))
 
+pub project-told : (p : RankinePlasticity) (e : List Float) (s : Expr) → last (path (projectWalk p e s)) ≡ some (reasonOf (final (projectWalk p e s) .way))
+project-told p e s = first-told p (orderOf e) e (arrangeOf (orderOf e) e) s none
+
 -- no test counts after the projection
 module _ (p : RankinePlasticity) (old : List Float) (new : List Expr) (u vt : List (List Float)) (s : State) where
   moved-branchless : Branchless (movedWalk p old new u vt s)
@@ -181,7 +162,7 @@ module _ (p : RankinePlasticity) (u vt : List (List Float)) (s : State) where
       let q = final projection in (
         asks-last 2 ln (s .sigma) (λ e. strainedWalk p e u vt s) none ∙ last-then projection W none
             ∙ quiet (W q) (way-branchless p strains (q .strains) u vt s (q .way)) (lastFrom none (path projection))
-            ∙ first-told p (orderOf strains) strains (arrangeOf (orderOf strains) strains) (num (value (softStrength p (s .scalars .«plastic_hardening»)))) none,
+            ∙ project-told p strains (num (value (softStrength p (s .scalars .«plastic_hardening»)))),
         asks-final 2 ln (s .sigma) (λ e. strainedWalk p e u vt s) ∙ final-then projection W,
       )
 

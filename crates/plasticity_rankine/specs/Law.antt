@@ -1,4 +1,4 @@
--- The Rankine law of its arguments: `new` (RULES, section 6; plasticity_rankine.rs).
+-- The Rankine law of its arguments: `new` (RULES, sections 5 and 6; plasticity_rankine.rs).
 use mathlib.Core.Bool.{Bool, cond, _&&_}
 use mathlib.Core.List.{List, [], _∷_}
 use lib.Ieee.{Float}

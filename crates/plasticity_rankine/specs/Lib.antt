@@ -3,4 +3,4 @@ pub mod Sorting
 pub mod Projection
 pub mod Over
 pub mod Rankine
-pub mod Reason
+pub mod Inner

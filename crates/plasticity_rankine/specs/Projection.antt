@@ -6,14 +6,11 @@ use lib.Ieee.{Float}
 use Rattle.numbers.specs.Constants as constants
 pub use Rattle.numbers.specs.Constants.{two}
 use Rattle.tensor.specs.Matrix.{three}
-use Rattle.tensor.specs.Answer.{zeroRow, answeredVector, refusedVector}
+use Rattle.tensor.specs.Answer.{zeroRow, refusedVector}
 use Rattle.tensor.specs.declared.VectorAnswer.{VectorAnswer}
 use Rattle.walk.specs.Expr.{Expr, num, _+_, _-_, _*_, _/_, value, values, nums}
 use Rattle.walk.specs.Walk.{Walk, at-most, inputs, branch, results, end, _then_, Ended, given, refused, result}
 use Rattle.walk.specs.Matrix.{sum}
-use Rattle.plasticity_rankine.specs.declared.Branch.{Branch}
-use Rattle.plasticity_rankine.specs.declared.Branch.the-variants.{Untouched, One, Two, All, Refused}
-use Rattle.plasticity_rankine.specs.declared.Projected.{Projected}
 use Rattle.plasticity_rankine.specs.declared.RankineArguments.{RankineArguments}
 use Rattle.plasticity_rankine.specs.declared.RankinePlasticity.{RankinePlasticity}
 use Rattle.plasticity_rankine.specs.declared.Sorted.{Sorted}
@@ -121,34 +118,14 @@ projectCall p e s = callOver projectWalk (parametersOf p) p e s
 abbrev pub argumentsCall : RankineArguments → List Float → Float → Walk (List Float)
 argumentsCall a e s = callOver projectWalk (argumentsFloats a) (lawOf a) e s
 
--- ---- as the code hands it on: zeros stand beside a refusal
-abbrev pub branchOf : Way → Branch
-branchOf (none-moves x y) = Untouched x y
-branchOf (one-moves x y) = One x y
-branchOf (two-move x y) = Two x y
-branchOf (all-move x y) = All x y
-
-abbrev pub refusedStrains : ℕ → Projected
-refusedStrains n = record { branch = Refused n; strains = zeroRow }
-
-abbrev pub movedOf : Ended Moved → Projected
-movedOf (given q) = record { branch = branchOf (q .way); strains = values (q .strains) }
-movedOf (refused n) = refusedStrains n
-
-abbrev pub projectedOf : RankinePlasticity → List Float → Float → Projected
-projectedOf p e s = movedOf (result (projectWalk p e (num s)))
+-- ---- what the calls answer: zeros stand beside a refusal
+abbrev pub strainsOf : Ended Moved → List Float
+strainsOf (given q) = values (q .strains)
+strainsOf (refused n) = zeroRow
 
 abbrev pub vectorOf : Ended (List Float) → VectorAnswer
 vectorOf (given v) = record { refusal = 0; vector = v }
 vectorOf (refused n) = refusedVector n
-
--- the strains, or the refusal that the branch carries
-abbrev pub byBranch : Branch → List Float → VectorAnswer
-byBranch (Untouched x y) e = answeredVector e
-byBranch (One x y) e = answeredVector e
-byBranch (Two x y) e = answeredVector e
-byBranch (All x y) e = answeredVector e
-byBranch (Refused n) e = refusedVector n
 
 abbrev pub projectOf : RankinePlasticity → List Float → Float → VectorAnswer
 projectOf p e s = vectorOf (result (projectCall p e s))

@@ -1,18 +1,12 @@
--- The Rankine update in three axes: `Over` with the state and the projection of three.
+-- The Rankine update in three axes (RULES, section 5): `Over` with the state and the projection of three.
 use mathlib.Core.List.{List}
 use lib.Ieee.{Float}
-use Rattle.plasticity.specs.State as law
-use Rattle.plasticity.specs.declared.Outcome.the-variants as outcome
 use Rattle.plasticity.specs.declared.State.{State}
 use Rattle.plasticity.specs.declared.Updated.{Updated}
-use Rattle.walk.specs.Expr.{Expr, nums}
-use Rattle.walk.specs.Walk.{Walk, result}
+use Rattle.walk.specs.Expr.{Expr}
+use Rattle.walk.specs.Walk.{Walk}
 use Rattle.walk.specs.Update as update
-use Rattle.walk.specs.Update.{inThree, Change, updatedOf}
-use Rattle.plasticity_rankine.specs.declared.Branch.{Branch}
-use Rattle.plasticity_rankine.specs.declared.Branch.the-variants.{Untouched, One, Two, All, Refused}
-use Rattle.plasticity_rankine.specs.declared.Moves.{Moves}
-use Rattle.plasticity_rankine.specs.declared.Moves.the-variants as moves
+use Rattle.walk.specs.Update.{inThree, Change}
 use Rattle.plasticity_rankine.specs.declared.RankineArguments.{RankineArguments}
 use Rattle.plasticity_rankine.specs.declared.RankinePlasticity.{RankinePlasticity}
 use Rattle.plasticity_rankine.specs.Projection.{Way, projectWalk}
@@ -51,27 +45,7 @@ rankineWalk p u vt s = over.rankineWalk inThree projectWalk p u vt s
 abbrev pub argumentsWalk : RankineArguments → List (List Float) → List (List Float) → State → Walk Change
 argumentsWalk a u vt s = over.argumentsWalk inThree projectWalk a u vt s
 
--- ---- as the code hands it on: a refused call hands the state back as it came
-abbrev pub untouchedOf : State → Updated
-untouchedOf s = record { state = s; outcome = outcome.Untouched }
-
--- whether strains move
-abbrev pub movesOf : Branch → Moves
-movesOf (Untouched x y) = moves.No
-movesOf (One x y) = moves.Yes
-movesOf (Two x y) = moves.Yes
-movesOf (All x y) = moves.Yes
-movesOf (Refused n) = moves.Refused n
-
--- w where they do
-abbrev pub byMoves : Moves → Walk Change → State → Updated
-byMoves moves.No w s = untouchedOf s
-byMoves moves.Yes w s = updatedOf s (result w)
-byMoves (moves.Refused n) w s = law.refused n s
-
-abbrev pub followedOf : Branch → RankinePlasticity → List Float → List Float → List (List Float) → List (List Float) → State → Updated
-followedOf b p old new u vt s = byMoves (movesOf b) (movedWalk p old (nums new) u vt s) s
-
+-- ---- a refused call hands the state back as it came
 abbrev pub rankineUpdate : RankinePlasticity → List (List Float) → List (List Float) → State → Updated
 rankineUpdate p u vt s = over.rankineOver inThree projectWalk p u vt s
 

@@ -6,8 +6,6 @@ use lib.ListN.{length, getD, set}
 use lib.Ieee as Ieee
 use lib.Ieee.{Float, nan}
 use Rattle.tensor.specs.Matrix.{three}
-use Rattle.plasticity_rankine.specs.declared.Rank.{Rank}
-use Rattle.plasticity_rankine.specs.declared.Rank.the-variants.{R012, R021, R102, R120, R201, R210}
 use Rattle.plasticity_rankine.specs.declared.Sorted.{Sorted}
 
 -- the index i among lower ones that stand from the highest strain down: before the first whose strain is at most its own
@@ -39,15 +37,6 @@ abbrev pub restoredOf : {A : Type 0} → List ℕ → List A → List A
 restoredOf ks vs = putOf ks vs vs
 
 -- ---- three axes
--- what the six orders stand for
-abbrev pub indexesOf : Rank → List ℕ
-indexesOf R012 = 0 ∷ 1 ∷ 2 ∷ []
-indexesOf R021 = 0 ∷ 2 ∷ 1 ∷ []
-indexesOf R102 = 1 ∷ 0 ∷ 2 ∷ []
-indexesOf R120 = 1 ∷ 2 ∷ 0 ∷ []
-indexesOf R201 = 2 ∷ 0 ∷ 1 ∷ []
-indexesOf R210 = 2 ∷ 1 ∷ 0 ∷ []
-
 abbrev pub sortedOf : Float → Float → Float → Sorted
 sortedOf c b a = record { low = c; mid = b; high = a }
 

@@ -3,6 +3,7 @@ mod arguments;
 mod projection;
 mod reasons;
 mod sorting;
+mod steps;
 mod update;
 
 // The law with its moduli, which come from `new`.
@@ -44,13 +45,14 @@ pub struct Sorted {
     pub high: f64,
 }
 
-// How many strains move, with the two numbers last compared, which need not be finite; or the refusal's number.
+// How many strains move, with the two numbers last compared, which need not be finite; or the refusal's number and its
+// step.
 enum Branch {
     Untouched(f64, f64),
     One(f64, f64),
     Two(f64, f64),
     All(f64, f64),
-    Refused(u8),
+    Refused(u8, u8),
 }
 
 // Whether strains move; or the refusal's number.

@@ -5,22 +5,23 @@ use crate::Rank;
 use crate::RankinePlasticity;
 use crate::Sorted;
 use crate::sorting;
+use crate::steps;
 use tensor::VectorAnswer;
 ghost use mathlib.Core.Path.{_≡_};
 ghost use mathlib.Core.Bool.{true};
 ghost use Rattle.numbers.specs.Floats.{isNumber};
 ghost use Rattle.walk.specs.Expr.{num, value};
-ghost use Rattle.walk.specs.Walk.{result};
+ghost use Rattle.reason.specs.Traced.{traced};
 ghost use Rattle.plasticity_rankine.specs.Law.{parametersFinite, moduliFinite};
-ghost use Rattle.plasticity_rankine.specs.Sorting.{indexesOf};
-ghost use Rattle.plasticity_rankine.specs.Projection.{firstSide, secondSide, thirdSide, backOne, backTwo, backAll, backBoth, thirdWalk, secondWalk, refusedStrains, movedOf, projectedOf, byBranch, projectOf};
+ghost use Rattle.plasticity_rankine.specs.Inner.{indexesOf, refusedStrains, movedOf, projectedOf, byBranch};
+ghost use Rattle.plasticity_rankine.specs.Projection.{firstSide, secondSide, thirdSide, backOne, backTwo, backAll, backBoth, thirdWalk, secondWalk, projectOf};
 
-fn refused_strains(n: u8) -> Projected
-    ensures { λ r. ⌜ r ≡ refusedStrains n ⌝ }
+fn refused_strains(n: u8, step: u8) -> Projected
+    ensures { λ r. ⌜ r ≡ refusedStrains n step ⌝ }
 {
     let z = [0.0, 0.0, 0.0];
     Projected {
-        branch: Branch::Refused(n),
+        branch: Branch::Refused(n, step),
         strains: z,
     }
 }
@@ -36,7 +37,7 @@ fn returned(q: Projected) -> VectorAnswer
         Branch::One(_, _) => tensor::answered_vector(e),
         Branch::Two(_, _) => tensor::answered_vector(e),
         Branch::All(_, _) => tensor::answered_vector(e),
-        Branch::Refused(n) => tensor::refused_vector(n),
+        Branch::Refused(n, _) => tensor::refused_vector(n),
     }
 }
 
@@ -89,7 +90,7 @@ impl RankinePlasticity {
     // The third test.
     fn two_or_all(self, k: Rank, e: [f64; 3], r: Sorted, s: f64) -> Projected
         requires { ⌜ isNumber s ≡ true ⌝ }
-        ensures { λ q. ⌜ q ≡ movedOf (result (thirdWalk self (indexesOf k) e r (num s))) ⌝ }
+        ensures { λ q. ⌜ q ≡ movedOf (traced (thirdWalk self (indexesOf k) e r (num s))) ⌝ }
     {
         let third = self.third_side(r.low);
         if numbers::is_number(third) {
@@ -107,14 +108,14 @@ impl RankinePlasticity {
                 }
             }
         } else {
-            refused_strains(answers::NO_NUMBER)
+            refused_strains(answers::NO_NUMBER, steps::THIRD_TEST)
         }
     }
 
     // The second test, where the first failed.
     fn one_or_more(self, k: Rank, e: [f64; 3], r: Sorted, s: f64) -> Projected
         requires { ⌜ isNumber s ≡ true ⌝ }
-        ensures { λ q. ⌜ q ≡ movedOf (result (secondWalk self (indexesOf k) e r (num s))) ⌝ }
+        ensures { λ q. ⌜ q ≡ movedOf (traced (secondWalk self (indexesOf k) e r (num s))) ⌝ }
     {
         let sum = tensor::sum(e);
         let second = self.second_side(sum, r.high, r.mid);
@@ -129,7 +130,7 @@ impl RankinePlasticity {
                 self.two_or_all(k, e, r, s)
             }
         } else {
-            refused_strains(answers::NO_NUMBER)
+            refused_strains(answers::NO_NUMBER, steps::SECOND_TEST)
         }
     }
 
@@ -151,7 +152,7 @@ impl RankinePlasticity {
                 self.one_or_more(k, e, r, s)
             }
         } else {
-            refused_strains(answers::NO_NUMBER)
+            refused_strains(answers::NO_NUMBER, steps::FIRST_TEST)
         }
     }
 

@@ -3,7 +3,7 @@ use crate::Branch;
 use crate::Projected;
 use crate::RankineArguments;
 use crate::RankinePlasticity;
-use crate::sorting;
+use crate::steps;
 use crate::update;
 use answers::Answer;
 use answers::Triple;
@@ -17,28 +17,8 @@ ghost use Rattle.walk.specs.Expr.{num, nums};
 ghost use Rattle.reason.specs.Reason.{untold, reasonOf};
 ghost use Rattle.reason.specs.Why.{why};
 ghost use Rattle.plasticity_rankine.specs.Law.{parametersFinite};
-ghost use Rattle.plasticity_rankine.specs.Rankine.{expsWalk, movedWalk, runWalk, rankineWalk, argumentsWalk};
-ghost use Rattle.plasticity_rankine.specs.Reason.{refusedAt, followedReason};
-
-const INPUTS: u8 = 0;
-
-const MODULI: u8 = 1;
-
-const LOGARITHMS: u8 = 2;
-
-const FIRST_TEST: u8 = 4;
-
-const SECOND_TEST: u8 = 5;
-
-const THIRD_TEST: u8 = 6;
-
-const NORM: u8 = 7;
-
-const HARDENING: u8 = 8;
-
-const EXPONENTIALS: u8 = 9;
-
-const RESULTS: u8 = 10;
+ghost use Rattle.plasticity_rankine.specs.Rankine.{movedWalk, runWalk, rankineWalk, argumentsWalk, expsWalk};
+ghost use Rattle.plasticity_rankine.specs.Inner.{followedReason};
 
 // The exponentials and the results; `told` is the last test's.
 fn exps_reason(
@@ -57,10 +37,10 @@ fn exps_reason(
             if update::results_finite(tensor::recompose(u, sigma, vt), sigma, h) {
                 told
             } else {
-                Reason::Refused(answers::NO_NUMBER, RESULTS)
+                Reason::Refused(answers::NO_NUMBER, steps::RESULTS)
             }
         }
-        Triple::Refused(n) => Reason::Refused(n, EXPONENTIALS),
+        Triple::Refused(n) => Reason::Refused(n, steps::EXPONENTIALS),
     }
 }
 
@@ -82,36 +62,12 @@ impl RankinePlasticity {
             Answer::Value(norm) => {
                 let grown = self.grown(s.scalars.plastic_hardening, norm);
                 if numbers::is_number(grown) {
-                    exps_reason(
-                        new,
-                        u,
-                        vt,
-                        numbers::min(grown, self.tensile_strength),
-                        s,
-                        told,
-                    )
+                    exps_reason(new, u, vt, self.capped(grown), s, told)
                 } else {
-                    Reason::Refused(answers::NO_NUMBER, HARDENING)
+                    Reason::Refused(answers::NO_NUMBER, steps::HARDENING)
                 }
             }
-            Answer::Refused(n) => Reason::Refused(n, NORM),
-        }
-    }
-
-    // The test that a NaN stopped, of a projection that is refused.
-    fn refused_at(self, e: [f64; 3]) -> u8
-        ensures { λ r. ⌜ r ≡ refusedAt self e ⌝ }
-    {
-        let r = sorting::arrange(sorting::rank(e), e);
-        let sum = tensor::sum(e);
-        if numbers::is_number(self.first_side(sum, r.high)) {
-            if numbers::is_number(self.second_side(sum, r.high, r.mid)) {
-                THIRD_TEST
-            } else {
-                SECOND_TEST
-            }
-        } else {
-            FIRST_TEST
+            Answer::Refused(n) => Reason::Refused(n, steps::NORM),
         }
     }
 
@@ -129,17 +85,38 @@ impl RankinePlasticity {
         let b = q.branch;
         let new = q.strains;
         match b {
-            Branch::Untouched(x, y) => Reason::Tested(FIRST_TEST, true, x, y),
+            Branch::Untouched(x, y) => Reason::Tested(steps::FIRST_TEST, true, x, y),
             Branch::One(x, y) => {
-                self.moved_reason(e, new, u, vt, s, Reason::Tested(SECOND_TEST, true, x, y))
+                self.moved_reason(
+                    e,
+                    new,
+                    u,
+                    vt,
+                    s,
+                    Reason::Tested(steps::SECOND_TEST, true, x, y),
+                )
             }
             Branch::Two(x, y) => {
-                self.moved_reason(e, new, u, vt, s, Reason::Tested(THIRD_TEST, true, x, y))
+                self.moved_reason(
+                    e,
+                    new,
+                    u,
+                    vt,
+                    s,
+                    Reason::Tested(steps::THIRD_TEST, true, x, y),
+                )
             }
             Branch::All(x, y) => {
-                self.moved_reason(e, new, u, vt, s, Reason::Tested(THIRD_TEST, false, x, y))
+                self.moved_reason(
+                    e,
+                    new,
+                    u,
+                    vt,
+                    s,
+                    Reason::Tested(steps::THIRD_TEST, false, x, y),
+                )
             }
-            Branch::Refused(n) => Reason::Refused(n, self.refused_at(e)),
+            Branch::Refused(n, step) => Reason::Refused(n, step),
         }
     }
 
@@ -154,7 +131,7 @@ impl RankinePlasticity {
                 let soft = self.soft_strength(s.scalars.plastic_hardening);
                 self.followed_reason(self.projected(e, soft), e, u, vt, s)
             }
-            Triple::Refused(n) => Reason::Refused(n, LOGARITHMS),
+            Triple::Refused(n) => Reason::Refused(n, steps::LOGARITHMS),
         }
     }
 
@@ -167,10 +144,10 @@ impl RankinePlasticity {
                 let sigma = s.sigma;
                 self.run_reason(sigma, u, vt, s)
             } else {
-                Reason::Refused(answers::NO_NUMBER, MODULI)
+                Reason::Refused(answers::NO_NUMBER, steps::MODULI)
             }
         } else {
-            Reason::Refused(answers::NOT_FINITE, INPUTS)
+            Reason::Refused(answers::NOT_FINITE, steps::INPUTS)
         }
     }
 }
@@ -183,7 +160,7 @@ impl RankineArguments {
         if self.elastic_finite() {
             self.law().reason(u, vt, s)
         } else {
-            Reason::Refused(answers::NOT_FINITE, INPUTS)
+            Reason::Refused(answers::NOT_FINITE, steps::INPUTS)
         }
     }
 }

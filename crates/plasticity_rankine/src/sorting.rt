@@ -1,7 +1,8 @@
 use crate::Rank;
 use crate::Sorted;
 ghost use mathlib.Core.Path.{_≡_};
-ghost use Rattle.plasticity_rankine.specs.Sorting.{orderOf, indexesOf, sortedOf, arrangeOf, restoreOf};
+ghost use Rattle.plasticity_rankine.specs.Sorting.{orderOf, sortedOf, arrangeOf, restoreOf};
+ghost use Rattle.plasticity_rankine.specs.Inner.{indexesOf};
 
 // Which of the six orders; equal strains keep index order.
 pub fn rank(e: [f64; 3]) -> Rank

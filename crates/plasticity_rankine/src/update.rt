@@ -11,7 +11,7 @@ use plasticity::State;
 use plasticity::Updated;
 ghost use mathlib.Core.Path.{_≡_};
 ghost use mathlib.Core.Bool.{true, _&&_};
-ghost use Rattle.numbers.specs.Floats.{finite};
+ghost use Rattle.numbers.specs.Floats.{finite, minOf};
 ghost use Rattle.tensor.specs.Finite.{rowFinite, matFinite};
 ghost use Rattle.tensor.specs.Matrix.{add, mul};
 ghost use Rattle.plasticity.specs.State.{inputsFinite};
@@ -19,7 +19,8 @@ ghost use Rattle.walk.specs.Expr.{num, value, nums};
 ghost use Rattle.walk.specs.Walk.{result};
 ghost use Rattle.walk.specs.Update.{updatedOf};
 ghost use Rattle.plasticity_rankine.specs.Law.{parametersFinite, moduliFinite};
-ghost use Rattle.plasticity_rankine.specs.Rankine.{untouchedOf, stateOf, storeWalk, expsWalk, movedWalk, softStrength, movesOf, followedOf, runWalk, rankineUpdate};
+ghost use Rattle.plasticity_rankine.specs.Rankine.{movedWalk, softStrength, runWalk, rankineUpdate, stateOf, storeWalk, expsWalk};
+ghost use Rattle.plasticity_rankine.specs.Inner.{untouchedOf, movesOf, followedOf};
 
 fn moves_of(b: Branch) -> Moves
     ensures { λ r. ⌜ r ≡ movesOf b ⌝ }
@@ -29,7 +30,7 @@ fn moves_of(b: Branch) -> Moves
         Branch::One(_, _) => Moves::Yes,
         Branch::Two(_, _) => Moves::Yes,
         Branch::All(_, _) => Moves::Yes,
-        Branch::Refused(n) => Moves::Refused(n),
+        Branch::Refused(n, _) => Moves::Refused(n),
     }
 }
 
@@ -101,6 +102,18 @@ impl RankinePlasticity {
         h + self.softening_rate * norm
     }
 
+    // The minimum with a strength that is a number, which is not tested again.
+    pub(crate) fn capped(self, h: f64) -> f64
+        requires { ⌜ finite (self .«tensile_strength») ≡ true ⌝ }
+        ensures { λ r. ⌜ r ≡ minOf h (self .«tensile_strength») ⌝ }
+    {
+        if h < self.tensile_strength {
+            h
+        } else {
+            self.tensile_strength
+        }
+    }
+
     // Strains that moved: hardening, exponentials, F. A NaN in the new strains is in the norm. The minimum would hide one in
     // the hardening: it is refused before.
     fn moved(
@@ -118,7 +131,7 @@ impl RankinePlasticity {
             Answer::Value(norm) => {
                 let grown = self.grown(s.scalars.plastic_hardening, norm);
                 if numbers::is_number(grown) {
-                    exps(new, u, vt, numbers::min(grown, self.tensile_strength), s)
+                    exps(new, u, vt, self.capped(grown), s)
                 } else {
                     plasticity::refuse(answers::NO_NUMBER, s)
                 }

@@ -13,11 +13,12 @@ use Rattle.tensor.specs.Axes.{allOf}
 use Rattle.tensor.specs.Matrix.{sub, mul, div, productOf}
 use Rattle.plasticity.specs.declared.Outcome.the-variants.{Refused}
 use Rattle.walk.specs.Expr.{Expr, num, _-_, _*_, value, nums}
-use Rattle.walk.specs.Matrix.{value-product}
+use Rattle.walk.proofs.Matrix.{value-product}
 use Rattle.walk.specs.Walk.{Walk, exp, inputs, Ended, refused, result}
 use Rattle.walk.specs.Exact.{Met, input, argument, result-of, path}
 use Rattle.walk.specs.Body.{Body, Change, refusalOf, updatedOf, storeWalk}
-use Rattle.walk.specs.Numbers.{Stops, Clear, refused-when, accepted-when}
+use Rattle.walk.specs.Numbers.{Stops, Clear}
+use Rattle.walk.proofs.Numbers.{refused-when, accepted-when}
 use Rattle.plasticity_snow.specs.declared.SnowPlasticity.{SnowPlasticity}
 use Rattle.plasticity_snow.specs.Clamp.{one, clampedOf}
 use Rattle.plasticity_snow.specs.Over.{determinant, floats, hardenWalk, runWalk, snowWalk, snowOver}
@@ -70,7 +71,3 @@ module _ {S R : Type 0} (b : Body S R) (p : SnowPlasticity) (u vt : List (List F
     λ e. subst Clear its-path (accepted-when b s unclamped .0 (sym (ap (λ v. refusalOf (b .outcomeIn v)) answers) ∙ e)),
     λ q. ap (λ v. refusalOf (b .outcomeIn v)) answers ∙ accepted-when b s unclamped .1 (subst Clear (sym its-path) q),
   )
-
-  -- as the code works it
-  pub exponent-worked : value exponent ≡ mul (p .«hardening_coeff») (sub one (mul (b .scalars s .«plastic_determinant») (div (productOf (b .sigma s)) (productOf new))))
-  exponent-worked = rw (value-product (b .sigma s), value-product new)

@@ -1,5 +1,2 @@
-pub mod Alpha
 pub mod Table
-pub mod Example
 pub mod SheetExample
-pub mod Friction

@@ -14,22 +14,14 @@ use Rattle.tensor.specs.Matrix.{add, sub, zero, one, three, rowsOf}
 use Rattle.plasticity.specs.declared.Outcome.the-variants.{Stored}
 use Rattle.plasticity.specs.declared.State.{State}
 use Rattle.plasticity_snow.specs.Snow.{defaults, clampOf}
-use Rattle.plasticity_snow.proofs.Cases as snow
 use Rattle.physics.specs.Physics.{invExactOf}
-use Rattle.physics.proofs.Cases as physics
 use Rattle.elasticity_neo_hookean.specs.Law.{phaseCoeff}
-use Rattle.elasticity_neo_hookean.proofs.Cases as neo-hookean
 use Rattle.eos_monaghan_sph.specs.Pressure.{pressureOf}
-use Rattle.eos_monaghan_sph.proofs.Cases as monaghan
 use Rattle.failure_maximum_stress.specs.Failure.{verdictOf}
 use Rattle.failure_maximum_stress.specs.declared.MaximumStressFailure.{MaximumStressFailure}
 use Rattle.failure_maximum_stress.specs.declared.Verdict.the-variants.{No, Yes}
-use Rattle.failure_maximum_stress.proofs.Cases as failure
-use Rattle.logarithm.proofs.Laws.{ln-one}
 use Rattle.plasticity_drucker_prager.specs.Law.{defaultsOf}
 use Rattle.plasticity_drucker_prager.specs.DruckerPrager.{druckerUpdate}
-use Rattle.plasticity_drucker_prager.proofs.Cases as drucker-prager
-use Rattle.proved_cases.specs.Alpha.{root-zero, slope}
 
 abbrev five : Float
 five = ofBits binary64 0x4014_0000_0000_0000
@@ -88,20 +80,3 @@ pub record Twelve : Type 0 where
   pub p11 : verdictOf (limits five two) (three four zero (Ieee.neg one)) ≡ Yes
   -- Drucker-Prager sigma all 1, gain 0: stored, dq 0
   pub p12 : (l m : Float) → finite l ≡ true → finite m ≡ true → druckerUpdate (defaultsOf l m) identity identity rested .outcome ≡ Stored zero
-
-pub twelve : Twelve
-twelve =
-    record {
-      p1 = snow.p1;
-      p2 = snow.p2;
-      p3 = snow.p3;
-      p4 = physics.P4;
-      p5 = neo-hookean.phase-zero;
-      p6 = monaghan.P6;
-      p7 = monaghan.P7;
-      p8 = monaghan.P8;
-      p9 = monaghan.P9;
-      p10 = failure.P10;
-      p11 = failure.P11;
-      p12 = λ l m f g. drucker-prager.p12 l m (slope l m .0) f g ln-one root-zero (slope l m .1);
-    }

@@ -9,10 +9,11 @@ use lib.ListN.{length, length-map}
 use lib.IntN.{ℤ, pos, _+ℤ_, _*ℤ_, _-ℤ_}
 use lib.Ieee.{Float}
 use Rattle.exact.specs.Units.{L, mag, Fin64}
-use Rattle.exact.specs.Integers.{abs, abs-+, abs-*, abs-pos}
+use Rattle.exact.specs.Integers.{abs}
+use Rattle.exact.proofs.Integers.{abs-+, abs-*, abs-pos}
 use Rattle.exact.proofs.Ring.{ring, var, con, _:+_, _:-_, _:*_}
 use Rattle.exact.specs.Value.{val}
-use Rattle.elementary.specs.RoundTrip.{Back, Taken}
+use Rattle.elementary.specs.RoundTrip.{Back, InBoth}
 use Rattle.elementary.proofs.RoundTrip.{round-trip}
 use Rattle.answers.specs.declared.Answer.the-variants.{Value}
 use Rattle.walk.specs.Walk.{exp, ln, at, answerOf, given}
@@ -102,8 +103,8 @@ map-twice : (e : List Float) → map (at ln) (map (at exp) e) ≡ map again e
 map-twice [] = refl
 map-twice (x ∷ e) = ap (λ l. again x ∷ l) (map-twice e)
 
-takes : (x : Float) → Bounded x → Taken x
-takes x b = round-trip .taken x (b .fine) (b .size)
+takes : (x : Float) → Bounded x → InBoth x
+takes x b = round-trip .in-both x (b .fine) (b .size)
 
 back : (x : Float) → Bounded x → Back x (again x)
 back x b = let t = takes x b in round-trip .ours x (b .fine .1) (t .by-exp) (t .by-ln)

@@ -5,9 +5,10 @@ use native.Mathlib.Nat.{le-refl, le-trans, mul-le-mul-right, le-of-mul-le-mul-ri
 use native.Mathlib.Omega.{arith}
 use lib.Dec.{T, leb, leb→le}
 use lib.IntN.{ℤ, pos, _+ℤ_, _*ℤ_, _-ℤ_}
-use Rattle.exact.specs.Integers.{p, n, _≤ᶻ_, abs, +-parts, *-parts}
+use Rattle.exact.specs.Integers.{p, n, _≤ᶻ_, abs}
+use Rattle.exact.proofs.Integers.{+-parts, *-parts}
 use Rattle.exact.proofs.Ring.{ring, var, _:+_, _:*_}
-use Rattle.exact.specs.Value.{near-abs}
+use Rattle.exact.proofs.Value.{near-abs}
 use Rattle.rankine_surface.specs.Surface.{Under, demanded, archived}
 
 pub times-le : (u v : ℤ) (k : ℕ) → u ≤ᶻ v → u *ℤ pos k ≤ᶻ v *ℤ pos k

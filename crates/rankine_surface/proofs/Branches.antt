@@ -6,10 +6,13 @@ use native.Mathlib.Omega.{arith}
 use lib.Dec.{T, leb, leb→le, lit≤}
 use lib.IntN.{ℤ, pos, negsuc, negℤ, _+ℤ_, _*ℤ_, _-ℤ_}
 use lib.Ieee.{Float, binary64, add, sub, mul, div, le, fits, ofBits}
-use Rattle.exact.specs.Units.{L, L-pos, mag, Fin64}
-use Rattle.exact.specs.Integers.{n, _≤ᶻ_, abs, abs-+, abs-neg, abs-pos, *-parts}
+use Rattle.exact.specs.Units.{L, mag, Fin64}
+use Rattle.exact.proofs.Units.{L-pos}
+use Rattle.exact.specs.Integers.{n, _≤ᶻ_, abs}
+use Rattle.exact.proofs.Integers.{abs-+, abs-neg, abs-pos, *-parts}
 use Rattle.exact.proofs.Ring.{ring, var, con, _:+_, _:-_, _:*_}
-use Rattle.exact.specs.Value.{val, abs-val}
+use Rattle.exact.specs.Value.{val}
+use Rattle.exact.proofs.Value.{abs-val}
 use Rattle.exact.proofs.OrderLe.{le-val}
 use Rattle.walk.specs.Expr.{num, value}
 use Rattle.plasticity_rankine.specs.declared.RankinePlasticity.{RankinePlasticity}

@@ -61,10 +61,10 @@ answers = 0 ∷ 0 ∷ []
 in-pass : (x : ℕ) → InPass (of x) answers 0
 in-pass x = record { sized = tt; index = lit< tt }
 
-abbrev Taken : ℕ → Type 0
-Taken x = Premises arguments (of x) (recordLaw (Rankine arguments) (of x) .outcome)
+abbrev Assumed : ℕ → Type 0
+Assumed x = Premises arguments (of x) (recordLaw (Rankine arguments) (of x) .outcome)
 
-taken : Taken two × Taken unit × T (not (firstTestAt arguments (of two))) × T (firstTestAt arguments (of unit))
+taken : Assumed two × Assumed unit × T (not (firstTestAt arguments (of two))) × T (firstTestAt arguments (of unit))
 unfolding recordLaw lawAt updatedAt determinantRight determinantAt over.argumentsWalk over.floats body.floatsOf over.runWalk over.strainedWalk firstWalk secondWalk thirdWalk over.wayWalk over.movedWalk over.hardenWalk over.expsWalk body.storeWalk logsOf formula.total formula.sum formula.entry orderOf lambdaOf shearModulusOf ln.lnOf ln.exponentOf ln.fractionOf ln.partOf exp.expOf exp.nearestOf exp.restOf exp.seriesOf exp.scaleBits exp.timesOf sqrtOf floorRoot rootIn mag val L fits finite isNumber ofBits toBits round size Ieee.add Ieee.sub Ieee.mul Ieee.div Ieee.neg Ieee.le Ieee.lt Ieee.eq sumOf dotOf scaledRowOf
 taken =
     let g : Ranges (lawOf arguments) (softenedAt arguments (of two)) = record { mu-low = lit≤ tt; mu-high = lit≤ tt; la-low = lit≤ tt; la-high = lit≤ tt; s-size = lit≤ tt } in (

@@ -23,7 +23,8 @@ use Rattle.plasticity_rankine.specs.declared.RankinePlasticity.{RankinePlastici
 use Rattle.plasticity_rankine.specs.declared.Sorted.{Sorted}
 use Rattle.plasticity_rankine.specs.declared.Rank.{Rank}
 use Rattle.plasticity_rankine.specs.declared.Rank.the-variants as rank
-use Rattle.plasticity_rankine.specs.Sorting.{orderOf, indexesOf, sortedOf, arrangeOf, restoredOf, restoreOf}
+use Rattle.plasticity_rankine.specs.Sorting.{orderOf, sortedOf, arrangeOf, restoredOf, restoreOf}
+use Rattle.plasticity_rankine.specs.Inner.{indexesOf}
 use Rattle.plasticity_rankine.proofs.Orders.{rankOf, order-of-three}
 use Rattle.plasticity_rankine.proofs.Laws.{restored}
 use Rattle.plasticity_rankine.specs.Projection.{firstSide, secondSide, thirdSide, backOne, backTwo, backAll, Way, none-moves, one-moves, two-move, all-move, Moved, thirdWalk, secondWalk, firstWalk, projectWalk}

@@ -17,8 +17,10 @@ use Rattle.tensor.specs.Finite.{rowFinite, matFinite}
 use Rattle.plasticity.specs.declared.Outcome.the-variants as outcome
 use Rattle.walk.specs.Expr.{Expr, num, value, values}
 use Rattle.walk.specs.Walk.{Walk, inputs, _then_, Ended, given, refused, result}
-use Rattle.walk.specs.Exact.{andThen, result-then}
-use Rattle.walk.specs.Body.{Body, Change, updatedOf, outcomeOf, inputsFinite, store-law}
+use Rattle.walk.specs.Exact.{andThen}
+use Rattle.walk.proofs.Exact.{result-then}
+use Rattle.walk.specs.Body.{Body, Change, updatedOf, outcomeOf, inputsFinite}
+use Rattle.walk.proofs.Body.{store-law}
 use Rattle.plasticity_rankine.specs.declared.RankineArguments.{RankineArguments}
 use Rattle.plasticity_rankine.specs.declared.RankinePlasticity.{RankinePlasticity}
 use Rattle.plasticity_rankine.specs.Law.{lawOf, argumentsFloats, argumentsFinite, elasticFinite, moduliFinite, moduli}
@@ -27,7 +29,7 @@ use Rattle.plasticity_rankine.specs.Over as over
 use Rattle.plasticity_rankine.specs.Over.{hardenedOf, grows, changes, softStrength}
 use Rattle.plasticity_rankine.proofs.Laws.{inputs-law}
 use Rattle.rankine_surface.specs.Axes.{Each}
-use Rattle.rankine_surface.specs.Surface.{Accepted, numbersOf, logsOf, expsOf, demanded, BelowIn, ArchivedIn, RangesIn, FairIn, Strain, Axes, logStrainsIn, softenedIn, firstTestIn, projectedIn, TakenIn, TakenByIn, InsideIn, ReturnedIn, Demand3In}
+use Rattle.rankine_surface.specs.Surface.{Accepted, numbersOf, logsOf, expsOf, demanded, BelowIn, ArchivedIn, RangesIn, FairIn, Strain, Axes, logStrainsIn, softenedIn, firstTestIn, projectedIn, AssumedIn, AssumedByIn, InsideIn, ReturnedIn, Demand3In}
 use Rattle.rankine_surface.proofs.Indexed.{Given, Moves, LandedIn, ReturnsIn}
 use Rattle.rankine_surface.proofs.Strains.{Sized, logs-sized, exps-sized, strained-of, logs-follow, exps-follow}
 use Rattle.rankine_surface.proofs.Hardening.{passed, by, Capped, changes-end}
@@ -211,7 +213,7 @@ module _ {S R : Type 0} (ax : Axes S R) (law : RankinePlasticity) (u vt : List (
 
   -- ---- the theorem: of the update by the law, where its parameters l are finite
   pub demand-over : (l : List Float) → (T (allOf finite l) → T (finite (law .«tensile_strength»))) → (FairIn n law s → Strained ax law s)
-      → TakenIn ax law st (updatedOf b st (updateBy l)) → Demand3In ax law st (updatedOf b st (updateBy l))
+      → AssumedIn ax law st (updatedOf b st (updateBy l)) → Demand3In ax law st (updatedOf b st (updateBy l))
   demand-over l strength strained g = record { holds = held; fails = failed }
     where
       ran : T (allOf finite l && inputsFinite b u vt st) × T (moduliFinite law) × (updateBy l ≡ logged (logsOf (b .sigma st)))
@@ -272,7 +274,7 @@ fair-by a s m f r =
 -- of the update by the law that `new` makes of the arguments a
 pub demand-by : {S R : Type 0} (ax : Axes S R) (a : RankineArguments) (u vt : List (List Float)) (st : S)
     → let v = updatedOf (ax .body) st (updateBy ax (lawOf a) u vt st (argumentsFloats a)) in
-    (FairIn (ax .count) (lawOf a) (softenedIn ax (lawOf a) st) → Strained ax (lawOf a) (softenedIn ax (lawOf a) st)) → TakenByIn ax a st v → Demand3In ax (lawOf a) st v
+    (FairIn (ax .count) (lawOf a) (softenedIn ax (lawOf a) st) → Strained ax (lawOf a) (softenedIn ax (lawOf a) st)) → AssumedByIn ax a st v → Demand3In ax (lawOf a) st v
 demand-by ax a u vt st strained g =
     let s = softenedIn ax (lawOf a) st in
     let ran = runs ax (lawOf a) u vt st (argumentsFloats a) (g .accepted) in

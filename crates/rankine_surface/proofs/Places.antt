@@ -5,7 +5,7 @@ use Prim.Native.Nat.{ℕ, zero, suc}
 use native.Mathlib.Omega.{arith}
 use lib.ListN.{length, length-set}
 use lib.Ieee.{Float, nan}
-use Rattle.tensor.specs.Axes.{entries}
+use Rattle.tensor.proofs.Axes.{entries}
 use Rattle.plasticity_rankine.specs.declared.RankineArguments.{RankineArguments}
 use Rattle.model.specs.declared.Model.the-variants.{Rankine}
 use Rattle.record.specs.Layout.{floats, placeF, placeSigma, placePhase, placePlasticHardening, placeDeterminant, stateAt, putRows, putBare, putShape, putPhase}
@@ -13,7 +13,7 @@ use Rattle.record.proofs.Places.{Row64, row-f64, same, row-other, row-same}
 use Rattle.rankine_surface.specs.Axes.{Each}
 use Rattle.particles.specs.Plain.{putState}
 use Rattle.rankine_surface.specs.Surface.{F64}
-use Rattle.rankine_surface.specs.Record.{solid}
+use Rattle.rankine_surface.specs.Record.{threeRecords}
 use Rattle.rankine_surface.proofs.Left.{Puts}
 
 row-of : (v : List Float) → Each F64 v → Row64 v
@@ -22,7 +22,7 @@ row-of (x ∷ v) f zero = f .0
 row-of (x ∷ v) f (suc i) = row-of v (f .1) i
 
 -- F, sigma, the determinant and the plastic hardening
-pub puts : (a : RankineArguments) → Puts solid (putState (Rankine a))
+pub puts : (a : RankineArguments) → Puts threeRecords (putState (Rankine a))
 puts a =
     record {
       sigma = λ r s h k f.

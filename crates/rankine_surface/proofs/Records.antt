@@ -23,7 +23,7 @@ use Rattle.particles.proofs.PassLaws.{record-keeps}
 use Rattle.particles.proofs.JudgedLaws.{failure-keeps}
 use Rattle.particles.proofs.Determinants.{Stands, unrefused, unrefused-law}
 use Rattle.rankine_surface.specs.Surface.{Accepted}
-use Rattle.rankine_surface.specs.Record.{solid, Premises, Found, foundOf, Demand3At, InPass, passFound, markedBy, LawStep}
+use Rattle.rankine_surface.specs.Record.{threeRecords, Premises, Found, foundOf, Demand3At, InPass, passFound, markedBy, LawStep}
 use Rattle.rankine_surface.proofs.Update.{arguments-3}
 use Rattle.rankine_surface.proofs.Left.{read-f64, left, left-3}
 use Rattle.rankine_surface.proofs.Places.{puts}
@@ -37,12 +37,12 @@ stands (outcome.Refused k) h n e = h
 
 -- the record that the update v leaves
 abbrev leftAt : RankineArguments → List ℕ → Updated → Found
-leftAt a r v = left solid (puts a) a r v
+leftAt a r v = left threeRecords (puts a) a r v
 
 update-3 : {a : RankineArguments} {r : List ℕ} → length r ≡ floats → Premises a r (updatedAt (Rankine a) r .outcome) → Demand3At a r (leftAt a r (updatedAt (Rankine a) r))
 unfolding updatedAt
 update-3 {a} {r} k g =
-    left-3 solid (puts a) a r (argumentsUpdate a (uAt r) (vtAt r) (stateAt r)) k (g .strength)
+    left-3 threeRecords (puts a) a r (argumentsUpdate a (uAt r) (vtAt r) (stateAt r)) k (g .strength)
     (arguments-3 (uAt r) (vtAt r) (record { accepted = g .accepted; s-finite = g .s-finite; ranges = g .ranges; axes = refl; sigma = read-f64 r (placeSigma ∷ (placeSigma + 1) ∷ (placeSigma + 2) ∷ []); strains = g .strains }))
 
 -- a record that isn't refused is worked by the law

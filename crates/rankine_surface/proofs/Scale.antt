@@ -6,10 +6,13 @@ use native.Mathlib.Omega.{arith}
 use lib.Dec.{T, leb, leb→le, lit≤}
 use lib.IntN.{ℤ, pos, negℤ, _+ℤ_, _*ℤ_, _-ℤ_, negℤ-+ℤ}
 use lib.Ieee.{Float, binary64, neg, add, sub, mul, div}
-use Rattle.exact.specs.Units.{L, L-pos, mag, Fin64}
-use Rattle.exact.specs.Integers.{n, abs, abs-+, abs-*, abs-*pos, abs-neg, abs-pos, neg-*, *1}
+use Rattle.exact.specs.Units.{L, mag, Fin64}
+use Rattle.exact.proofs.Units.{L-pos}
+use Rattle.exact.specs.Integers.{n, abs}
+use Rattle.exact.proofs.Integers.{abs-+, abs-*, abs-*pos, abs-neg, abs-pos, neg-*, *1}
 use Rattle.exact.proofs.Ring.{ring, var, con, _:+_, _:-_, _:*_}
-use Rattle.exact.specs.Value.{val, abs-val, add-val, mul-val, div-val}
+use Rattle.exact.specs.Value.{val}
+use Rattle.exact.proofs.Value.{abs-val, add-val, mul-val, div-val}
 use Rattle.exact.proofs.Distances.{neg-val, neg-fine, abs-shift, abs-back}
 
 -- z, times D, is X up to e W / 2 ^ 53, and |X| ≤ B W

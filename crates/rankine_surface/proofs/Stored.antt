@@ -16,8 +16,8 @@ use Rattle.model.specs.declared.Model.the-variants.{Rankine}
 use Rattle.particles.specs.Plain.{recordLaw}
 use Rattle.particles.specs.Pass.{recordAt}
 use Rattle.particles.specs.Judged.{failureLaw}
-use Rattle.rankine_surface.specs.Surface.{threeAxes, TakenBy, Archived, Archives}
-use Rattle.rankine_surface.specs.Record.{solid, Premises, Found, foundOf, Demand3At, ArchivesAt, softenedAt, InPass, passFound, markedBy}
+use Rattle.rankine_surface.specs.Surface.{threeAxes, AssumedBy, Archived, Archives}
+use Rattle.rankine_surface.specs.Record.{threeRecords, Premises, Found, foundOf, Demand3At, ArchivesAt, softenedAt, InPass, passFound, markedBy}
 use Rattle.rankine_surface.specs.Sheet.{argumentsIn, recordIn, InSheet, SheetPremises, sheetFound}
 use Rattle.rankine_surface.proofs.Update.{arguments-3}
 use Rattle.rankine_surface.proofs.Left.{archives, archives-at}
@@ -25,11 +25,11 @@ use Rattle.rankine_surface.proofs.Places.{phase-sigma}
 use Rattle.rankine_surface.proofs.Records.{record-3, pass-3, pass-with-failure-3}
 use Rattle.rankine_surface.proofs.Sheets.{sheet-3}
 
-pub update-archived : {a : RankineArguments} (u vt : List (List Float)) {st : State} → TakenBy a u vt st → Archives a u vt st
+pub update-archived : {a : RankineArguments} (u vt : List (List Float)) {st : State} → AssumedBy a u vt st → Archives a u vt st
 update-archived u vt g = archives threeAxes (arguments-3 u vt g)
 
 pub found-archived : {a : RankineArguments} {r : List ℕ} {f : Found} → Demand3At a r f → ArchivesAt a r f
-found-archived d = archives-at solid d
+found-archived d = archives-at threeRecords d
 
 pub record-archived : {a : RankineArguments} {r : List ℕ} → length r ≡ floats → Premises a r (recordLaw (Rankine a) r .outcome)
     → ArchivesAt a r (foundOf (recordLaw (Rankine a) r))

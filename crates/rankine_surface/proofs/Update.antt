@@ -8,7 +8,8 @@ use lib.ListN.{length, getD}
 use lib.Ieee.{Float, nan}
 use lib.Ieee.Fits.{and-l}
 use Rattle.numbers.specs.Floats.{finite}
-use Rattle.tensor.specs.Axes.{allOf, entries}
+use Rattle.tensor.specs.Axes.{allOf}
+use Rattle.tensor.proofs.Axes.{entries}
 use Rattle.tensor.specs.Matrix.{three}
 use Rattle.tensor.specs.Finite.{rowFinite}
 use Rattle.plasticity.specs.State as state
@@ -16,18 +17,19 @@ use Rattle.plasticity.specs.declared.State.{State}
 use Rattle.plasticity.specs.declared.Updated.{Updated}
 use Rattle.walk.specs.Expr.{num, values}
 use Rattle.walk.specs.Walk.{_then_, Ended, given, refused, result}
-use Rattle.walk.specs.Exact.{andThen, result-then}
+use Rattle.walk.specs.Exact.{andThen}
+use Rattle.walk.proofs.Exact.{result-then}
 use Rattle.walk.specs.Matrix.{values-nums}
 use Rattle.plasticity_rankine.specs.declared.RankineArguments.{RankineArguments}
 use Rattle.plasticity_rankine.specs.declared.RankinePlasticity.{RankinePlasticity}
 use Rattle.plasticity_rankine.specs.Law.{lawOf, parametersOf, elasticFinite, moduliFinite}
-use Rattle.plasticity_rankine.specs.Projection.{Moved, projectWalk, returnedWalk, callFloats, callOver, projectCall, movedOf, vectorOf, projectOf}
+use Rattle.plasticity_rankine.specs.Projection.{Moved, projectWalk, returnedWalk, callFloats, callOver, projectCall, strainsOf, vectorOf, projectOf}
 use Rattle.plasticity_rankine.specs.Over as over
 use Rattle.plasticity_rankine.specs.Rankine.{rankineUpdate, argumentsUpdate}
 use Rattle.plasticity_rankine.proofs.Laws.{arguments-law}
 use Rattle.plasticity_rankine.proofs.Reason.{vector-given}
 use Rattle.rankine_surface.specs.Axes.{Each}
-use Rattle.rankine_surface.specs.Surface.{Accepted, demanded, Below, Fair, Strain, Taken, TakenBy, firstTest, OnSurface, threeAxes, Demand3In, Demand3, Demand3By, Settled, Projects}
+use Rattle.rankine_surface.specs.Surface.{Accepted, demanded, Below, Fair, Strain, Assumed, AssumedBy, firstTest, OnSurface, threeAxes, Demand3In, Demand3, Demand3By, Settled, Projects}
 use Rattle.rankine_surface.proofs.Indexed.{Given, Returns, inside, outside, same}
 use Rattle.rankine_surface.proofs.Hardening.{passed, by}
 use Rattle.rankine_surface.proofs.Over.{Stays, Strained, demand-over, demand-by}
@@ -46,13 +48,13 @@ strained-three {law} {s} g =
     }
 
 -- ---- the theorem
-pub demand-3 : {law : RankinePlasticity} (u vt : List (List Float)) {st : State} → Taken law u vt st → Demand3 law u vt st
+pub demand-3 : {law : RankinePlasticity} (u vt : List (List Float)) {st : State} → Assumed law u vt st → Demand3 law u vt st
 unfolding over.rankineWalk
 demand-3 {law} u vt {st} g =
     demand-over threeAxes law u vt st (parametersOf law) (λ h. and-l (finite (law .«tensile_strength»)) (finite (law .«softening_rate»)) h) strained-three g
 
 -- the same of the law that `new` makes
-pub arguments-3 : {a : RankineArguments} (u vt : List (List Float)) {st : State} → TakenBy a u vt st → Demand3In threeAxes (lawOf a) st (argumentsUpdate a u vt st)
+pub arguments-3 : {a : RankineArguments} (u vt : List (List Float)) {st : State} → AssumedBy a u vt st → Demand3In threeAxes (lawOf a) st (argumentsUpdate a u vt st)
 unfolding over.argumentsWalk
 arguments-3 {a} u vt {st} g = demand-by threeAxes a u vt st strained-three g
 
@@ -64,7 +66,7 @@ by-arguments a u vt st h =
     let q = arguments-law a u vt st in
     q ∙ passed F (elasticFinite a) (rankineUpdate (lawOf a) u vt st) (state.refused 1 st) (λ x. x) (by F q h) .1
 
-pub demand-3-by : {a : RankineArguments} (u vt : List (List Float)) {st : State} → TakenBy a u vt st → Demand3By a u vt st
+pub demand-3-by : {a : RankineArguments} (u vt : List (List Float)) {st : State} → AssumedBy a u vt st → Demand3By a u vt st
 demand-3-by {a} u vt {st} g =
     let q = by-arguments a u vt st (g .accepted) in
     record { update = q; law = by (Demand3In threeAxes (lawOf a) st) q (arguments-3 u vt g) }
@@ -81,11 +83,11 @@ handed false v h = absurd h
 abbrev returned : Ended Moved → Ended (List Float)
 returned x = andThen x (λ q. result (returnedWalk q))
 
-settled : (x : Ended Moved) → Answered (returned x) → Given x × (vectorOf (returned x) .vector ≡ movedOf x .strains)
+settled : (x : Ended Moved) → Answered (returned x) → Given x × (vectorOf (returned x) .vector ≡ strainsOf x)
 settled (given q) h = (tt, handed (rowFinite (values (q .strains))) (values (q .strains)) h)
 settled (refused n) h = absurd h
 
-upon : (law : RankinePlasticity) (s : Float) (x : Ended Moved) → Returns law s x → OnSurface demanded law s (movedOf x .strains)
+upon : (law : RankinePlasticity) (s : Float) (x : Ended Moved) → Returns law s x → OnSurface demanded law s (strainsOf x)
 upon law s (given q) b = b .landed .on-surface
 upon law s (refused n) b = absurd b
 
@@ -103,6 +105,6 @@ project-3 {law} {s} g x y z i h =
     let q = settled (result w) (by Answered whole h0) in
     let is = ap (λ v. vectorOf v .vector) whole ∙ q .1 in
     record {
-      holds = λ t. (is ∙ ap (λ v. movedOf v .strains) (same law s x y z t (q .0)) ∙ values-nums e, inside g x y z i t);
+      holds = λ t. (is ∙ ap strainsOf (same law s x y z t (q .0)) ∙ values-nums e, inside g x y z i t);
       fails = λ t. subst (OnSurface demanded law s) (sym is) (upon law s (result w) (outside g x y z i t (q .0)));
     }

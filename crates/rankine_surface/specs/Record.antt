@@ -52,7 +52,7 @@ module _ {S R : Type 0} (k : Records S R) where
   abbrev pub hardeningAtIn : List ℕ → Float
   hardeningAtIn r = k .axes .body .scalars (k .at r) .«plastic_hardening»
 
--- ---- what is taken
+-- ---- what is assumed
 -- Demand 3's words, for a record r of d axes at which the law answered o:
 -- accepted: "a record that 01's table doesn't refuse", nor the numbers of its determinant;
 -- ranges: "mu in 1 to 2^40, lambda in 0 to 2^40", and s of a size up to 4 (2mu + d lambda);
@@ -123,38 +123,35 @@ passFoundOver w law xs out i =
     }
 
 -- ---- in three axes
-abbrev pub solid : Records State Updated
-solid = record { axes = threeAxes; floats = floats; at = stateAt }
+abbrev pub threeRecords : Records State Updated
+threeRecords = record { axes = threeAxes; floats = floats; at = stateAt }
 
 abbrev pub strainsAt : List ℕ → List Float
-strainsAt r = strainsAtIn solid r
+strainsAt r = strainsAtIn threeRecords r
 
 abbrev pub softenedAt : RankineArguments → List ℕ → Float
-softenedAt a r = softenedAtIn solid a r
+softenedAt a r = softenedAtIn threeRecords a r
 
 abbrev pub firstTestAt : RankineArguments → List ℕ → Bool
-firstTestAt a r = firstTestAtIn solid a r
-
-abbrev pub projectedAt : RankineArguments → List ℕ → List Float
-projectedAt a r = projectedAtIn solid a r
+firstTestAt a r = firstTestAtIn threeRecords a r
 
 abbrev pub Premises : RankineArguments → List ℕ → Outcome → Type 0
-Premises a r o = PremisesIn solid a r o
+Premises a r o = PremisesIn threeRecords a r o
 
 abbrev pub InsideAt : RankineArguments → List ℕ → Found → Type 0
-InsideAt a r f = InsideAtIn solid a r f
+InsideAt a r f = InsideAtIn threeRecords a r f
 
 abbrev pub ArchivedAt : RankineArguments → List ℕ → Found → Type 0
-ArchivedAt a r f = ArchivedAtIn solid a r f
+ArchivedAt a r f = ArchivedAtIn threeRecords a r f
 
 abbrev pub ReturnedAt : RankineArguments → List ℕ → Found → Type 0
-ReturnedAt a r f = ReturnedAtIn solid a r f
+ReturnedAt a r f = ReturnedAtIn threeRecords a r f
 
 abbrev pub Demand3At : RankineArguments → List ℕ → Found → Type 0
-Demand3At a r f = Demand3AtIn solid a r f
+Demand3At a r f = Demand3AtIn threeRecords a r f
 
 abbrev pub ArchivesAt : RankineArguments → List ℕ → Found → Type 0
-ArchivesAt a r f = ArchivesAtIn solid a r f
+ArchivesAt a r f = ArchivesAtIn threeRecords a r f
 
 abbrev pub InPass : List ℕ → List ℕ → ℕ → Type 0
 InPass xs out i = InPassOver floats xs out i

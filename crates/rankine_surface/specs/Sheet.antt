@@ -1,5 +1,5 @@
 -- Demand 3 of a sheet that is run with a room for its records and one for their answers (RULES, section 7). The law's arguments
--- and the records are what the sheet's bytes spell, so that the office's words are all that is taken.
+-- and the records are what the sheet's bytes spell, so that the office's words are all that is assumed.
 use mathlib.Core.Path.{_≡_}
 use mathlib.Core.List.{List}
 use Prim.Native.Nat.{ℕ, _+_, _*_, _<_}
@@ -27,7 +27,7 @@ argumentsIn s = rankineOf (headerOf s .parameters)
 abbrev pub recordIn : List ℕ → ℕ → List ℕ
 recordIn s i = recordAt (recordsOf s (headerOf s)) i
 
--- ---- what is taken
+-- ---- what is assumed
 -- the run refuses neither the sheet nor the rooms xs and out; the sheet's model number names Rankine, and it brings a record i
 pub record InSheet (s xs out : List ℕ) (i : ℕ) : Type 0 where
   pub run : ranOf s xs out .refusal ≡ 0

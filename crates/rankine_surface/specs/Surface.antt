@@ -27,7 +27,7 @@ use Rattle.plasticity_rankine.specs.declared.RankineArguments.{RankineArguments
 use Rattle.plasticity_rankine.specs.declared.RankinePlasticity.{RankinePlasticity}
 use Rattle.plasticity_rankine.specs.Law.{lawOf}
 use Rattle.plasticity_rankine.specs.Sorting.{orderOf, arrangeOf}
-use Rattle.plasticity_rankine.specs.Projection.{Moved, firstSide, projectWalk, movedOf, projectOf}
+use Rattle.plasticity_rankine.specs.Projection.{Moved, firstSide, projectWalk, strainsOf, projectOf}
 use Rattle.plasticity_rankine.specs.Rankine.{rankineUpdate, argumentsUpdate}
 use Rattle.rankine_surface.specs.Axes.{Each, Some, total}
 
@@ -71,7 +71,7 @@ demanded = 44
 abbrev pub archived : ℕ
 archived = 40
 
--- ---- what is taken
+-- ---- what is assumed
 -- mu in 1 to 2 ^ 40, lambda in 0 to 2 ^ 40, s within 4 (2mu + d lambda) of zero
 pub record RangesIn (d : ℕ) (p : RankinePlasticity) (s : Float) : Type 0 where
   pub mu-low : pos L ≤ᶻ val (p .mu)
@@ -163,9 +163,9 @@ module _ {S R : Type 0} (ax : Axes S R) where
   projectedIn p st = ax .strainsIn (result (ax .project p (logStrainsIn st) (num (softenedIn p st))))
 
 -- ---- of an update of the state st by the law p that hands back v
--- taken: not refused, the ranges of the moduli and of s, an f64 for each axis as sigma, as the code's array is, and log strains in -4 to 4: that
+-- assumed: not refused, the ranges of the moduli and of s, an f64 for each axis as sigma, as the code's array is, and log strains in -4 to 4: that
 -- these are finite f64 is the logarithm's own law
-pub record TakenIn {S R : Type 0} (ax : Axes S R) (p : RankinePlasticity) (st : S) (v : R) : Type 0 where
+pub record AssumedIn {S R : Type 0} (ax : Axes S R) (p : RankinePlasticity) (st : S) (v : R) : Type 0 where
   pub accepted : Accepted (ax .body .outcomeIn v)
   pub fair : FairIn (ax .count) p (softenedIn ax p st)
   pub axes : length (ax .body .sigma st) ≡ ax .count
@@ -173,7 +173,7 @@ pub record TakenIn {S R : Type 0} (ax : Axes S R) (p : RankinePlasticity) (st : 
   pub strains : Each Small (logStrainsIn ax st)
 
 -- the same of the law that `new` makes: its moduli are f64, and finite where nothing is refused
-pub record TakenByIn {S R : Type 0} (ax : Axes S R) (a : RankineArguments) (st : S) (v : R) : Type 0 where
+pub record AssumedByIn {S R : Type 0} (ax : Axes S R) (a : RankineArguments) (st : S) (v : R) : Type 0 where
   pub accepted : Accepted (ax .body .outcomeIn v)
   pub s-finite : T (finite (softenedIn ax (lawOf a) st))
   pub ranges : RangesIn (ax .count) (lawOf a) (softenedIn ax (lawOf a) st)
@@ -214,7 +214,7 @@ threeAxes =
       body = inThree;
       largest = λ e. arrangeOf (orderOf e) e .high;
       project = projectWalk;
-      strainsIn = λ x. movedOf x .strains;
+      strainsIn = strainsOf;
     }
 
 abbrev pub OnSurface : ℕ → RankinePlasticity → Float → List Float → Type 0
@@ -232,14 +232,11 @@ softened p st = softenedIn threeAxes p st
 abbrev pub firstTest : RankinePlasticity → List Float → Float → Bool
 firstTest p e s = firstTestIn threeAxes p e s
 
-abbrev pub projectedStrains : RankinePlasticity → State → List Float
-projectedStrains p st = projectedIn threeAxes p st
+abbrev pub Assumed : RankinePlasticity → List (List Float) → List (List Float) → State → Type 0
+Assumed p u vt st = AssumedIn threeAxes p st (rankineUpdate p u vt st)
 
-abbrev pub Taken : RankinePlasticity → List (List Float) → List (List Float) → State → Type 0
-Taken p u vt st = TakenIn threeAxes p st (rankineUpdate p u vt st)
-
-abbrev pub TakenBy : RankineArguments → List (List Float) → List (List Float) → State → Type 0
-TakenBy a u vt st = TakenByIn threeAxes a st (argumentsUpdate a u vt st)
+abbrev pub AssumedBy : RankineArguments → List (List Float) → List (List Float) → State → Type 0
+AssumedBy a u vt st = AssumedByIn threeAxes a st (argumentsUpdate a u vt st)
 
 abbrev pub Inside : RankinePlasticity → List (List Float) → List (List Float) → State → Type 0
 Inside p u vt st = InsideIn threeAxes p st (rankineUpdate p u vt st)

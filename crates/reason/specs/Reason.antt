@@ -7,7 +7,7 @@ use Prim.Native.Nat.{ℕ}
 use lib.Ieee.{Float}
 use Rattle.walk.specs.Walk.{Walk}
 use Rattle.walk.specs.Exact as walk
-use Rattle.walk.specs.Exact.{Refusal, path, first, last}
+use Rattle.walk.specs.Exact.{Refusal, path, first, last, endedBy}
 use Rattle.walk.specs.Update.{Change}
 use Rattle.reason.specs.declared.Reason.{Reason}
 use Rattle.reason.specs.declared.Reason.the-variants.{Tested, Zeros, Flagged, Refused}
@@ -29,8 +29,7 @@ lastOr r (some t) = testAs t
 
 -- the first refusal with its step, or r
 abbrev pub refusedOr : Option Refusal → Reason → Reason
-refusedOr none r = r
-refusedOr (some q) r = Refused (q .number) (q .step)
+refusedOr o r = endedBy Refused o r
 
 -- r where the path has neither a refusal nor a test
 unfoldable pub reasonFrom : {A : Type 0} → Reason → Walk A → Reason

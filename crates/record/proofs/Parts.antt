@@ -12,7 +12,7 @@ use lib.Ieee.{Float, nan, inf, fin, isNan, binary64, ofBits, nanBits}
 use lib.Ieee.Bits.{nanBits-is}
 use Rattle.numbers.specs.Floats.{finite}
 use Rattle.numbers.proofs.Laws.{and-both, finite-bits}
-use Rattle.tensor.specs.Axes.{of-one}
+use Rattle.tensor.proofs.Axes.{of-one}
 use Rattle.tensor.specs.declared.Rows.{Rows}
 use Rattle.tensor.specs.Finite.{rowFinite, matFinite, rowsFinite}
 use Rattle.plasticity.specs.State.{scalarsFinite, stateFinite, inputsFinite}

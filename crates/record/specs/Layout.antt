@@ -177,18 +177,3 @@ putShape r s = filled (putBare r s)
 -- and of the six scalars those that its law names; phase is a verdict's
 abbrev pub putPhase : List ℕ → Float → List ℕ
 putPhase r x = set r placePhase (bits x)
-
-abbrev pub putPlasticDeterminant : List ℕ → Float → List ℕ
-putPlasticDeterminant r x = set r placePlasticDeterminant (bits x)
-
-abbrev pub putPlasticHardening : List ℕ → Float → List ℕ
-putPlasticHardening r x = set r placePlasticHardening (bits x)
-
-abbrev pub putElasticHardening : List ℕ → Float → List ℕ
-putElasticHardening r x = set r placeElasticHardening (bits x)
-
-abbrev pub putLogGain : List ℕ → Float → List ℕ
-putLogGain r x = set r placeLogGain (bits x)
-
-abbrev pub putAlpha : List ℕ → Float → List ℕ
-putAlpha r x = set r placeAlpha (bits x)

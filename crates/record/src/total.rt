@@ -1,4 +1,4 @@
-// Floats of a record, and the determinant of its F. A place past the end reads as 0: a list of the wrong length is refused, whatever was read of it.
+// Floats of a record, and the determinant of its F (RULES, section 7). A place past the end reads as 0: a list of the wrong length is refused, whatever was read of it.
 use tensor::Rows;
 ghost use mathlib.Core.Path.{_≡_};
 ghost use mathlib.Core.List.{List};

@@ -3,10 +3,10 @@
 use mathlib.Core.Bool.{Bool, true, false, cond, _&&_}
 use mathlib.Core.List.{List, [], _∷_}
 use mathlib.Core.Logic.{_↔_}
-use mathlib.Core.Option.{some}
+use mathlib.Core.Option.{some, none}
 use mathlib.Core.Path.{_≡_, refl, sym, ap, _∙_}
 use native.Mathlib.Omega.{arith}
-use Prim.Native.Nat.{ℕ, _%_}
+use Prim.Native.Nat.{ℕ}
 use lib.Dec.{eqb}
 use borrow.Author.Tests.{eqb-true, eqb-false}
 use lib.ListN.{length}
@@ -17,16 +17,19 @@ use Rattle.plasticity.specs.declared.State.{State}
 use Rattle.record.specs.Layout.{floats, uAt, vtAt, stateAt}
 use Rattle.walk.specs.Expr.{Expr, values}
 use Rattle.walk.specs.Walk.{Walk, exp, given}
-use Rattle.walk.specs.Exact.{path, final, last}
+use Rattle.walk.specs.Exact.{final}
 use Rattle.walk.specs.Update.{Change, untouched, stored, updatedOf}
 use Rattle.reason.specs.declared.Reason.{Reason}
-use Rattle.reason.specs.Reason.{comparedAs, lastAs}
+use Rattle.reason.specs.Reason.{comparedAs, lastOr, lastAs}
 use Rattle.walk.specs.Body as body
 use Rattle.walk.specs.Update.{inThree}
 use Rattle.plasticity_snow.specs.Over as snow
 use Rattle.plasticity_rankine.specs.Over as rankine-over
 use Rattle.plasticity_drucker_prager.specs.Over as drucker-over
 use Rattle.plasticity_snow.specs.declared.SnowPlasticity.{SnowPlasticity}
+use Rattle.plasticity_snow.specs.Reason.{boundsOf}
+use Rattle.plasticity_snow.proofs.Why.{snow-branchless}
+use Rattle.walk.proofs.Reason.{quiet}
 use Rattle.plasticity_rankine.specs.Law as rankine-law
 use Rattle.plasticity_rankine.specs.Projection as rankine
 use Rattle.plasticity_rankine.specs.Rankine as rankine-walks
@@ -43,11 +46,12 @@ use Rattle.plasticity_nacc.specs.Projection as nacc
 use Rattle.plasticity_nacc.specs.Over as nacc-over
 use Rattle.plasticity_nacc.specs.declared.NaccArguments.{NaccArguments}
 use Rattle.plasticity_nacc.proofs.Reason as nacc-reason
+use Rattle.model.specs.declared.Law.{Law}
 use Rattle.model.specs.declared.Law.the-variants as law
 use Rattle.model.specs.declared.Model.{Model}
 use Rattle.model.specs.declared.Model.the-variants.{Snow, Rankine, DruckerPrager, Nacc}
 use Rattle.model.specs.Model.{modelWalk, modelLast}
-use Rattle.model.specs.Kinds.{laws, numbered, lawOf, parametersFit, modelKnown}
+use Rattle.model.specs.Kinds.{lawOf, parametersFit, modelKnown}
 use Rattle.model.specs.Fields.{byLaw, modelOf}
 use Rattle.particles.specs.Plain.{lawAt, keptBy, recordLaw}
 use Rattle.record_why.specs.declared.Cause.{Cause}
@@ -58,70 +62,76 @@ use Rattle.record_why.specs.Branch.{modelBranch, modelStores, rankineEnd
 use Rattle.record_why.proofs.Laws.{last-gives}
 
 -- ---- a test's word, by its number and whether it held
-compared-word : (k n : ℕ) (held : Bool) (l : List Float) → branchWord (reasonWords k (comparedAs n held l)) ≡ branchOf k n held
+compared-word : (k : Law) (n : ℕ) (held : Bool) (l : List Float) → branchWord (reasonWords k (comparedAs n held l)) ≡ branchOf k n held
 compared-word k n held [] = refl
 compared-word k n held (a ∷ []) = refl
 compared-word k n held (a ∷ b ∷ []) = refl
 compared-word k n held (a ∷ b ∷ c ∷ l) = refl
 
 -- of each way the number of its branch
-rankine-word : (k : ℕ) → eqb k 1 ≡ true → (w : rankine.Way) → branchWord (reasonWords k (lastAs (some (rankine-reason.reasonOf w)))) ≡ rankine.wayNumber w
-rankine-word k h (rankine.none-moves x y) = rw h
-rankine-word k h (rankine.one-moves x y) = rw h
-rankine-word k h (rankine.two-move x y) = rw h
-rankine-word k h (rankine.all-move x y) = rw h
+rankine-word : (w : rankine.Way) → branchWord (reasonWords law.Rankine (lastAs (some (rankine-reason.reasonOf w)))) ≡ rankine.wayNumber w
+rankine-word (rankine.none-moves x y) = refl
+rankine-word (rankine.one-moves x y) = refl
+rankine-word (rankine.two-move x y) = refl
+rankine-word (rankine.all-move x y) = refl
 
-drucker-word : (k : ℕ) → eqb k 1 ≡ false → eqb k 2 ≡ true → (w : drucker-prager.Way)
-    → branchWord (reasonWords k (lastAs (some (drucker-prager-reason.reasonOf w)))) ≡ drucker-prager.wayNumber w
-drucker-word k h i (drucker-prager.isotropic d) = compared-word k 8 true d ∙ simp (h, i)
-drucker-word k h i (drucker-prager.expanding x) = simp (h, i)
-drucker-word k h i (drucker-prager.inside x) = simp (h, i)
-drucker-word k h i (drucker-prager.surface x norm) = simp (h, i)
+drucker-word : (w : drucker-prager.Way) → branchWord (reasonWords law.DruckerPrager (lastAs (some (drucker-prager-reason.reasonOf w)))) ≡ drucker-prager.wayNumber w
+drucker-word (drucker-prager.isotropic d) = compared-word law.DruckerPrager 8 true d
+drucker-word (drucker-prager.expanding x) = refl
+drucker-word (drucker-prager.inside x) = refl
+drucker-word (drucker-prager.surface x norm) = refl
 
-nacc-word : (k : ℕ) → eqb k 1 ≡ false → eqb k 2 ≡ false → (w : nacc.Way) → branchWord (reasonWords k (lastAs (some (nacc-reason.reasonOf w)))) ≡ nacc.wayNumber w
-nacc-word k h i (nacc.upper x y) = simp (h, i)
-nacc-word k h i (nacc.lower x y) = simp (h, i)
-nacc-word k h i (nacc.inside x y) = simp (h, i)
-nacc-word k h i (nacc.surface x y) = simp (h, i)
+nacc-word : (w : nacc.Way) → branchWord (reasonWords law.Nacc (lastAs (some (nacc-reason.reasonOf w)))) ≡ nacc.wayNumber w
+nacc-word (nacc.upper x y) = refl
+nacc-word (nacc.lower x y) = refl
+nacc-word (nacc.inside x y) = refl
+nacc-word (nacc.surface x y) = refl
 
 -- ---- of each law: the word is that of the way in which its projection ends, and the path's end is what that way stores
 module _ (u vt : List (List Float)) (s : State) where
-  abbrev Named : ℕ → Model → Type 0
+  abbrev Named : Law → Model → Type 0
   Named k m = (branchWord (reasonWords k (modelLast m u vt s)) ≡ modelBranch m u vt s) × (final (modelWalk m u vt s) ≡ modelStores m u vt s)
 
-  rankine-named : (k : ℕ) (a : RankineArguments) → eqb k 1 ≡ true → Named k (Rankine a)
-  rankine-named k a h =
+  -- Snow makes no test
+  snow-named : (k : Law) (p : SnowPlasticity) → Named k (Snow p)
+  snow-named k p =
+      let bounds = boundsOf p (s .sigma) in
+      (ap (λ o. branchWord (reasonWords k (lastOr bounds o))) (quiet (modelWalk (Snow p) u vt s) (snow-branchless p u vt s) none), refl)
+
+  rankine-named : (a : RankineArguments) → Named law.Rankine (Rankine a)
+  rankine-named a =
       let q = rankine-reason.arguments-reason a u vt s in
-      (ap (λ o. branchWord (reasonWords k (lastAs o))) (q .0) ∙ rankine-word k h (rankineEnd (rankine-law.lawOf a) u vt s .way), q .1)
+      (ap (λ o. branchWord (reasonWords law.Rankine (lastAs o))) (q .0) ∙ rankine-word (rankineEnd (rankine-law.lawOf a) u vt s .way), q .1)
 
-  nacc-named : (k : ℕ) (a : NaccArguments) → eqb k 1 ≡ false → eqb k 2 ≡ false → Named k (Nacc a)
-  nacc-named k a h i =
+  nacc-named : (a : NaccArguments) → Named law.Nacc (Nacc a)
+  nacc-named a =
       let q = nacc-reason.arguments-reason a u vt s in
-      (ap (λ o. branchWord (reasonWords k (lastAs o))) (q .0) ∙ nacc-word k h i (naccEnd (nacc-law.lawOf a) s .way), q .1)
+      (ap (λ o. branchWord (reasonWords law.Nacc (lastAs o))) (q .0) ∙ nacc-word (naccEnd (nacc-law.lawOf a) s .way), q .1)
 
-  drucker-named : (k : ℕ) (p : DruckerPragerPlasticity) → eqb k 1 ≡ false → eqb k 2 ≡ true → Named k (DruckerPrager p)
-  drucker-named k p h i = go (staysOf p (s .scalars .phase)) refl
+  drucker-named : (p : DruckerPragerPlasticity) → Named law.DruckerPrager (DruckerPrager p)
+  drucker-named p = go (staysOf p (s .scalars .phase)) refl
     where
       go : (b : Bool) → staysOf p (s .scalars .phase) ≡ b
-          → (branchWord (reasonWords k (modelLast (DruckerPrager p) u vt s)) ≡ cond b 0 (drucker-prager.wayNumber (drucker-prager-reason.projectionOf p s .way)))
+          → (branchWord (reasonWords law.DruckerPrager (modelLast (DruckerPrager p) u vt s)) ≡ cond b 0 (drucker-prager.wayNumber (drucker-prager-reason.projectionOf p s .way)))
           × (final (modelWalk (DruckerPrager p) u vt s) ≡ cond b untouched (final (drucker-prager-reason.W p u vt s (drucker-prager-reason.projectionOf p s))))
       go true e =
           let q = drucker-prager-reason.drucker-stays p u vt s e in
-          (ap (λ o. branchWord (reasonWords k (lastAs o))) (q .0) ∙ simp (h, i), q .1)
+          (ap (λ o. branchWord (reasonWords law.DruckerPrager (lastAs o))) (q .0), q .1)
       go false e =
           let q = drucker-prager-reason.drucker-reason p u vt s e in
-          (ap (λ o. branchWord (reasonWords k (lastAs o))) (q .0) ∙ drucker-word k h i (drucker-prager-reason.projectionOf p s .way), q .1)
+          (ap (λ o. branchWord (reasonWords law.DruckerPrager (lastAs o))) (q .0) ∙ drucker-word (drucker-prager-reason.projectionOf p s .way), q .1)
 
-  -- the model's number tells its law
-  named : (k : ℕ) (p : List ℕ) (a b c : Bool) → eqb k 1 ≡ b → eqb k 2 ≡ c → Named k (byLaw (cond a law.Snow (cond b law.Rankine (cond c law.DruckerPrager law.Nacc))) p)
-  named k p true b c h i = (refl, refl)
-  named k p false true c h i = rankine-named k _ h
-  named k p false false true h i = drucker-named k _ h i
-  named k p false false false h i = nacc-named k _ h i
+  -- the law's row makes its model
+  named : (k : Law) (p : List ℕ) → Named k (byLaw k p)
+  named law.Snow p = snow-named law.Snow _
+  named law.Rankine p = rankine-named _
+  named law.DruckerPrager p = drucker-named _
+  named law.Nacc p = nacc-named _
+  named law.Unknown p = snow-named law.Unknown _
 
-  pub model-named : (number : ℕ) (p : List ℕ) → Named (number % laws) (modelOf number p)
-  unfolding modelOf lawOf
-  model-named number p = let k = number % laws in named k p (eqb k 0) (eqb k 1) (eqb k 2) refl refl
+  pub model-named : (number : ℕ) (p : List ℕ) → Named (lawOf number) (modelOf number p)
+  unfolding modelOf
+  model-named number p = named (lawOf number) p
 
 -- ---- branch 0 is the one that stores nothing
 abbrev storesNone : Change → Bool

@@ -2,7 +2,6 @@
 -- pass leaves what that path ends with.
 use mathlib.Core.Bool.{Bool, true, false, cond, _&&_, true≢false}
 use mathlib.Core.List.{List}
-use mathlib.Core.Option.{none}
 use mathlib.Core.Path.{_≡_, refl, sym, ap, _∙_}
 use native.Mathlib.Omega.{arith}
 use Prim.Native.Nat.{ℕ}
@@ -16,48 +15,32 @@ use Rattle.plasticity.specs.declared.State.{State}
 use Rattle.plasticity.specs.declared.Updated.{Updated}
 use Rattle.record.specs.Layout.{placeDeterminant, floatAt, uAt, vtAt, stateAt, recordFinite, determinantRight}
 use Rattle.walk.specs.Walk.{given}
-use Rattle.walk.specs.Exact.{path, final, last}
+use Rattle.walk.specs.Exact.{final}
 use Rattle.walk.specs.Update.{updatedOf}
 use Rattle.reason.specs.declared.Reason.{Reason}
 use Rattle.reason.specs.declared.Reason.the-variants as reason
-use Rattle.reason.specs.Reason.{lastOr}
-use Rattle.reason.specs.Told.{reasonNumber, outcomeNumber, number-told, last-told, number-of, last-of}
-use Rattle.walk.proofs.Reason.{quiet}
-use Rattle.plasticity_snow.specs.declared.SnowPlasticity.{SnowPlasticity}
-use Rattle.plasticity_snow.specs.Snow.{snowWalk}
-use Rattle.plasticity_snow.specs.Reason.{boundsOf}
-use Rattle.plasticity_snow.proofs.Why.{snow-branchless}
+use Rattle.reason.specs.Told.{reasonNumber, outcomeNumber}
+use Rattle.reason.proofs.Told.{number-told, last-told}
 use Rattle.model.specs.declared.Model.{Model}
-use Rattle.model.specs.declared.Model.the-variants.{Snow, Rankine, DruckerPrager, Nacc}
+use Rattle.model.specs.Rows.{actsOf}
 use Rattle.model.specs.Model.{modelFinite, modelUpdate, modelWalk, modelReason, modelLast}
 use Rattle.particles.specs.Plain.{updatedAt, kept, lawAt, keptBy, recordLaw}
 use Rattle.record_why.specs.declared.Cause.{Cause}
 use Rattle.record_why.specs.declared.Cause.the-variants.{Told, Parameter, Record}
+use Rattle.model.proofs.RowLaws.{untested-none}
 use Rattle.particles.proofs.NotFinite.{last-finite, law-right}
 use Rattle.record_why.specs.Why.{reasonWith, recordReason, toldOf, numberOf}
 
 -- ---- by the model's law
--- Snow makes no test
-snow-last : (p : SnowPlasticity) (u vt : List (List Float)) (s : State) (r : Reason) → lastOr r (last (path (snowWalk p u vt s))) ≡ r
-snow-last p u vt s r = ap (lastOr r) (quiet (snowWalk p u vt s) (snow-branchless p u vt s) none)
+module _ (u vt : List (List Float)) (s : State) (m : Model) where
+  pub model-number : reasonNumber (modelReason m u vt s) ≡ outcomeNumber (modelUpdate m u vt s .outcome)
+  model-number = number-told (actsOf m .untested s) (untested-none m s) s (modelWalk m u vt s)
 
-module _ (u vt : List (List Float)) (s : State) where
-  pub model-number : (m : Model) → reasonNumber (modelReason m u vt s) ≡ outcomeNumber (modelUpdate m u vt s .outcome)
-  model-number (Snow p) = number-told (boundsOf p (s .sigma)) refl s (modelWalk (Snow p) u vt s)
-  model-number (Rankine a) = number-of s (modelWalk (Rankine a) u vt s)
-  model-number (DruckerPrager p) = number-of s (modelWalk (DruckerPrager p) u vt s)
-  model-number (Nacc a) = number-of s (modelWalk (Nacc a) u vt s)
+  abbrev Last : Type 0
+  Last = (modelReason m u vt s ≡ modelLast m u vt s) × (modelUpdate m u vt s ≡ updatedOf s (given (final (modelWalk m u vt s))))
 
-  abbrev Last : Model → Type 0
-  Last m = (modelReason m u vt s ≡ modelLast m u vt s) × (modelUpdate m u vt s ≡ updatedOf s (given (final (modelWalk m u vt s))))
-
-  pub model-last : (m : Model) → reasonNumber (modelReason m u vt s) ≡ 0 → Last m
-  model-last (Snow p) e =
-      let q = last-told (boundsOf p (s .sigma)) refl s (modelWalk (Snow p) u vt s) e in
-      (q .0 ∙ snow-last p u vt s (boundsOf p (s .sigma)), q .1)
-  model-last (Rankine a) e = last-of s (modelWalk (Rankine a) u vt s) e
-  model-last (DruckerPrager p) e = last-of s (modelWalk (DruckerPrager p) u vt s) e
-  model-last (Nacc a) e = last-of s (modelWalk (Nacc a) u vt s) e
+  pub model-last : reasonNumber (modelReason m u vt s) ≡ 0 → Last
+  model-last e = last-told (actsOf m .untested s) (untested-none m s) s (modelWalk m u vt s) e
 
 -- ---- of a record whose floats are finite and whose determinant is right
 module _ (m : Model) (r : List ℕ) (f : recordFinite r ≡ true) where

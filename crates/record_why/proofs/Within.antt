@@ -7,19 +7,13 @@ use Prim.Native.Nat.{ℕ, _<_}
 use lib.Dec.{eqb}
 use lib.ListN.{length}
 use borrow.Author.Tests.{eqb-true, eqb-false}
-use Rattle.numbers.specs.Floats.{finite}
-use Rattle.record.specs.Layout.{floats, floatAt, recordFinite}
-use Rattle.model.specs.declared.Law.{Law}
-use Rattle.model.specs.declared.Law.the-variants as law
+use Rattle.record.specs.Layout.{floats, recordFinite}
 use Rattle.model.specs.Model.{modelFinite}
-use Rattle.model.specs.Kinds.{lawOf, kinds, kindsOf}
-use Rattle.model.specs.Fields.{byLaw, modelOf}
+use Rattle.model.specs.Kinds.{lawOf, kindsOf}
+use Rattle.model.specs.Fields.{modelOf}
+use Rattle.model.proofs.RowLaws.{Finite, made-finite}
 use Rattle.record_why.specs.Why.{placeIn}
 use Rattle.record_why.proofs.First.{first-place}
-
--- the first n floats are finite
-abbrev pub Finite : List ℕ → ℕ → Type 0
-Finite w n = (j : ℕ) → j < n → finite (floatAt w j) ≡ true
 
 below : (w : List ℕ) (n : ℕ) → (Finite w n → ⊥) → (b : Bool) → eqb (placeIn w n) n ≡ b → placeIn w n < n
 below w n f true t = let e = eqb-true (placeIn w n) n t in absurd (f (λ j g. first-place w n .1 .0 j (omega arith)))
@@ -36,26 +30,7 @@ record-within r h q =
     below r (length r) (λ f. true≢false (sym (record-finite r (λ j g. f j (omega arith))) ∙ q)) (eqb (placeIn r (length r)) (length r)) refl
 
 -- ---- of a model's parameters; a flag is no float of the law, and is finite where it is allowed
-snow-finite : (p : List ℕ) → Finite p 3 → modelFinite (byLaw law.Snow p) ≡ true
-snow-finite p f = simp (f 0 (omega arith), f 1 (omega arith), f 2 (omega arith))
-
-rankine-finite : (p : List ℕ) → Finite p 4 → modelFinite (byLaw law.Rankine p) ≡ true
-rankine-finite p f = simp (f 0 (omega arith), f 1 (omega arith), f 2 (omega arith), f 3 (omega arith))
-
-drucker-finite : (p : List ℕ) → Finite p 8 → modelFinite (byLaw law.DruckerPrager p) ≡ true
-drucker-finite p f =
-    simp (f 0 (omega arith), f 1 (omega arith), f 2 (omega arith), f 3 (omega arith), f 4 (omega arith), f 5 (omega arith), f 7 (omega arith))
-
-nacc-finite : (p : List ℕ) → Finite p 6 → modelFinite (byLaw law.Nacc p) ≡ true
-nacc-finite p f = simp (f 0 (omega arith), f 1 (omega arith), f 2 (omega arith), f 4 (omega arith), f 5 (omega arith))
-
-law-finite : (k : Law) (p : List ℕ) → Finite p (length (kinds k)) → modelFinite (byLaw k p) ≡ true
-law-finite law.Snow p f = snow-finite p f
-law-finite law.Rankine p f = rankine-finite p f
-law-finite law.DruckerPrager p f = drucker-finite p f
-law-finite law.Nacc p f = nacc-finite p f
-
 pub parameter-within : (number : ℕ) (p : List ℕ) → length p ≡ length (kindsOf number) → modelFinite (modelOf number p) ≡ false → placeIn p (length p) < length p
 unfolding modelOf kindsOf
 parameter-within number p h q =
-    below p (length p) (λ f. true≢false (sym (law-finite (lawOf number) p (λ j g. f j (omega arith))) ∙ q)) (eqb (placeIn p (length p)) (length p)) refl
+    below p (length p) (λ f. true≢false (sym (made-finite (lawOf number) p h (λ j g. f j (omega arith))) ∙ q)) (eqb (placeIn p (length p)) (length p)) refl

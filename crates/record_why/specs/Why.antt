@@ -1,4 +1,4 @@
--- Why a record moved, or why it didn't (ticket 8): "A refusal gives the number, the step and, for 1, the first such float's place, parameters first."
+-- Why a record moved, or why it didn't (RULES, section 7; ticket 8): "A refusal gives the number, the step and, for 1, the first such float's place, parameters first."
 use mathlib.Core.Bool.{cond, _&&_}
 use mathlib.Core.List.{List}
 use Prim.Native.Nat.{ℕ, zero, suc}

@@ -1,14 +1,14 @@
--- A reason as eleven words (docs/STEPS.md): kind, refusal, step, whose place, place, test, whether it held, branch, and the numbers as bits.
+-- A reason as eleven words (RULES, section 7; docs/STEPS.md): kind, refusal, step, whose place, place, test, whether it held, branch, and the numbers as bits.
 use mathlib.Core.Bool.{Bool, cond}
 use mathlib.Core.List.{List, [], _∷_}
-use Prim.Native.Nat.{ℕ, _%_}
-use lib.Dec.{eqb}
+use Prim.Native.Nat.{ℕ}
 use Rattle.record.specs.Layout.{bits}
 use Rattle.reason.specs.declared.Bound.{Bound}
 use Rattle.reason.specs.declared.Bound.the-variants.{Neither, Lower, Upper}
 use Rattle.reason.specs.declared.Reason.{Reason}
 use Rattle.reason.specs.declared.Reason.the-variants as reason
-use Rattle.model.specs.Kinds.{laws}
+use Rattle.model.specs.declared.Law.{Law}
+use Rattle.model.specs.Rows.{lawOf, rowOf}
 use Rattle.record_why.specs.declared.Cause.{Cause}
 use Rattle.record_why.specs.declared.Cause.the-variants.{Told, Parameter, Record, Refused}
 
@@ -20,14 +20,11 @@ boundNumber Upper = 2
 abbrev pub heldNumber : Bool → ℕ
 heldNumber held = cond held 1 0
 
--- the branch that a test chose, 0 untouched: Rankine's one, two or all strains; Drucker-Prager's ones and cone; NACC's upper tip, lower tip and surface
-abbrev pub branchOf : ℕ → ℕ → Bool → ℕ
-branchOf law test held =
-    cond (eqb law 1) (cond (eqb test 4) 0 (cond (eqb test 5) 1 (cond held 2 3)))
-    (cond (eqb law 2) (cond (eqb test 1) 0 (cond (eqb test 13) (cond held 0 2) 1))
-    (cond (eqb test 7) 1 (cond (eqb test 8) 2 (cond held 0 3))))
+-- the branch that a test chose, by the law's row
+abbrev pub branchOf : Law → ℕ → Bool → ℕ
+branchOf law test held = rowOf law .branch test held
 
-abbrev pub reasonWords : ℕ → Reason → List ℕ
+abbrev pub reasonWords : Law → Reason → List ℕ
 reasonWords law (reason.Tested t h a b) = 0 ∷ 0 ∷ 0 ∷ 0 ∷ 0 ∷ t ∷ heldNumber h ∷ branchOf law t h ∷ bits a ∷ bits b ∷ 0 ∷ []
 reasonWords law (reason.Zeros t h a b c) = 1 ∷ 0 ∷ 0 ∷ 0 ∷ 0 ∷ t ∷ heldNumber h ∷ branchOf law t h ∷ bits a ∷ bits b ∷ bits c ∷ []
 reasonWords law (reason.Flagged t h) = 2 ∷ 0 ∷ 0 ∷ 0 ∷ 0 ∷ t ∷ heldNumber h ∷ branchOf law t h ∷ 0 ∷ 0 ∷ 0 ∷ []
@@ -35,7 +32,7 @@ reasonWords law (reason.Clamped x y z) = 3 ∷ 0 ∷ 0 ∷ 0 ∷ 0 ∷ 0 ∷ 0 �
 reasonWords law (reason.Refused n k) = 4 ∷ n ∷ k ∷ 0 ∷ 0 ∷ 0 ∷ 0 ∷ 0 ∷ 0 ∷ 0 ∷ 0 ∷ []
 
 abbrev pub wordsOf : ℕ → Cause → List ℕ
-wordsOf number (Told q) = reasonWords (number % laws) q
+wordsOf number (Told q) = reasonWords (lawOf number) q
 wordsOf number (Parameter i) = 4 ∷ 1 ∷ 0 ∷ 1 ∷ i ∷ 0 ∷ 0 ∷ 0 ∷ 0 ∷ 0 ∷ 0 ∷ []
 wordsOf number (Record i) = 4 ∷ 1 ∷ 0 ∷ 2 ∷ i ∷ 0 ∷ 0 ∷ 0 ∷ 0 ∷ 0 ∷ 0 ∷ []
 wordsOf number (Refused n) = 4 ∷ n ∷ 0 ∷ 0 ∷ 0 ∷ 0 ∷ 0 ∷ 0 ∷ 0 ∷ 0 ∷ 0 ∷ []

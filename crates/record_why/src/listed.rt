@@ -1,9 +1,10 @@
 // A reason as eleven words: kind, refusal, step, whose place, place, test, whether it held, branch, and the numbers as bits (docs/STEPS.md).
 use crate::Cause;
+use model::Law;
 use reason::Bound;
 use reason::Reason;
 ghost use mathlib.Core.Path.{_≡_};
-ghost use Rattle.record_why.specs.Words.{boundNumber, heldNumber, branchOf, reasonWords, wordsOf, callRefusal};
+ghost use Rattle.record_why.specs.Words.{boundNumber, heldNumber, reasonWords, wordsOf, callRefusal};
 
 fn bound_number(b: Bound) -> u64
     ensures { λ n. ⌜ n ≡ boundNumber b ⌝ }
@@ -21,40 +22,7 @@ fn held_number(held: bool) -> u64
     if held { 1 } else { 0 }
 }
 
-// The branch that a test chose: 0 is untouched, else as section 5 names them.
-fn branch(law: u64, test: u8, held: bool) -> u64
-    ensures { λ n. ⌜ n ≡ branchOf law test held ⌝ }
-{
-    if law == 1 {
-        if test == 4 {
-            0
-        } else if test == 5 {
-            1
-        } else if held {
-            2
-        } else {
-            3
-        }
-    } else if law == 2 {
-        if test == 1 {
-            0
-        } else if test == 13 {
-            if held { 0 } else { 2 }
-        } else {
-            1
-        }
-    } else if test == 7 {
-        1
-    } else if test == 8 {
-        2
-    } else if held {
-        0
-    } else {
-        3
-    }
-}
-
-fn reason_words(law: u64, q: Reason) -> [u64; 11]
+fn reason_words(law: Law, q: Reason) -> [u64; 11]
     ensures { λ w. ⌜ w ≡ reasonWords law q ⌝ }
 {
     match q {
@@ -66,7 +34,7 @@ fn reason_words(law: u64, q: Reason) -> [u64; 11]
             0,
             t as u64,
             held_number(h),
-            branch(law, t, h),
+            model::branch(law, t, h),
             numbers::bits_of(a),
             numbers::bits_of(b),
             0,
@@ -79,7 +47,7 @@ fn reason_words(law: u64, q: Reason) -> [u64; 11]
             0,
             t as u64,
             held_number(h),
-            branch(law, t, h),
+            model::branch(law, t, h),
             numbers::bits_of(a),
             numbers::bits_of(b),
             numbers::bits_of(c),
@@ -92,7 +60,7 @@ fn reason_words(law: u64, q: Reason) -> [u64; 11]
             0,
             t as u64,
             held_number(h),
-            branch(law, t, h),
+            model::branch(law, t, h),
             0,
             0,
             0,
@@ -119,7 +87,7 @@ pub fn words(number: u64, w: Cause) -> [u64; 11]
     ensures { λ l. ⌜ l ≡ wordsOf number w ⌝ }
 {
     match w {
-        Cause::Told(q) => reason_words(number % model::LAWS, q),
+        Cause::Told(q) => reason_words(model::law_of(number), q),
         Cause::Parameter(i) => [4, 1, 0, 1, i as u64, 0, 0, 0, 0, 0, 0],
         Cause::Record(i) => [4, 1, 0, 2, i as u64, 0, 0, 0, 0, 0, 0],
         Cause::Refused(n) => [4, n as u64, 0, 0, 0, 0, 0, 0, 0, 0, 0],

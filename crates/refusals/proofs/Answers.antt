@@ -19,7 +19,8 @@ use Rattle.walk.specs.Tensor.{worth}
 use Rattle.walk.specs.Walk as walk
 use Rattle.walk.specs.Walk.{Walk, inputs, Ended, given, refused, result, answerAs}
 use Rattle.walk.specs.Exact.{path}
-use Rattle.walk.specs.Answers.{returned, returnedMatrix, refusalIn, refused-when, stops-positive}
+use Rattle.walk.specs.Answers.{returned, returnedMatrix, refusalIn}
+use Rattle.walk.proofs.Answers.{refused-when, stops-positive}
 use Rattle.refusals.specs.Refusals.{Numbers, Gives}
 use Rattle.refusals.proofs.Inner.{Inner}
 use Rattle.refusals.proofs.Numbers.{differ, nothing, numbers, told}

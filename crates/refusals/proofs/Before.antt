@@ -4,11 +4,13 @@ use Rattle.answers.proofs.Before.{bare-before}
 use Rattle.plasticity.specs.declared.State.{State}
 use Rattle.walk.specs.Walk.{Walk, lowOf, highOf, at, Ended, given, refused, result}
 use Rattle.walk.specs.Update.{Change, untouched, stored, updatedOf}
-use Rattle.walk.specs.Before.{endedBefore, resultBefore, same-before}
+use Rattle.walk.specs.Before.{endedBefore, resultBefore}
+use Rattle.walk.proofs.Before.{same-before}
 use Rattle.record.specs.Layout.{stateAt}
 use Rattle.refusals.specs.Refusals.{walkOf, recordWalk, failureWalk}
 use Rattle.refusals.specs.Before.{outcomeBefore, updatedBefore, NothingElse}
-use Rattle.refusals.proofs.Updates.{walked, record-walked}
+use Rattle.model.proofs.RowLaws.{walked}
+use Rattle.refusals.proofs.Updates.{record-walked}
 use Rattle.refusals.proofs.Failure.{failure-walked}
 
 told : (s : State) (x : Ended Change) → updatedBefore (updatedOf s x) ≡ updatedOf s (endedBefore x)

@@ -28,9 +28,10 @@ use Rattle.walk.specs.Expr.{Expr, num, nums, value, values}
 use Rattle.walk.specs.Walk as walk
 use Rattle.walk.specs.Walk.{Walk, root, inputs, results, end, _then_, Ended, result, answerAs}
 use Rattle.walk.specs.Exact.{path}
-use Rattle.walk.specs.Every.{flat, all-flat, all-append}
-use Rattle.walk.specs.Matrix.{values-nums}
-use Rattle.walk.specs.Tensor.{worth, rows, worth-rows}
+use Rattle.walk.specs.Matrix.{flat, values-nums}
+use Rattle.walk.proofs.Every.{all-flat, all-append}
+use Rattle.walk.specs.Tensor.{worth, rows}
+use Rattle.walk.proofs.Tensor.{worth-rows}
 use Rattle.walk.specs.Answers.{returned, returnedMatrix, refusalIn, matrixAs}
 use Rattle.plasticity_drucker_prager.specs.declared.DruckerPragerPlasticity.{DruckerPragerPlasticity}
 use Rattle.plasticity_drucker_prager.specs.Law as drucker-prager

@@ -17,9 +17,10 @@ use Rattle.plasticity.specs.declared.Outcome.{Outcome}
 use Rattle.plasticity.specs.declared.Outcome.the-variants as outcome
 use Rattle.plasticity.specs.declared.State.{State}
 use Rattle.walk.specs.Walk.{_then_, end, Ended, given, refused, result}
-use Rattle.walk.specs.Exact.{andThen, result-then}
+use Rattle.walk.specs.Exact.{andThen}
+use Rattle.walk.proofs.Exact.{result-then}
 use Rattle.walk.specs.Answers.{vectorAs}
-use Rattle.walk.specs.Every.{all-append}
+use Rattle.walk.proofs.Every.{all-append}
 use Rattle.walk.specs.Update.{Change, untouched, stored, updatedOf}
 use Rattle.record.specs.Layout.{stateAt, recordFinite, determinantRight}
 use Rattle.failure_maximum_stress.specs.declared.MaximumStressFailure.{MaximumStressFailure}

@@ -16,7 +16,7 @@ use Rattle.physics.specs.Physics.{lameOf, lambdaOf, shearModulusOf}
 use Rattle.plasticity.specs.declared.Outcome.the-variants as outcome
 use Rattle.plasticity.specs.declared.State.{State}
 use Rattle.walk.specs.Expr.{num}
-use Rattle.walk.specs.Numbers.{as-outcome}
+use Rattle.walk.proofs.Numbers.{as-outcome}
 use Rattle.walk.specs.Walk.{Walk, inputs, end, _then_, Ended, given, refused, result, answerAs}
 use Rattle.walk.specs.Exact.{path}
 use Rattle.walk.specs.Update.{inThree, floatsOf, refusalOf}
@@ -66,7 +66,8 @@ use Rattle.refusals.proofs.Inner.{Inner, inner-then, steps-inner, ranki
 use Rattle.refusals.proofs.Enums.{Coded, coded, made, made-once}
 use Rattle.refusals.proofs.Numbers.{differ, nothing, told}
 use Rattle.refusals.proofs.Answers.{after, tested, entered, walk-gives, ended-beside}
-use Rattle.refusals.proofs.Updates.{outcome-numbers, walked}
+use Rattle.model.proofs.RowLaws.{walked}
+use Rattle.refusals.proofs.Updates.{outcome-numbers}
 
 -- ---- `new` and `with_m`
 abbrev neo-number : neo-made-type.Made → Option ℕ

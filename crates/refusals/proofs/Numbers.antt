@@ -12,10 +12,11 @@ use Rattle.answers.specs.Refusals.{belowRange, aboveRange, wrongDeterminant, no
 use Rattle.tensor.specs.Axes.{allOf}
 use Rattle.walk.specs.Walk.{Walk, inputs, result}
 use Rattle.walk.specs.Exact.{Met, input, path}
-use Rattle.walk.specs.Every.{every, all-every}
-use Rattle.walk.specs.Numbers as walk
+use Rattle.walk.proofs.Every.{every, all-every}
+use Rattle.walk.proofs.Numbers as walk
 use Rattle.walk.specs.Numbers.{Stops, Clear}
-use Rattle.walk.specs.Answers.{refusalIn, refused-when, accepted-when}
+use Rattle.walk.specs.Answers.{refusalIn}
+use Rattle.walk.proofs.Answers.{refused-when, accepted-when}
 use Rattle.walk.proofs.Inner.{Inner, Later, later, between, never-one}
 use Rattle.refusals.specs.Refusals.{SomeNotFinite, Numbers, RecordNumbers}
 

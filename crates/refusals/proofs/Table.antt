@@ -17,7 +17,7 @@ use Rattle.answers.specs.declared.Answer.the-variants.{Value, Refused}
 use Rattle.tensor.specs.Axes.{allOf}
 use Rattle.plasticity.specs.declared.Outcome.the-variants as outcome
 use Rattle.walk.specs.Expr.{num, value}
-use Rattle.walk.proofs.Number.{finite-number}
+use Rattle.numbers.proofs.Laws.{finite-number}
 use Rattle.walk.specs.Walk as walk
 use Rattle.walk.specs.Walk.{Function, lowOf, highOf, at, ask, end}
 use Rattle.walk.specs.Answers.{refusalIn}

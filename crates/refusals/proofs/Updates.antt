@@ -16,23 +16,18 @@ use Rattle.plasticity.specs.declared.Outcome.{Outcome}
 use Rattle.plasticity.specs.declared.Outcome.the-variants.{Stored, Refused}
 use Rattle.plasticity.specs.declared.State.{State}
 use Rattle.walk.specs.Walk.{Walk, inputs, Ended, given, refused, result}
-use Rattle.walk.specs.Exact.{path, andThen, result-then}
-use Rattle.walk.specs.Every.{all-append}
-use Rattle.walk.specs.Numbers.{as-outcome}
+use Rattle.walk.specs.Exact.{path, andThen}
+use Rattle.walk.proofs.Exact.{result-then}
+use Rattle.walk.proofs.Every.{all-append}
+use Rattle.walk.proofs.Numbers.{as-outcome}
 use Rattle.walk.specs.Update.{inThree, Change, untouched, stored, updatedOf, refusalOf, floatsOf}
 use Rattle.walk.specs.Answers.{refusalIn}
 use Rattle.record.specs.Layout.{placeDeterminant, floatAt, uAt, vtAt, stateAt, recordFinite, determinantRight}
 use Rattle.record.proofs.Parts as parts
-use Rattle.plasticity_snow.specs.Over as snow
-use Rattle.plasticity_rankine.specs.Rankine as rankine
-use Rattle.plasticity_drucker_prager.specs.DruckerPrager as drucker-prager
-use Rattle.plasticity_nacc.specs.Over as nacc-over
-use Rattle.plasticity_rankine.specs.Over as rankine-over
-use Rattle.plasticity_drucker_prager.specs.Over as drucker-over
-use Rattle.walk.specs.Body.{floats-finite}
+use Rattle.walk.proofs.Body.{floats-finite}
 use Rattle.model.specs.declared.Model.{Model}
-use Rattle.model.specs.declared.Model.the-variants.{Snow, Rankine, DruckerPrager, Nacc}
-use Rattle.model.specs.Model.{modelFinite, modelUpdate}
+use Rattle.model.specs.Model.{modelFinite}
+use Rattle.model.proofs.RowLaws.{parameters-finite, walked}
 use Rattle.particles.specs.declared.step.Step.the-variants.{Plain}
 use Rattle.particles.specs.Pass.{valueOf}
 use Rattle.particles.specs.Plain.{putState, updatedAt, measured, lawAt, recordLaw}
@@ -52,28 +47,14 @@ pub outcome-numbers : (s : State) (o : Outcome) (l : List Float) (w : Walk Chang
     → Refuses o (path (inputs l w))
 outcome-numbers s o l w h e = told refusalOf Refused (λ n. refl) as-outcome o l w h (ap refusalOf e ∙ outcome-told s (result (inputs l w)))
 
--- ---- the four models
-pub walked : (m : Model) (u vt : List (List Float)) (s : State) → modelUpdate m u vt s ≡ updatedOf s (result (walkOf m u vt s))
-unfolding snow.snowWalk snow.floats rankine-over.argumentsWalk rankine-over.floats drucker-over.druckerWalk drucker-over.floats nacc-over.argumentsWalk nacc-over.floats
-walked (Snow p) u vt s = refl
-walked (Rankine a) u vt s = refl
-walked (DruckerPrager p) u vt s = refl
-walked (Nacc a) u vt s = refl
-
 -- ---- the inputs of a record
-parameters : (m : Model) → allOf finite (parametersOf m) ≡ modelFinite m
-parameters (Snow p) = refl
-parameters (Rankine a) = refl
-parameters (DruckerPrager p) = refl
-parameters (Nacc a) = refl
-
 pub floats-of : (r : List ℕ) → allOf finite (recordFloats r) ≡ recordFinite r
 floats-of r =
     let x = floatAt r placeDeterminant in
     all-append finite (floatsOf (uAt r) (vtAt r) (stateAt r)) (x ∷ []) ∙ ap (λ b. b && finite x) (floats-finite inThree (uAt r) (vtAt r) (stateAt r))
 
 pub record-inputs : (m : Model) (r : List ℕ) → allOf finite (parametersOf m ++ recordFloats r) ≡ modelFinite m && recordFinite r
-record-inputs m r = all-append finite (parametersOf m) (recordFloats r) ∙ rw (parameters m, floats-of r) refl
+record-inputs m r = all-append finite (parametersOf m) (recordFloats r) ∙ rw (parameters-finite m, floats-of r) refl
 
 -- ---- a record's law, where 1 and 11 don't come: F tells of it, and of a refusal only the number
 module _ (m : Model) (r : List ℕ) (F : Updated → Outcome) (by : (n : ℕ) (t u : State) → F (law.refused n t) ≡ F (law.refused n u)) where
@@ -97,7 +78,7 @@ module _ (m : Model) (r : List ℕ) (F : Updated → Outcome) (by : (n : ℕ) (t
   ran h =
       let t = and-both (modelFinite m) (recordFinite r) h in
       let i : allOf finite (parametersOf m ++ floatsOf (uAt r) (vtAt r) s) ≡ true =
-      all-append finite (parametersOf m) (floatsOf (uAt r) (vtAt r) s) ∙ rw (parameters m, floats-finite inThree (uAt r) (vtAt r) s, t .0, parts.record-inputs r (t .1)) refl in
+      all-append finite (parametersOf m) (floatsOf (uAt r) (vtAt r) s) ∙ rw (parameters-finite m, floats-finite inThree (uAt r) (vtAt r) s, t .0, parts.record-inputs r (t .1)) refl in
       walked m (uAt r) (vtAt r) s ∙ ap (λ b. updatedOf s (cond b (result (stepsOf m (uAt r) (vtAt r) s)) (refused 1))) i
 
   pub steps-by : modelFinite m && recordFinite r ≡ true → determinantRight r ≡ true → F (lawAt m r) ≡ F (updatedOf s (result (recordSteps m r)))

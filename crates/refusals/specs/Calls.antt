@@ -21,7 +21,7 @@ use Rattle.physics.specs.Quadratic.{solveQuadraticOf}
 use Rattle.walk.specs.Expr.{Expr, num, nums, neg, _+_, _-_, _*_, _/_, value, values}
 use Rattle.walk.specs.Walk.{Walk, root, inputs, ask, results, end, result, answerAs}
 use Rattle.walk.specs.Exact.{Met, path}
-use Rattle.walk.specs.Every.{flat}
+use Rattle.walk.specs.Matrix.{flat}
 use Rattle.walk.specs.Tensor.{rows}
 use Rattle.walk.specs.Answers.{returned, returnedMatrix}
 use Rattle.plasticity_drucker_prager.specs.declared.DruckerPragerPlasticity.{DruckerPragerPlasticity}

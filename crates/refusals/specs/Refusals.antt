@@ -28,20 +28,12 @@ use Rattle.walk.specs.Numbers.{Stops, Comes, Clear}
 use Rattle.record.specs.Layout.{floats, placeF, placeDeterminant, floatAt, matAt, uAt, vtAt, stateAt, determinantRight}
 use Rattle.factors.specs.Sweeps.{factorsOf}
 use Rattle.factors.specs.Check.{acceptedOf}
-use Rattle.plasticity_snow.specs.Snow as snow
-use Rattle.plasticity_rankine.specs.Law as rankine-law
-use Rattle.plasticity_rankine.specs.Rankine as rankine
-use Rattle.plasticity_drucker_prager.specs.Law as drucker-prager-law
-use Rattle.plasticity_drucker_prager.specs.DruckerPrager as drucker-prager
-use Rattle.plasticity_nacc.specs.Law as nacc-law
-use Rattle.plasticity_nacc.specs.Projection as nacc-projection
-use Rattle.plasticity_nacc.specs.Nacc as nacc
 use Rattle.failure_maximum_stress.specs.declared.MaximumStressFailure.{MaximumStressFailure}
 use Rattle.elasticity_corotated_linear.specs.declared.CorotatedLinearElasticity.{CorotatedLinearElasticity}
 use Rattle.elasticity_corotated_linear.specs.Law as corotated
 use Rattle.elasticity_corotated_linear.specs.Principal.{principalWalk}
 use Rattle.model.specs.declared.Model.{Model}
-use Rattle.model.specs.declared.Model.the-variants.{Snow, Rankine, DruckerPrager, Nacc}
+use Rattle.model.specs.Rows.{actsOf}
 use Rattle.model.specs.Model.{modelFinite}
 use Rattle.particles.specs.declared.list.Passed.the-variants as pass
 use Rattle.particles.specs.declared.failure.PassedWithFailure.the-variants as failure-pass
@@ -104,17 +96,11 @@ Gives e ms = Numbers (λ n. e ≡ answers.Refused n) ms
 -- ---- a model's walk
 -- the parameters' floats
 abbrev pub parametersOf : Model → List Float
-parametersOf (Snow p) = snow.parametersOf p
-parametersOf (Rankine a) = rankine-law.argumentsFloats a
-parametersOf (DruckerPrager p) = drucker-prager-law.parametersOf p
-parametersOf (Nacc a) = nacc-law.argumentsFloats a
+parametersOf m = actsOf m .floats
 
 -- "1 is tested first, then the moduli by 3, then the steps"
 abbrev pub stepsOf : Model → List (List Float) → List (List Float) → State → Walk Change
-stepsOf (Snow p) u vt s = snow.runWalk p u vt s
-stepsOf (Rankine a) u vt s = rankine-law.moduli (rankine-law.lawOf a) (rankine.runWalk (rankine-law.lawOf a) (s .sigma) u vt s)
-stepsOf (DruckerPrager p) u vt s = drucker-prager.runWalk p u vt s
-stepsOf (Nacc a) u vt s = nacc-projection.moduli (nacc-law.lawOf a) (nacc.runWalk (nacc-law.lawOf a) u vt s)
+stepsOf m u vt s = actsOf m .steps u vt s
 
 abbrev pub walkOf : Model → List (List Float) → List (List Float) → State → Walk Change
 walkOf m u vt s = inputs (parametersOf m ++ floatsOf u vt s) (stepsOf m u vt s)

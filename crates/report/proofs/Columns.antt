@@ -11,9 +11,11 @@ use lib.ListN.{length, length-append}
 use lib.Pow.{pow-pos, pow-add}
 use lib.Ieee.{Float}
 use borrow.Author.Tests.{leb-true}
-use Rattle.exact.specs.Integers.{p, n, abs, +-assoc, 0+}
+use Rattle.exact.specs.Integers.{p, n, abs}
+use Rattle.exact.proofs.Integers.{+-assoc, 0+}
 use Rattle.exact.specs.Units.{mag}
-use Rattle.exact.specs.Value.{val, abs-val}
+use Rattle.exact.specs.Value.{val}
+use Rattle.exact.proofs.Value.{abs-val}
 use Rattle.numbers.specs.Floats.{finite}
 use Rattle.numbers.proofs.Laws.{and-both}
 use Rattle.report.specs.Whole.{down, wholeOf, within, isCounted, isOutside, isNotFinite}

@@ -8,7 +8,8 @@ use native.Mathlib.Omega.{arith}
 use lib.IntN.{ℤ, pos, negsuc, _+ℤ_}
 use lib.ListN.{length}
 use lib.Ieee.{Float}
-use Rattle.exact.specs.Integers.{p, n, +-parts}
+use Rattle.exact.specs.Integers.{p, n}
+use Rattle.exact.proofs.Integers.{+-parts}
 use Rattle.report.specs.Whole.{wholeOf, isCounted}
 use Rattle.report.specs.Column.{those, wholeAt, below, above, firstOf, sumOf, wholes, columnOf}
 use Rattle.report.specs.Joined.{recordsIn, most}

@@ -6,7 +6,8 @@ use native.Mathlib.Omega.{arith}
 use lib.IntN.{ℤ, pos, negsuc, negℤ, _+ℤ_, _*ℤ_}
 use lib.Pow.{pow-pos, pow-add}
 use lib.Ieee.{Float}
-use Rattle.exact.specs.Integers.{p, n, +-parts, *-parts, _≤ᶻ_}
+use Rattle.exact.specs.Integers.{p, n, _≤ᶻ_}
+use Rattle.exact.proofs.Integers.{+-parts, *-parts}
 use Rattle.exact.specs.Units.{L}
 use Rattle.exact.specs.Value.{val}
 use Rattle.report.specs.Whole.{down, wholeOf}

@@ -10,7 +10,8 @@ use native.Mathlib.Bridge.{le-by-compare, IsLe}
 use lib.Pow.{pow-pos, pow-add, pow-mono}
 use lib.Ieee.{binary64, ofBits}
 use Rattle.exact.specs.Units.{mag, sgn}
-use Rattle.exact.specs.Fields.{Has, signAt, exponentAt, digitsAt, normal-units, small-units}
+use Rattle.exact.specs.Fields.{signAt, exponentAt, digitsAt}
+use Rattle.exact.proofs.Fields.{Has, normal-units, small-units}
 use Rattle.exact.proofs.Cut.{Unpacked, unpacked}
 
 -- ---- the shift

@@ -9,7 +9,7 @@ use lib.Dec.{leb, eqb}
 use lib.IntN.{ℤ, pos, negsuc, negℤ, _+ℤ_}
 use lib.Ieee.{Float, binary64, ofBits}
 use borrow.Author.Tests.{le-leb, lt-leb, eq-eqb, ne-eqb}
-use Rattle.exact.specs.Integers.{+0}
+use Rattle.exact.proofs.Integers.{+0}
 use Rattle.exact.specs.Units.{mag, sgn}
 use Rattle.exact.specs.Value.{val, signed}
 use Rattle.exact.specs.Fields.{signAt, exponentAt, digitsAt}

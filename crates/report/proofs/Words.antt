@@ -7,7 +7,8 @@ use native.Mathlib.Omega.{arith}
 use lib.Dec.{T, ltb, eqb}
 use lib.IntN.{ℤ, pos, negsuc, _+ℤ_, subℕ}
 use borrow.Author.Tests.{ltb-true, ltb-false, lt-ltb, le-ltb}
-use Rattle.exact.specs.Integers.{p, n, +-parts}
+use Rattle.exact.specs.Integers.{p, n}
+use Rattle.exact.proofs.Integers.{+-parts}
 use Rattle.report.specs.Column.{word, wholeAt, below, above}
 use Rattle.report.specs.Joined.{lifted, wordBelow, wordAbove}
 

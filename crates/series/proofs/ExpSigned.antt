@@ -6,10 +6,11 @@ use native.Mathlib.Omega.{arith}
 use lib.IntN.{ℤ, pos, negsuc}
 use Rattle.exact.specs.Integers.{p, n}
 use Rattle.series.specs.Exponential.{num, den}
-use Rattle.series.specs.Remainder.{Above, Under, above}
-use Rattle.series.specs.Bounds.{above-add, under-add}
+use Rattle.series.specs.Remainder.{Above, Under}
+use Rattle.series.proofs.Remainder.{above}
+use Rattle.series.proofs.Bounds.{above-add, under-add}
 use Rattle.series.specs.ExpNear.{AtMost, AtLeast}
-use Rattle.series.specs.LogNear.{at-most, at-least}
+use Rattle.series.proofs.LogNear.{at-most, at-least}
 
 -- exp 0 is 1
 pub zero-above : (q : ℕ) → 0 < q → Above 0 q 1 1

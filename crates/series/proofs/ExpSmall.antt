@@ -1,15 +1,16 @@
 -- The exponential of a small signed fraction by five terms: E(a) = 1 + a + a^2 / 2 + a^3 / 6 + a^4 / 24, and E(a) E(- a) = 1 + a^6 / 72 + a^8 / 576.
 -- Assumes nothing.
-use mathlib.Core.Path.{_≡_, refl, ap, _∙_, subst}
-use Prim.Native.Nat.{ℕ, suc, _+_, _*_, _^_, _≤_, _<_}
+use mathlib.Core.Path.{_≡_, refl, ap, subst}
+use Prim.Native.Nat.{ℕ, suc, _+_, _*_, _≤_, _<_}
 use native.Mathlib.Nat.{mul-le-mul, mul-le-mul-right, le-of-mul-le-mul-right, mul-pos, zero-add}
 use native.Mathlib.Omega.{arith}
 use lib.IntN.{ℤ, pos, negsuc}
 use Rattle.exact.specs.Integers.{p, n, abs}
 use Rattle.series.specs.Exponential.{num, den}
-use Rattle.series.specs.Powers.{pow1, pow2, pow3, pow4}
-use Rattle.series.specs.Remainder.{Above, Under, Cap, above}
-use Rattle.series.specs.Bounds.{under-weak}
+use Rattle.series.proofs.Powers.{pow1, pow2, pow3, pow4, pow5}
+use Rattle.series.specs.Remainder.{Above, Under}
+use Rattle.series.proofs.Remainder.{Cap, above}
+use Rattle.series.proofs.Bounds.{under-weak}
 use Rattle.series.specs.ExpNear.{AtMost, AtLeast}
 
 -- the even terms and the odd ones, times 24 q^4, for a fraction a / q
@@ -43,9 +44,6 @@ above-plain F A5 D G e q h k = omega (arith, mul-le-mul-right D h, mul-le-mul-ri
 
 fifth-plain : (A5 G e f q Q4 : ℕ) → A5 * G ≤ 60 * f * (Q4 * q) → f ≤ e → 2 * A5 * G ≤ 5 * q * e * (24 * Q4)
 fifth-plain A5 G e f q Q4 h k = omega (arith, mul-le-mul-right (120 * (Q4 * q)) k)
-
-pow5 : (a : ℕ) → a ^ 5 ≡ a * a * a * a * a
-pow5 a = native.Mathlib.Nat.pow-suc a 4 ∙ ap (λ x. x * a) (pow4 a)
 
 series-den5 : (q : ℕ) → den q 5 ≡ 24 * (q * q * q * q) * (5 * q)
 unfolding den

@@ -8,3 +8,13 @@ pub mod Ln2
 pub mod LogTail
 pub mod ExpSigned
 pub mod ExpSmall
+pub mod Bounds
+pub mod ExpNear
+pub mod Exponential
+pub mod FiniteSums
+pub mod LogNear
+pub mod Powers
+pub mod Remainder
+pub mod Sine
+pub mod SinhNear
+pub mod ThirdsNear

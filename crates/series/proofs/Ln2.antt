@@ -5,8 +5,9 @@ use native.Mathlib.Nat.{pow-suc, pow-zero, mul-one}
 use native.Mathlib.Bridge.{le-by-compare, IsLe}
 use lib.Pow.{pow-pos}
 use Rattle.series.specs.Exponential.{num, den}
-use Rattle.series.specs.Remainder.{Above, Under, above}
-use Rattle.series.specs.Bounds.{above-pow, under-pow}
+use Rattle.series.specs.Remainder.{Above, Under}
+use Rattle.series.proofs.Remainder.{above}
+use Rattle.series.proofs.Bounds.{above-pow, under-pow}
 
 -- 2^85 ln 2, rounded down
 abbrev pub ln2 : ℕ

@@ -10,9 +10,10 @@ use lib.Pow.{pow-add}
 use lib.Dec.{T, leb, ltb, leb→le, ltb→lt}
 use Rattle.exact.proofs.Both.{both, both-left, both-right}
 use Rattle.series.specs.Exponential.{num, den}
-use Rattle.series.specs.Remainder.{Above, Under, above}
-use Rattle.series.specs.Powers.{pow1, pow2, pow3, pow4}
-use Rattle.series.specs.Bounds.{above-add, under-add}
+use Rattle.series.specs.Remainder.{Above, Under}
+use Rattle.series.proofs.Remainder.{above}
+use Rattle.series.proofs.Powers.{pow1, pow2, pow3, pow4, pow5}
+use Rattle.series.proofs.Bounds.{above-add, under-add}
 use Rattle.series.proofs.Scale.{above-scale, under-scale}
 
 -- r = m / q:  r + r^3 / 3 + r^5 / 5 and r^2 / 2 + r^4 / 4, over 60 q^5
@@ -215,9 +216,6 @@ below4 = (4, 4 ∷ 0 ∷ 0 ∷ 0 ∷ 1 ∷ [])
 
 abbrev below5 : Factor
 below5 = (5, 5 ∷ 0 ∷ 0 ∷ 0 ∷ 0 ∷ 1 ∷ [])
-
-pow5 : (h : ℕ) → h ^ 5 ≡ h * h * h * h * h
-pow5 h = pow-suc h 4 ∙ ap (λ x. x * h) (pow4 h)
 
 pow6 : (h : ℕ) → h ^ 6 ≡ h * h * h * h * h * h
 pow6 h = pow-suc h 5 ∙ ap (λ x. x * h) (pow5 h)

@@ -4,7 +4,8 @@ use Prim.Native.Nat.{ℕ, suc, _+_, _*_, _^_, _<_}
 use lib.Dec.{T, leb, leb→le}
 use Rattle.exact.proofs.Both.{both, both-left, both-right}
 use Rattle.series.specs.Exponential.{num, den}
-use Rattle.series.specs.Remainder.{Above, Under, above}
+use Rattle.series.specs.Remainder.{Above, Under}
+use Rattle.series.proofs.Remainder.{above}
 
 -- q log (x / y) lies from l to l + w
 pub record Between (q w l x y : ℕ) : Type 0 where

@@ -4,13 +4,15 @@ use Prim.Native.Nat.{ℕ, suc, _+_, _*_, _≤_, _<_}
 use native.Mathlib.Nat.{one-mul, mul-one, mul-comm}
 use native.Mathlib.Omega.{arith}
 use lib.IntN.{ℤ, pos, negsuc, _+ℤ_}
-use Rattle.exact.specs.Integers.{p, n, _≤ᶻ_, +-parts}
+use Rattle.exact.specs.Integers.{p, n, _≤ᶻ_}
+use Rattle.exact.proofs.Integers.{+-parts}
 use Rattle.series.specs.Exponential.{num, den}
-use Rattle.series.specs.Remainder.{Above, Under, above}
-use Rattle.series.specs.Bounds.{above-add, under-add}
+use Rattle.series.specs.Remainder.{Above, Under}
+use Rattle.series.proofs.Remainder.{above}
+use Rattle.series.proofs.Bounds.{above-add, under-add}
 use Rattle.series.proofs.Scale.{above-scale, under-scale}
 use Rattle.series.specs.ExpNear.{AtMost, AtLeast}
-use Rattle.series.specs.LogNear.{at-most, at-least}
+use Rattle.series.proofs.LogNear.{at-most, at-least}
 
 -- exp 0 is 1
 above-zero : (q : ℕ) → 0 < q → Above 0 q 1 1

@@ -8,11 +8,14 @@ use lib.IntN.{_-ℤ_}
 use lib.Pow.{pow-mono}
 use lib.Ieee.{Float, unlike}
 use Rattle.exact.specs.Rounding.{Near}
-use Rattle.exact.specs.Units.{L, L-pos, mag, sgn}
+use Rattle.exact.specs.Units.{L, mag, sgn}
+use Rattle.exact.proofs.Units.{L-pos}
 use Rattle.exact.specs.Sums.{pl, mi}
 use Rattle.exact.specs.Integers.{p, n, abs}
-use Rattle.exact.specs.Value.{val, abs-near, p-val, n-val}
-use Rattle.series.specs.Sine.{odd, ratio, den, added, taken, Falls, den-pos, ratio-mono}
+use Rattle.exact.specs.Value.{val}
+use Rattle.exact.proofs.Value.{abs-near, p-val, n-val}
+use Rattle.series.specs.Sine.{odd, ratio, den, added, taken, Falls}
+use Rattle.series.proofs.Sine.{den-pos, ratio-mono}
 use Rattle.series.specs.SinNear.{Close, SinNear}
 
 -- from the n-th on each term is at most half the one before

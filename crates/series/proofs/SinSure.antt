@@ -4,8 +4,10 @@ use Prim.Native.Nat.{ℕ, zero, suc, _+_, _-_, _*_, _^_, _≤_, _<_}
 use native.Mathlib.Nat.{le-of-mul-le-mul-right, mul-le-mul-right, sub-add-cancel}
 use native.Mathlib.Omega.{arith, sub-cases}
 use lib.Ieee.{binary64, ofBits, fits}
-use Rattle.exact.specs.Units.{L, L-pos, mag, Fin64}
-use Rattle.series.specs.Sine.{odd, ratio, den, added, taken, Falls, Rest, rest, ratio-pos, even}
+use Rattle.exact.specs.Units.{L, mag, Fin64}
+use Rattle.exact.proofs.Units.{L-pos}
+use Rattle.series.specs.Sine.{odd, ratio, den, added, taken, Falls, even}
+use Rattle.series.proofs.Sine.{Rest, rest, ratio-pos}
 use Rattle.series.specs.SinNear.{Close, SinNear}
 
 -- one sum with its next term within 1 / w decides it for all

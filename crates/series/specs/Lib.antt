@@ -1,8 +1,5 @@
-pub mod FiniteSums
 pub mod Exponential
 pub mod Remainder
-pub mod Powers
-pub mod Bounds
 pub mod Sine
 pub mod SinNear
 pub mod ExpNear

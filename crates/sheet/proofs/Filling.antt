@@ -8,9 +8,8 @@ use native.Mathlib.Nat.{mul-le-mul-right, suc-add, zero-add}
 use native.Mathlib.Numerals.{add-one}
 use lib.ListN.{length, getD, take, drop, set, length-append, length-drop, drop-of-length-le}
 use lib.Seq.{drop-cons, drop-drop, set-at, take-at, drop-at}
-use borrow.Author.Tests.{le-leb, lt-leb}
 use Rattle.record.specs.Layout.{floats, bare, placeDeterminant, determinantAt}
-use Rattle.model.specs.Kinds.{laws, whole}
+use Rattle.model.specs.Kinds.{whole}
 use Rattle.sheet.specs.Records.{sheetFloats, completed, each, listWords}
 use Rattle.sheet.specs.Sheet.{wordOf, wordsOf}
 use Rattle.sheet.proofs.Steps.{words-length}
@@ -19,18 +18,16 @@ use Rattle.sheet.proofs.RecordLaws.{determinant-front, completed-length
 -- ---- one record
 module _ (model : ℕ) (l room : List ℕ) (m : length room ≡ floats) (out : List ℕ) (e : out ≡ wordsOf (sheetFloats model) l ++ drop (sheetFloats model) room) where
   -- the determinant is in the sheet
-  pub read-whole : laws ≤ model → out ≡ completed model (wordsOf (sheetFloats model) l)
+  pub read-whole : whole model ≡ true → out ≡ completed model (wordsOf (sheetFloats model) l)
   unfolding sheetFloats completed
-  read-whole h =
-      let w : whole model ≡ true = le-leb laws model h in
+  read-whole w =
       let d : drop floats room ≡ [] = drop-of-length-le room {i = floats} (omega arith) in
       rw w ((rw (w, d) at e) ∙ append-nil (wordsOf floats l))
 
   -- it is filled in, in the last place
-  pub read-bare : model < laws → (d : ℕ) → d ≡ determinantAt out → set out placeDeterminant d ≡ completed model (wordsOf (sheetFloats model) l)
+  pub read-bare : whole model ≡ false → (d : ℕ) → d ≡ determinantAt out → set out placeDeterminant d ≡ completed model (wordsOf (sheetFloats model) l)
   unfolding sheetFloats completed
-  read-bare h d f =
-      let w : whole model ≡ false = lt-leb laws model h in
+  read-bare w d f =
       let n : length (wordsOf bare l) ≡ bare = words-length bare l in
       let g : out ≡ wordsOf bare l ++ drop bare room = rw w at e in
       let t : take bare out ≡ wordsOf bare l = ap (take bare) g ∙ take-at (wordsOf bare l) (drop bare room) bare n in

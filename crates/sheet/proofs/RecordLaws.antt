@@ -9,9 +9,9 @@ use native.Mathlib.Nat.{mul-le-mul-right}
 use lib.Dec.{ltb}
 use lib.ListN.{length, getD, take, drop, length-append, length-drop}
 use lib.Seq.{length-take-le, take-all, take-suc, take-add, take-at, drop-at, getD-take, getD-at, take-append-le, drop-append-le}
-use borrow.Author.Tests.{le-leb, ltb-true, ltb-false, eq-eqb, eqb-true}
+use borrow.Author.Tests.{ltb-true, ltb-false, eq-eqb, eqb-true}
 use Rattle.record.specs.Layout.{floats, bare, placeDeterminant, determinantAt, determinantRight}
-use Rattle.model.specs.Kinds.{laws, whole}
+use Rattle.model.specs.Kinds.{whole}
 use Rattle.sheet.specs.Records.{sheetFloats, completed, dropped, each, listWords, sheetWords, Right, AllRight}
 
 -- ---- the determinant is of the first floats
@@ -161,10 +161,6 @@ module _ (model count : ℕ) (words : List ℕ) where
   list-right e i h =
       rw (each-at (completed model) (sheetFloats model) floats (completed-length model) words i count h (omega arith))
       (completed-right model (take (sheetFloats model) (drop (i * sheetFloats model) words)) (part-length (completed model) (sheetFloats model) floats (completed-length model) words i count h (omega arith)))
-
-  -- and of what a sheet of the models from 4 up has
-  pub all-there : laws ≤ model → AllRight model count words
-  all-there h i k = inl (le-leb laws model h)
 
   -- what is dropped is filled in again
   pub list-sheet : length words ≡ count * floats → AllRight model count words → listWords model count (sheetWords model count words) ≡ words

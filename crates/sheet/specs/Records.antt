@@ -1,4 +1,4 @@
--- A sheet's records and a list's (RULES, section 7): a list's end with the determinant, those of a sheet with a model from 0 to 3 don't.
+-- A sheet's records and a list's (RULES, section 7): a list's end with the determinant, those of a sheet with a model's own number don't.
 use mathlib.Core.Path.{_≡_}
 use mathlib.Core.Logic.{_⊎_}
 use mathlib.Core.Bool.{true, cond}

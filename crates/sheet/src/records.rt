@@ -11,10 +11,10 @@ ghost use Rattle.sheet.specs.Sheet.{wordsOf};
 pub fn floats_of(model: u64) -> usize
     ensures { λ r. ⌜ r ≡ sheetFloats model ⌝ }
 {
-    if model < model::LAWS {
-        record::BARE
-    } else {
+    if model::whole(model) {
         record::FLOATS
+    } else {
+        record::BARE
     }
 }
 
@@ -24,7 +24,8 @@ pub fn fill_record(s: &[u8], model: u64, at: usize, room: &mut [u64])
     ensures { λ _. ⌜ now (room .exit) ≡ completed model (wordsOf (sheetFloats model) (drop at (now (s .entry)))) ⌝ }
 {
     fill(s, at, floats_of(model), room);
-    if model < model::LAWS {
-        room[record::DETERMINANT] = record::determinant(&room[..]);
+    if model::whole(model) {
+        return;
     }
+    room[record::DETERMINANT] = record::determinant(&room[..]);
 }

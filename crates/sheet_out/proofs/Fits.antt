@@ -1,5 +1,4 @@
--- A sheet that was run has its records in the list and its parameters in the header; what is written is no longer than the room.
--- Assumes nothing.
+-- A sheet that was run has its records in the list and its parameters in the header. Assumes nothing.
 use mathlib.Core.Path.{_≡_, refl, sym, ap, _∙_, subst}
 use mathlib.Core.Bool.{Bool, true, false, cond}
 use mathlib.Core.List.{List, _++_}
@@ -60,28 +59,3 @@ ran-length s xs out e =
     let f = read-fits s (length xs) (n .1) in
     let r = room-length s xs in
     rw (n .0, eq-eqb (h .refusal) 0 (n .1)) (length-append p (drop (h .count * floats) (roomOf s xs)) ∙ simp length-drop (omega (arith, m, d, f, r)))
-
--- the length told, 0 beside a refusal
-abbrev pub lengthOf : Written → ℕ
-lengthOf (Length n) = n
-lengthOf (Refused n) = 0
-
-either : (b : Bool) (n k room : ℕ) → (b ≡ true → n ≤ room) → lengthOf (cond b (Length n) (Refused k)) ≤ room
-either true n k room f = f refl
-either false n k room f = omega arith
-
-pub written-most : (model : ℕ) (p words : List ℕ) (room : ℕ) → lengthOf (writtenOf model p words room) ≤ room
-unfolding writtenOf
-written-most model p words room =
-    let r = refusalOf model p words room in
-    either (eqb r 0) (length (sheetOf model p words)) r room (λ e. fine model p words room (eqb-true r 0 e) .place)
-
-front : (b : Bool) (w : Written) (k room : ℕ) → lengthOf w ≤ room → lengthOf (cond b w (Refused k)) ≤ room
-front true w k room f = f
-front false w k room f = omega arith
-
-pub out-most : (s xs out : List ℕ) (room : ℕ) → lengthOf (outOf s xs out room) ≤ room
-unfolding frontWritten
-out-most s xs out room =
-    front (eqb (ranOf s xs out .refusal) 0) (frontWritten (headerOf s) (ranRecords s xs out) room) (ranOf s xs out .refusal) room
-    (written-most _ _ _ room)

@@ -9,7 +9,6 @@ use lib.Ieee as Ieee
 use lib.Ieee.{binary64}
 use lib.ListN.{length, take, drop, length-drop}
 use lib.Seq.{length-take-le, getD-at}
-use borrow.Author.Tests.{lt-leb}
 use Rattle.numbers.specs.Floats.{finite}
 use Rattle.answers.specs.Refusals.{notFinite}
 use Rattle.plasticity.specs.State.{inputsFinite}
@@ -17,7 +16,7 @@ use Rattle.plasticity.specs.declared.Updated.{Updated}
 use Rattle.record.specs.Layout.{floats, bare, placeDeterminant, floatAt, uAt, vtAt, stateAt, recordFinite, determinantAt}
 use Rattle.model.specs.declared.Model.{Model}
 use Rattle.model.specs.Fields.{modelOf}
-use Rattle.model.specs.Kinds.{laws, whole}
+use Rattle.model.specs.Kinds.{whole}
 use Rattle.particles.specs.Pass.{recordAt}
 use Rattle.particles.specs.Plain.{recordLaw, keptBy}
 use Rattle.particles.specs.Judged.{refusedRecord}
@@ -34,10 +33,10 @@ none true c e = e
 none false c e = refl
 
 -- w: the record's floats in a sheet of the model
-module _ (m : Model) (model : ℕ) (w : List ℕ) (h : model < laws) (n : length w ≡ bare) (f : finite (Ieee.ofBits binary64 (determinantAt w)) ≡ false) where
+module _ (m : Model) (model : ℕ) (w : List ℕ) (h : whole model ≡ false) (n : length w ≡ bare) (f : finite (Ieee.ofBits binary64 (determinantAt w)) ≡ false) where
   completed-is : completed model w ≡ w ++ (determinantAt w ∷ [])
   unfolding completed
-  completed-is = rw (lt-leb laws model h) refl
+  completed-is = rw h refl
 
   last-is : floatAt (w ++ (determinantAt w ∷ [])) placeDeterminant ≡ Ieee.ofBits binary64 (determinantAt w)
   last-is = ap (Ieee.ofBits binary64) (getD-at w (determinantAt w) [] 0 placeDeterminant n)
@@ -52,7 +51,7 @@ module _ (m : Model) (model : ℕ) (w : List ℕ) (h : model < laws) (n : length
   overflow-refused = ap (λ (d : Updated). keptBy m d (completed model w)) (law-not-finite m (completed model w) not-all)
 
 -- record i of a sheet, as it is delivered
-module _ (s : List ℕ) (i : ℕ) (k : headerOf s .model < laws) (l : i < headerOf s .count) where
+module _ (s : List ℕ) (i : ℕ) (k : whole (headerOf s .model) ≡ false) (l : i < headerOf s .count) where
   abbrev h : Header
   h = headerOf s
 
@@ -62,7 +61,7 @@ module _ (s : List ℕ) (i : ℕ) (k : headerOf s .model < laws) (l : i < header
 
   bare-floats : sheetFloats (h .model) ≡ bare
   unfolding sheetFloats
-  bare-floats = rw (lt-leb laws (h .model) k) refl
+  bare-floats = rw k refl
 
   pub sheet-overflow : finite (Ieee.ofBits binary64 (determinantAt inSheet)) ≡ false → lawOf h (recordAt (recordsOf s h) i) ≡ refusedRecord notFinite (recordAt (recordsOf s h) i)
   sheet-overflow f =

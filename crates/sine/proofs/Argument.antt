@@ -12,7 +12,8 @@ use lib.Ieee.{Float, binary64, ofBits, toBits, fits}
 use lib.Ieee.Scale.{finite}
 use Rattle.exact.specs.Units.{L, mag, sgn, Fin64}
 use Rattle.exact.proofs.Patterns.{exponent-lt}
-use Rattle.exact.specs.Fields.{signAt, exponentAt, digitsAt, normal-units, small-units, of-own}
+use Rattle.exact.specs.Fields.{signAt, exponentAt, digitsAt}
+use Rattle.exact.proofs.Fields.{normal-units, small-units, of-own}
 use Rattle.exact.specs.Value.{val}
 use Rattle.exact.proofs.Symmetric.{symmetric-finite, symmetric-mag}
 use Rattle.answers.specs.Range.{inRange}

@@ -8,7 +8,8 @@ use native.Mathlib.Bridge.{le-by-compare, IsLe}
 use lib.Dec.{T, leb, leb→le, nleb→lt}
 use lib.Pow.{pow-pos, pow-add}
 use lib.Ieee.{Float, binary64, unlike, ofBits, toBits, fits, neg, add, mul, le}
-use Rattle.exact.specs.Units.{L, L-pos, mag, sgn, Fin64}
+use Rattle.exact.specs.Units.{L, mag, sgn, Fin64}
+use Rattle.exact.proofs.Units.{L-pos}
 use Rattle.exact.specs.Sums.{pl, mi}
 use Rattle.exact.specs.Fields.{signAt}
 use Rattle.fixed_point.specs.ToFloat.{toFloatOf, FloatOf}

@@ -13,11 +13,13 @@ use lib.Ieee.{Float, binary64, ofBits, fits, unlike}
 use lib.Ieee.Scale.{finite}
 use Rattle.exact.proofs.Both.{both, both-left, both-right}
 use Rattle.exact.specs.Units.{L, mag, sgn, Fin64}
-use Rattle.exact.specs.Integers.{p, n, abs, _≤ᶻ_, neg-is, 1*, abs-*, abs-pos, +-parts, *-parts, neg-parts}
+use Rattle.exact.specs.Integers.{p, n, abs, _≤ᶻ_}
+use Rattle.exact.proofs.Integers.{neg-is, 1*, abs-*, abs-pos, +-parts, *-parts, neg-parts}
 use Rattle.exact.proofs.Ring.{ring, Ex, var, con, _:+_, _:-_, _:*_}
 use Rattle.exact.proofs.Ring as Ring
 use Rattle.exact.specs.Sums.{pl, mi}
-use Rattle.exact.specs.Value.{val, near-abs}
+use Rattle.exact.specs.Value.{val}
+use Rattle.exact.proofs.Value.{near-abs}
 use Rattle.exact.proofs.OrderLe.{le-val}
 use Rattle.exact.proofs.Symmetric.{symmetric-finite, symmetric-mag}
 use Rattle.error_bounds.proofs.Line.{Q}

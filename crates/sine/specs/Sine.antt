@@ -1,4 +1,4 @@
--- The sine as it is worked, by its own series: from -1 to 1 in floats, eight terms; beyond, in whole numbers, by nesting, the terms with a plus and
+-- The sine as it is worked (RULES, section 3), by its own series: from -1 to 1 in floats, eight terms; beyond, in whole numbers, by nesting, the terms with a plus and
 -- those with a minus apart. What it is near is said by series/specs/SinNear.
 use mathlib.Core.Bool.{Bool, not, cond}
 use mathlib.Core.List.{List, [], _∷_}

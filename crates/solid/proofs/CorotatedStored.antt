@@ -12,7 +12,7 @@ use Rattle.tensor.specs.Axes.{allOf}
 use Rattle.tensor.specs.Finite.{rowFinite}
 use Rattle.walk.specs.Expr.{num}
 use Rattle.walk.specs.Walk.{refused, result, answerAs}
-use Rattle.walk.specs.Every.{flat}
+use Rattle.walk.specs.Matrix.{flat}
 use Rattle.walk.specs.Answers.{matrixAs}
 use Rattle.record.specs.Layout.{placeF, placeSigma, placePhase, placeElasticHardening, placeDeterminant, floatAt, rowAt, matAt, uAt, vtAt, recordFinite}
 use Rattle.record.proofs.Parts.{record-parts, state-parts, scalars-parts}

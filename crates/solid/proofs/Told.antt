@@ -15,9 +15,10 @@ use Rattle.tensor.specs.Axes.{allOf}
 use Rattle.tensor.specs.Answer.{refusedMatrix}
 use Rattle.walk.specs.Walk.{Walk, inputs, refused, result, answerAs}
 use Rattle.walk.specs.Exact.{path}
-use Rattle.walk.specs.Every.{flat}
+use Rattle.walk.specs.Matrix.{flat}
 use Rattle.walk.specs.Numbers.{Stops}
-use Rattle.walk.specs.Answers.{returned, matrixAs, number-refused, matrix-refused}
+use Rattle.walk.specs.Answers.{returned, matrixAs}
+use Rattle.walk.proofs.Answers.{number-refused, matrix-refused}
 use Rattle.walk.proofs.Inner.{Inner, later, between, never-one}
 use Rattle.record.specs.Layout.{placeF, placeSigma, placePhase, placeElasticHardening, floatAt, rowAt, matAt, uAt, vtAt, recordFinite}
 use Rattle.elasticity_neo_hookean.specs.declared.NeoHookeanElasticity.{NeoHookeanElasticity}

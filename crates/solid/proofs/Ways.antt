@@ -19,8 +19,10 @@ use Rattle.record.specs.Layout.{floats, recordFinite, determinantRight}
 use Rattle.factors.specs.declared.Principal.{Principal}
 use Rattle.factors.specs.PrincipalValues.{mirroredOf, principalOf, principalAccepted}
 use Rattle.factors.specs.Check.{nearAll, orthogonalOf, largestIn}
-use Rattle.factors.specs.Answers.{principalsOf, principals-accepted, principals-refused}
-use Rattle.factors.specs.Diagonal.{Zero, diagonal-principals}
+use Rattle.factors.specs.Answers.{principalsOf}
+use Rattle.factors.proofs.Answers.{principals-accepted, principals-refused}
+use Rattle.factors.specs.Diagonal.{Zero}
+use Rattle.factors.proofs.Diagonal.{diagonal-principals}
 use Rattle.failure_maximum_stress.specs.Failure.{limitsFinite, exceedsOf, verdictOf}
 use Rattle.failure_maximum_stress.specs.declared.MaximumStressFailure.{MaximumStressFailure}
 use Rattle.failure_maximum_stress.specs.declared.Verdict.{Verdict}

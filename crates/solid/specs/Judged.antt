@@ -1,4 +1,4 @@
--- Stress and verdict as one (ticket 9: "answers stress and verdict together, or one refusal"; "14 here also for principal values, after the
+-- Stress and verdict as one (RULES, section 5; ticket 9: "answers stress and verdict together, or one refusal"; "14 here also for principal values, after the
 -- stress's own"). Zeros and no stand beside a refusal.
 use mathlib.Core.Bool.{true, false, cond}
 use Prim.Native.Nat.{ℕ}

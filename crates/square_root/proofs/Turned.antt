@@ -13,8 +13,8 @@ use lib.Pow.{pow-pos}
 use Rattle.exact.specs.Units.{L, mag, sgn, Fin64}
 use Rattle.exact.proofs.Positives.{neg-mag, neg-fine, neg-sign}
 use Rattle.exact.specs.RootOf.{sqrtOf}
-use Rattle.exact.specs.RootZero.{sqrt-zero}
-use Rattle.exact.specs.RootLaws.{NotBelow}
+use Rattle.exact.proofs.RootZero.{sqrt-zero}
+use Rattle.exact.specs.RootOf.{NotBelow}
 use Rattle.square_root.proofs.Unpacked.{sign-is, small-mag, normal-mag}
 
 -- 1 where the sign is set

@@ -1,4 +1,4 @@
--- DecomposedTensor, as lib.rs has it (operators are functions: RULES, section 10).
+-- DecomposedTensor, as lib.rs has it (RULES, section 1).
 use mathlib.Core.Bool.{Bool, cond, _&&_}
 use mathlib.Core.List.{List}
 use Prim.Native.Nat.{ℕ}

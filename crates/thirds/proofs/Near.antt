@@ -7,9 +7,10 @@ use lib.Dec.{T, lit≤}
 use lib.IntN.{negℤ, _+ℤ_}
 use lib.Ieee as Ieee
 use lib.Ieee.{Float, binary64, ofBits, fits}
-use Rattle.exact.specs.Integers.{+-parts, neg-parts}
+use Rattle.exact.proofs.Integers.{+-parts, neg-parts}
 use Rattle.exact.specs.Units.{L, mag}
-use Rattle.exact.specs.Value.{val, p-val, n-val}
+use Rattle.exact.specs.Value.{val}
+use Rattle.exact.proofs.Value.{p-val, n-val}
 use Rattle.series.specs.LogNear.{LogNear}
 use Rattle.series.specs.ThirdsNear.{CbrtNear, CbrtSquaredNear, InvCbrtNear, InvCbrtSquaredNear}
 use Rattle.numbers.specs.Power.{one}

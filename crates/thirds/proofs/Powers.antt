@@ -7,16 +7,22 @@ use lib.Dec.{lit≤, lit<}
 use lib.IntN.{ℤ, pos, negℤ, _+ℤ_, _*ℤ_, _-ℤ_}
 use lib.Ieee.{Float}
 use Rattle.exact.specs.Rounding.{Near}
-use Rattle.exact.specs.Integers.{p, n, +-parts, neg-parts, *-parts}
-use Rattle.exact.specs.Units.{L, L-pos, mag}
+use Rattle.exact.specs.Integers.{p, n}
+use Rattle.exact.proofs.Integers.{+-parts, neg-parts, *-parts}
+use Rattle.exact.specs.Units.{L, mag}
+use Rattle.exact.proofs.Units.{L-pos}
 use Rattle.exact.specs.Value.{val}
 use Rattle.series.specs.Exponential.{num, den}
-use Rattle.series.specs.Remainder.{Above, above}
+use Rattle.series.specs.Remainder.{Above}
+use Rattle.series.proofs.Remainder.{above}
 use Rattle.series.proofs.Scale.{above-scale}
-use Rattle.series.specs.ExpNear.{AtMost, AtLeast, ordered}
-use Rattle.series.specs.LogNear.{LogNear, low-parts, high-parts}
+use Rattle.series.specs.ExpNear.{AtMost, AtLeast}
+use Rattle.series.proofs.ExpNear.{ordered}
+use Rattle.series.specs.LogNear.{LogNear}
+use Rattle.series.proofs.LogNear.{low-parts, high-parts}
 use Rattle.series.proofs.SignedPowers.{at-most-over, at-least-over, at-most-mono, at-least-mono, at-most-turned, at-least-turned, at-most-add, at-least-add}
-use Rattle.series.specs.ThirdsNear.{cube, cube-mul, CubeRootNear}
+use Rattle.series.specs.ThirdsNear.{cube, CubeRootNear}
+use Rattle.series.proofs.ThirdsNear.{cube-mul}
 use Rattle.exponential.proofs.Close.{Close}
 
 -- the common denominator

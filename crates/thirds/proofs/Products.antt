@@ -10,10 +10,12 @@ use lib.Ieee as Ieee
 use lib.Ieee.{Float, binary64, mul}
 use Rattle.exact.specs.Rounding.{Near}
 use Rattle.exact.specs.Integers.{p, n}
-use Rattle.exact.specs.Units.{L, L-pos, mag, sgn, Fin64}
-use Rattle.exact.specs.Sums.{pl, mi, plus, minus}
-use Rattle.exact.specs.Products.{mul-mag, mul-near}
-use Rattle.exact.specs.Value.{p-val, n-val}
+use Rattle.exact.specs.Units.{L, mag, sgn, Fin64}
+use Rattle.exact.proofs.Units.{L-pos}
+use Rattle.exact.specs.Sums.{pl, mi}
+use Rattle.exact.proofs.Sums.{plus, minus}
+use Rattle.exact.proofs.Products.{mul-mag, mul-near}
+use Rattle.exact.proofs.Value.{p-val, n-val}
 use Rattle.series.specs.ThirdsNear.{CubeRootNear}
 use Rattle.exponential.specs.Worked as exponential
 use Rattle.exponential.specs.Worked.{expOf}

@@ -1,4 +1,14 @@
+pub mod Expr
 pub mod Number
+pub mod Exact
+pub mod Every
+pub mod Matrix
+pub mod Body
+pub mod Tensor
+pub mod Power
+pub mod Numbers
+pub mod Answers
+pub mod Before
 pub mod Steps
 pub mod Reason
 pub mod Inner

@@ -10,12 +10,6 @@ use Rattle.exact.specs.RootOf.{sqrtOf}
 use Rattle.tensor.specs.Matrix as tensor
 use Rattle.tensor.specs.Matrix.{add, sub}
 
-pub finite-number : (x : Float) → finite x ≡ true → isNumber x ≡ true
-unfolding finite isNumber
-finite-number nan h = h
-finite-number (inf s) h = refl
-finite-number (fin s m e) h = refl
-
 pub zero-finite : finite tensor.zero ≡ true
 unfolding finite Ieee.ofBits
 zero-finite = refl
@@ -28,9 +22,6 @@ picked-number false x y h i = i
 -- of two numbers
 pub max-number : (x y : Float) → isNumber x ≡ true → isNumber y ≡ true → isNumber (maxOf x y) ≡ true
 max-number x y h i = rw i (picked-number (Ieee.lt y x) x y h i)
-
-pub min-number : (x y : Float) → isNumber x ≡ true → isNumber y ≡ true → isNumber (minOf x y) ≡ true
-min-number x y h i = rw i (picked-number (Ieee.lt x y) x y h i)
 
 odd-number : (d : ℕ) (s : Bool) (q k l : ℕ) → isNumber (Ieee.odd d s q k l) ≡ true
 unfolding isNumber Ieee.odd

@@ -13,51 +13,69 @@ use Rattle.answers.specs.declared.Answer.the-variants as answers
 use Rattle.exact.specs.RootOf.{sqrtOf}
 use Rattle.tensor.specs.Axes.{allOf}
 use Rattle.tensor.specs.Matrix.{sub, zero}
-use Rattle.walk.specs.Expr.{Expr, num, value, zero-number}
+use Rattle.walk.specs.Expr.{Expr, num, value}
+use Rattle.walk.proofs.Expr.{zero-number}
 use Rattle.walk.proofs.Number.{picked-number, finite-sub, zero-finite, root-number}
-use Rattle.walk.specs.Walk.{root, lowOf, highOf, answerOf, Walk, Test, holds, tellable, most, least, mosts, leasts, size, when, Ended, result}
-use Rattle.walk.specs.Every.{and-left, and-right, every, all-every}
+use Rattle.walk.specs.Walk.{root, lowOf, highOf, answerOf, Walk, Test, holds, tellable, most, least, mosts, leasts, size, when, given, refused, read, unnoted, result}
+use Rattle.walk.proofs.Every.{and-left, and-right, every, all-every}
 
-module _ {A : Type 0} where
-  pub most-answers : (n : ℕ) (a b : Expr) (k : Expr → Walk A) → isNumber (value a) ≡ true → isNumber (value b) ≡ true
-      → result (most n a b k) ≡ result (k (num (maxOf (value a) (value b))))
-  most-answers n a b k h i = simp (h, i, picked-number (Ieee.lt (value b) (value a)) (value a) (value b) h i)
+-- ---- of any reading
+module _ {B S A : Type 0} (stop : ℕ → ℕ → B) (note : S → ℕ → Test → Bool → S) (ends : S → A → B) (r : S) where
+  abbrev R : Walk A → B
+  R w = read answerOf stop note ends r w
 
-  pub least-answers : (n : ℕ) (a b : Expr) (k : Expr → Walk A) → isNumber (value a) ≡ true → isNumber (value b) ≡ true
-      → result (least n a b k) ≡ result (k (num (minOf (value a) (value b))))
-  least-answers n a b k h i = simp (h, i, picked-number (Ieee.lt (value a) (value b)) (value a) (value b) h i)
+  pub most-read : (n : ℕ) (a b : Expr) (k : Expr → Walk A) → isNumber (value a) ≡ true → isNumber (value b) ≡ true
+      → R (most n a b k) ≡ R (k (num (maxOf (value a) (value b))))
+  most-read n a b k h i = simp (h, i, picked-number (Ieee.lt (value b) (value a)) (value a) (value b) h i)
 
-  pub size-answers : (n : ℕ) (e : Expr) (k : Expr → Walk A) → isNumber (value e) ≡ true
-      → result (size n e k) ≡ result (k (num (cond (Ieee.le (value e) zero) (sub zero (value e)) (value e))))
-  size-answers n e k h =
-      simp (h, zero-number, picked-number (Ieee.le (value e) zero) (sub zero (value e)) (value e) (finite-sub zero (value e) zero-finite h) h)
+  pub least-read : (n : ℕ) (a b : Expr) (k : Expr → Walk A) → isNumber (value a) ≡ true → isNumber (value b) ≡ true
+      → R (least n a b k) ≡ R (k (num (minOf (value a) (value b))))
+  least-read n a b k h i = simp (h, i, picked-number (Ieee.lt (value a) (value b)) (value a) (value b) h i)
 
-  pub mosts-answer : (n : ℕ) (l : List Float) (b : Expr) (k : List Float → Walk A) → every isNumber l ≡ true → isNumber (value b) ≡ true
-      → result (mosts n l b k) ≡ result (k (map (λ x. maxOf x (value b)) l))
-  mosts-answer n [] b k h i = refl
-  mosts-answer n (x ∷ l) b k h i =
-      most-answers n (num x) b (λ v. mosts n l b (λ vs. k (value v ∷ vs))) (and-left (isNumber x) (every isNumber l) h) i
-      ∙ mosts-answer n l b (λ vs. k (maxOf x (value b) ∷ vs)) (and-right (isNumber x) (every isNumber l) h) i
+  pub mosts-read : (n : ℕ) (l : List Float) (b : Expr) (k : List Float → Walk A) → every isNumber l ≡ true → isNumber (value b) ≡ true
+      → R (mosts n l b k) ≡ R (k (map (λ x. maxOf x (value b)) l))
+  mosts-read n [] b k h i = refl
+  mosts-read n (x ∷ l) b k h i =
+      most-read n (num x) b (λ v. mosts n l b (λ vs. k (value v ∷ vs))) (and-left (isNumber x) (every isNumber l) h) i
+      ∙ mosts-read n l b (λ vs. k (maxOf x (value b) ∷ vs)) (and-right (isNumber x) (every isNumber l) h) i
 
-  pub leasts-answer : (n : ℕ) (l : List Float) (b : Expr) (k : List Float → Walk A) → every isNumber l ≡ true → isNumber (value b) ≡ true
-      → result (leasts n l b k) ≡ result (k (map (λ x. minOf x (value b)) l))
-  leasts-answer n [] b k h i = refl
-  leasts-answer n (x ∷ l) b k h i =
-      least-answers n (num x) b (λ v. leasts n l b (λ vs. k (value v ∷ vs))) (and-left (isNumber x) (every isNumber l) h) i
-      ∙ leasts-answer n l b (λ vs. k (minOf x (value b) ∷ vs)) (and-right (isNumber x) (every isNumber l) h) i
+  pub leasts-read : (n : ℕ) (l : List Float) (b : Expr) (k : List Float → Walk A) → every isNumber l ≡ true → isNumber (value b) ≡ true
+      → R (leasts n l b k) ≡ R (k (map (λ x. minOf x (value b)) l))
+  leasts-read n [] b k h i = refl
+  leasts-read n (x ∷ l) b k h i =
+      least-read n (num x) b (λ v. leasts n l b (λ vs. k (value v ∷ vs))) (and-left (isNumber x) (every isNumber l) h) i
+      ∙ leasts-read n l b (λ vs. k (minOf x (value b) ∷ vs)) (and-right (isNumber x) (every isNumber l) h) i
 
-  forked : (a b : Bool) (x y : Ended A) → cond a (cond b x y) y ≡ cond (a && b) x y
+  forked : (a b : Bool) (x y : B) → cond a (cond b x y) y ≡ cond (a && b) x y
   forked true b x y = refl
   forked false b x y = refl
 
-  tests : (n : ℕ) (ts : List Test) (w v : Walk A) → every tellable ts ≡ true → result (when n ts w v) ≡ cond (every holds ts) (result w) (result v)
+  tests : (n : ℕ) (ts : List Test) (w v : Walk A) → every tellable ts ≡ true → R (when n ts w v) ≡ cond (every holds ts) (R w) (R v)
   tests n [] w v h = refl
   tests n (t ∷ ts) w v h =
       rw (and-left (tellable t) (every tellable ts) h, tests n ts w v (and-right (tellable t) (every tellable ts) h))
-      (forked (holds t) (every holds ts) (result w) (result v))
+      (forked (holds t) (every holds ts) (R w) (R v))
 
-  pub when-answers : (n : ℕ) (ts : List Test) (w v : Walk A) → allOf tellable ts ≡ true → result (when n ts w v) ≡ cond (allOf holds ts) (result w) (result v)
-  when-answers n ts w v h = rw (all-every holds ts) (tests n ts w v (sym (all-every tellable ts) ∙ h))
+  pub when-read : (n : ℕ) (ts : List Test) (w v : Walk A) → allOf tellable ts ≡ true → R (when n ts w v) ≡ cond (allOf holds ts) (R w) (R v)
+  when-read n ts w v h = rw (all-every holds ts) (tests n ts w v (sym (all-every tellable ts) ∙ h))
+
+-- ---- of the walk's answer
+module _ {A : Type 0} where
+  pub most-answers : (n : ℕ) (a b : Expr) (k : Expr → Walk A) → isNumber (value a) ≡ true → isNumber (value b) ≡ true
+      → result (most n a b k) ≡ result (k (num (maxOf (value a) (value b))))
+  most-answers = most-read (λ m n. refused m) unnoted (λ r a. given a) tt
+
+  pub least-answers : (n : ℕ) (a b : Expr) (k : Expr → Walk A) → isNumber (value a) ≡ true → isNumber (value b) ≡ true
+      → result (least n a b k) ≡ result (k (num (minOf (value a) (value b))))
+  least-answers = least-read (λ m n. refused m) unnoted (λ r a. given a) tt
+
+  pub mosts-answer : (n : ℕ) (l : List Float) (b : Expr) (k : List Float → Walk A) → every isNumber l ≡ true → isNumber (value b) ≡ true
+      → result (mosts n l b k) ≡ result (k (map (λ x. maxOf x (value b)) l))
+  mosts-answer = mosts-read (λ m n. refused m) unnoted (λ r a. given a) tt
+
+  pub leasts-answer : (n : ℕ) (l : List Float) (b : Expr) (k : List Float → Walk A) → every isNumber l ≡ true → isNumber (value b) ≡ true
+      → result (leasts n l b k) ≡ result (k (map (λ x. minOf x (value b)) l))
+  leasts-answer = leasts-read (λ m n. refused m) unnoted (λ r a. given a) tt
 
 -- ---- what a root answers is a number
 tells : Answer → Bool

@@ -1,7 +1,8 @@
 -- Three numbers asked at once, as a law's code asks them: all three values, or the first refusal in order, is what `asks` of three comes to.
--- Over any reading of a walk, one that goes on with a value and stops at a refusal. Assumes nothing.
+-- By any reading of a walk. Assumes nothing.
 use mathlib.Core.List.{List}
-use mathlib.Core.Path.{_≡_, sym, ap, _∙_}
+use mathlib.Core.Bool.{Bool}
+use mathlib.Core.Path.{_≡_, refl, sym, ap, _∙_}
 use Prim.Native.Nat.{ℕ}
 use lib.ListN.{getD, length}
 use lib.Ieee.{Float, nan}
@@ -10,9 +11,9 @@ use Rattle.answers.specs.declared.Answer.{Answer}
 use Rattle.answers.specs.declared.Answer.the-variants.{Value, Refused}
 use Rattle.answers.specs.declared.Triple.{Triple}
 use Rattle.answers.specs.declared.Triple.the-variants as triple
-use Rattle.tensor.specs.Axes.{of-one}
+use Rattle.tensor.proofs.Axes.{of-one}
 use Rattle.tensor.specs.Matrix.{three}
-use Rattle.walk.specs.Walk.{Function, answerOf}
+use Rattle.walk.specs.Walk.{Function, answerOf, Test, Walk, asks, byAnswer, read}
 
 abbrev pub answersOf : Function → List Float → Triple
 answersOf f l = tripleOf (answerOf f (getD l 0 nan)) (answerOf f (getD l 1 nan)) (answerOf f (getD l 2 nan))
@@ -21,19 +22,17 @@ abbrev pub byThree : {B : Type 0} → (ℕ → B) → Triple → (List Float →
 byThree stop (triple.Values x y z) k = k (three x y z)
 byThree stop (triple.Refused n) k = stop n
 
-module _ {B : Type 0} (ask : Answer → (Float → B) → B) (stop : ℕ → B) (goes : (v : Float) (k : Float → B) → ask (Value v) k ≡ k v)
-    (stops : (n : ℕ) (k : Float → B) → ask (Refused n) k ≡ stop n) where
-  in-order : (a b c : Answer) (k : List Float → B) → ask a (λ x. ask b (λ y. ask c (λ z. k (three x y z)))) ≡ byThree stop (tripleOf a b c) k
-  in-order (Value x) (Value y) (Value z) k = goes x _ ∙ goes y _ ∙ goes z _
-  in-order (Value x) (Value y) (Refused n) k = goes x _ ∙ goes y _ ∙ stops n _
-  in-order (Value x) (Refused n) c k = goes x _ ∙ stops n _
-  in-order (Refused n) b c k = stops n _
+module _ {B N A : Type 0} (stop : ℕ → ℕ → B) (note : N → ℕ → Test → Bool → N) (ends : N → A → B) (r : N) where
+  in-order : (n : ℕ) (a b c : Answer) (k : List Float → B)
+      → byAnswer (λ m. stop m n) a (λ x. byAnswer (λ m. stop m n) b (λ y. byAnswer (λ m. stop m n) c (λ z. k (three x y z)))) ≡ byThree (λ m. stop m n) (tripleOf a b c) k
+  in-order n (Value x) (Value y) (Value z) k = refl
+  in-order n (Value x) (Value y) (Refused m) k = refl
+  in-order n (Value x) (Refused m) c k = refl
+  in-order n (Refused m) b c k = refl
 
-  pub asks-by : (read k : List Float → B) (f : Function) (l : List Float) (t : Triple)
-      → ((x y z : Float) → read (three x y z) ≡ ask (answerOf f x) (λ u. ask (answerOf f y) (λ v. ask (answerOf f z) (λ w. k (three u v w)))))
-      → length l ≡ 3 → answersOf f l ≡ t → byThree stop t k ≡ read l
-  asks-by read k f l t opened axes h =
-      let x = getD l 0 nan in
-      let y = getD l 1 nan in
-      let z = getD l 2 nan in
-      sym (in-order (answerOf f x) (answerOf f y) (answerOf f z) k ∙ ap (λ r. byThree stop r k) h) ∙ sym (opened x y z) ∙ of-one read nan l axes
+  pub asks-read : (n : ℕ) (f : Function) (l : List Float) (k : List Float → Walk A) (t : Triple) → length l ≡ 3 → answersOf f l ≡ t
+      → byThree (λ m. stop m n) t (λ v. read answerOf stop note ends r (k v)) ≡ read answerOf stop note ends r (asks n f l k)
+  asks-read n f l k t axes h =
+      let a : ℕ → Answer = λ i. answerOf f (getD l i nan) in
+      let K : List Float → B = λ v. read answerOf stop note ends r (k v) in
+      sym (in-order n (a 0) (a 1) (a 2) K ∙ ap (λ t. byThree (λ m. stop m n) t K) h) ∙ of-one (λ v. read answerOf stop note ends r (asks n f v k)) nan l axes

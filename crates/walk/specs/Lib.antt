@@ -2,7 +2,6 @@ pub mod Expr
 pub mod Constants
 pub mod Walk
 pub mod Exact
-pub mod Every
 pub mod Matrix
 pub mod Axes
 pub mod Body

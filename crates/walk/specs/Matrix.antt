@@ -1,9 +1,9 @@
 -- Rows and matrices of formulas, with the orders of RULES, section 4, over however many axes.
-use mathlib.Core.List.{List, [], _∷_, foldl, map}
+use mathlib.Core.List.{List, [], _∷_, _++_, foldl, map}
 use mathlib.Core.Path.{_≡_, refl, ap, _∙_}
 use lib.Ieee.{Float}
 use Rattle.tensor.specs.Axes.{fromLeft, pairwise}
-use Rattle.tensor.specs.Matrix.{add, mul, zero, one, sumOf, productOf, dotOf, scaledRowOf}
+use Rattle.tensor.specs.Matrix.{add, mul, zero, one, sumOf, dotOf, scaledRowOf}
 use Rattle.walk.specs.Expr.{Expr, num, _+_, _*_, value, values, nums}
 
 -- of formulas
@@ -30,7 +30,12 @@ entry row s column = dots (pairwise _*_ (nums row) (nums s)) (nums column)
 abbrev pub recompose : List (List Float) → List Float → List (List Float) → List (List Expr)
 recompose rows s columns = map (λ row. map (λ column. entry row s column) columns) rows
 
--- ---- what they are worth
+-- one row after the other
+abbrev pub flat : {A : Type 0} → List (List A) → List A
+flat [] = []
+flat (l ∷ m) = l ++ flat m
+
+-- ---- what they are worth, as `Body` has it of U sigma V^T
 pub values-nums : (l : List Float) → values (nums l) ≡ l
 values-nums [] = refl
 values-nums (x ∷ l) = ap (λ t. x ∷ t) (values-nums l)
@@ -44,10 +49,6 @@ summed : (x : Expr) (l : List Expr) → value (foldl _+_ x l) ≡ foldl add (val
 summed x [] = refl
 summed x (y ∷ l) = summed (x + y) l
 
-multiplied : (x : Expr) (l : List Expr) → value (foldl _*_ x l) ≡ foldl mul (value x) (values l)
-multiplied x [] = refl
-multiplied x (y ∷ l) = multiplied (x * y) l
-
 pub value-total : (l : List Expr) → value (total l) ≡ sumOf (values l)
 unfolding total sumOf
 value-total [] = refl
@@ -56,19 +57,6 @@ value-total (x ∷ l) = summed x l
 pub value-dots : (a b : List Expr) → value (dots a b) ≡ dotOf (values a) (values b)
 unfolding dotOf
 value-dots a b = value-total (pairwise _*_ a b) ∙ ap sumOf (values-times a b)
-
-pub value-sum : (e : List Float) → value (sum e) ≡ sumOf e
-unfolding sum
-value-sum e = value-total (nums e) ∙ ap sumOf (values-nums e)
-
-pub value-product : (s : List Float) → value (product s) ≡ productOf s
-unfolding product productOf
-value-product [] = refl
-value-product (x ∷ s) = multiplied (num x) (nums s) ∙ ap (foldl mul x) (values-nums s)
-
-pub value-dot : (a b : List Float) → value (dot a b) ≡ dotOf a b
-unfolding dot
-value-dot a b = value-dots (nums a) (nums b) ∙ rw (values-nums a, values-nums b)
 
 pub value-entry : (row s column : List Float) → value (entry row s column) ≡ dotOf (scaledRowOf row s) column
 unfolding entry scaledRowOf

@@ -1,22 +1,14 @@
 -- Matrices of formulas, three rows of three, with the orders of RULES, section 4: what the calls of `tensor` work, part by part.
-use mathlib.Core.Bool.{true}
-use mathlib.Core.List.{List, [], _∷_, _++_, map}
-use mathlib.Core.Path.{_≡_, refl, ap, _∙_}
-use Prim.Native.Nat.{ℕ, zero, suc}
+use mathlib.Core.List.{List, [], _∷_, map}
+use Prim.Native.Nat.{ℕ, suc}
 use lib.ListN.{getD}
 use lib.Ieee.{Float, nan, binary64, ofBits}
-use Rattle.numbers.specs.Floats.{isNumber}
-use Rattle.tensor.specs.Axes.{allOf, pairwise}
+use Rattle.tensor.specs.Axes.{pairwise}
 use Rattle.tensor.specs.Matrix as tensor
-use Rattle.tensor.specs.Matrix.{three, add, mul, detOf, transposeOf, mulOf, recomposeOf, traceOf, diagonalFrom, rowAddOf, rowScaleOf, matAddOf, matScaleOf, identityTimesOf}
-use Rattle.tensor.specs.Decomposed.{deviatoricOf}
-use Rattle.tensor.specs.Inverse.{cofactorsOf, matOverOf}
-use Rattle.tensor.specs.Number.{matNumber}
+use Rattle.tensor.specs.Matrix.{three}
 pub use Rattle.walk.specs.Constants.{one}
-use Rattle.walk.specs.Expr.{Expr, num, _+_, _-_, _*_, _/_, value, values, nums}
-use Rattle.walk.specs.Matrix.{total, dots, value-total, value-dots, value-entry, values-nums}
-use Rattle.walk.specs.Every.{flat, all-flat}
-use Rattle.walk.specs.Update.{recomposed}
+use Rattle.walk.specs.Expr.{Expr, num, _+_, _-_, _*_, _/_, values, nums}
+use Rattle.walk.specs.Matrix.{total, dots}
 
 -- what a matrix is worth, and a matrix of numbers
 abbrev pub worth : List (List Expr) → List (List Float)
@@ -70,7 +62,7 @@ determinant m =
     x 0 0 * (x 1 1 * x 2 2 - x 2 1 * x 1 2) - x 0 1 * (x 1 0 * x 2 2 - x 2 0 * x 1 2) + x 0 2 * (x 1 0 * x 2 1 - x 2 0 * x 1 1)
 
 -- the diagonal, its first entry in column i
-abbrev diagonal : ℕ → List (List Expr) → List Expr
+abbrev pub diagonal : ℕ → List (List Expr) → List Expr
 diagonal i [] = []
 diagonal i (row ∷ m) = getD row i (num nan) ∷ diagonal (suc i) m
 
@@ -101,91 +93,3 @@ cofactors-over m d =
     let r1 = getD m 1 [] in
     let r2 = getD m 2 [] in
     three (row-over (cofactor-row r1 r2) d) (row-over (cofactor-row r2 r0) d) (row-over (cofactor-row r0 r1) d)
-
-pub one-number : isNumber tensor.one ≡ true
-unfolding isNumber ofBits
-one-number = refl
-
--- ---- what they are worth
-value-item : (l : List Expr) (i : ℕ) → value (getD l i (num nan)) ≡ getD (values l) i nan
-value-item [] i = refl
-value-item (e ∷ l) zero = refl
-value-item (e ∷ l) (suc i) = value-item l i
-
-row-at : (m : List (List Expr)) (i : ℕ) → values (getD m i []) ≡ getD (worth m) i []
-row-at [] i = refl
-row-at (r ∷ m) zero = refl
-row-at (r ∷ m) (suc i) = row-at m i
-
-pub worth-rows : (m : List (List Float)) → worth (rows m) ≡ m
-unfolding rows
-worth-rows [] = refl
-worth-rows (r ∷ m) = rw (values-nums r, worth-rows m)
-
-pub worth-turned : (m : List (List Expr)) → worth (turned m) ≡ transposeOf (worth m)
-unfolding turned
-worth-turned m = simp (value-item, row-at)
-
-pub worth-times : (a b : List (List Expr)) → worth (times a b) ≡ mulOf (worth a) (worth b)
-unfolding times turned
-worth-times a b = simp (value-dots, value-item, row-at)
-
-pub values-plus : (a b : List Expr) → values (row-plus a b) ≡ rowAddOf (values a) (values b)
-unfolding rowAddOf
-values-plus [] b = refl
-values-plus (x ∷ a) [] = refl
-values-plus (x ∷ a) (y ∷ b) = ap (λ l. add (value x) (value y) ∷ l) (values-plus a b)
-
-pub worth-plus : (a b : List (List Expr)) → worth (plus a b) ≡ matAddOf (worth a) (worth b)
-unfolding plus
-worth-plus a b = simp (values-plus, row-at)
-
-pub values-scaled : (k : Expr) (a : List Expr) → values (row-scaled k a) ≡ rowScaleOf (value k) (values a)
-unfolding rowScaleOf
-values-scaled k [] = refl
-values-scaled k (x ∷ a) = ap (λ l. mul (value k) (value x) ∷ l) (values-scaled k a)
-
-pub worth-scaled : (k : Expr) (a : List (List Expr)) → worth (scaled k a) ≡ matScaleOf (value k) (worth a)
-unfolding scaled
-worth-scaled k a = simp (values-scaled, row-at)
-
-pub worth-identity : (k : Expr) → worth (identity-times k) ≡ identityTimesOf (value k)
-unfolding identity-times
-worth-identity k = refl
-
-pub value-determinant : (m : List (List Float)) → value (determinant m) ≡ detOf m
-unfolding determinant
-value-determinant m = refl
-
-values-diagonal : (i : ℕ) (m : List (List Expr)) → values (diagonal i m) ≡ diagonalFrom i (worth m)
-values-diagonal i [] = refl
-values-diagonal i (row ∷ m) = rw (value-item row i, values-diagonal (suc i) m)
-
-pub value-trace : (m : List (List Expr)) → value (trace m) ≡ traceOf (worth m)
-unfolding trace traceOf
-value-trace m = value-total (diagonal 0 m) ∙ ap tensor.sumOf (values-diagonal 0 m)
-
-pub worth-deviatoric : (m : List (List Expr)) → worth (deviatoric m) ≡ deviatoricOf (worth m)
-unfolding deviatoric
-worth-deviatoric m = simp (value-trace, value-item, row-at)
-
-pub worth-cofactors : (m : List (List Float)) (d : Expr) → worth (cofactors-over m d) ≡ matOverOf (cofactorsOf m) (value d)
-unfolding cofactors-over cofactorsOf matOverOf
-worth-cofactors m d = refl
-
--- U sigma V^T of numbers
-pub worth-recomposed : (u : List (List Float)) (s : List Float) (vt : List (List Float)) → worth (recomposed u s vt) ≡ recomposeOf u s vt
-worth-recomposed u s vt = simp (value-entry)
-
--- ---- whether no entry is a NaN, as the code tests it
-values-append : (a b : List Expr) → values (a ++ b) ≡ values a ++ values b
-values-append [] b = refl
-values-append (x ∷ a) b = ap (λ l. value x ∷ l) (values-append a b)
-
-values-flat : (m : List (List Expr)) → values (flat m) ≡ flat (worth m)
-values-flat [] = refl
-values-flat (r ∷ m) = values-append r (flat m) ∙ ap (λ l. values r ++ l) (values-flat m)
-
-pub numbers-flat : (m : List (List Expr)) → allOf isNumber (values (flat m)) ≡ matNumber (worth m)
-unfolding matNumber
-numbers-flat m = ap (allOf isNumber) (values-flat m) ∙ all-flat isNumber (worth m)

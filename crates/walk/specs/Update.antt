@@ -1,5 +1,5 @@
 -- Three axes: the state and what a law hands back as an instance of `Body`.
-use mathlib.Core.List.{List, []}
+use mathlib.Core.List.{[], List}
 use mathlib.Core.Path.{refl}
 use lib.ListN.{getD}
 use lib.Ieee.{Float}

@@ -1,6 +1,6 @@
 -- A law as data: its steps in order, each with what follows it (RULES, section 6: "the steps run in the law's order to the first 2,
 -- 10 or NaN met; whether the results are finite comes last"). A step's number is the one in docs.
-use mathlib.Core.Bool.{Bool, true, cond, _&&_}
+use mathlib.Core.Bool.{Bool, true, false, cond, _&&_}
 use mathlib.Core.List.{List, [], _∷_, map}
 use Prim.Native.Nat.{ℕ}
 use lib.ListN.{getD}
@@ -158,15 +158,7 @@ _then_ (split n t w v) g = split n t (w then g) (v then g)
 _then_ (results n rows w) g = results n rows (w then g)
 _then_ (end a) g = g a
 
--- ---- what the walk answers: what the code is held to
-pub data Ended (A : Type 0) : Type 0 where
-  given : A → Ended A
-  refused : ℕ → Ended A
-
-abbrev pub asked : {A : Type 0} → Answer → (Float → Ended A) → Ended A
-asked (answers.Value v) k = k v
-asked (answers.Refused n) k = refused n
-
+-- ---- what a step tests
 abbrev pub numbers : List Expr → Bool
 numbers es = allOf isNumber (values es)
 
@@ -180,15 +172,42 @@ tellable (flag b) = true
 abbrev pub picked : Test → Expr → Expr → Float
 picked t a b = cond (holds t) (value a) (value b)
 
+abbrev pub byAnswer : {B : Type 0} → (ℕ → B) → Answer → (Float → B) → B
+byAnswer stop (answers.Value v) k = k v
+byAnswer stop (answers.Refused n) k = stop n
+
+-- one reading of a walk: its steps in order to the first that refuses. `answered` is what an elementary function answers, `stop` what is made of a
+-- refusal's number and its step, `note` what is noted of a test of section 5's branches and of whether it held, `ends` what is made of the notes and of
+-- the walk's end
+module _ {B S : Type 0} (answered : Function → Float → Answer) (stop : ℕ → ℕ → B) (note : S → ℕ → Test → Bool → S) where
+  abbrev pub read : {A : Type 0} → (S → A → B) → S → Walk A → B
+  read ends r (inputs l w) = cond (allOf finite l) (read ends r w) (stop notFinite 0)
+  read ends r (ask n f e k) = byAnswer (λ m. stop m n) (answered f (value e)) (λ v. read ends r (k (num v)))
+  read ends r (works n es k) = cond (numbers es) (read ends r (k (values es))) (stop noNumber n)
+  read ends r (either n t a b k) =
+      cond (tellable t) (cond (isNumber (picked t a b)) (read ends r (k (num (picked t a b)))) (stop noNumber n)) (stop noNumber n)
+  read ends r (branch n t w v) = cond (tellable t) (cond (holds t) (read ends (note r n t true) w) (read ends (note r n t false) v)) (stop noNumber n)
+  read ends r (split n t w v) = cond (tellable t) (cond (holds t) (read ends r w) (read ends r v)) (stop noNumber n)
+  read ends r (results n rows w) = cond (allOf (allOf finite) (map values rows)) (read ends r w) (stop noNumber n)
+  read ends r (end a) = ends r a
+
+-- where no test is noted
+abbrev pub unnoted : Unit {0} → ℕ → Test → Bool → Unit {0}
+unnoted r n t held = r
+
+-- ---- what the walk answers: what the code is held to
+pub data Ended (A : Type 0) : Type 0 where
+  given : A → Ended A
+  refused : ℕ → Ended A
+
+abbrev pub asked : {A : Type 0} → Answer → (Float → Ended A) → Ended A
+asked e k = byAnswer refused e k
+
+abbrev pub answersBy : {A : Type 0} → (Function → Float → Answer) → Walk A → Ended A
+answersBy f w = read f (λ m n. refused m) unnoted (λ r a. given a) tt w
+
 abbrev pub result : {A : Type 0} → Walk A → Ended A
-result (inputs l w) = cond (allOf finite l) (result w) (refused notFinite)
-result (ask n f e k) = asked (answerOf f (value e)) (λ v. result (k (num v)))
-result (works n es k) = cond (numbers es) (result (k (values es))) (refused noNumber)
-result (either n t a b k) = cond (tellable t) (cond (isNumber (picked t a b)) (result (k (num (picked t a b)))) (refused noNumber)) (refused noNumber)
-result (branch n t w v) = cond (tellable t) (cond (holds t) (result w) (result v)) (refused noNumber)
-result (split n t w v) = cond (tellable t) (cond (holds t) (result w) (result v)) (refused noNumber)
-result (results n rows w) = cond (allOf (allOf finite) (map values rows)) (result w) (refused noNumber)
-result (end a) = given a
+result w = answersBy answerOf w
 
 abbrev pub answerAs : Ended Float → Answer
 answerAs (given x) = answers.Value x

@@ -1,7 +1,9 @@
-// What is printed of the reasons of a sheet's records (ticket 8): the count, a line a record or that of one record, and "end"; or the refusal alone.
+// What is printed of the reasons of a sheet's records (RULES, section 7; ticket 8): the count, a line a record or that of one record, and "end"; or the refusal alone.
+mod rows;
 mod steps;
 mod words;
 
+use model::Law;
 use record_why::Cause;
 use sheet::Header;
 use words::print;
@@ -16,11 +18,11 @@ const ALL: usize = 1000;
 
 const NONE: usize = 1001;
 
-fn print_parameter(law: u64, i: usize) -> bool {
+fn print_parameter(law: Law, i: usize) -> bool {
     if !print_number(b" refused 1 at step 0: parameter ", i as u64) {
         return false;
     }
-    steps::print_parameter(law, i)
+    rows::print_parameter(law, i)
 }
 
 fn print_float(i: usize) -> bool {
@@ -31,7 +33,7 @@ fn print_float(i: usize) -> bool {
 }
 
 fn print_why(model: u64, w: Cause) -> bool {
-    let law = model % model::LAWS;
+    let law = model::law_of(model);
     match w {
         Cause::Told(q) => words::print_reason(law, q),
         Cause::Parameter(i) => print_parameter(law, i),

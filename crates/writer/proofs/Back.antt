@@ -98,11 +98,6 @@ module _ (model : ℕ) (p words : List ℕ) where
       pub delivered : recordsOf (sheetOf model p words) (headerOf (sheetOf model p words)) ≡ listWords model (countOf words) inSheet
       delivered = let r = reads-back in rw (r .words-are, r .model-is, r .count-is)
 
-      -- so that the floats in the sheet are those that were written
-      pub same-floats : sheetWords model (countOf words) (recordsOf (sheetOf model p words) (headerOf (sheetOf model p words))) ≡ inSheet
-      same-floats =
-          rw delivered (sheet-list model (countOf words) inSheet (writable (fine model p words room e) .whole))
-
       -- and where each determinant was right, or is in the sheet, every bit of every record
       pub same-records : AllRight model (countOf words) words → recordsOf (sheetOf model p words) (headerOf (sheetOf model p words)) ≡ words
       same-records r =

@@ -2,7 +2,7 @@
 use borrow.Author.Needs.{needs}
 use lib.Ieee.{nan}
 use Rattle.plasticity_snow.specs.Clamp.{clampedOf}
-use Rattle.flat.specs.Axes.{of-one}
+use Rattle.flat.proofs.Axes.{of-one}
 use Rattle.flat_snow.proofs.clamped.Statement.{statement}
 use Rattle.flat_snow.proofs.clamped.Tie as tie
 

@@ -1,7 +1,7 @@
 -- `flat_snow::run` answers `updatedOf s (result (runWalk law u vt s))`.
 use borrow.Author.Needs.{needs}
-use Rattle.walk.specs.Matrix.{value-product}
-use Rattle.walk.specs.Body.{store-law}
+use Rattle.walk.proofs.Matrix.{value-product}
+use Rattle.walk.proofs.Body.{store-law}
 use Rattle.plasticity_snow.specs.Over.{hardenWalk}
 use Rattle.plasticity_snow.proofs.Laws.{run-law}
 use Rattle.flat.specs.Update.{inTwo}

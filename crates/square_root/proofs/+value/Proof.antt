@@ -4,7 +4,7 @@ use mathlib.Core.Path.{ap, _∙_, subst}
 use lib.Ieee.{neg}
 use borrow.Fn.Kinds.{In}
 use borrow.Fn.PlainCycle.{Measures, is, falls, and}
-use Rattle.exact.specs.RootZero.{sqrt-zero}
+use Rattle.exact.proofs.RootZero.{sqrt-zero}
 use Rattle.exact.proofs.Patterns.{finite-not-nan}
 use Rattle.square_root.proofs.Turned.{minus, unsigned, zero-mag, above-zero, turned-fine, turned-below, turned-root}
 use Rattle.square_root.proofs.value.Reads as value

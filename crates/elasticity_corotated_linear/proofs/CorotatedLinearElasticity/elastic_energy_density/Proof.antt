@@ -1,6 +1,6 @@
 -- The inputs, then the density.
 use Rattle.elasticity_corotated_linear.proofs.Laws.{energy-inputs}
-use Rattle.walk.specs.Answers.{returned-law}
+use Rattle.walk.proofs.Answers.{returned-law}
 use Rattle.elasticity_corotated_linear.specs.Energy.{energyWalk}
 use borrow.Author.Needs.{needs}
 use Rattle.elasticity_corotated_linear.proofs.CorotatedLinearElasticity.elastic_energy_density.Statement.{

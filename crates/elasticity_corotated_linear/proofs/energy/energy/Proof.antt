@@ -1,6 +1,6 @@
 -- The energy density as the text groups it.
-use Rattle.walk.specs.Matrix.{value-product}
-use Rattle.walk.specs.Power.{value-power}
+use Rattle.walk.proofs.Matrix.{value-product}
+use Rattle.walk.proofs.Power.{value-power}
 use Rattle.elasticity_corotated_linear.proofs.Laws.{squares-law}
 use borrow.Author.Needs.{needs}
 use Rattle.elasticity_corotated_linear.proofs.energy.energy.Statement.{statement}

@@ -1,5 +1,5 @@
 -- The squared norm by `dot`.
-use Rattle.walk.specs.Matrix.{value-dot}
+use Rattle.walk.proofs.Matrix.{value-dot}
 use borrow.Author.Needs.{needs}
 use Rattle.elasticity_corotated_linear.proofs.energy.pos_dev_part.Statement.{statement}
 use Rattle.elasticity_corotated_linear.proofs.energy.pos_dev_part.Tie as tie

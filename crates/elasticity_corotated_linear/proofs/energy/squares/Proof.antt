@@ -1,6 +1,6 @@
 -- The squares by the integer power, of three entries.
 use Rattle.tensor.specs.Matrix.{sumOf}
-use Rattle.tensor.specs.Axes.{of-one}
+use Rattle.tensor.proofs.Axes.{of-one}
 use Rattle.numbers.specs.Power.{powiOf}
 use mathlib.Core.List.{map}
 use lib.Ieee.{nan}

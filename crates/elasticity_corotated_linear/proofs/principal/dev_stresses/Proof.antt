@@ -1,6 +1,6 @@
 -- Entry by entry, of three entries.
 use lib.Ieee.{nan}
-use Rattle.tensor.specs.Axes.{of-two}
+use Rattle.tensor.proofs.Axes.{of-two}
 use Rattle.walk.specs.Expr.{values}
 use Rattle.elasticity_corotated_linear.specs.Principal.{devStresses}
 use borrow.Author.Needs.{needs}

@@ -1,5 +1,5 @@
 -- The principal stresses: each end is what the walk answers there.
-use Rattle.walk.specs.Tensor.{values-plus, values-scaled}
+use Rattle.walk.proofs.Tensor.{values-plus, values-scaled}
 use Rattle.elasticity_corotated_linear.proofs.Laws.{principal-law}
 use borrow.Author.Needs.{needs}
 use Rattle.elasticity_corotated_linear.proofs.principal.stresses.Statement.{statement}

@@ -1,5 +1,5 @@
 -- The recomposed matrix scaled, then times F^T.
-use Rattle.walk.specs.Tensor.{worth-rows, worth-turned, worth-times, worth-scaled}
+use Rattle.walk.proofs.Tensor.{worth-rows, worth-turned, worth-times, worth-scaled}
 use Rattle.walk.specs.Matrix.{value-entry}
 use borrow.Author.Needs.{needs}
 use Rattle.elasticity_corotated_linear.proofs.stress.dev_stress.Statement.{statement}

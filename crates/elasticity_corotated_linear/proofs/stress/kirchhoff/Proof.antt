@@ -1,6 +1,6 @@
 -- The steps of the stress, of a finite sigma: each end is what the walk answers there.
 use Rattle.elasticity_corotated_linear.proofs.Laws.{below-rows, above-rows, stress-law}
-use Rattle.walk.specs.Tensor.{worth-plus}
+use Rattle.walk.proofs.Tensor.{worth-plus}
 use borrow.Author.Needs.{needs}
 use Rattle.elasticity_corotated_linear.proofs.stress.kirchhoff.Statement.{statement}
 use Rattle.elasticity_corotated_linear.proofs.stress.kirchhoff.Tie as tie

@@ -1,7 +1,7 @@
 -- Entry by entry, of three entries.
 use borrow.Author.Needs.{needs}
 use lib.Ieee.{nan}
-use Rattle.tensor.specs.Axes.{of-one}
+use Rattle.tensor.proofs.Axes.{of-one}
 use Rattle.walk.specs.Expr.{values}
 use Rattle.elasticity_corotated_linear.specs.Stress.{lessOne}
 use Rattle.elasticity_corotated_linear.proofs.stress.less_one.Statement.{statement}

@@ -1,5 +1,5 @@
 -- The spherical part on the diagonal.
-use Rattle.walk.specs.Tensor.{worth-identity}
+use Rattle.walk.proofs.Tensor.{worth-identity}
 use borrow.Author.Needs.{needs}
 use Rattle.elasticity_corotated_linear.proofs.stress.spherical_stress.Statement.{statement}
 use Rattle.elasticity_corotated_linear.proofs.stress.spherical_stress.Tie as tie

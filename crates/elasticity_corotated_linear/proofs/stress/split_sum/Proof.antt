@@ -1,5 +1,5 @@
 -- The two parts of the stress, added on either side of j = 1.
-use Rattle.walk.specs.Tensor.{worth-plus, worth-scaled, worth-rows}
+use Rattle.walk.proofs.Tensor.{worth-plus, worth-scaled, worth-rows}
 use borrow.Author.Needs.{needs}
 use Rattle.elasticity_corotated_linear.proofs.stress.split_sum.Statement.{statement}
 use Rattle.elasticity_corotated_linear.proofs.stress.split_sum.Tie as tie

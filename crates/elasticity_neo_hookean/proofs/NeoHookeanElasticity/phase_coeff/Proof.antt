@@ -1,6 +1,6 @@
 -- The coefficient of a phase: 1 of the phase, 3 of the result.
 use borrow.Author.Needs.{needs}
-use Rattle.walk.specs.Answers.{returned-law}
+use Rattle.walk.proofs.Answers.{returned-law}
 use Rattle.elasticity_neo_hookean.specs.Law.{phaseCoeff}
 use Rattle.elasticity_neo_hookean.proofs.NeoHookeanElasticity.phase_coeff.Statement.{
   statement,

@@ -1,6 +1,6 @@
 -- The steps of the energy: each end is what the walk answers there.
 use borrow.Author.Needs.{needs}
-use Rattle.walk.specs.Power.{value-power}
+use Rattle.walk.proofs.Power.{value-power}
 use Rattle.elasticity_neo_hookean.proofs.Laws.{energy-law, energy-given}
 use Rattle.elasticity_neo_hookean.proofs.energy.density.Statement.{statement}
 use Rattle.elasticity_neo_hookean.proofs.energy.density.Tie as tie

@@ -1,6 +1,6 @@
 -- The deviatoric part of `pos_energy` as its formula has it.
 use borrow.Author.Needs.{needs}
-use Rattle.walk.specs.Tensor.{value-trace, worth-rows}
+use Rattle.walk.proofs.Tensor.{value-trace, worth-rows}
 use Rattle.elasticity_neo_hookean.proofs.energy.pos_deviatoric.Statement.{statement}
 use Rattle.elasticity_neo_hookean.proofs.energy.pos_deviatoric.Tie as tie
 

@@ -1,6 +1,6 @@
 -- The stretched matrix times its transpose.
 use borrow.Author.Needs.{needs}
-use Rattle.walk.specs.Tensor.{worth-times, worth-turned, worth-scaled, worth-rows}
+use Rattle.walk.proofs.Tensor.{worth-times, worth-turned, worth-scaled, worth-rows}
 use Rattle.elasticity_neo_hookean.proofs.energy.stretch.Statement.{statement}
 use Rattle.elasticity_neo_hookean.proofs.energy.stretch.Tie as tie
 

@@ -1,6 +1,6 @@
 -- F times its transpose.
 use borrow.Author.Needs.{needs}
-use Rattle.walk.specs.Tensor.{worth-times, worth-turned, worth-rows}
+use Rattle.walk.proofs.Tensor.{worth-times, worth-turned, worth-rows}
 use Rattle.elasticity_neo_hookean.proofs.stress.cauchy_green_strain.Statement.{statement}
 use Rattle.elasticity_neo_hookean.proofs.stress.cauchy_green_strain.Tie as tie
 

@@ -1,6 +1,6 @@
 -- The steps of the first Piola-Kirchhoff stress: each end is what the walk answers there.
 use borrow.Author.Needs.{needs}
-use Rattle.walk.specs.Tensor.{worth-plus, worth-times, worth-rows}
+use Rattle.walk.proofs.Tensor.{worth-plus, worth-times, worth-rows}
 use Rattle.elasticity_neo_hookean.proofs.Laws.{fpk-law, fpk-given}
 use Rattle.elasticity_neo_hookean.proofs.stress.fpk.Statement.{statement}
 use Rattle.elasticity_neo_hookean.proofs.stress.fpk.Tie as tie

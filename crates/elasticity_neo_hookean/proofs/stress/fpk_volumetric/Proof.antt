@@ -1,6 +1,6 @@
 -- The volumetric part of the first Piola-Kirchhoff stress as its formula has it.
 use borrow.Author.Needs.{needs}
-use Rattle.walk.specs.Tensor.{worth-scaled, worth-rows}
+use Rattle.walk.proofs.Tensor.{worth-scaled, worth-rows}
 use Rattle.elasticity_neo_hookean.proofs.stress.fpk_volumetric.Statement.{statement}
 use Rattle.elasticity_neo_hookean.proofs.stress.fpk_volumetric.Tie as tie
 

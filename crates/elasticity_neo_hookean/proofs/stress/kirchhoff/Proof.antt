@@ -1,6 +1,6 @@
 -- The steps of the Kirchhoff stress: each end is what the walk answers there.
 use borrow.Author.Needs.{needs}
-use Rattle.walk.specs.Tensor.{worth-plus, worth-scaled, worth-rows}
+use Rattle.walk.proofs.Tensor.{worth-plus, worth-scaled, worth-rows}
 use Rattle.elasticity_neo_hookean.proofs.Laws.{kirchhoff-law, kirchhoff-given}
 use Rattle.elasticity_neo_hookean.proofs.stress.kirchhoff.Statement.{statement}
 use Rattle.elasticity_neo_hookean.proofs.stress.kirchhoff.Tie as tie

@@ -1,6 +1,6 @@
 -- The two parts of the Kirchhoff stress, added on either side of j = 1.
 use borrow.Author.Needs.{needs}
-use Rattle.walk.specs.Tensor.{worth-plus, worth-scaled, worth-rows}
+use Rattle.walk.proofs.Tensor.{worth-plus, worth-scaled, worth-rows}
 use Rattle.elasticity_neo_hookean.proofs.stress.split.Statement.{statement}
 use Rattle.elasticity_neo_hookean.proofs.stress.split.Tie as tie
 

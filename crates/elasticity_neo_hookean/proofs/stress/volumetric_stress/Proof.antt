@@ -1,6 +1,6 @@
 -- The volumetric part of the Kirchhoff stress as its formula has it.
 use borrow.Author.Needs.{needs}
-use Rattle.walk.specs.Tensor.{worth-identity}
+use Rattle.walk.proofs.Tensor.{worth-identity}
 use Rattle.elasticity_neo_hookean.proofs.stress.volumetric_stress.Statement.{statement}
 use Rattle.elasticity_neo_hookean.proofs.stress.volumetric_stress.Tie as tie
 

@@ -1,5 +1,5 @@
 -- The inputs, then the pressure, then the stress.
-use Rattle.walk.specs.Exact.{number-then}
+use Rattle.walk.proofs.Exact.{number-then}
 use Rattle.eos_monaghan_sph.specs.Stress.{stressWalk}
 use Rattle.eos_monaghan_sph.proofs.Laws.{stress-inputs, stress-shared}
 use borrow.Author.Needs.{needs}

@@ -1,8 +1,8 @@
 -- Without viscosity the pressure part alone.
 use borrow.Author.Needs.{needs}
 use Rattle.tensor.specs.Answer.{answered}
-use Rattle.walk.specs.Tensor.{worth-plus}
-use Rattle.walk.specs.Answers.{matrix-split}
+use Rattle.walk.proofs.Tensor.{worth-plus}
+use Rattle.walk.proofs.Answers.{matrix-split}
 use Rattle.eos_monaghan_sph.specs.Stress.{stressSteps}
 use Rattle.eos_monaghan_sph.proofs.MonaghanSphEos.stress.Statement.{statement}
 use Rattle.eos_monaghan_sph.proofs.MonaghanSphEos.stress.Tie as tie

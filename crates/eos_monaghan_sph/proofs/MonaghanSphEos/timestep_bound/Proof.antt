@@ -1,5 +1,5 @@
 -- The inputs, then the pressure, then the steps.
-use Rattle.walk.specs.Exact.{number-then}
+use Rattle.walk.proofs.Exact.{number-then}
 use Rattle.eos_monaghan_sph.specs.Timestep.{timestepWalk}
 use Rattle.eos_monaghan_sph.proofs.Laws.{timestep-inputs, timestep-shared, timestep-own}
 use borrow.Author.Needs.{needs}

@@ -1,5 +1,5 @@
 -- The power by `powi`.
-use Rattle.walk.specs.Power.{value-power}
+use Rattle.walk.proofs.Power.{value-power}
 use borrow.Author.Needs.{needs}
 use Rattle.eos_monaghan_sph.proofs.pressure.unbounded.Statement.{statement}
 use Rattle.eos_monaghan_sph.proofs.pressure.unbounded.Tie as tie

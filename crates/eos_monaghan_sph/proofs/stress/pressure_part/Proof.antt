@@ -1,5 +1,5 @@
 -- Minus the pressure times the determinant, on the diagonal.
-use Rattle.walk.specs.Tensor.{worth-identity}
+use Rattle.walk.proofs.Tensor.{worth-identity}
 use borrow.Author.Needs.{needs}
 use Rattle.eos_monaghan_sph.proofs.stress.pressure_part.Statement.{statement}
 use Rattle.eos_monaghan_sph.proofs.stress.pressure_part.Tie as tie

@@ -1,7 +1,7 @@
 -- The width over j is tested, then the sign of the root's argument tells the step.
 use Rattle.numbers.specs.Floats.{finite}
 use Rattle.tensor.specs.Finite.{rowFinite}
-use Rattle.walk.specs.Every.{and-left}
+use Rattle.walk.proofs.Every.{and-left}
 use Rattle.eos_monaghan_sph.specs.Timestep.{singleSteps, timestepSteps}
 use borrow.Author.Needs.{needs}
 use Rattle.eos_monaghan_sph.proofs.timestep.bound.Statement.{statement}

@@ -1,5 +1,6 @@
 -- The root, and the width over it.
-use Rattle.walk.specs.Answers.{number-split, returned}
+use Rattle.walk.specs.Answers.{returned}
+use Rattle.walk.proofs.Answers.{number-split}
 use Rattle.eos_monaghan_sph.specs.Timestep.{cflSteps}
 use Rattle.eos_monaghan_sph.proofs.Hidden.{cfl-law}
 use borrow.Author.Needs.{needs}

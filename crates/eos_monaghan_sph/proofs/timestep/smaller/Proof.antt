@@ -5,7 +5,7 @@ use Rattle.numbers.specs.Floats.{finite, isNumber}
 use Rattle.tensor.specs.Finite.{rowFinite}
 use Rattle.walk.specs.Expr.{num}
 use Rattle.walk.specs.Walk.{least}
-use Rattle.walk.specs.Every.{and-left, and-right}
+use Rattle.walk.proofs.Every.{and-left, and-right}
 use Rattle.walk.specs.Answers.{returned}
 use Rattle.eos_monaghan_sph.specs.Timestep.{smallerSteps}
 use Rattle.eos_monaghan_sph.proofs.Hidden.{cfl-law, smaller-law}

@@ -1,6 +1,6 @@
 -- `factors::check::not_below` meets its contract. Assumes nothing.
 use lib.Ieee.{nan}
-use Rattle.tensor.specs.Axes.{of-one}
+use Rattle.tensor.proofs.Axes.{of-one}
 use Rattle.factors.specs.Check.{notBelow}
 use borrow.Author.Needs.{needs}
 use Rattle.factors.proofs.check.not_below.Statement.{statement}

@@ -6,7 +6,7 @@ use native.Mathlib.Omega.{arith}
 use lib.Count.{leadingZeros}
 use borrow.Author.Needs.{needs}
 use Rattle.exact.proofs.Patterns.{not-nan-bits}
-use Rattle.fixed_point.specs.ToFloat.{Packs, packs, from-pattern, at-zero, is-plus, is-minus}
+use Rattle.fixed_point.proofs.ToFloat.{Packs, packs, from-pattern, at-zero, is-plus, is-minus}
 use Rattle.fixed_point.proofs.float.to_float.Statement.{statement}
 use Rattle.fixed_point.proofs.float.to_float.Tie as tie
 use Rattle.fixed_point.proofs.float.to_float.Reads as reads

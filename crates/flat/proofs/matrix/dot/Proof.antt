@@ -1,7 +1,7 @@
 -- `flat::matrix::dot` answers `dotOf a b`.
 use borrow.Author.Needs.{needs}
 use lib.Ieee.{nan}
-use Rattle.flat.specs.Axes.{of-two}
+use Rattle.flat.proofs.Axes.{of-two}
 use Rattle.tensor.specs.Matrix.{dotOf, sumOf}
 use Rattle.flat.proofs.matrix.dot.Statement.{statement}
 use Rattle.flat.proofs.matrix.dot.Tie as tie

@@ -1,7 +1,7 @@
 -- `flat::matrix::mat_finite` answers `matFinite m`.
 use borrow.Author.Needs.{needs}
 use mathlib.Core.List.{[]}
-use Rattle.flat.specs.Axes.{of-one}
+use Rattle.flat.proofs.Axes.{of-one}
 use Rattle.tensor.specs.Finite.{matFinite}
 use Rattle.flat.proofs.matrix.mat_finite.Statement.{statement}
 use Rattle.flat.proofs.matrix.mat_finite.Tie as tie

@@ -1,7 +1,7 @@
 -- `flat::matrix::product` answers `productOf s`.
 use borrow.Author.Needs.{needs}
 use lib.Ieee.{nan}
-use Rattle.flat.specs.Axes.{of-one}
+use Rattle.flat.proofs.Axes.{of-one}
 use Rattle.tensor.specs.Matrix.{productOf}
 use Rattle.flat.proofs.matrix.product.Statement.{statement}
 use Rattle.flat.proofs.matrix.product.Tie as tie

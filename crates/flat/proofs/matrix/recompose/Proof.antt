@@ -2,7 +2,7 @@
 use borrow.Author.Needs.{needs}
 use mathlib.Core.List.{[]}
 use Rattle.walk.specs.Axes.{recomposeOver}
-use Rattle.flat.specs.Axes.{of-two}
+use Rattle.flat.proofs.Axes.{of-two}
 use Rattle.flat.proofs.matrix.recompose.Statement.{statement}
 use Rattle.flat.proofs.matrix.recompose.Tie as tie
 

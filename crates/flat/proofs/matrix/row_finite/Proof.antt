@@ -1,7 +1,7 @@
 -- `flat::matrix::row_finite` answers `rowFinite a`.
 use borrow.Author.Needs.{needs}
 use lib.Ieee.{nan}
-use Rattle.flat.specs.Axes.{of-one}
+use Rattle.flat.proofs.Axes.{of-one}
 use Rattle.tensor.specs.Finite.{rowFinite}
 use Rattle.flat.proofs.matrix.row_finite.Statement.{statement}
 use Rattle.flat.proofs.matrix.row_finite.Tie as tie

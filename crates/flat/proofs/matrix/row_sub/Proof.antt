@@ -1,7 +1,7 @@
 -- `flat::matrix::row_sub` answers `rowSubOf a b`.
 use borrow.Author.Needs.{needs}
 use lib.Ieee.{nan}
-use Rattle.flat.specs.Axes.{of-two}
+use Rattle.flat.proofs.Axes.{of-two}
 use Rattle.tensor.specs.Matrix.{rowSubOf}
 use Rattle.flat.proofs.matrix.row_sub.Statement.{statement}
 use Rattle.flat.proofs.matrix.row_sub.Tie as tie

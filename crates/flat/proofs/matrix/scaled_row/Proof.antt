@@ -1,7 +1,7 @@
 -- `flat::matrix::scaled_row` answers `scaledRowOf u s`.
 use borrow.Author.Needs.{needs}
 use lib.Ieee.{nan}
-use Rattle.flat.specs.Axes.{of-two}
+use Rattle.flat.proofs.Axes.{of-two}
 use Rattle.tensor.specs.Matrix.{scaledRowOf}
 use Rattle.flat.proofs.matrix.scaled_row.Statement.{statement}
 use Rattle.flat.proofs.matrix.scaled_row.Tie as tie

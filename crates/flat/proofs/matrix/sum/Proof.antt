@@ -1,7 +1,7 @@
 -- `flat::matrix::sum` answers `sumOf e`.
 use borrow.Author.Needs.{needs}
 use lib.Ieee.{nan}
-use Rattle.flat.specs.Axes.{of-one}
+use Rattle.flat.proofs.Axes.{of-one}
 use Rattle.tensor.specs.Matrix.{sumOf}
 use Rattle.flat.proofs.matrix.sum.Statement.{statement}
 use Rattle.flat.proofs.matrix.sum.Tie as tie

@@ -1,7 +1,7 @@
 -- `flat_drucker_prager::choice::all_numbers` answers `allOf isNumber v`.
 use borrow.Author.Needs.{needs}
 use lib.Ieee.{nan}
-use Rattle.flat.specs.Axes.{of-one}
+use Rattle.flat.proofs.Axes.{of-one}
 use mathlib.Core.Path.{_∙_}
 use Rattle.numbers.specs.Floats.{isNumber}
 use Rattle.tensor.specs.Axes.{allOf}

@@ -1,7 +1,7 @@
 -- `flat_drucker_prager::choice::deviatoric` answers `values (deviatoric dim e (num trace))`.
 use borrow.Author.Needs.{needs}
 use lib.Ieee.{nan}
-use Rattle.flat.specs.Axes.{of-one}
+use Rattle.flat.proofs.Axes.{of-one}
 use Rattle.walk.specs.Expr.{num, values}
 use Rattle.flat_drucker_prager.specs.DruckerPrager.{dim}
 use Rattle.plasticity_drucker_prager.specs.Projection.{deviatoric}

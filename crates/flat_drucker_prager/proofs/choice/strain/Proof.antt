@@ -1,7 +1,7 @@
 -- `flat_drucker_prager::choice::strain` answers `values (strain dim logs gain)`.
 use borrow.Author.Needs.{needs}
 use lib.Ieee.{nan}
-use Rattle.flat.specs.Axes.{of-one}
+use Rattle.flat.proofs.Axes.{of-one}
 use Rattle.walk.specs.Expr.{values}
 use Rattle.flat_drucker_prager.specs.DruckerPrager.{dim}
 use Rattle.plasticity_drucker_prager.specs.Projection.{strain}

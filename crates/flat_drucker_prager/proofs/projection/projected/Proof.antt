@@ -3,7 +3,7 @@ use borrow.Author.Needs.{needs}
 use mathlib.Core.Path.{_∙_}
 use lib.Ieee.{nan}
 use Rattle.walk.specs.Walk.{asks, works, ln, result}
-use Rattle.flat.specs.Axes.{of-one}
+use Rattle.flat.proofs.Axes.{of-one}
 use Rattle.plasticity_drucker_prager.specs.Projection.{strain, strainedWalk, projectWalk}
 use Rattle.flat_drucker_prager.specs.DruckerPrager.{dim, projectedOf}
 use Rattle.flat_drucker_prager.proofs.projection.projected.Statement.{statement}

@@ -1,8 +1,8 @@
 -- `flat_drucker_prager::projection::strained` answers `projectedOf (result (strainedWalk dim p sigma e alpha))`.
 use borrow.Author.Needs.{needs}
 use Rattle.flat_drucker_prager.proofs.Laws.{isotropic-tip, expanding-tip}
-use Rattle.walk.specs.Matrix.{value-sum}
-use Rattle.walk.specs.Expr.{zero-number}
+use Rattle.walk.proofs.Matrix.{value-sum}
+use Rattle.walk.proofs.Expr.{zero-number}
 use Rattle.plasticity_drucker_prager.specs.Projection.{strainedWalk}
 use Rattle.flat_drucker_prager.proofs.projection.strained.Statement.{statement}
 use Rattle.flat_drucker_prager.proofs.projection.strained.Tie as tie

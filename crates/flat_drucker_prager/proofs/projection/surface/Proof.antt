@@ -3,7 +3,7 @@ use borrow.Author.Needs.{needs}
 use mathlib.Core.Path.{_∙_}
 use lib.Ieee.{nan}
 use Rattle.walk.specs.Walk.{exp, asks, end, result}
-use Rattle.flat.specs.Axes.{of-one}
+use Rattle.flat.proofs.Axes.{of-one}
 use Rattle.flat_drucker_prager.specs.DruckerPrager.{surfacedOf}
 use Rattle.flat_drucker_prager.proofs.projection.surface.Statement.{statement}
 use Rattle.flat_drucker_prager.proofs.projection.surface.Tie as tie

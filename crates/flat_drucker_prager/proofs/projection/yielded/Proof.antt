@@ -1,7 +1,7 @@
 -- `flat_drucker_prager::projection::yielded` answers `projectedOf (result (yieldWalk dim p sigma e d (num trace) alpha))`.
 use borrow.Author.Needs.{needs}
-use Rattle.walk.specs.Matrix.{value-dot}
-use Rattle.walk.specs.Expr.{zero-number}
+use Rattle.walk.proofs.Matrix.{value-dot}
+use Rattle.walk.proofs.Expr.{zero-number}
 use Rattle.plasticity_drucker_prager.specs.Projection.{yieldWalk}
 use Rattle.flat_drucker_prager.proofs.Laws.{surface-law}
 use Rattle.flat_drucker_prager.proofs.projection.yielded.Statement.{statement}

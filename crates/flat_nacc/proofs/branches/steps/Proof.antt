@@ -1,7 +1,7 @@
 -- `flat_nacc::branches::steps` answers `steppedOf (result (stepsWalk two-axes p sigma alpha))`.
 use borrow.Author.Needs.{needs}
 use Rattle.tensor.specs.Matrix.{productOf}
-use Rattle.walk.specs.Matrix.{value-product}
+use Rattle.walk.proofs.Matrix.{value-product}
 use Rattle.plasticity_nacc.specs.Axes.{two-axes}
 use Rattle.plasticity_nacc.specs.Formulas.{trialOf}
 use Rattle.plasticity_nacc.specs.Projection.{pressWalk}

@@ -4,7 +4,7 @@ use mathlib.Core.Path.{_∙_}
 use lib.Ieee.{nan}
 use Rattle.walk.specs.Matrix.{total}
 use Rattle.plasticity_nacc.specs.Formulas.{trialOf}
-use Rattle.flat.specs.Axes.{of-one}
+use Rattle.flat.proofs.Axes.{of-one}
 use Rattle.flat_nacc.specs.Nacc.{stressedOf}
 use Rattle.flat_nacc.proofs.branches.trial.Statement.{statement}
 use Rattle.flat_nacc.proofs.branches.trial.Tie as tie

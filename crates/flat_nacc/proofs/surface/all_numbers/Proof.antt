@@ -4,7 +4,7 @@ use mathlib.Core.Path.{_∙_}
 use lib.Ieee.{nan}
 use Rattle.numbers.specs.Floats.{isNumber}
 use Rattle.tensor.specs.Axes.{allOf}
-use Rattle.flat.specs.Axes.{of-one}
+use Rattle.flat.proofs.Axes.{of-one}
 use Rattle.flat_nacc.proofs.surface.all_numbers.Statement.{statement}
 use Rattle.flat_nacc.proofs.surface.all_numbers.Tie as tie
 

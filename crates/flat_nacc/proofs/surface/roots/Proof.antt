@@ -4,7 +4,7 @@ use mathlib.Core.Path.{_∙_}
 use lib.Ieee.{nan}
 use Rattle.walk.specs.Walk.{result}
 use Rattle.plasticity_nacc.specs.Projection.{rootsWalk}
-use Rattle.flat.specs.Axes.{of-one}
+use Rattle.flat.proofs.Axes.{of-one}
 use Rattle.flat_nacc.specs.Nacc.{shapedOf}
 use Rattle.flat_nacc.proofs.surface.roots.Statement.{statement}
 use Rattle.flat_nacc.proofs.surface.roots.Tie as tie

@@ -3,7 +3,7 @@ use borrow.Author.Needs.{needs}
 use lib.Ieee.{nan}
 use Rattle.walk.specs.Expr.{num, values}
 use Rattle.plasticity_nacc.specs.Formulas.{spread}
-use Rattle.flat.specs.Axes.{of-one}
+use Rattle.flat.proofs.Axes.{of-one}
 use Rattle.flat_nacc.proofs.surface.spread.Statement.{statement}
 use Rattle.flat_nacc.proofs.surface.spread.Tie as tie
 

@@ -1,6 +1,7 @@
 -- The first test, on the strains as sorted: a side that is a number is compared as the walk compares it.
 use borrow.Author.Needs.{needs}
-use Rattle.walk.specs.Matrix.{value-sum, values-nums}
+use Rattle.walk.specs.Matrix.{values-nums}
+use Rattle.walk.proofs.Matrix.{value-sum}
 use Rattle.flat_rankine.specs.Projection.{firstWalk}
 use Rattle.flat_rankine.proofs.projection.projected.Statement.{statement}
 use Rattle.flat_rankine.proofs.projection.projected.Tie as tie

@@ -2,7 +2,7 @@
 use borrow.Author.Needs.{needs}
 use mathlib.Core.Path.{_≡_, _∙_}
 use lib.ListN.{length}
-use Rattle.walk.specs.Body.{store-law}
+use Rattle.walk.proofs.Body.{store-law}
 use Rattle.plasticity_rankine.specs.Over as over
 use Rattle.flat.specs.Update.{inTwo}
 use Rattle.flat_rankine.proofs.Laws.{exps-whole}

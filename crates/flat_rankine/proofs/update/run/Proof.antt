@@ -3,7 +3,7 @@ use borrow.Author.Needs.{needs}
 use mathlib.Core.Path.{_≡_, _∙_}
 use lib.ListN.{length}
 use Rattle.numbers.specs.Floats.{finite}
-use Rattle.walk.specs.Every.{and-left, and-right}
+use Rattle.walk.proofs.Every.{and-left, and-right}
 use Rattle.plasticity_rankine.proofs.Laws.{soft-of}
 use Rattle.plasticity_rankine.specs.Over as over
 use Rattle.flat_rankine.proofs.Laws.{strained-law, run-whole}

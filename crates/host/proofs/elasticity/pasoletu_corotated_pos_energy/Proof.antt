@@ -15,7 +15,7 @@ returns c =
     let e4 = c .before .before .before .before .before .before .before .before .row .ensures in
     let e5 = c .before .before .before .before .before .before .before .before .before .matrix .ensures in
     let e6 = c .before .before .before .before .before .before .before .before .before .before .corotated .ensures in
-    (simp (p .0, e0, e1, e2, e3, e4, e5, e6), simp (p .1, e0, e1, e2, e3, e4, e5, e6))
+    rw (e0, e1, e2, e3, e4, e5, e6) at p
 
 pub pasoletu-corotated-pos-energy-spec : {M : Type 1} → statement M
 pasoletu-corotated-pos-energy-spec =

@@ -7,7 +7,7 @@ returns : tie.Need-returns
 returns c =
     let p = c .before .before .put .ensures in
     let e0 = c .before .before .before .before .phase-coeff .ensures in
-    (simp (p .0, e0), simp (p .1, e0))
+    rw e0 at p
 
 pub pasoletu-phase-coeff-spec : {M : Type 1} → statement M
 pasoletu-phase-coeff-spec =

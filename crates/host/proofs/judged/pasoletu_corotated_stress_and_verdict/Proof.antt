@@ -14,7 +14,7 @@ returns c =
     let e3 = c .before .before .before .before .before .before .before .before .before .before .stress-and-verdict .ensures in
     let e4 = c .before .before .before .before .before .before .before .before .before .before .before .limits .ensures in
     let e5 = c .before .before .before .before .before .before .before .before .before .before .before .before .corotated .ensures in
-    (simp (p .0, e0, e1, e2, e3, e4, e5), (simp (p .1 .0, e0, e1, e2, e3, e4, e5), simp (p .1 .1, e0, e1, e2, e3, e4, e5)))
+    rw (e0, e1, e2, e3, e4, e5) at p
 
 pub pasoletu-corotated-stress-and-verdict-spec : {M : Type 1} → statement M
 pasoletu-corotated-stress-and-verdict-spec =

@@ -8,7 +8,7 @@ returns c =
     let p = c .before .before .put .ensures in
     let e0 = c .before .before .before .before .pressure .ensures in
     let e1 = c .before .before .before .before .before .eos .ensures in
-    (simp (p .0, e0, e1), simp (p .1, e0, e1))
+    rw (e0, e1) at p
 
 pub pasoletu-monaghan-pressure-spec : {M : Type 1} → statement M
 pasoletu-monaghan-pressure-spec =

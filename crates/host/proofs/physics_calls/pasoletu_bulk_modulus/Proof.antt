@@ -7,7 +7,7 @@ returns : tie.Need-returns
 returns c =
     let p = c .before .before .put .ensures in
     let e0 = c .before .before .before .before .bulk-modulus .ensures in
-    (simp (p .0, e0), simp (p .1, e0))
+    rw e0 at p
 
 pub pasoletu-bulk-modulus-spec : {M : Type 1} → statement M
 pasoletu-bulk-modulus-spec =

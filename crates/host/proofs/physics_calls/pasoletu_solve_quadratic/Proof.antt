@@ -7,7 +7,7 @@ returns : tie.Need-returns
 returns c =
     let p = c .before .before .put-pair .ensures in
     let e0 = c .before .before .before .before .solve-quadratic .ensures in
-    (simp (p .0, e0), simp (p .1, e0))
+    rw e0 at p
 
 pub pasoletu-solve-quadratic-spec : {M : Type 1} → statement M
 pasoletu-solve-quadratic-spec =

@@ -1,29 +1,29 @@
 -- `host_lists::write::put_pair` meets its contract: what its calls ensure, on each path.
 use borrow.Author.Tests.{eq-eqb, ne-eqb}
 use borrow.Author.Needs.{needs}
-use Rattle.host_lists.specs.Out.{pairCode, pairOut}
+use Rattle.host_lists.specs.Out.{pairIn}
 use Rattle.host_lists.proofs.write.put_pair.Statement.{statement}
 use Rattle.host_lists.proofs.write.put_pair.Tie as tie
 
 returns : tie.Need-returns
-unfolding pairCode pairOut
+unfolding pairIn
 returns c =
     let e = ne-eqb _ _ (c .if1 .taken) in
-    (simp e, simp e)
+    simp e
 
 returns-2 : tie.Need-returns-2
-unfolding pairCode pairOut
+unfolding pairIn
 returns-2 c =
     let e = eq-eqb _ _ (c .before .before .before .before .before .if1 .left) in
     let t = c .before .before .before .a .given .1 in
-    (simp (e, t), simp (e, t, c .bits-of2 .ensures, c .before .bits-of .ensures))
+    simp (e, t, c .bits-of2 .ensures, c .before .bits-of .ensures)
 
 returns-3 : tie.Need-returns-3
-unfolding pairCode pairOut
+unfolding pairIn
 returns-3 c =
     let e = eq-eqb _ _ (c .before .before .before .if1 .left) in
     let t = c .before .a2 .given .1 in
-    (simp (e, t), simp (e, t))
+    simp (e, t)
 
 pub put-pair-spec : {M : Type 1} → statement M
 put-pair-spec =

@@ -1,29 +1,29 @@
 -- `host_lists::write::put_vector` meets its contract: what its calls ensure, on each path.
 use borrow.Author.Tests.{eq-eqb, ne-eqb}
 use borrow.Author.Needs.{needs}
-use Rattle.host_lists.specs.Out.{vectorCode, vectorOut}
+use Rattle.host_lists.specs.Out.{vectorIn}
 use Rattle.host_lists.proofs.write.put_vector.Statement.{statement}
 use Rattle.host_lists.proofs.write.put_vector.Tie as tie
 
 returns : tie.Need-returns
-unfolding vectorCode vectorOut
+unfolding vectorIn
 returns c =
     let e = ne-eqb _ _ (c .if1 .taken) in
-    (simp e, simp e)
+    simp e
 
 returns-2 : tie.Need-returns-2
-unfolding vectorCode vectorOut
+unfolding vectorIn
 returns-2 c =
     let e = eq-eqb _ _ (c .before .if1 .left) in
     let t = ne-eqb _ _ (c .if2 .taken) in
-    (simp e, simp (e, t))
+    simp (e, t)
 
 returns-3 : tie.Need-returns-3
-unfolding vectorCode vectorOut
+unfolding vectorIn
 returns-3 c =
     let e = eq-eqb _ _ (c .before .before .before .before .before .before .if1 .left) in
     let t = c .before .before .before .before .before .if2 .left in
-    (simp (e, t), simp (e, t, c .before .before .write-row .ensures))
+    simp (e, t, c .before .before .write-row .ensures)
 
 pub put-vector-spec : {M : Type 1} → statement M
 put-vector-spec =

@@ -1,33 +1,17 @@
--- `model::kinds::flags_allowed` meets its contract: by the law.
-use Rattle.model.specs.Kinds.{kindsOf}
-use Rattle.model.proofs.KindLaws.{and-true}
+-- `model::kinds::flags_allowed` meets its contract: by the flag's place in the law's row.
+use Rattle.model.specs.Kinds.{lawOf, kinds, kindsOf}
+use Rattle.model.proofs.RowLaws.{kinds-one}
+use Rattle.model.proofs.KindLaws.{flags-law}
 use borrow.Author.Needs.{needs}
 use Rattle.model.proofs.kinds.flags_allowed.Statement.{statement}
 use Rattle.model.proofs.kinds.flags_allowed.Tie as tie
 
 returns : tie.Need-returns
 unfolding kindsOf
-returns c = let t = rw (c .before .before .law-of .ensures) at (c .enum-told .given .1) in simp t
-
-returns-2 : tie.Need-returns-2
-unfolding kindsOf
-returns-2 c = let t = rw (c .before .before .law-of .ensures) at (c .enum-told2 .given .1) in simp t
-
-returns-3 : tie.Need-returns-3
-unfolding kindsOf
-returns-3 c =
-    let t = rw (c .before .before .before .before .law-of .ensures) at (c .before .before .enum-told3 .given .1) in
-    simp (c .is-flag .ensures, c .before .word .ensures, t, and-true)
-
-returns-4 : tie.Need-returns-4
-unfolding kindsOf
-returns-4 c =
-    let t = rw (c .before .before .before .before .law-of .ensures) at (c .before .before .enum-told4 .given .1) in
-    simp (c .is-flag2 .ensures, c .before .word2 .ensures, t, and-true)
+returns c =
+    let a = c .before .before .before .before .before .args in
+    let law = lawOf (a .number) in
+    rw (c .is-flag .ensures, c .before .word .ensures, c .before .before .before .shape-of .ensures) (flags-law (kinds law) (kinds-one law) (a .p .now))
 
 pub flags-allowed-spec : {M : Type 1} → statement M
-flags-allowed-spec =
-    tie.close
-    (tie.spec (λ c κs. search needs) (λ c. search needs) (λ c. search needs) (λ c. search needs)
-    (λ c κs. search needs) (λ c κs. search needs) (λ c. search needs) (λ c κs. search needs) (λ c κs. search needs)
-    returns returns-2 returns-3 returns-4)
+flags-allowed-spec = tie.close (tie.spec (λ c κs. search needs) (λ c κs. search needs) (λ c κs. search needs) returns)

@@ -1,7 +1,7 @@
 -- `nearness::all::near_all` meets its contract. Assumes nothing.
 use mathlib.Core.List.{[]}
 use Rattle.exact.specs.Units.{mag}
-use Rattle.tensor.specs.Axes.{of-two}
+use Rattle.tensor.proofs.Axes.{of-two}
 use Rattle.nearness.specs.Near.{nearAll}
 use borrow.Author.Needs.{needs}
 use Rattle.nearness.proofs.all.near_all.Statement.{statement}

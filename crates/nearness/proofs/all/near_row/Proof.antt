@@ -2,7 +2,7 @@
 use mathlib.Core.List.{[]}
 use lib.Ieee.{nan}
 use Rattle.exact.specs.Units.{mag}
-use Rattle.tensor.specs.Axes.{of-two}
+use Rattle.tensor.proofs.Axes.{of-two}
 use Rattle.nearness.specs.Near.{nearRow}
 use borrow.Author.Needs.{needs}
 use Rattle.nearness.proofs.all.near_row.Statement.{statement}

@@ -3,7 +3,7 @@ use mathlib.Core.Path.{_∙_}
 use mathlib.Core.List.{[]}
 use lib.ListN.{getD}
 use Rattle.exact.proofs.Positives.{one-is}
-use Rattle.tensor.specs.Axes.{of-one}
+use Rattle.tensor.proofs.Axes.{of-one}
 use Rattle.nearness.proofs.Sounds.{orthogonal-six}
 use Rattle.nearness.specs.Near.{orthogonalOf}
 use borrow.Author.Needs.{needs}

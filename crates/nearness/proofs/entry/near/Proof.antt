@@ -2,7 +2,7 @@
 use mathlib.Core.Path.{_∙_}
 use lib.Ieee.{nan}
 use Rattle.exact.specs.Units.{mag}
-use Rattle.tensor.specs.Axes.{entries}
+use Rattle.tensor.proofs.Axes.{entries}
 use Rattle.nearness.specs.Near.{near}
 use Rattle.nearness.proofs.Judged.{near-is}
 use borrow.Author.Needs.{needs}

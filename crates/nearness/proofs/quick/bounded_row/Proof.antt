@@ -4,7 +4,7 @@ use mathlib.Core.Bool.{_&&_}
 use lib.ListN.{length, getD}
 use lib.Ieee.{nan}
 use Rattle.numbers.proofs.Laws.{and-both}
-use Rattle.tensor.specs.Axes.{of-one}
+use Rattle.tensor.proofs.Axes.{of-one}
 use Rattle.tensor.specs.Finite.{rowFinite}
 use Rattle.nearness.proofs.Rounded.{bounded-finite}
 use borrow.Author.Needs.{needs}

@@ -4,7 +4,7 @@ use mathlib.Core.Bool.{_&&_}
 use mathlib.Core.List.{[]}
 use lib.ListN.{length}
 use Rattle.numbers.proofs.Laws.{and-both}
-use Rattle.tensor.specs.Axes.{of-one}
+use Rattle.tensor.proofs.Axes.{of-one}
 use Rattle.tensor.specs.Finite.{matFinite}
 use borrow.Author.Needs.{needs}
 use Rattle.nearness.proofs.quick.bounded_rows.Statement.{statement}

@@ -6,7 +6,7 @@ use lib.ListN.{length}
 use lib.Ieee.{nan}
 use Rattle.exact.specs.Units.{mag}
 use Rattle.numbers.proofs.Laws.{and-both}
-use Rattle.tensor.specs.Axes.{of-two}
+use Rattle.tensor.proofs.Axes.{of-two}
 use Rattle.nearness.specs.Near.{nearRow}
 use Rattle.nearness.proofs.Sounds.{sound0, sound1, sound2}
 use borrow.Author.Needs.{needs}

@@ -6,7 +6,7 @@ use lib.ListN.{length}
 use lib.Ieee.{Float}
 use Rattle.exact.specs.Units.{mag}
 use Rattle.numbers.proofs.Laws.{and-both}
-use Rattle.tensor.specs.Axes.{of-two}
+use Rattle.tensor.proofs.Axes.{of-two}
 use Rattle.nearness.specs.Near.{nearAll}
 use Rattle.nearness.specs.Quick.{RowBounded, SoundRow, two}
 use Rattle.nearness.proofs.Rounded.{quad}

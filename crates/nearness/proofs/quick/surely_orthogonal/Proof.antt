@@ -4,7 +4,7 @@ use mathlib.Core.Bool.{_&&_}
 use mathlib.Core.List.{[]}
 use lib.ListN.{length, getD}
 use Rattle.numbers.proofs.Laws.{and-both}
-use Rattle.tensor.specs.Axes.{of-one}
+use Rattle.tensor.proofs.Axes.{of-one}
 use Rattle.tensor.specs.Matrix.{zero, one}
 use Rattle.nearness.specs.Near.{orthogonalOf}
 use Rattle.nearness.proofs.Rounded.{two-fine}

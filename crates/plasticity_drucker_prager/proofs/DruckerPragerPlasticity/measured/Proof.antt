@@ -1,6 +1,6 @@
 -- `plasticity_drucker_prager::DruckerPragerPlasticity::measured` answers `measuredOf self prev grown dq x`.
 use borrow.Author.Needs.{needs}
-use Rattle.walk.specs.Expr.{zero-number}
+use Rattle.walk.proofs.Expr.{zero-number}
 use Rattle.plasticity_drucker_prager.specs.DruckerPrager.{measuredOf}
 use Rattle.plasticity_drucker_prager.proofs.DruckerPragerPlasticity.measured.Statement.{statement}
 use Rattle.plasticity_drucker_prager.proofs.DruckerPragerPlasticity.measured.Tie as tie

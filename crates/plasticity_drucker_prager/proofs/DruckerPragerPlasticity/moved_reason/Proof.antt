@@ -1,4 +1,4 @@
--- `plasticity_drucker_prager::DruckerPragerPlasticity::moved_reason` answers `movedTold why self sigma dq u vt s`.
+-- `plasticity_drucker_prager::DruckerPragerPlasticity::moved_reason` answers `why told (movedWalk self sigma dq u vt s)`.
 use borrow.Author.Needs.{needs}
 use Rattle.plasticity_drucker_prager.proofs.Told.{moved-told}
 use Rattle.plasticity_drucker_prager.proofs.DruckerPragerPlasticity.moved_reason.Statement.{statement}

@@ -2,10 +2,11 @@
 use borrow.Author.Needs.{needs}
 use mathlib.Core.Path.{_≡_, sym, ap, _∙_}
 use lib.ListN.{length}
-use Rattle.walk.specs.Walk.{ln, works}
+use Rattle.walk.specs.Walk.{ln, works, unnoted}
+use Rattle.walk.proofs.Three.{asks-read}
+use Rattle.reason.specs.Traced.{reached, stopped}
 use Rattle.plasticity_drucker_prager.specs.Alpha.{dim}
 use Rattle.plasticity_drucker_prager.specs.Projection.{strain, strainedWalk, projectWalk, walkedOf}
-use Rattle.plasticity_drucker_prager.proofs.Laws.{asks-law}
 use Rattle.plasticity_drucker_prager.proofs.DruckerPragerPlasticity.projected.Statement.{statement}
 use Rattle.plasticity_drucker_prager.proofs.DruckerPragerPlasticity.projected.Tie as tie
 
@@ -19,7 +20,7 @@ returns c =
     let a = start .args in
     let t = simp (c .before .before .all-numbers .ensures, c3 .strain .ensures) at (c .before .if1 .taken) in
     (simp (c .strained .ensures, c3 .strain .ensures, t))
-    ∙ ap walkedOf (asks-law 6 ln (a .t2) (λ logs. works 7 (strain dim logs (a .gain)) (λ e. strainedWalk dim (a .self) (a .t2) e (a .alpha))) _ axes (sym (c5 .before .before .logs-on-path .ensures) ∙ c5 .x .given .1))
+    ∙ ap walkedOf (asks-read stopped unnoted (λ q x. reached x) tt 6 ln (a .t2) (λ logs. works 7 (strain dim logs (a .gain)) (λ e. strainedWalk dim (a .self) (a .t2) e (a .alpha))) _ axes (sym (c5 .before .before .logs-on-path .ensures) ∙ c5 .x .given .1))
 
 returns-2 : tie.Need-returns-2
 unfolding projectWalk
@@ -31,7 +32,7 @@ returns-2 c =
     let a = start .args in
     let t = simp (c .before .before .all-numbers .ensures, c3 .strain .ensures) at (c .before .if1 .left) in
     (simp (c .refused-projection .ensures, t))
-    ∙ ap walkedOf (asks-law 6 ln (a .t2) (λ logs. works 7 (strain dim logs (a .gain)) (λ e. strainedWalk dim (a .self) (a .t2) e (a .alpha))) _ axes (sym (c5 .before .before .logs-on-path .ensures) ∙ c5 .x .given .1))
+    ∙ ap walkedOf (asks-read stopped unnoted (λ q x. reached x) tt 6 ln (a .t2) (λ logs. works 7 (strain dim logs (a .gain)) (λ e. strainedWalk dim (a .self) (a .t2) e (a .alpha))) _ axes (sym (c5 .before .before .logs-on-path .ensures) ∙ c5 .x .given .1))
 
 returns-3 : tie.Need-returns-3
 unfolding projectWalk
@@ -42,7 +43,7 @@ returns-3 c =
     let axes : length (start .args .t2) ≡ 3 = search needs in
     let a = start .args in
     c .refused-projection2 .ensures
-    ∙ ap walkedOf (asks-law 6 ln (a .t2) (λ logs. works 7 (strain dim logs (a .gain)) (λ e. strainedWalk dim (a .self) (a .t2) e (a .alpha))) _ axes (sym (c4 .logs-on-path .ensures) ∙ c2 .n .given .1))
+    ∙ ap walkedOf (asks-read stopped unnoted (λ q x. reached x) tt 6 ln (a .t2) (λ logs. works 7 (strain dim logs (a .gain)) (λ e. strainedWalk dim (a .self) (a .t2) e (a .alpha))) _ axes (sym (c4 .logs-on-path .ensures) ∙ c2 .n .given .1))
 
 pub projected-spec : {M : Type 1} → statement M
 projected-spec =

@@ -3,11 +3,11 @@ use borrow.Author.Needs.{needs}
 use mathlib.Core.List.{map}
 use mathlib.Core.Path.{sym}
 use lib.Ieee.{nan}
-use Rattle.tensor.specs.Axes.{of-one}
+use Rattle.tensor.proofs.Axes.{of-one}
 use Rattle.tensor.specs.Matrix.{one}
 use Rattle.plasticity_drucker_prager.proofs.Laws.{tip-law}
-use Rattle.walk.specs.Matrix.{value-sum}
-use Rattle.walk.specs.Expr.{zero-number}
+use Rattle.walk.proofs.Matrix.{value-sum}
+use Rattle.walk.proofs.Expr.{zero-number}
 use Rattle.plasticity_drucker_prager.specs.Projection.{strainedWalk}
 use Rattle.plasticity_drucker_prager.proofs.DruckerPragerPlasticity.strained.Statement.{statement}
 use Rattle.plasticity_drucker_prager.proofs.DruckerPragerPlasticity.strained.Tie as tie

@@ -1,7 +1,7 @@
 -- `plasticity_drucker_prager::DruckerPragerPlasticity::yielded` answers `walkedOf (traced (yieldWalk dim self sigma e d (num trace) alpha))`.
 use borrow.Author.Needs.{needs}
-use Rattle.walk.specs.Matrix.{value-dot}
-use Rattle.walk.specs.Expr.{zero-number}
+use Rattle.walk.proofs.Matrix.{value-dot}
+use Rattle.walk.proofs.Expr.{zero-number}
 use Rattle.plasticity_drucker_prager.specs.Projection.{yieldWalk}
 use Rattle.plasticity_drucker_prager.proofs.DruckerPragerPlasticity.yielded.Statement.{statement}
 use Rattle.plasticity_drucker_prager.proofs.DruckerPragerPlasticity.yielded.Tie as tie

@@ -1,7 +1,7 @@
 -- `plasticity_drucker_prager::choice::back` answers `values (back e d (num gamma) (num norm))`.
 use borrow.Author.Needs.{needs}
 use lib.Ieee.{nan}
-use Rattle.tensor.specs.Axes.{of-two}
+use Rattle.tensor.proofs.Axes.{of-two}
 use Rattle.walk.specs.Expr.{num, values}
 use Rattle.plasticity_drucker_prager.specs.Projection.{back}
 use Rattle.plasticity_drucker_prager.proofs.choice.back.Statement.{statement}

@@ -1,7 +1,7 @@
 -- `plasticity_drucker_prager::choice::deviatoric` answers `values (deviatoric dim e (num trace))`.
 use borrow.Author.Needs.{needs}
 use lib.Ieee.{nan}
-use Rattle.tensor.specs.Axes.{of-one}
+use Rattle.tensor.proofs.Axes.{of-one}
 use Rattle.walk.specs.Expr.{num, values}
 use Rattle.plasticity_drucker_prager.specs.Alpha.{dim}
 use Rattle.plasticity_drucker_prager.specs.Projection.{deviatoric}

@@ -1,7 +1,7 @@
 -- `plasticity_drucker_prager::choice::strain` answers `values (strain dim logs gain)`.
 use borrow.Author.Needs.{needs}
 use lib.Ieee.{nan}
-use Rattle.tensor.specs.Axes.{of-one}
+use Rattle.tensor.proofs.Axes.{of-one}
 use Rattle.walk.specs.Expr.{values}
 use Rattle.plasticity_drucker_prager.specs.Alpha.{dim}
 use Rattle.plasticity_drucker_prager.specs.Projection.{strain}

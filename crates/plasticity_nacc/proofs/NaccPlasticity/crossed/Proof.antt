@@ -1,6 +1,6 @@
 -- `plasticity_nacc::NaccPlasticity::crossed` answers `numberAs (traced (crossWalk self t (num c) d0 d1 alpha))`.
 use borrow.Author.Needs.{needs}
-use Rattle.walk.specs.Expr.{zero-number}
+use Rattle.walk.proofs.Expr.{zero-number}
 use Rattle.plasticity_nacc.specs.Projection.{crossWalk}
 use Rattle.plasticity_nacc.proofs.NaccPlasticity.crossed.Statement.{statement}
 use Rattle.plasticity_nacc.proofs.NaccPlasticity.crossed.Tie as tie

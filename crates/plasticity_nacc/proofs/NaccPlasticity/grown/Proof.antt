@@ -1,9 +1,11 @@
 -- `plasticity_nacc::NaccPlasticity::grown` answers `numberAs (traced (growWalk self (num x) j alpha))`.
 use borrow.Author.Needs.{needs}
-use Rattle.walk.specs.Expr.{num, value, zero-number}
+use Rattle.walk.specs.Expr.{num, value}
+use Rattle.walk.proofs.Expr.{zero-number}
 use Rattle.walk.proofs.Steps.{root-told}
 use Rattle.plasticity_nacc.specs.Formulas.{volumeSquare}
-use Rattle.plasticity_nacc.specs.Projection.{sizeOf, growWalk}
+use Rattle.plasticity_nacc.specs.Projection.{growWalk}
+use Rattle.plasticity_nacc.specs.Inner.{sizeOf}
 use Rattle.plasticity_nacc.proofs.Laws.{size-number, small-number}
 use Rattle.plasticity_nacc.proofs.NaccPlasticity.grown.Statement.{statement}
 use Rattle.plasticity_nacc.proofs.NaccPlasticity.grown.Tie as tie

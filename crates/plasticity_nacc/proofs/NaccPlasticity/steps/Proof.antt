@@ -1,6 +1,6 @@
 -- `plasticity_nacc::NaccPlasticity::steps` answers `steppedOf (traced (stepsWalk three-axes self sigma alpha))`.
 use borrow.Author.Needs.{needs}
-use Rattle.walk.specs.Matrix.{value-product}
+use Rattle.walk.proofs.Matrix.{value-product}
 use Rattle.plasticity_nacc.specs.Axes.{three-axes}
 use Rattle.plasticity_nacc.specs.Formulas.{trialOf}
 use Rattle.plasticity_nacc.specs.Projection.{pressWalk}

@@ -2,7 +2,7 @@
 use borrow.Author.Needs.{needs}
 use mathlib.Core.Path.{_∙_}
 use lib.Ieee.{nan}
-use Rattle.tensor.specs.Axes.{of-one}
+use Rattle.tensor.proofs.Axes.{of-one}
 use Rattle.walk.specs.Matrix.{total}
 use Rattle.plasticity_nacc.specs.Axes.{three-axes, dimOf}
 use Rattle.plasticity_nacc.specs.Formulas.{trialOf, stressedOf}

@@ -1,6 +1,6 @@
 -- `plasticity_nacc::friction::friction_on_path` answers `frictionSteps d angle`.
 use borrow.Author.Needs.{needs}
-use Rattle.walk.specs.Answers.{returned-law}
+use Rattle.walk.proofs.Answers.{returned-law}
 use Rattle.plasticity_nacc.specs.Friction.{frictionWalk}
 use Rattle.plasticity_nacc.proofs.friction.friction_on_path.Statement.{statement}
 use Rattle.plasticity_nacc.proofs.friction.friction_on_path.Tie as tie

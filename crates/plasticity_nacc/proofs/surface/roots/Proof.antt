@@ -2,9 +2,10 @@
 use borrow.Author.Needs.{needs}
 use mathlib.Core.Path.{_∙_}
 use lib.Ieee.{nan}
-use Rattle.tensor.specs.Axes.{of-one}
+use Rattle.tensor.proofs.Axes.{of-one}
 use Rattle.reason.specs.Traced.{traced}
-use Rattle.plasticity_nacc.specs.Projection.{rootsWalk, asBranch}
+use Rattle.plasticity_nacc.specs.Projection.{rootsWalk}
+use Rattle.plasticity_nacc.specs.Inner.{asBranch}
 use Rattle.plasticity_nacc.proofs.surface.roots.Statement.{statement}
 use Rattle.plasticity_nacc.proofs.surface.roots.Tie as tie
 

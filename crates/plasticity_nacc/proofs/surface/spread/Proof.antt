@@ -1,7 +1,7 @@
 -- `plasticity_nacc::surface::spread` answers `values (spread (num k) s (num norm) mean)`.
 use borrow.Author.Needs.{needs}
 use lib.Ieee.{nan}
-use Rattle.tensor.specs.Axes.{of-one}
+use Rattle.tensor.proofs.Axes.{of-one}
 use Rattle.walk.specs.Expr.{num, values}
 use Rattle.plasticity_nacc.specs.Formulas.{spread}
 use Rattle.plasticity_nacc.proofs.surface.spread.Statement.{statement}

@@ -1,6 +1,6 @@
 -- `plasticity_nacc::update::recomposed` answers `recomposedOf b u sigma vt alpha`.
 use borrow.Author.Needs.{needs}
-use Rattle.plasticity_nacc.specs.Projection.{recomposedOf}
+use Rattle.plasticity_nacc.specs.Inner.{recomposedOf}
 use Rattle.plasticity_nacc.proofs.update.recomposed.Statement.{statement}
 use Rattle.plasticity_nacc.proofs.update.recomposed.Tie as tie
 

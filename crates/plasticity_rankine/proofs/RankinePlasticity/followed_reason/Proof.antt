@@ -29,13 +29,12 @@ returns-4 c =
 
 returns-5 : tie.Need-returns-5
 returns-5 c =
-    let c2 = c .before .before in
-    let t0 = c2 .b5 .given .1 in
-    simp (c .refused-at .ensures, t0)
+    let c1 = c .before in
+    let t0 = c1 .b5 .given .1 in
+    simp (t0)
 
 pub followed-reason-spec : {M : Type 1} → statement M
 followed-reason-spec =
     tie.close
     (tie.spec (λ c. search needs) (λ c. search needs) (λ c κs. search needs) (λ c. search needs)
-    (λ c κs. search needs) (λ c. search needs) (λ c κs. search needs) (λ c. search needs)
-    (λ c κs. search needs) returns returns-2 returns-3 returns-4 returns-5)
+    (λ c κs. search needs) (λ c. search needs) (λ c κs. search needs) (λ c. search needs) returns returns-2 returns-3 returns-4 returns-5)

@@ -18,7 +18,7 @@ returns c =
     let c10 = c9 .before in
     let t0 = simp (c8 .norm-on-path .ensures, c9 .row-sub .ensures) at (c6 .norm .given .1) in
     let t1 = simp (c3 .is-number .ensures, c4 .grown .ensures, c8 .norm-on-path .ensures, c9 .row-sub .ensures) at (c2 .if1 .taken) in
-    simp (c .exps .ensures, c1 .min .ensures, c3 .is-number .ensures, c4 .grown .ensures, c8 .norm-on-path .ensures, c9 .row-sub .ensures, t0, t1, c10 .pre, moved-law inThree, harden-law inThree, values-nums)
+    simp (c .exps .ensures, c1 .capped .ensures, c3 .is-number .ensures, c4 .grown .ensures, c8 .norm-on-path .ensures, c9 .row-sub .ensures, t0, t1, c10 .pre, moved-law inThree, harden-law inThree, values-nums)
 
 returns-2 : tie.Need-returns-2
 returns-2 c =

@@ -1,7 +1,10 @@
 -- The norm, the growth and the cap; the strength is a number.
 use borrow.Author.Needs.{needs}
 use Rattle.walk.specs.Matrix.{values-nums}
-use Rattle.plasticity_rankine.proofs.Why.{moved-why, harden-why}
+use Rattle.walk.specs.Update.{inThree}
+use Rattle.reason.specs.declared.Reason.the-variants.{Refused}
+use Rattle.reason.specs.Why.{tellsTest}
+use Rattle.plasticity_rankine.proofs.Laws.{moved-read, harden-read}
 use Rattle.plasticity_rankine.proofs.RankinePlasticity.moved_reason.Statement.{statement}
 use Rattle.plasticity_rankine.proofs.RankinePlasticity.moved_reason.Tie as tie
 
@@ -17,7 +20,7 @@ returns c =
     let c10 = c9 .before in
     let t0 = simp (c8 .norm-on-path .ensures, c9 .row-sub .ensures) at (c6 .norm .given .1) in
     let t1 = simp (c3 .is-number .ensures, c4 .grown .ensures, c8 .norm-on-path .ensures, c9 .row-sub .ensures) at (c2 .if1 .taken) in
-    simp (c .exps-reason .ensures, c1 .min .ensures, c3 .is-number .ensures, c4 .grown .ensures, c8 .norm-on-path .ensures, c9 .row-sub .ensures, t0, t1, c10 .pre, moved-why, harden-why, values-nums)
+    simp (c .exps-reason .ensures, c1 .capped .ensures, c3 .is-number .ensures, c4 .grown .ensures, c8 .norm-on-path .ensures, c9 .row-sub .ensures, t0, t1, c10 .pre, moved-read inThree Refused tellsTest (λ q x. q), harden-read inThree Refused tellsTest (λ q x. q), values-nums)
 
 returns-2 : tie.Need-returns-2
 returns-2 c =
@@ -29,7 +32,7 @@ returns-2 c =
     let c8 = c7 .before in
     let t0 = simp (c6 .norm-on-path .ensures, c7 .row-sub .ensures) at (c4 .norm .given .1) in
     let t1 = simp (c1 .is-number .ensures, c2 .grown .ensures, c6 .norm-on-path .ensures, c7 .row-sub .ensures) at (c .if1 .left) in
-    simp (c1 .is-number .ensures, c2 .grown .ensures, c6 .norm-on-path .ensures, c7 .row-sub .ensures, t0, t1, c8 .pre, moved-why, harden-why, values-nums)
+    simp (c1 .is-number .ensures, c2 .grown .ensures, c6 .norm-on-path .ensures, c7 .row-sub .ensures, t0, t1, c8 .pre, moved-read inThree Refused tellsTest (λ q x. q), harden-read inThree Refused tellsTest (λ q x. q), values-nums)
 
 returns-3 : tie.Need-returns-3
 returns-3 c =
@@ -37,7 +40,7 @@ returns-3 c =
     let c3 = c1 .before .before in
     let c4 = c3 .before in
     let t0 = simp (c3 .norm-on-path .ensures, c4 .row-sub .ensures) at (c1 .n .given .1) in
-    simp (c3 .norm-on-path .ensures, c4 .row-sub .ensures, t0, moved-why, harden-why, values-nums)
+    simp (c3 .norm-on-path .ensures, c4 .row-sub .ensures, t0, moved-read inThree Refused tellsTest (λ q x. q), harden-read inThree Refused tellsTest (λ q x. q), values-nums)
 
 pub moved-reason-spec : {M : Type 1} → statement M
 moved-reason-spec =

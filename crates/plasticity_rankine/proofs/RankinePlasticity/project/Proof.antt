@@ -3,8 +3,8 @@ use borrow.Author.Needs.{needs}
 use mathlib.Core.Bool.{_&&_}
 use Rattle.numbers.specs.Floats.{finite}
 use Rattle.tensor.specs.Finite.{rowFinite}
-use Rattle.walk.specs.Every.{and-right}
-use Rattle.walk.proofs.Number.{finite-number}
+use Rattle.walk.proofs.Every.{and-right}
+use Rattle.numbers.proofs.Laws.{finite-number}
 use Rattle.plasticity_rankine.specs.Law.{parametersFinite}
 use Rattle.plasticity_rankine.specs.Projection.{callOver}
 use Rattle.plasticity_rankine.proofs.Laws.{call-law, returned-law}

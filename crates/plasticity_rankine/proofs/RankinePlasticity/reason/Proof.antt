@@ -1,7 +1,7 @@
 -- The inputs, the moduli, and then the steps: what is read off the path.
 use borrow.Author.Needs.{needs}
 use mathlib.Core.Path.{_≡_, _∙_}
-use Rattle.reason.specs.Why.{why-of}
+use Rattle.reason.proofs.Why.{why-of}
 use Rattle.plasticity_rankine.specs.Over as over
 use Rattle.plasticity_rankine.specs.Rankine.{rankineWalk}
 use Rattle.walk.specs.Update.{inThree}

@@ -2,11 +2,12 @@
 use borrow.Author.Needs.{needs}
 use mathlib.Core.Path.{_≡_, sym, ap, _∙_}
 use lib.ListN.{length}
-use Rattle.walk.specs.Walk.{ln}
+use Rattle.walk.specs.Walk.{ln, given, refused, unnoted}
+use Rattle.walk.proofs.Three.{asks-read}
 use Rattle.walk.specs.Update.{updatedOf}
 use Rattle.plasticity_rankine.specs.Over as over
 use Rattle.plasticity_rankine.specs.Rankine.{strainedWalk}
-use Rattle.plasticity_rankine.proofs.Laws.{strength-finite, soft-number, strained-law, asks-law}
+use Rattle.plasticity_rankine.proofs.Laws.{strength-finite, soft-number, strained-law}
 use Rattle.plasticity_rankine.proofs.RankinePlasticity.run.Statement.{statement}
 use Rattle.plasticity_rankine.proofs.RankinePlasticity.run.Tie as tie
 
@@ -34,7 +35,7 @@ returns c =
     let a = start .args in
     let soft = soft-number (a .self) (a .u) (a .vt) (a .s) (start .pre) in
     (simp (c .followed .ensures, c1 .projected .ensures, c2 .soft-strength .ensures, strained-law, soft))
-    ∙ ap (updatedOf (a .s)) (asks-law 2 ln (a .t2) (λ e. strainedWalk (a .self) e (a .u) (a .vt) (a .s)) _ axes (sym (c6 .logs-on-path .ensures) ∙ c4 .x .given .1))
+    ∙ ap (updatedOf (a .s)) (asks-read (λ m n. refused m) unnoted (λ q x. given x) tt 2 ln (a .t2) (λ e. strainedWalk (a .self) e (a .u) (a .vt) (a .s)) _ axes (sym (c6 .logs-on-path .ensures) ∙ c4 .x .given .1))
 
 returns-2 : tie.Need-returns-2
 unfolding over.runWalk
@@ -44,7 +45,7 @@ returns-2 c =
     let start = c4 .before in
     let axes : length (start .args .t2) ≡ 3 = search needs in
     let a = start .args in
-    c .refuse .ensures ∙ ap (updatedOf (a .s)) (asks-law 2 ln (a .t2) (λ e. strainedWalk (a .self) e (a .u) (a .vt) (a .s)) _ axes (sym (c4 .logs-on-path .ensures) ∙ c2 .n .given .1))
+    c .refuse .ensures ∙ ap (updatedOf (a .s)) (asks-read (λ m n. refused m) unnoted (λ q x. given x) tt 2 ln (a .t2) (λ e. strainedWalk (a .self) e (a .u) (a .vt) (a .s)) _ axes (sym (c4 .logs-on-path .ensures) ∙ c2 .n .given .1))
 
 pub run-spec : {M : Type 1} → statement M
 run-spec =

@@ -3,11 +3,14 @@ use borrow.Author.Needs.{needs}
 use mathlib.Core.Path.{_≡_, sym, _∙_}
 use lib.ListN.{length}
 use Rattle.walk.specs.Walk.{ln}
+use Rattle.walk.proofs.Three.{asks-read}
+use Rattle.reason.specs.declared.Reason.the-variants.{Refused}
 use Rattle.reason.specs.Reason.{untold}
+use Rattle.reason.specs.Why.{tellsTest}
 use Rattle.plasticity_rankine.specs.Over as over
 use Rattle.plasticity_rankine.specs.Rankine.{strainedWalk}
 use Rattle.plasticity_rankine.proofs.Laws.{strength-finite, soft-number}
-use Rattle.plasticity_rankine.proofs.Why.{strained-why, asks-why}
+use Rattle.plasticity_rankine.proofs.Why.{strained-why}
 use Rattle.plasticity_rankine.proofs.RankinePlasticity.run_reason.Statement.{statement}
 use Rattle.plasticity_rankine.proofs.RankinePlasticity.run_reason.Tie as tie
 
@@ -35,7 +38,7 @@ returns c =
     let a = start .args in
     let soft = soft-number (a .self) (a .u) (a .vt) (a .s) (start .pre) in
     (simp (c .followed-reason .ensures, c1 .projected .ensures, c2 .soft-strength .ensures, strained-why, soft))
-    ∙ asks-why untold 2 ln (a .t2) (λ e. strainedWalk (a .self) e (a .u) (a .vt) (a .s)) _ axes (sym (c6 .logs-on-path .ensures) ∙ c4 .x .given .1)
+    ∙ asks-read Refused tellsTest (λ q x. q) untold 2 ln (a .t2) (λ e. strainedWalk (a .self) e (a .u) (a .vt) (a .s)) _ axes (sym (c6 .logs-on-path .ensures) ∙ c4 .x .given .1)
 
 returns-2 : tie.Need-returns-2
 unfolding over.runWalk
@@ -44,7 +47,7 @@ returns-2 c =
     let start = c3 .before in
     let axes : length (start .args .t2) ≡ 3 = search needs in
     let a = start .args in
-    asks-why untold 2 ln (a .t2) (λ e. strainedWalk (a .self) e (a .u) (a .vt) (a .s)) _ axes (sym (c3 .logs-on-path .ensures) ∙ c .before .n .given .1)
+    asks-read Refused tellsTest (λ q x. q) untold 2 ln (a .t2) (λ e. strainedWalk (a .self) e (a .u) (a .vt) (a .s)) _ axes (sym (c3 .logs-on-path .ensures) ∙ c .before .n .given .1)
 
 pub run-reason-spec : {M : Type 1} → statement M
 run-reason-spec =

@@ -1,7 +1,7 @@
 -- `plasticity_snow::SnowPlasticity::clamped` answers `clampedOf self sigma`.
 use borrow.Author.Needs.{needs}
 use lib.Ieee.{nan}
-use Rattle.tensor.specs.Axes.{of-one}
+use Rattle.tensor.proofs.Axes.{of-one}
 use Rattle.plasticity_snow.specs.Clamp.{clampedOf}
 use Rattle.plasticity_snow.proofs.SnowPlasticity.clamped.Statement.{statement}
 use Rattle.plasticity_snow.proofs.SnowPlasticity.clamped.Tie as tie

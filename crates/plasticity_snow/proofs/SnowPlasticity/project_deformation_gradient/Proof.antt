@@ -1,7 +1,7 @@
 -- `plasticity_snow::SnowPlasticity::project_deformation_gradient` answers `clampedOf self «singular_values»`.
 use borrow.Author.Needs.{needs}
 use lib.Ieee.{nan}
-use Rattle.tensor.specs.Axes.{of-one}
+use Rattle.tensor.proofs.Axes.{of-one}
 use Rattle.plasticity_snow.specs.Clamp.{clampedOf}
 use Rattle.plasticity_snow.proofs.SnowPlasticity.project_deformation_gradient.Statement.{statement}
 use Rattle.plasticity_snow.proofs.SnowPlasticity.project_deformation_gradient.Tie as tie

@@ -2,7 +2,7 @@
 use borrow.Author.Needs.{needs}
 use Rattle.walk.specs.Update.{inThree}
 use mathlib.Core.Path.{_≡_, _∙_}
-use Rattle.reason.specs.Why.{why-exactly}
+use Rattle.reason.proofs.Why.{why-exactly}
 use Rattle.plasticity_snow.specs.Over.{snowWalk}
 use Rattle.plasticity_snow.specs.Reason.{boundsOf}
 use Rattle.plasticity_snow.proofs.Laws.{inputs-law}

@@ -1,8 +1,8 @@
 -- `plasticity_snow::SnowPlasticity::run` answers `updatedOf s (result (runWalk self u vt s))`.
 use borrow.Author.Needs.{needs}
-use Rattle.walk.specs.Body.{store-law}
+use Rattle.walk.proofs.Body.{store-law}
 use Rattle.walk.specs.Update.{inThree}
-use Rattle.walk.specs.Matrix.{value-product}
+use Rattle.walk.proofs.Matrix.{value-product}
 use Rattle.plasticity_snow.specs.Over.{hardenWalk}
 use Rattle.plasticity_snow.proofs.Laws.{bounds-numbers, run-law}
 use Rattle.plasticity_snow.proofs.SnowPlasticity.run.Statement.{statement}

@@ -5,9 +5,8 @@ use Rattle.record_why.proofs.listed.words.Tie as tie
 
 returns : tie.Need-returns
 returns c =
-    let c2 = c .before .before in
-    let t0 = c2 .w .given .1 in
-    simp (c .reason-words .ensures, t0)
+    let t0 = c .before .before .before .w .given .1 in
+    simp (c .reason-words .ensures, c .before .law-of .ensures, t0)
 
 returns-2 : tie.Need-returns-2
 returns-2 c =
@@ -30,5 +29,5 @@ returns-4 c =
 pub words-spec : {M : Type 1} → statement M
 words-spec =
     tie.close
-    (tie.spec (λ c. search needs) (λ c κs. search needs) (λ c. search needs) (λ c. search needs)
+    (tie.spec (λ c. search needs) (λ c κs. search needs) (λ c κs. search needs) (λ c. search needs) (λ c. search needs)
     (λ c. search needs) (λ c. search needs) returns returns-2 returns-3 returns-4)

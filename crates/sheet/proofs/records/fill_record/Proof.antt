@@ -14,13 +14,17 @@ fill-requires c κs =
     rw (c .before .floats-of .ensures) (q .0, omega (arith, q .1, m))
 
 returns : tie.Need-returns
-returns c = read-bare _ _ _ (c .before .before .before .before .before .before .before .before .before .before .pre .1) _ (rw (c .before .before .before .before .before .before .before .floats-of .ensures) at (c .before .before .before .before .before .fill .ensures)) (c .before .before .if1 .taken) _ (c .determinant .ensures)
+returns c =
+    let t = rw (c .before .whole .ensures) at (c .if1 .taken) in
+    read-whole _ _ _ (c .before .before .before .before .before .before .before .before .before .pre .1) _ (rw (c .before .before .before .before .before .before .floats-of .ensures) at (c .before .before .before .before .fill .ensures)) t
 
 returns-2 : tie.Need-returns-2
-returns-2 c = read-whole _ _ _ (c .before .before .before .before .before .before .before .before .pre .1) _ (rw (c .before .before .before .before .before .floats-of .ensures) at (c .before .before .before .fill .ensures)) (c .if1 .left)
+returns-2 c =
+    let t = rw (c .before .before .before .whole .ensures) at (c .before .before .if1 .left) in
+    read-bare _ _ _ (c .before .before .before .before .before .before .before .before .before .before .before .pre .1) _ (rw (c .before .before .before .before .before .before .before .before .floats-of .ensures) at (c .before .before .before .before .before .before .fill .ensures)) t _ (c .determinant .ensures)
 
 pub fill-record-spec : {M : Type 1} → statement M
 fill-record-spec =
     tie.close
-    (tie.spec (λ c κs. search needs) fill-requires (λ c κs. search needs) (λ c. search needs) (λ c. search needs)
-    returns (λ c. search needs) returns-2)
+    (tie.spec (λ c κs. search needs) fill-requires (λ c κs. search needs) (λ c. search needs) returns
+    (λ c κs. search needs) (λ c. search needs) (λ c. search needs) returns-2)

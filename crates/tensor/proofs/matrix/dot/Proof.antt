@@ -1,7 +1,7 @@
 -- `tensor::matrix::dot` answers `dotOf a b`.
 use borrow.Author.Needs.{needs}
 use lib.Ieee.{nan}
-use Rattle.tensor.specs.Axes.{of-two}
+use Rattle.tensor.proofs.Axes.{of-two}
 use Rattle.tensor.specs.Matrix.{dotOf, sumOf}
 use Rattle.tensor.proofs.matrix.dot.Statement.{statement}
 use Rattle.tensor.proofs.matrix.dot.Tie as tie

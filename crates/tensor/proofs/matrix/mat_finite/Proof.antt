@@ -1,7 +1,7 @@
 -- `tensor::matrix::mat_finite` answers `matFinite m`.
 use borrow.Author.Needs.{needs}
 use mathlib.Core.List.{[]}
-use Rattle.tensor.specs.Axes.{of-one}
+use Rattle.tensor.proofs.Axes.{of-one}
 use Rattle.tensor.specs.Finite.{matFinite}
 use Rattle.tensor.proofs.matrix.mat_finite.Statement.{statement}
 use Rattle.tensor.proofs.matrix.mat_finite.Tie as tie

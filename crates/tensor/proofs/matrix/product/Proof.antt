@@ -1,7 +1,7 @@
 -- `tensor::matrix::product` answers `productOf s`.
 use borrow.Author.Needs.{needs}
 use lib.Ieee.{nan}
-use Rattle.tensor.specs.Axes.{of-one}
+use Rattle.tensor.proofs.Axes.{of-one}
 use Rattle.tensor.specs.Matrix.{productOf}
 use Rattle.tensor.proofs.matrix.product.Statement.{statement}
 use Rattle.tensor.proofs.matrix.product.Tie as tie

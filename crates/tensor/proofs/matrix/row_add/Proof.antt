@@ -1,7 +1,7 @@
 -- `tensor::matrix::row_add` answers `rowAddOf a b`.
 use borrow.Author.Needs.{needs}
 use lib.Ieee.{nan}
-use Rattle.tensor.specs.Axes.{of-two}
+use Rattle.tensor.proofs.Axes.{of-two}
 use Rattle.tensor.specs.Matrix.{rowAddOf}
 use Rattle.tensor.proofs.matrix.row_add.Statement.{statement}
 use Rattle.tensor.proofs.matrix.row_add.Tie as tie

@@ -1,7 +1,7 @@
 -- `tensor::matrix::row_finite` answers `rowFinite a`.
 use borrow.Author.Needs.{needs}
 use lib.Ieee.{nan}
-use Rattle.tensor.specs.Axes.{of-one}
+use Rattle.tensor.proofs.Axes.{of-one}
 use Rattle.tensor.specs.Finite.{rowFinite}
 use Rattle.tensor.proofs.matrix.row_finite.Statement.{statement}
 use Rattle.tensor.proofs.matrix.row_finite.Tie as tie

@@ -1,7 +1,7 @@
 -- `tensor::matrix::row_scale` answers `rowScaleOf k a`.
 use borrow.Author.Needs.{needs}
 use lib.Ieee.{nan}
-use Rattle.tensor.specs.Axes.{of-one}
+use Rattle.tensor.proofs.Axes.{of-one}
 use Rattle.tensor.specs.Matrix.{rowScaleOf}
 use Rattle.tensor.proofs.matrix.row_scale.Statement.{statement}
 use Rattle.tensor.proofs.matrix.row_scale.Tie as tie

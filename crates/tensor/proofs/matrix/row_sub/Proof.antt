@@ -1,7 +1,7 @@
 -- `tensor::matrix::row_sub` answers `rowSubOf a b`.
 use borrow.Author.Needs.{needs}
 use lib.Ieee.{nan}
-use Rattle.tensor.specs.Axes.{of-two}
+use Rattle.tensor.proofs.Axes.{of-two}
 use Rattle.tensor.specs.Matrix.{rowSubOf}
 use Rattle.tensor.proofs.matrix.row_sub.Statement.{statement}
 use Rattle.tensor.proofs.matrix.row_sub.Tie as tie

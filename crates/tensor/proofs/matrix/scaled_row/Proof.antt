@@ -1,7 +1,7 @@
 -- `tensor::matrix::scaled_row` answers `scaledRowOf u s`.
 use borrow.Author.Needs.{needs}
 use lib.Ieee.{nan}
-use Rattle.tensor.specs.Axes.{of-two}
+use Rattle.tensor.proofs.Axes.{of-two}
 use Rattle.tensor.specs.Matrix.{scaledRowOf}
 use Rattle.tensor.proofs.matrix.scaled_row.Statement.{statement}
 use Rattle.tensor.proofs.matrix.scaled_row.Tie as tie

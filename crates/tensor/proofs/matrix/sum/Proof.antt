@@ -1,7 +1,7 @@
 -- `tensor::matrix::sum` answers `sumOf e`.
 use borrow.Author.Needs.{needs}
 use lib.Ieee.{nan}
-use Rattle.tensor.specs.Axes.{of-one}
+use Rattle.tensor.proofs.Axes.{of-one}
 use Rattle.tensor.specs.Matrix.{sumOf}
 use Rattle.tensor.proofs.matrix.sum.Statement.{statement}
 use Rattle.tensor.proofs.matrix.sum.Tie as tie

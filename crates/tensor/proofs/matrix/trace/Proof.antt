@@ -1,7 +1,7 @@
 -- `tensor::matrix::trace` answers `traceOf m`.
 use borrow.Author.Needs.{needs}
 use mathlib.Core.List.{[]}
-use Rattle.tensor.specs.Axes.{of-one}
+use Rattle.tensor.proofs.Axes.{of-one}
 use Rattle.tensor.specs.Matrix.{traceOf, sumOf}
 use Rattle.tensor.proofs.matrix.trace.Statement.{statement}
 use Rattle.tensor.proofs.matrix.trace.Tie as tie

@@ -2,7 +2,7 @@
 use Rattle.tensor.specs.Number.{matNumber}
 use borrow.Author.Needs.{needs}
 use mathlib.Core.List.{[]}
-use Rattle.tensor.specs.Axes.{of-one}
+use Rattle.tensor.proofs.Axes.{of-one}
 use Rattle.tensor.proofs.number.mat_number.Statement.{statement}
 use Rattle.tensor.proofs.number.mat_number.Tie as tie
 

@@ -1,7 +1,7 @@
 -- `tensor::number::row_number` answers `rowNumber a`.
 use borrow.Author.Needs.{needs}
 use lib.Ieee.{nan}
-use Rattle.tensor.specs.Axes.{of-one}
+use Rattle.tensor.proofs.Axes.{of-one}
 use Rattle.tensor.specs.Number.{rowNumber}
 use Rattle.tensor.proofs.number.row_number.Statement.{statement}
 use Rattle.tensor.proofs.number.row_number.Tie as tie

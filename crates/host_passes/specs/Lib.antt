@@ -1,0 +1,4 @@
+pub mod Inner
+pub mod Passes
+pub mod Update
+pub mod Zones

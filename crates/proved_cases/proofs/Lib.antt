@@ -1,0 +1,5 @@
+pub mod Alpha
+pub mod Example
+pub mod Friction
+pub mod SheetExample
+pub mod Table
