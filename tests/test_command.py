@@ -382,7 +382,7 @@ class Built(InFolder):
     def setUp(self):
         super().setUp()
         self.top = self.folder / "repository"
-        for part in ("bin/slope", "tools/built", "calls.toml", "VERSION"):
+        for part in ("bin/slope", "tools/built", "tools/prove", "tools/jobs", "calls.toml", "VERSION"):
             (self.top / part).parent.mkdir(parents=True, exist_ok=True)
             shutil.copy(TOP / part, self.top / part)
         (self.top / "crates.txt").write_text("numbers:   # a crate\nslope: numbers io # the program\nhost: numbers\nother:\n")
@@ -418,6 +418,10 @@ class Built(InFolder):
         path = self.folder / "asked"
         return path.read_text().splitlines() if path.exists() else []
 
+    def proofs(self):
+        """How often the program was proved."""
+        return self.asked().count("check slope")
+
     def slope(self):
         return self.run_command(self.top / "bin" / "slope", self.sheet)
 
@@ -429,7 +433,7 @@ class Built(InFolder):
         self.assertIn("2 crates, about ", ran.stderr.decode())
         self.assertEqual(len(ran.stderr.decode().splitlines()), 3)
         self.assertEqual(self.slope().stderr, b"")
-        self.assertEqual(self.asked(), ["check slope"])
+        self.assertEqual(self.asked(), ["check numbers", "check slope"])
 
     def test_a_changed_source_is_proved_anew(self):
         self.slope()
@@ -438,7 +442,7 @@ class Built(InFolder):
         (self.top / "crates" / "numbers" / "proofs").mkdir()
         (self.top / "crates" / "numbers" / "proofs" / "a.antt").write_text("")
         self.slope()
-        self.assertEqual(len(self.asked()), 3)
+        self.assertEqual(self.proofs(), 3)
 
     def test_the_sources_are_read_once_a_change(self):
         """Also where a change keeps size and time of writing."""
@@ -465,7 +469,7 @@ class Built(InFolder):
         self.assertGreater(reads(), 0)
         (self.top / "crates" / "numbers" / "src" / "more.rt").write_text("")
         self.slope()
-        self.assertEqual((reads() > 0, len(self.asked())), (True, 3))
+        self.assertEqual((reads() > 0, self.proofs()), (True, 3))
 
     def test_an_installation_has_its_own_parts(self):
         (self.top / "crates.txt").unlink()
@@ -486,13 +490,13 @@ class Built(InFolder):
         lines = (self.top / "crates.txt").read_text()
         (self.top / "crates.txt").write_text(lines.replace("a crate", "another word of it"))
         self.slope()
-        self.assertEqual(len(self.asked()), 1)
+        self.assertEqual(self.proofs(), 1)
 
     def test_the_gate_may_empty_target(self):
         self.slope()
         shutil.rmtree(self.top / "target")
         self.ended(self.slope(), 3, "sheet refused 4\n")
-        self.assertEqual(len(self.asked()), 1)
+        self.assertEqual(self.proofs(), 1)
 
     def test_nothing_is_proved_unasked(self):
         for part in ("program", "archive", "library"):
@@ -500,7 +504,7 @@ class Built(InFolder):
         self.slope()
         (self.top / "crates" / "slope" / "src" / "lib.rt").write_text("changed")
         self.ended(self.built("program"), 1, "", "of other sources")
-        self.assertEqual(len(self.asked()), 1)
+        self.assertEqual(self.proofs(), 1)
 
     def test_the_archive_is_proved_once(self):
         path = self.top / ".built" / "libhost.a"
@@ -509,6 +513,21 @@ class Built(InFolder):
         self.ended(self.built("archive"), 0, "%s\n" % path)
         self.assertEqual(self.asked(), ["check numbers", "staticlib host"])
 
+    def test_each_crate_is_proved_after_what_it_needs_the_longest_way_first(self):
+        (self.top / "crates.txt").write_text("low:\nnumbers: low\nlong: low io\nhigh: long\nbeside: low\nslope: numbers high beside\nother: low\n")
+        for crate, lines in (("low", 1), ("numbers", 9), ("long", 2), ("high", 8), ("beside", 1)):
+            source = self.top / "crates" / crate / "src" / "lib.rt"
+            source.parent.mkdir(parents=True, exist_ok=True)
+            source.write_text("//\n" * lines)
+        self.ended(self.run_command(self.top / "tools" / "prove", "slope", RT_JOBS="1"), 0)
+        self.assertEqual(self.asked(), ["check %s" % crate for crate in ("low", "long", "numbers", "high", "beside", "slope")])
+        (self.folder / "asked").unlink()
+        self.ended(self.run_command(self.top / "tools" / "prove", "--below", "slope", RT_JOBS="3"), 0)
+        self.assertEqual((self.asked()[0], sorted(self.asked())), ("check low", ["check beside", "check high", "check long", "check low", "check numbers"]))
+        self.assertFalse((self.top / "target" / "lanes").exists())
+        self.ended(self.run_command(self.top / "tools" / "prove"), 2, "", "tools/prove [--below] NAME")
+        self.ended(self.run_command(self.top / "tools" / "prove", "none"), 2, "", "no crate none")
+
     def test_without_a_toolchain(self):
         (self.folder / "kit" / "rt").unlink()
         paths = [p for p in self.environment["PATH"].split(":") if not (pathlib.Path(p) / "rt").exists()]
@@ -516,10 +535,15 @@ class Built(InFolder):
         self.ended(self.slope(), 1, "", "no Rattle toolchain")
 
     def test_a_proof_that_fails(self):
-        self.toolchain("echo 'why it failed'; echo 'rt: slope NOT PROVED: its dependency numbers is not proved'; exit 1")
-        self.ended(self.slope(), 1, "", "\nslope NOT PROVED: ")
+        self.toolchain("[ $2 = numbers ] || { echo 'why it failed'; echo 'rt: slope NOT PROVED (exit 1, 1 s)'; exit 1; }")
+        self.ended(self.slope(), 1, "", "\nslope NOT PROVED (")
         self.ended(self.slope(), 1, "", "slope.log")
-        self.assertEqual(len(self.asked()), 2)
+        self.assertEqual(self.proofs(), 2)
+
+    def test_nothing_is_proved_above_a_proof_that_fails(self):
+        self.toolchain("echo 'rt: numbers NOT PROVED (exit 1, 1 s)'; exit 1")
+        self.ended(self.slope(), 1, "", "\nnumbers NOT PROVED (")
+        self.assertEqual(self.asked(), ["check numbers"])
 
     def test_sources_that_change_meanwhile(self):
         self.toolchain("echo >>crates/numbers/src/lib.rt")

@@ -542,7 +542,7 @@ Made by `tools/calls.py` from the first sentence of each: don't edit. `COMMAND -
 """
 COMMANDS = (
     ("For people", "bin/slope tools/sheet.py tools/draw.py tools/night tools/night_job.py tools/report.py tools/arrive.py install.sh"),
-    ("For hosts and for the build", "tools/built tools/jobs tools/shared tools/samples.py"),
+    ("For hosts and for the build", "tools/built tools/prove tools/jobs tools/shared tools/samples.py"),
     ("The gate's parts", "tools/table tools/calls.py tools/no_division.py tools/reasons.py tools/list_cases.py tools/check_cases.py tools/vectors.py tools/twice.py tools/believe.py tools/joint tools/edits-check"),
     ("Tests", "tests/all tests/test_all.py tests/test_command.py tests/test_install.py tests/test_night.py bindings/test bindings/guide.py tools/test_tools.py tools/test_table.py tools/cases.py tools/faults.py fuzz/run"),
     ("Beside the Rust, and measured", "beside/run beside/flat/run beside/factors/run beside/speed beside/page.py beside/waits tools/measure/accuracy.py tools/measure/surface.py "
