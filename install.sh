@@ -5,7 +5,7 @@
 #   ./install.sh [PREFIX] --uninstall
 #
 # PREFIX          where to install; default /usr/local. With DESTDIR in the environment everything goes below $DESTDIR$PREFIX
-# --lib FILE      takes the ready archive FILE (libhost.a)
+# --lib FILE      takes the ready archive FILE (libpasoletu.a)
 # --program FILE  takes the ready program FILE (slope)
 #                 With either, nothing is proved: a part that is neither named nor built yet is left out
 # --uninstall     removes what was installed below PREFIX, and nothing else

@@ -1,7 +1,7 @@
 // Made by tools/table from calls.toml: edit that, not this file.
 use super::{c, Call, GAMMA, NUMBER};
 
-// The numbers of the calls, as crates/replay has them too; of an update, one for each model.
+// The numbers of the calls, as tests/replay has them too; of an update, one for each model.
 pub const EXP: usize = 0;
 pub const LN: usize = 1;
 pub const SINH: usize = 2;
@@ -42,7 +42,7 @@ pub const DECOMPOSED_TIMES: usize = 39;
 pub const NEO_HOOKEAN_STRESS_AND_VERDICT: usize = 40;
 pub const COROTATED_STRESS_AND_VERDICT: usize = 41;
 
-// Numbers that crates/replay alone has; of a call with a model, the first of one for each.
+// Numbers that tests/replay alone has; of a call with a model, the first of one for each.
 pub const REPLAYED_FLAT_UPDATE: usize = 42;
 pub const REPLAYED_PASS_WITH_FAILURE: usize = 46;
 pub const REPLAYED_WHY: usize = 50;

@@ -1,5 +1,5 @@
 // Runs a target without libFuzzer, as under an emulator: each input comes from the last by mutate.h, or from nothing.
-//   cc -O2 -ffp-contract=off -DTARGET=5 fuzz/harness.c fuzz/alone.c libhost.a -lm -o alone && ./alone RUNS [SEED]
+//   cc -O2 -ffp-contract=off -DTARGET=5 fuzz/harness.c fuzz/alone.c libpasoletu.a -lm -o alone && ./alone RUNS [SEED]
 // The first thing that does not hold stops the run; at its end stands how many inputs were taken.
 #include <stddef.h>
 #include <stdint.h>

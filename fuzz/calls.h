@@ -1,5 +1,5 @@
 // Made by tools/table from calls.toml: edit that, not this file.
-// The C calls that are fuzzed, with every float as its bits.
+// The C calls that are fuzzed, with every float of a list as its bits.
 #include <stddef.h>
 #include <stdint.h>
 
@@ -30,9 +30,9 @@ uint8_t pasoletu_record_neo_hookean_fpk_stress(const uint64_t *law, size_t law_l
 uint8_t pasoletu_record_neo_hookean_elastic_energy_density(const uint64_t *law, size_t law_length,
                                                            const uint64_t *record, size_t record_length, uint64_t *out,
                                                            size_t out_length);
-uint8_t pasoletu_record_neo_hookean_elastic_energy_density_in(const uint64_t *law, size_t law_length,
-                                                              uint64_t one_split, const uint64_t *record,
-                                                              size_t record_length, uint64_t *out, size_t out_length);
+uint8_t pasoletu_record_neo_hookean_elastic_energy_density_in(const uint64_t *law, size_t law_length, double one_split,
+                                                              const uint64_t *record, size_t record_length,
+                                                              uint64_t *out, size_t out_length);
 uint8_t pasoletu_record_neo_hookean_pos_energy(const uint64_t *law, size_t law_length, const uint64_t *record,
                                                size_t record_length, uint64_t *out, size_t out_length);
 uint8_t pasoletu_record_corotated_elastic_energy_density(const uint64_t *law, size_t law_length, const uint64_t *record,

@@ -11,7 +11,9 @@
 
 #define PAGE 4096
 #define MARK 0x7ff4dead0badf00dULL
+#ifndef LARGEST
 #define LARGEST (16 * PAGE)
+#endif
 
 static uint64_t marks[LARGEST / 8];
 
@@ -21,21 +23,21 @@ struct room {
     uint8_t *want;       // what the pages are to hold after the call
 };
 
-static uint8_t *view(int file, size_t bytes, int protection) {
+static inline uint8_t *view(int file, size_t bytes, int protection) {
     uint8_t *p = mmap(NULL, bytes + 2 * PAGE, PROT_NONE, MAP_PRIVATE | MAP_ANONYMOUS, -1, 0);
     if (p == MAP_FAILED || mmap(p + PAGE, bytes, protection, MAP_SHARED | MAP_FIXED, file, 0) == MAP_FAILED) {
-        perror("fuzz: mmap");
+        perror("rooms: mmap");
         exit(2);
     }
     return p + PAGE;
 }
 
-static struct room room_of(size_t bytes) {
+static inline struct room room_of(size_t bytes) {
     struct room r;
     r.bytes = (bytes + PAGE - 1) / PAGE * PAGE;
     int file = memfd_create("room", 0);
     if (file < 0 || ftruncate(file, r.bytes)) {
-        perror("fuzz: memfd_create");
+        perror("rooms: memfd_create");
         exit(2);
     }
     r.write = view(file, r.bytes, PROT_READ | PROT_WRITE);
@@ -48,7 +50,7 @@ static struct room room_of(size_t bytes) {
 }
 
 // The last n words of the pages, which have at most LARGEST bytes; all the words are marked, then these hold what is given (marks where nothing is).
-static uint64_t *lend(struct room *r, const uint64_t *given, size_t n) {
+static inline uint64_t *lend(struct room *r, const uint64_t *given, size_t n) {
     size_t at = r->bytes - 8 * n;
     memcpy(r->write, marks, r->bytes);
     memcpy(r->want, marks, r->bytes);
@@ -60,13 +62,13 @@ static uint64_t *lend(struct room *r, const uint64_t *given, size_t n) {
 }
 
 // The same, only to be read.
-static const uint64_t *show(struct room *r, const uint64_t *given, size_t n) {
+static inline const uint64_t *show(struct room *r, const uint64_t *given, size_t n) {
     if (n)
         memcpy(r->write + r->bytes - 8 * n, given, 8 * n);
     return (const uint64_t *)(r->read + r->bytes - 8 * n);
 }
 
-static const uint8_t *show_bytes(struct room *r, const uint8_t *given, size_t n, int at_start) {
+static inline const uint8_t *show_bytes(struct room *r, const uint8_t *given, size_t n, int at_start) {
     size_t at = at_start ? 0 : r->bytes - n;
     if (n)
         memcpy(r->write + at, given, n);
@@ -74,20 +76,25 @@ static const uint8_t *show_bytes(struct room *r, const uint8_t *given, size_t n,
 }
 
 // The last n bytes of the pages, all of which are marked.
-static uint8_t *lend_bytes(struct room *r, size_t n) {
+static inline uint8_t *lend_bytes(struct room *r, size_t n) {
     return (uint8_t *)lend(r, NULL, 0) - n;
 }
 
 // Where the lent list of n bytes is to hold what it should.
-static uint8_t *wanted_bytes(struct room *r, size_t n) {
+static inline uint8_t *wanted_bytes(struct room *r, size_t n) {
     return r->want + r->bytes - n;
 }
 
 // Where the lent list of n words is to hold what it should.
-static uint64_t *wanted(struct room *r, size_t n) {
+static inline uint64_t *wanted(struct room *r, size_t n) {
     return (uint64_t *)(r->want + r->bytes) - n;
 }
 
-static int kept(const struct room *r) {
+static inline int kept(const struct room *r) {
     return memcmp(r->write, r->want, r->bytes) == 0;
+}
+
+// Whether all that stands before the lent list of n bytes is as it was.
+static inline int kept_before(const struct room *r, size_t n) {
+    return memcmp(r->write, r->want, r->bytes - n) == 0;
 }

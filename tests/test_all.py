@@ -1,5 +1,5 @@
 #!/usr/bin/env python3
-"""Tests of tests/all itself: how it counts, and that nothing that went wrong or was left out stays unnamed: tests/test_all.py"""
+"""Tests of tests/all and tests/linked themselves: how they count, and that nothing that went wrong or was left out stays unnamed: tests/test_all.py"""
 import contextlib
 import importlib.machinery
 import importlib.util
@@ -16,9 +16,16 @@ import unittest.mock
 from test_command import TOP
 
 sys.dont_write_bytecode = True
-LOADER = importlib.machinery.SourceFileLoader("tests_all", str(TOP / "tests" / "all"))
-ALL = importlib.util.module_from_spec(importlib.util.spec_from_loader("tests_all", LOADER))
-LOADER.exec_module(ALL)
+
+
+def loaded(name):
+    loader = importlib.machinery.SourceFileLoader("tests_" + name, str(TOP / "tests" / name))
+    module = importlib.util.module_from_spec(importlib.util.spec_from_loader("tests_" + name, loader))
+    loader.exec_module(module)
+    return module
+
+
+ALL, LINKED = loaded("all"), loaded("linked")
 
 SUITE = '''\
 import unittest
@@ -63,6 +70,22 @@ class Reads(unittest.TestCase):
         self.assertEqual(ALL.targets("a: 5 inputs in 1 s (5 a second), 0 faults\nb: 0 inputs in 0 s (0 a second), 1 faults\n5 inputs, 1 faults\n", 1)[:2], (1, 1))
         self.assertEqual(ALL.targets("clang is not here\n", 2)[:2], (0, 1))
         self.assertEqual((ALL.alone("", 0)[:2], ALL.alone("", 2)[:2]), ((1, 0), (0, 1)))
+
+
+class Linked(unittest.TestCase):
+    """The C programs over the archive."""
+
+    def test_what_is_printed_is_held_to_what_must_be(self):
+        wanted = b"a: 1\nb: 2\n"
+        for text, status, wrong, right in ((wanted, 0, [], 2), (b"why\n" + wanted, 1, ["why"], 2), (b"a: 1\nb: 3\n", 1, ["b: 3", "not printed: b: 2"], 1),
+                                           (b"b: 2\na: 1\n", 0, ["the lines are in another order, or one stands twice"], 2), (wanted, 1, ["it ended with status 1"], 2),
+                                           (wanted[:-1], 0, ["not printed: b: 2"], 1), (b"", -11, ["not printed: a: 1", "not printed: b: 2", "it ended with status -11"], 0)):
+            self.assertEqual(LINKED.differences(text, wanted, status), (wrong, right))
+
+    def test_no_compiler_is_named(self):
+        for name in ("replay", "list_cases"):
+            with unittest.mock.patch.object(ALL.shutil, "which", lambda name: None), self.assertRaisesRegex(ALL.LeftOut, "no C compiler for x86-64"):
+                ALL.PARTS[name].words(ALL.Parts("lib.a", "slope", None))
 
 
 class Runs(unittest.TestCase):

@@ -385,8 +385,8 @@ class Built(InFolder):
         for part in ("bin/slope", "tools/built", "tools/prove", "tools/jobs", "calls.toml", "VERSION"):
             (self.top / part).parent.mkdir(parents=True, exist_ok=True)
             shutil.copy(TOP / part, self.top / part)
-        (self.top / "crates.txt").write_text("numbers:   # a crate\nslope: numbers io # the program\nhost: numbers\nother:\n")
-        for crate in ("numbers", "slope", "host", "other"):
+        (self.top / "crates.txt").write_text("numbers:   # a crate\nslope: numbers io # the program\nhost: numbers\nhost_passes: numbers\nhost_sheets: numbers\nother:\n")
+        for crate in ("numbers", "slope", "host", "host_passes", "host_sheets", "other"):
             script(self.top / "crates" / crate / "src" / "lib.rt", self.program("sheet refused 4"))
         self.sheet = self.top / "a.sheet"
         self.sheet.write_bytes(b"")
@@ -403,12 +403,15 @@ class Built(InFolder):
             %s
             mkdir -p target/bin target/staticlib
             cp crates/slope/src/lib.rt target/bin/slope
-            cp crates/host/src/lib.rt target/staticlib/libhost.a
             for line in $(seq 400); do echo "note: $line"; done
             echo 'rt: numbers proved (1 s)'
             case $1 in
             check) [ "$2" != slope ] || echo 'rt: slope proved (2 s)' ;;
-            staticlib) echo 'rt: target/staticlib/libhost.a has the functions of host' ;;
+            staticlib)
+                cp crates/$2/src/lib.rt lib.o
+                ar rcs target/staticlib/lib$2.a lib.o
+                echo "rt: target/staticlib/lib$2.a has the functions of $2"
+                ;;
             esac
             echo 'rt: ok, 2 crates proved'
             """ % (self.folder / "asked", before))
@@ -507,11 +510,13 @@ class Built(InFolder):
         self.assertEqual(self.proofs(), 1)
 
     def test_the_archive_is_proved_once(self):
-        path = self.top / ".built" / "libhost.a"
-        self.ended(self.built("--prove", "archive"), 0, "%s\n" % path, "[ 2/2] host proved\n")
+        path = self.top / ".built" / "libpasoletu.a"
+        self.ended(self.built("--prove", "archive"), 0, "%s\n" % path, "[ 4/4] host")
         self.ended(self.built("--prove", "archive"), 0, "%s\n" % path)
         self.ended(self.built("archive"), 0, "%s\n" % path)
-        self.assertEqual(self.asked(), ["check numbers", "staticlib host"])
+        self.assertEqual((self.asked()[0], sorted(self.asked()[1:])), ("check numbers", ["staticlib host", "staticlib host_passes", "staticlib host_sheets"]))
+        objects = subprocess.run(["ar", "t", path], capture_output=True, text=True).stdout.split()
+        self.assertEqual(objects, ["host.lib.o", "host_passes.lib.o", "host_sheets.lib.o"])
 
     def test_each_crate_is_proved_after_what_it_needs_the_longest_way_first(self):
         (self.top / "crates.txt").write_text("low:\nnumbers: low\nlong: low io\nhigh: long\nbeside: low\nslope: numbers high beside\nother: low\n")
@@ -522,10 +527,10 @@ class Built(InFolder):
         self.ended(self.run_command(self.top / "tools" / "prove", "slope", RT_JOBS="1"), 0)
         self.assertEqual(self.asked(), ["check %s" % crate for crate in ("low", "long", "numbers", "high", "beside", "slope")])
         (self.folder / "asked").unlink()
-        self.ended(self.run_command(self.top / "tools" / "prove", "--below", "slope", RT_JOBS="3"), 0)
-        self.assertEqual((self.asked()[0], sorted(self.asked())), ("check low", ["check beside", "check high", "check long", "check low", "check numbers"]))
+        self.ended(self.run_command(self.top / "tools" / "prove", "high", "beside", RT_JOBS="3"), 0)
+        self.assertEqual(self.asked(), ["check low", "check long", "check high beside"])
         self.assertFalse((self.top / "target" / "lanes").exists())
-        self.ended(self.run_command(self.top / "tools" / "prove"), 2, "", "tools/prove [--below] NAME")
+        self.ended(self.run_command(self.top / "tools" / "prove"), 2, "", "tools/prove [--archive] NAME")
         self.ended(self.run_command(self.top / "tools" / "prove", "none"), 2, "", "no crate none")
 
     def test_without_a_toolchain(self):

@@ -46,7 +46,10 @@ REQUIRES = [
     ("record: finite_bits", "that what is written is finite"),
     ("record: store_row store_rows", "that what is written is finite, and a place inside the list"),
     ("particles: copy", "two lists of one length"),
-    ("particles: one", "of one record of a pass and its answers: that the record and its two places are inside the lists"),
+    ("particles: take_step", "a list of a record's length, and that what was made ready is finite, as `particles::ready_for` leaves it"),
+    ("particles: finite_step", "that too, and that the record's floats are finite"),
+    ("particles: write_answer", "that the two places are inside the list, and that an amount which is stored is finite"),
+    ("particles: count_one", "that no count is near the end of its range, as in a pass none is: it counts records of a list"),
     ("writer: write_words", "that the room has place for the words, as bytes"),
     ("model: model_of", "that the number is one of the eight and each flag is one, which `model::known` tells: every caller has asked it, or has read a header, which names such a model (`sheet/proofs/Known: read-known`)"),
     ("model: write_scalars", "a list of a record's length, and that what is written is finite"),
@@ -68,6 +71,7 @@ INNER = [
         "the verdict on principal stresses that are handed in. `particles` asks it (the pass with failure, on those of its own rule) and `solid` (on those of the stress that it answers); "
         "sections 5 and 8 (P10, P11) are stated of it",
     ),
+    ("plasticity_*: branch_number", "the branch of a test by the number that is handed in, whichever it is. `model::branch` asks it, of the test that a law has told"),
     ("elasticity_neo_hookean: kirchhoff", "the stress with a determinant that is handed in. `solid` asks it, and answers it with its verdict"),
     ("solid: judged::refused_judged", "`host_lists` asks it, of a list of the wrong length"),
     (
@@ -124,17 +128,17 @@ NANS = [
     ),
     (
         "plasticity: refuse; flat: refuse untouched stored; host_lists: sized sized_vector sized_matrix sized_judged flagged flagged_judged put put_pair put_vector put_matrix put_judged; "
-        "record_why: words call_refusal",
+        "record_why: words call_refusal; particles: count_one",
         "handed on: a state as it came, or an answer that its call has tested. Of `flat::stored` 3 where it is in F or sigma; `named` says that the other numbers are finite",
     ),
     (
         "record: word float write_row write_rows determinant determinant_with; particles: copy fill_determinants; writer: write_words; host_lists: row matrix decomposed; model: rankine "
-        "drucker_prager model_of fit known; host_lists: neo_hookean corotated limits; host: pasoletu_fill_determinants",
+        "drucker_prager model_of fit known; host_lists: neo_hookean corotated limits; host_passes: pasoletu_fill_determinants",
         "read, written or copied as it is, of a determinant as worked (7ff8000000000000); the law refuses that record or those parameters by 1",
     ),
     (
         "record: finite_bits read_f read_u read_vt read_state store_row store_rows determinant_right; plasticity_*: *::update_ready; "
-        "model: update_ready write_scalars",
+        "model: update_ready write_scalars; particles: write_answer",
         "none comes in: they require that all floats are finite",
     ),
     ("factors: factors_of principal_of", "as the sweeps work it: what comes out misses the check"),
@@ -145,7 +149,7 @@ NANS = [
         "flat: inputs_finite; plasticity_*: *::parameters_finite *::moduli_finite; "
         "elasticity_neo_hookean: NeoHookeanElasticity::law_finite NeoHookeanElasticity::is_fluid; elasticity_corotated_linear: CorotatedLinearElasticity::law_finite "
         "CorotatedLinearElasticity::is_fluid; eos_monaghan_sph: MonaghanSphEos::is_fluid; failure_maximum_stress: MaximumStressFailure::limits_finite; record: all_finite; "
-        "model: model_finite parameters_ready",
+        "model: model_finite parameters_ready; particles: judge_finite",
         "a test's answer",
     ),
     ("answer_text: put_sheet", "its bits in sixteen digits: an answer that its call has tested"),
@@ -161,7 +165,7 @@ FIRST = [
     "elasticity_*: *::new *::fpk_stress *::phase_coeff *::elastic_energy_density *::elastic_energy_density_in *::pos_energy",
     "eos_monaghan_sph: *::new *::pressure *::kirchhoff_stress *::timestep_bound; failure_maximum_stress: *::new *::particle_failed",
     "solid: *::stress_and_verdict *::fpk_stress *::elastic_energy_density *::elastic_energy_density_in *::pos_energy",
-    "particles: update_record pass* one; flat_particles: update_record pass; tallies: pass*; host_passes: *; host_sheets: *; host: pasoletu_*",
+    "particles: update_record pass* ready_for take_step finite_step; factored_particles: factor_* pass_*; flat_particles: update_record pass; tallies: pass*; host*: pasoletu_*",
 ]
 
 FLOATS, LISTS = r"\bf64\b", r"\[u64"
@@ -544,7 +548,7 @@ COMMANDS = (
     ("For people", "bin/slope tools/sheet.py tools/draw.py tools/night tools/night_job.py tools/report.py tools/arrive.py install.sh"),
     ("For hosts and for the build", "tools/built tools/prove tools/jobs tools/shared tools/samples.py"),
     ("The gate's parts", "tools/table tools/calls.py tools/no_division.py tools/reasons.py tools/list_cases.py tools/check_cases.py tools/vectors.py tools/twice.py tools/believe.py tools/joint tools/edits-check"),
-    ("Tests", "tests/all tests/test_all.py tests/test_command.py tests/test_install.py tests/test_night.py bindings/test bindings/guide.py tools/test_tools.py tools/test_table.py tools/cases.py tools/faults.py fuzz/run"),
+    ("Tests", "tests/all tests/linked tests/test_all.py tests/test_command.py tests/test_install.py tests/test_night.py bindings/test bindings/guide.py tools/test_tools.py tools/test_table.py tools/cases.py tools/faults.py fuzz/run"),
     ("Beside the Rust, and measured", "beside/run beside/flat/run beside/factors/run beside/speed beside/page.py beside/waits tools/measure/accuracy.py tools/measure/surface.py "
      "tools/measure/flat_surface.py tools/measure/replayed.py tools/measure/roots.c"),
 )

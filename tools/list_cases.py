@@ -1,14 +1,14 @@
 #!/usr/bin/env python3
-"""Makes the list of calls that the crate list_cases makes in the gate, with every lent list before and after.
+"""Makes the list of calls that the program tests/list_cases makes in the gate, with every lent list before and after.
 
-  tools/list_cases.py [FOLDER]            writes data/list and stdout below FOLDER (default: crates/list_cases)
+  tools/list_cases.py [FOLDER]            writes data/list and stdout below FOLDER (default: tests/list_cases)
   tools/list_cases.py --check [FOLDER]    makes both again and holds the files to them, byte by byte. The last line is 'N passed, M failed'
 
 What is expected is worked here and in tools/cases.py from docs/RULES.md and never by the library: by whole numbers, fractions, and Python's own
 floats in the order that RULES, section 4, fixes. Where a law's answer is asked for it is one that no bit of an elementary function goes into (each is
-worked again with these functions moved, and must be the same), or the Rust's own: the first stored entry of a law in crates/replay/data/list.
+worked again with these functions moved, and must be the same), or the Rust's own: the first stored entry of a law in tests/replay/data/list.
 
-The file is kinds of calls, one after the other: a name, the call's number in crates/list_cases/src/calls.rt, how many entries follow, and these. An
+The file is kinds of calls, one after the other: a name, the call's number in tests/list_cases/list_cases.c, how many entries follow, and these. An
 entry is the answer wanted, three numbers (model or particles; a move's particle and zone), the lists before (parameters, limits, corotated law, zones,
 records, answers, tallies, bytes; two reports stand first, counts, a header, a state and a report where tallies stand, progress where zones stand) and, as
 wanted, those after that can be written. Numbers are words of 8 bytes, low byte first. A list is its length, how many of its entries follow, the entry that
@@ -29,7 +29,7 @@ import replayed  # noqa: E402
 import shell  # noqa: E402
 from cases import Refused  # noqa: E402
 
-CRATE = shell.TOP / "crates" / "list_cases"
+PROGRAM = shell.TOP / "tests" / "list_cases"
 KINDS = ["pass", "pass_factored", "flat_pass", "factor_list", "fill_determinants", "pass_with_failure", "pass_factored_with_failure", "pass_by_zone",
          "pass_with_failure_by_zone", "clear_tallies", "move_particle", "read_sheet", "run_sheet", "write_sheet", "begin_parts", "part", "end_parts", "report", "join_reports"]
 LISTS = "plczratb"  # parameters, limits, corotated, zones, records, answers, tallies, bytes
@@ -195,7 +195,7 @@ def rust(law):
             ws = struct.unpack_from("<%dQ" % (n + FLOATS + 2), b, at + 2)
             if ws[-2] == 1:
                 return list(ws[:n - FLOATS]), list(ws[n - FLOATS:n]), list(ws[n:-2]), list(ws[-2:])
-    raise shell.Wrong("crates/replay/data/list has no stored update by law %d" % law)
+    raise shell.Wrong("tests/replay/data/list has no stored update by law %d" % law)
 
 
 # ---- passes
@@ -937,7 +937,7 @@ def work(args):
 def main(argv=None):
     about = argparse.ArgumentParser(description=__doc__, formatter_class=argparse.RawDescriptionHelpFormatter, usage=argparse.SUPPRESS)
     about.add_argument("--check", action="store_true")
-    about.add_argument("folder", nargs="?", type=pathlib.Path, default=CRATE, metavar="FOLDER")
+    about.add_argument("folder", nargs="?", type=pathlib.Path, default=PROGRAM, metavar="FOLDER")
     return shell.run("list_cases.py", work, about.parse_args(argv))
 
 

@@ -19,14 +19,20 @@ MADE = (
     "beside/table.rs",
     "beside/externs.rs",
     "fuzz/calls.h",
+    "tests/calls.h",
+    "tests/replay/numbers.h",
     "README.md",
     "docs/GUIDE.md",
     "docs/RULES.md",
     "docs/STEPS.md",
     "man/slope.1",
     "tools/sheet.py",
+    *(f"crates/model/proofs/rows/{function}/Proof.antt" for function in (
+        "shape_of", "branch", "model_of", "make_ready", "parameters_ready", "reason_of", "update_ready", "write_scalars",
+        "snow", "rankine", "drucker_prager", "nacc", "ready_rankine", "ready_nacc")),
+    *(f"crates/flat_particles/proofs/rows/{function}/Proof.antt" for function in ("update", "write_scalars")),
 )
-READ = ("VERSION", "calls.toml", "tools/table", "tools/making", "crates/answers/src", "crates/model/specs", "crates/host/src", "crates/replay/src")
+READ = ("VERSION", "calls.toml", "tools/table", "tools/making", "crates/answers/src", "crates/model/specs", "crates/host/src", "crates/host_passes/src", "crates/host_sheets/src")
 
 
 class Copy(unittest.TestCase):
@@ -66,7 +72,7 @@ class Check(Copy):
     def test_each_stale_file_is_told(self):
         for name in MADE:
             was = (self.top / name).read_text()
-            (self.top / name).write_text(re.sub(r"1\.0\.0|37|pasoletu_exp\(|\"exp\"|[Aa] NaN arose|0 is untouched|hardening_coeff", "7.7.7", was))
+            (self.top / name).write_text(re.sub(r"1\.0\.0|37|pasoletu_exp\(|\"exp\"|[Aa] NaN arose|0 is untouched|hardening_coeff|tie\.close", "7.7.7", was))
             with self.subTest(name):
                 self.told(name + " is stale")
             (self.top / name).write_text(was)
@@ -120,16 +126,25 @@ class Check(Copy):
 
     def test_a_call_that_the_proved_crate_lacks_is_told(self):
         self.edit("crates/host/src/lib.rt", "fn pasoletu_sin(", "fn pasoletu_sine(")
-        self.told("crates/host: pasoletu_sin has no such call")
+        self.told("crates/host*: pasoletu_sin has no such call")
         self.told("crates/host: pasoletu_sine is not in calls.toml")
 
     def test_an_argument_of_another_kind_is_told(self):
         self.edit("crates/host/src/lib.rt", "pasoletu_exp(x: f64", "pasoletu_exp(x: u64")
         self.told("crates/host: pasoletu_exp takes (u64, [] written), the table (f64, [] written)")
+        self.edit("crates/host_passes/src/updates.rt", "pasoletu_update(\n    model: u64", "pasoletu_update(\n    model: u32")
+        self.told("crates/host_passes: pasoletu_update takes (u32, [], [] written, [] written), the table (u64, [], [] written, [] written)")
 
-    def test_another_number_in_replay_is_told(self):
-        self.edit("crates/replay/src/elementary.rt", "if k == 3 {", "if k == 33 {")
-        self.told("crates/replay: call 3 is (None, 1, 1, 0), in the table ('sin', 1, 1, 0)")
+    def test_a_call_of_two_crates_is_told(self):
+        shutil.copy(self.top / "crates/host_passes/src/causes.rt", self.top / "crates/host_sheets/src/causes.rt")
+        self.told("crates/host_passes: pasoletu_why stands in crates/host_sheets too")
+
+    def test_another_number_or_length_in_replay_is_told(self):
+        for old, new in (("case 3: // sin", "case 33: // sin"), ("{1, 1, 1", "{1, 2, 1"), ("OUT(37, 2)", "OUT(37, 1)")):
+            was = (self.top / "tests/replay/numbers.h").read_text()
+            self.edit("tests/replay/numbers.h", old, new)
+            self.told("tests/replay/numbers.h is stale")
+            (self.top / "tests/replay/numbers.h").write_text(was)
 
     def test_another_flag_or_number_of_parameters_is_told(self):
         rows = "crates/model/specs/Rows.antt"
@@ -142,9 +157,12 @@ class Check(Copy):
         self.edit(rows, "rowOf Rankine =", "row of Rankine =")
         self.told("crates/model: the models are 3, in the table 4")
 
-    def test_another_length_in_replay_is_told(self):
-        self.edit("crates/replay/src/reading.rt", "    40,\n", "    39,\n")
-        self.told("crates/replay: call 20 is ('update 0', 39, 39, 37)")
+    def test_another_scalar_or_a_modulus_more_is_told(self):
+        rows = "crates/model/specs/Rows.antt"
+        self.edit(rows, "written = 5 ∷ 6 ∷ 8 ∷ [];", "written = 5 ∷ 6 ∷ 9 ∷ [];")
+        self.told("crates/model: DruckerPrager writes the parts [5, 6, 9], in the table [5, 6, 8]")
+        self.edit(rows, "lawReady (models.Nacc a) = naccReady (nacc-law.lawOf a)", "lawReady (models.Nacc a) = ready.Nacc (nacc-law.lawOf a)")
+        self.told("crates/model: Nacc has moduli to be worked: False, in the table True")
 
 
 class Rows(Copy):
@@ -181,6 +199,8 @@ whole = 9
 name = "von_mises"
 title = "von Mises"
 amount = "growth"
+written = ["LOG_GAIN", "ALPHA"]
+arguments_of = "new"
 beside = false
 instead = "nothing may stand for the limit"
 parameters = [{ name = "young_modulus" }, { name = "limit", default = 2.5 }, { name = "on", flag = true, left_out = 1.0 }]
@@ -190,7 +210,13 @@ parameters = [{ name = "young_modulus" }, { name = "limit", default = 2.5 }, { n
         for name, words in (("README.md", "NACC: alpha, von Mises: growth<!-- end -->"), ("man/slope.1", "(Snow, Rankine, Drucker-Prager, NACC or von Mises)\n"),
                             ("man/slope.1", "alpha (NACC), growth (von Mises).\n"), ("tools/sheet.py", "MODEL is snow, rankine, drucker_prager, nacc or von_mises. "),
                             ("tools/sheet.py", "\n  von_mises       young_modulus limit (2.5) on (1);\n                  nothing may stand for the limit\nIn brackets: "),
-                            ("tools/sheet.py", "its model's number is 4 to 7 or 9."), ("fuzz/calls.h", '"nacc", "von_mises"};'), ("beside/table.rs", "NO_MODEL: u64 = 10;")):
+                            ("tools/sheet.py", "its model's number is 4 to 7 or 9."), ("fuzz/calls.h", '"nacc", "von_mises"};'), ("beside/table.rs", "NO_MODEL: u64 = 10;"),
+                            ("crates/model/proofs/rows/shape_of/Proof.antt", "returns-von-mises c = rw (c .before .before .before .before .if1 .left, "),
+                            ("crates/model/proofs/rows/make_ready/Proof.antt", "c .before .ready-von-mises .ensures, c .before .before .law3 .ensures, "),
+                            ("crates/model/proofs/rows/write_scalars/Proof.antt", "returns-von-mises c = simp (c .finite-bits9 .ensures, c .before .finite-bits8 .ensures, "),
+                            ("crates/model/proofs/rows/von_mises/Proof.antt", "simp (c .word .ensures, c .before .float2 .ensures, c .before .before .float .ensures)"),
+                            ("crates/model/proofs/rows/ready_von_mises/Proof.antt", "pub ready-von-mises-spec :"),
+                            ("crates/flat_particles/proofs/rows/write_scalars/Proof.antt", "c .before .before .enum-told5 .given .1)")):
             self.assertIn(words, (self.top / name).read_text(), name)
         self.assertNotIn("VonMisesPlasticity", (self.top / "bindings/rust/src/table.rs").read_text())
         self.told("crates/model: the models are 4, in the table 5")
@@ -220,7 +246,7 @@ name = "ln\"""")
         self.assertEqual(self.run_table().returncode, 0)
         header = (self.top / "include/pasoletu.h").read_text()
         self.assertIn("pasoletu_cosine(double x, uint32_t k, const double *list, size_t list_length, uint64_t *out", header)
-        self.told("crates/host: pasoletu_cosine has no such call")
+        self.told("crates/host*: pasoletu_cosine has no such call")
 
     def test_rows_without_sense_are_told(self):
         wrongs = (
@@ -232,6 +258,8 @@ name = "ln\"""")
             ('writes = "out[1]"', 'writes = "out[]"', "call exp: a call with a number tells the lengths of all its lists"),
             ("retired = [25, 29, 35]", "retired = [29, 35]", "the numbers of beside/"),
             ('beside = "lists"', 'beside = "list"', "call pass: beside is 'list', which is neither"),
+            ('written = ["ALPHA"]', 'written = ["PHASE"]', "model nacc: it writes 'PHASE', which is none of PLASTIC_DETERMINANT, "),
+            ('written = ["ALPHA"]\n', "", "model nacc: it lacks written"),
         )
         was = (self.top / "calls.toml").read_text()
         for old, new, words in wrongs:

@@ -1502,12 +1502,12 @@ class Tools(InFolder):
         self.assertEqual((process.returncode, process.stderr), (0, b""))
 
     def test_another_word_in_the_list_of_list_cases_is_told(self):
-        crate = HERE.parent / "crates" / "list_cases"
-        held = bytearray((crate / "data" / "list").read_bytes())
+        program = HERE.parent / "tests" / "list_cases"
+        held = bytearray((program / "data" / "list").read_bytes())
         held[len(held) // 2] ^= 1
         (self.folder / "data").mkdir()
         (self.folder / "data" / "list").write_bytes(held)
-        (self.folder / "stdout").write_bytes((crate / "stdout").read_bytes())
+        (self.folder / "stdout").write_bytes((program / "stdout").read_bytes())
         process = ran("list_cases.py", "--check", self.folder, env=self.env)
         self.assertEqual(process.returncode, 1)
         self.assertRegex(process.stdout.decode(), r"is another than tools/list_cases.py makes\n\d+ passed, 1 failed\n$")
@@ -1518,7 +1518,7 @@ class Tools(InFolder):
         self.assertEqual(process.stdout, b"1497 passed, 0 failed\n")
 
     def test_another_side_in_the_replayed_list(self):
-        b = bytearray((HERE.parent / "crates" / "replay" / "data" / "list").read_bytes())
+        b = bytearray((HERE.parent / "tests" / "replay" / "data" / "list").read_bytes())
         b[731] = 12 - b[731]  # an exponential's: 10 for 2
         changed = self.folder / "list"
         changed.write_bytes(b)

@@ -1,5 +1,5 @@
 #!/usr/bin/env python3
-"""The list crates/replay/data/readings: calls with answers that second readings give, where the Rust has no such call.
+"""The list tests/replay/data/readings: calls with answers that second readings give, where the Rust has no such call.
 
   tools/vectors.py make [--library FILE]   writes the list. The numbers that `why` compared are the library's (FILE, or tools/built's), the others are worked here
   tools/vectors.py check                   makes the list again, with the numbers compared that stand in it, and holds it to its bytes and to its sources: a line
@@ -30,10 +30,10 @@ import cases  # noqa: E402
 import reasons  # noqa: E402
 import shell  # noqa: E402
 from cases import INF, NAN, SNOW, broken, record  # noqa: E402
-from making import proved  # noqa: E402
+from making import replay  # noqa: E402
 from making.rows import Table  # noqa: E402
 
-DATA = shell.TOP / "crates" / "replay" / "data"
+DATA = shell.TOP / "tests" / "replay" / "data"
 END = b"\xff"
 ONE = struct.unpack("<Q", struct.pack("<d", 1.0))[0]
 
@@ -53,9 +53,7 @@ Entry = collections.namedtuple("Entry", "call refusal inputs outputs")
 
 def lengths():
     """How many words go into each call and come out, by its number."""
-    table = Table(shell.TOP)
-    rows = {number: (proved.words_in(c, m), proved.beside_row(c, m)[1]) for number, c, m in table.numbered}
-    return rows | {number: proved.lengths_of(c, m, table.floats)[:2] for number, c, m in table.replayed}
+    return {number: widths[:2] for number, widths in replay.lengths(Table(shell.TOP)).items()}
 
 
 def numbers():
@@ -473,7 +471,7 @@ def check(args):
     entries, held, wrong = made(lambda call, inputs: (there.get((call, *inputs)) or [0] * 11)[8:])
     again = b"".join(map(spelled, entries)) + END
     if again != data:
-        wrong.append("crates/replay/data/readings is %d bytes and made again %d, and they are not the same" % (len(data), len(again)))
+        wrong.append("tests/replay/data/readings is %d bytes and made again %d, and they are not the same" % (len(data), len(again)))
     for line in wrong:
         print("tools/vectors.py: " + line)
     print("%d passed, %d failed" % (len(entries) + held - len(wrong), len(wrong)))
@@ -495,7 +493,7 @@ def make(args):
     if wrong:
         raise shell.Wrong("nothing was written: " + "; ".join(wrong))
     (DATA / "readings").write_bytes(b"".join(map(spelled, entries)) + END)
-    print("crates/replay/data/readings: %d entries" % len(entries))
+    print("tests/replay/data/readings: %d entries" % len(entries))
     return 0
 
 

@@ -13,8 +13,7 @@ fn stop(what: &str) -> ! {
 }
 
 /// The libraries that may stand in a folder, the first there is taken: the file, and what the linker is told.
-const LIBRARIES: [(&str, &str); 3] =
-    [("libpasoletu.a", "static=pasoletu"), ("libhost.a", "static=host"), ("libpasoletu.so", "dylib=pasoletu")];
+const LIBRARIES: [(&str, &str); 2] = [("libpasoletu.a", "static=pasoletu"), ("libpasoletu.so", "dylib=pasoletu")];
 
 struct Library {
     dir: PathBuf,
@@ -31,8 +30,7 @@ fn library_in(dir: &Path) -> Option<Library> {
 fn named() -> Option<Library> {
     let dir = PathBuf::from(env::var_os("PASOLETU_LIB_DIR")?);
     let library = library_in(&dir);
-    let nothing =
-        || stop(&format!("PASOLETU_LIB_DIR is {}, where no libpasoletu.a, libhost.a or libpasoletu.so is: {HOW}", dir.display()));
+    let nothing = || stop(&format!("PASOLETU_LIB_DIR is {}, where no libpasoletu.a or libpasoletu.so is: {HOW}", dir.display()));
     Some(library.unwrap_or_else(nothing))
 }
 

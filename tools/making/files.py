@@ -1,5 +1,5 @@
 """Which files are made, and from what."""
-from . import fuzz, header, help, pages, python, rust
+from . import fuzz, header, help, pages, proofs, python, replay, rust
 from .rows import BadTable
 
 MANIFESTS = ("bindings/rust/Cargo.toml", "bindings/rust/Cargo.lock", "bindings/rust/parallel/Cargo.toml")
@@ -22,8 +22,11 @@ def made(top, table):
         "beside/table.rs": rust.beside(table),
         "beside/externs.rs": rust.beside_externs(table),
         "fuzz/calls.h": fuzz.made(table),
+        "tests/calls.h": replay.calls(table),
+        "tests/replay/numbers.h": replay.numbers(table),
         **{name: renewed(name, rust.versioned) for name in MANIFESTS},
         **{name: renewed(name, pages.made(name)) for name in pages.PAGES},
         "man/slope.1": renewed("man/slope.1", pages.manual),
         "tools/sheet.py": renewed("tools/sheet.py", help.sheet),
+        **proofs.made(table),
     }

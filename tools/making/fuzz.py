@@ -1,24 +1,25 @@
-"""fuzz/calls.h: the calls on records, sheets and tallies, their floats as words."""
+"""fuzz/calls.h: the calls on records, sheets and tallies, the floats of their lists as words."""
 from .header import TYPES
 from .text import filled
 
 HEAD = """\
 // Made by tools/table from calls.toml: edit that, not this file.
-// The C calls that are fuzzed, with every float as its bits.
+// The C calls that are fuzzed, with every float of a list as its bits.
 #include <stddef.h>
 #include <stdint.h>
 """
 FUZZED = ("record", "records", "state", "tallies")
 
 
-def words(kind):
-    return TYPES["u64" if kind == "f64" else kind]
-
-
 def declared(a):
     if not a.is_list:
-        return [f"{words(a.kind)} {a.name}"]
-    return [f"{'' if a.written else 'const '}{words(a.kind)} *{a.name}", f"size_t {a.name}_length"]
+        return [f"{TYPES[a.kind]} {a.name}"]
+    kind = TYPES["u64" if a.kind == "f64" else a.kind]
+    return [f"{'' if a.written else 'const '}{kind} *{a.name}", f"size_t {a.name}_length"]
+
+
+def prototype(c):
+    return filled([part for a in c.arguments for part in declared(a)], f"uint8_t pasoletu_{c.name}(", ");")
 
 
 def made(table):
@@ -37,5 +38,5 @@ def made(table):
     lines += ["static const int FLAG[MODELS] = {%s};" % ", ".join(str(-1 if m.flag_at is None else m.flag_at) for m in laws), ""]
     for c in table.calls:
         if any(a.name in FUZZED for a in c.arguments):
-            lines += filled([part for a in c.arguments for part in declared(a)], f"uint8_t pasoletu_{c.name}(", ");")
+            lines += prototype(c)
     return HEAD + "\n" + "\n".join(lines) + "\n"

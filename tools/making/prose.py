@@ -244,7 +244,7 @@ def printed_faults(top):
 
 def counts(top, crates, c_calls):
     """Numbers that pages tell, by name, as they are written."""
-    replayed = re.search(r"replayed (\d+)", (top / "crates/replay/stdout").read_text()) if (top / "crates/replay/stdout").exists() else None
+    replayed = re.search(r"replayed (\d+)", (top / "tests/replay/stdout").read_text()) if (top / "tests/replay/stdout").exists() else None
     return {
         "replayed": "{:,}".format(int(replayed.group(1))) if replayed else "?",
         "crates": str(len(crates)),

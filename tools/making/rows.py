@@ -5,6 +5,8 @@ import tomllib
 from dataclasses import dataclass
 from functools import cached_property
 
+# the scalars of a record that a law may write, with the names that crates/plasticity's proofs have for them
+WRITABLE = {"PLASTIC_DETERMINANT": "determinant", "PLASTIC_HARDENING": "hardening", "ELASTIC_HARDENING": "elastic", "LOG_GAIN": "gain", "ALPHA": "alpha"}
 ARGUMENT = re.compile(r"(?P<name>[a-z_0-9]+)(?P<list>\[(?P<length>\d*)\])?(: (?P<kind>u8|u32|u64))?")
 
 
@@ -28,8 +30,8 @@ class Argument:
 
 @dataclass(frozen=True)
 class Call:
-    """A call of the library. `flag` is the place of a flag among its inputs, `beside` its number in beside/ and crates/replay or "lists" or None,
-    `replay` its number where crates/replay alone has one."""
+    """A call of the library. `flag` is the place of a flag among its inputs, `beside` its number in beside/ and tests/replay or "lists" or None,
+    `replay` its number where tests/replay alone has one."""
 
     name: str
     text: str
@@ -96,14 +98,16 @@ class Parameter:
 
 @dataclass(frozen=True)
 class Model:
-    """A plastic law. `whole` is its number in sheets whose records end with the determinant, `amount` what stands beside `stored`, `arguments_of` the Rust's
-    function that takes the parameters, `beside` whether the Rust has the law, `instead` what tools/sheet.py takes in place of some."""
+    """A plastic law. `whole` is its number in sheets whose records end with the determinant, `amount` what stands beside `stored`, `written` the scalars of
+    the record that an update writes, `arguments_of` the function that works the law out of the parameters, `beside` whether the Rust has the law, `instead`
+    what tools/sheet.py takes in place of some."""
 
     number: int
     whole: int
     name: str
     title: str
     amount: str
+    written: tuple
     arguments_of: str
     beside: bool
     instead: str
@@ -113,6 +117,16 @@ class Model:
     def flag_at(self):
         """The place of its flag among the parameters, or None. No model has two."""
         return next((k for k, p in enumerate(self.parameters) if p.flag), None)
+
+    @property
+    def path(self):
+        """Its name as proofs spell it."""
+        return self.name.replace("_", "-")
+
+    @property
+    def moduli(self):
+        """Whether its moduli are worked out of the parameters."""
+        return bool(self.arguments_of)
 
 
 @dataclass(frozen=True)
@@ -192,8 +206,11 @@ def model(row):
     parameters = (
         Parameter(p["name"], p.get("flag", False), p.get("default"), p.get("meaning", ""), p.get("left_out")) for p in row["parameters"]
     )
-    told = row["number"], row["whole"], row["name"], row["title"], row["amount"], row.get("arguments_of", ""), row.get("beside", True), row.get("instead", "")
-    return Model(*told, tuple(parameters))
+    lacking = {"number", "whole", "name", "title", "amount", "written"} - row.keys()
+    if lacking:
+        raise BadTable(f"model {row.get('name', '(without a name)')}: it lacks {', '.join(sorted(lacking))}")
+    told = row["number"], row["whole"], row["name"], row["title"], row["amount"], tuple(row["written"])
+    return Model(*told, row.get("arguments_of", ""), row.get("beside", True), row.get("instead", ""), tuple(parameters))
 
 
 def record(rows):
@@ -251,6 +268,11 @@ class Table:
         unique("a model's number", (n for m in self.models for n in (m.number, m.whole)))
         return {n: (k, n == m.whole) for k, m in enumerate(self.models) for n in (m.number, m.whole)}
 
+    @cached_property
+    def part_of(self):
+        """Of each part of the record its place among them."""
+        return {part.name: k for k, part in enumerate(self.record)}
+
     @property
     def floats(self):
         return sum(part.length for part in self.record)
@@ -266,7 +288,7 @@ class Table:
 
     @property
     def replayed(self):
-        """The calls that crates/replay alone has a number for, likewise."""
+        """The calls that tests/replay alone has a number for, likewise."""
         return self.rows((c.replay, c) for c in self.calls if c.replay is not None)
 
     def rows(self, calls):
@@ -282,12 +304,15 @@ class Table:
         for m in self.models:
             if sum(p.flag for p in m.parameters) > 1:
                 raise BadTable(f"model {m.name}: it has two flags, and beside/ and fuzz/ know only one")
+            unique(f"a scalar that {m.name} writes", m.written)
+            for name in sorted(set(m.written) - WRITABLE.keys()):
+                raise BadTable(f"model {m.name}: it writes {name!r}, which is none of {', '.join(WRITABLE)}")
         unique("a refusal's name", (r.name for r in self.refusals))
         rising("the refusals' numbers", [r.number for r in self.refusals], 1)
         consecutive("the models' numbers", self.law_of, 0)
         unique("a call's name", (c.name for c in self.calls))
         numbers = [number for number, _, _ in self.numbered] + self.retired
         consecutive("the numbers of beside/", sorted(numbers), 0)
-        consecutive("the numbers of crates/replay", sorted(number for number, _, _ in self.replayed), len(numbers))
+        consecutive("the numbers of tests/replay", sorted(number for number, _, _ in self.replayed), len(numbers))
         for c in self.calls:
             unique(f"an argument of {c.name}", (a.name for a in c.arguments))

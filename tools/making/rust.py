@@ -146,9 +146,9 @@ def beside_line(c, m):
 def beside(table):
     """The whole of beside/table.rs."""
     rows = table.numbered
-    lines = ["// The numbers of the calls, as crates/replay has them too; of an update, one for each model."]
+    lines = ["// The numbers of the calls, as tests/replay has them too; of an update, one for each model."]
     lines += [f"pub const {beside_name(c, m).upper().replace(' ', '_')}: usize = {n};" for n, c, m in rows]
-    lines += ["", "// Numbers that crates/replay alone has; of a call with a model, the first of one for each."]
+    lines += ["", "// Numbers that tests/replay alone has; of a call with a model, the first of one for each."]
     lines += [f"pub const REPLAYED_{c.name.upper()}: usize = {c.replay};" for c in sorted((c for c in table.calls if c.replay), key=lambda c: c.replay)]
     told = {c.name: c.value for group in table.constants for c in group.rows}
     lines += ["", "// Floats of a record, and those before the determinant. Models from LAWS up name the same laws, for sheets whose records have all."]

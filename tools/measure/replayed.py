@@ -1,5 +1,5 @@
 #!/usr/bin/env python3
-"""Checks by a second reading which refusals of the replayed list (crates/replay/data/list) are 2, which are 10 and which are 11.
+"""Checks by a second reading which refusals of the replayed list (tests/replay/data/list) are 2, which are 10 and which are 11.
 
   tools/measure/replayed.py [LIST]
 
@@ -19,7 +19,7 @@ import shell  # noqa: E402
 import vectors  # noqa: E402
 from making.rows import Table  # noqa: E402
 
-LIST = TOP / "crates/replay/data/list"
+LIST = TOP / "tests/replay/data/list"
 TOLD = (2, 10, 11)
 ENDS = {"exp": (-700.0, 700.0), "sinh": (-700.0, 700.0), "sin": (-8.0, 8.0), "sqrt": (0.0, sys.float_info.max)}
 THIRDS = (2.0 ** -60, 2.0 ** 60)

@@ -65,7 +65,7 @@ fn summed(from: u64, r: &[u64; 37]) -> u64 {
 
 // Our own factors in the record's places.
 pub fn factor(r: &mut [u64; 37]) -> u8 {
-    host::factored::pasoletu_factor(r)
+    host_passes::pasoletu_factor(r)
 }
 
 fn accepted_in(r: &[u64; 37]) -> bool {

@@ -22,8 +22,8 @@ use Rattle.walk.specs.Walk.{Walk, less, work, works, mosts, leasts, split, Ende
 use Rattle.walk.proofs.Number.{sub-number}
 use Rattle.numbers.proofs.Laws.{finite-number}
 use Rattle.walk.proofs.Steps.{mosts-answer, leasts-answer}
-use Rattle.walk.specs.Matrix.{flat, value-total}
-use Rattle.walk.proofs.Every.{every, all-every, all-append, all-flat, and-left, and-right}
+use Rattle.walk.specs.Matrix.{joined, value-total}
+use Rattle.walk.proofs.Every.{every, all-every, all-append, all-joined, and-left, and-right}
 use Rattle.walk.proofs.Matrix.{value-product}
 use Rattle.walk.specs.Power.{power}
 use Rattle.walk.proofs.Power.{value-power}
@@ -42,13 +42,13 @@ use Rattle.elasticity_corotated_linear.specs.Energy.{squares, posDevPart
 
 -- ---- inputs
 pub stress-inputs : (p : CorotatedLinearElasticity) (phase h : Float) (f u : List (List Float)) (s : List Float) (vt : List (List Float))
-    → allOf finite (floats p ((phase ∷ h ∷ []) ++ flat f ++ flat u ++ s ++ flat vt))
+    → allOf finite (floats p ((phase ∷ h ∷ []) ++ joined f ++ joined u ++ s ++ joined vt))
     ≡ lawFinite p && finite phase && finite h && matFinite f && matFinite u && rowFinite s && matFinite vt
 unfolding floats
 stress-inputs p phase h f u s vt =
     let a = parametersOf p ++ (phase ∷ h ∷ []) in
-    all-append finite (a ++ flat f ++ flat u ++ s) (flat vt)
-    ∙ rw (all-append finite (a ++ flat f ++ flat u) s, all-append finite (a ++ flat f) (flat u), all-append finite a (flat f), all-flat finite f, all-flat finite u, all-flat finite vt)
+    all-append finite (a ++ joined f ++ joined u ++ s) (joined vt)
+    ∙ rw (all-append finite (a ++ joined f ++ joined u) s, all-append finite (a ++ joined f) (joined u), all-append finite a (joined f), all-joined finite f, all-joined finite u, all-joined finite vt)
 
 pub energy-inputs : (p : CorotatedLinearElasticity) (s : List Float) (h : Float)
     → allOf finite (floats p (s ++ (h ∷ []))) ≡ lawFinite p && rowFinite s && finite h
@@ -56,11 +56,11 @@ unfolding floats
 energy-inputs p s h = all-append finite (parametersOf p ++ s) (h ∷ []) ∙ ap (λ b. b && finite h) (all-append finite (parametersOf p) s)
 
 pub pos-inputs : (p : CorotatedLinearElasticity) (f : List (List Float)) (s : List Float) (h : Float)
-    → allOf finite (floats p (flat f ++ s ++ (h ∷ []))) ≡ lawFinite p && matFinite f && rowFinite s && finite h
+    → allOf finite (floats p (joined f ++ s ++ (h ∷ []))) ≡ lawFinite p && matFinite f && rowFinite s && finite h
 unfolding floats
 pos-inputs p f s h =
-    all-append finite (parametersOf p ++ flat f ++ s) (h ∷ [])
-    ∙ rw (all-append finite (parametersOf p ++ flat f) s, all-append finite (parametersOf p) (flat f), all-flat finite f)
+    all-append finite (parametersOf p ++ joined f ++ s) (h ∷ [])
+    ∙ rw (all-append finite (parametersOf p ++ joined f) s, all-append finite (parametersOf p) (joined f), all-joined finite f)
 
 -- sigma among them
 pub stress-sigma : (p : CorotatedLinearElasticity) (phase h : Float) (f u : List (List Float)) (s : List Float) (vt : List (List Float))

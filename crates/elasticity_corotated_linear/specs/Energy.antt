@@ -4,7 +4,7 @@ use lib.Ieee.{Float}
 use Rattle.answers.specs.declared.Answer.{Answer}
 use Rattle.walk.specs.Expr.{Expr, num, _+_, _-_, _*_, _/_}
 use Rattle.walk.specs.Walk.{Walk, less, inputs, work, works, mosts, split, result, answerAs}
-use Rattle.walk.specs.Matrix.{flat, total, product, dot}
+use Rattle.walk.specs.Matrix.{joined, total, product, dot}
 use Rattle.walk.specs.Tensor.{one, determinant}
 use Rattle.walk.specs.Power.{power}
 use Rattle.walk.specs.Answers.{returned}
@@ -52,7 +52,7 @@ unfoldable pub posSteps : CorotatedLinearElasticity → List (List Float) → Li
 posSteps p f s h = posFrom p s h (determinant f)
 
 unfoldable pub posWalk : CorotatedLinearElasticity → List (List Float) → List Float → Float → Walk Float
-posWalk p f s h = inputs (floats p (flat f ++ s ++ (h ∷ []))) (posSteps p f s h)
+posWalk p f s h = inputs (floats p (joined f ++ s ++ (h ∷ []))) (posSteps p f s h)
 
 abbrev pub posEnergy : CorotatedLinearElasticity → List (List Float) → List Float → Float → Answer
 posEnergy p f s h = answerAs (result (posWalk p f s h))

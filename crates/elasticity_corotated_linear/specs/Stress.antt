@@ -8,7 +8,7 @@ use Rattle.tensor.specs.declared.MatrixAnswer.{MatrixAnswer}
 use Rattle.walk.specs.Expr.{Expr, num, _-_, _*_}
 pub use Rattle.walk.specs.Constants.{zero, two}
 use Rattle.walk.specs.Walk.{Walk, Test, less, flag, inputs, work, works, mosts, leasts, split, result}
-use Rattle.walk.specs.Matrix.{flat}
+use Rattle.walk.specs.Matrix.{joined}
 use Rattle.walk.specs.Update.{recomposed}
 use Rattle.walk.specs.Tensor.{one, rows, turned, times, plus, scaled, identity-times, determinant}
 use Rattle.walk.specs.Answers.{returnedMatrix, matrixAs}
@@ -63,7 +63,7 @@ stressSteps p phase h f u s vt = stressFrom p phase h f u s vt (determinant f)
 
 unfoldable pub stressWalk : CorotatedLinearElasticity → Float → Float → List (List Float) → List (List Float) → List Float → List (List Float) → Walk (List (List Float))
 stressWalk p phase h f u s vt =
-    inputs (floats p ((phase ∷ h ∷ []) ++ flat f ++ flat u ++ s ++ flat vt)) (stressSteps p phase h f u s vt)
+    inputs (floats p ((phase ∷ h ∷ []) ++ joined f ++ joined u ++ s ++ joined vt)) (stressSteps p phase h f u s vt)
 
 abbrev pub kirchhoffStress : CorotatedLinearElasticity → Float → Float → List (List Float) → List (List Float) → List Float → List (List Float) → MatrixAnswer
 kirchhoffStress p phase h f u s vt = matrixAs (result (stressWalk p phase h f u s vt))

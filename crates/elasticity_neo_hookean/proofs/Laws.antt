@@ -20,10 +20,10 @@ use Rattle.walk.specs.Expr.{Expr, num, _+_, _*_, value}
 use Rattle.walk.specs.Walk.{Walk, Function, minus-third, minus-two-thirds, ln, less, at-most, answerOf, asked, ask, Ended, refused, result, answerAs}
 use Rattle.walk.specs.Power.{power}
 use Rattle.walk.proofs.Inner.{Inner}
-use Rattle.walk.specs.Matrix.{flat}
-use Rattle.walk.proofs.Every.{all-append, all-flat}
+use Rattle.walk.specs.Matrix.{joined}
+use Rattle.walk.proofs.Every.{all-append, all-joined}
 use Rattle.walk.specs.Tensor.{one, worth, rows, plus, times, determinant, cofactors-over}
-use Rattle.walk.proofs.Tensor.{one-number, worth-cofactors, numbers-flat}
+use Rattle.walk.proofs.Tensor.{one-number, worth-cofactors, numbers-joined}
 use Rattle.walk.specs.Answers.{matrix, returnedMatrix, matrixAs}
 use Rattle.walk.proofs.Answers.{returned-matrix, split-number, split-matrix, asked-number, both, same, tested-later, asked-nan, asked-later}
 use Rattle.elasticity_neo_hookean.specs.declared.NeoHookeanElasticity.{NeoHookeanElasticity}
@@ -36,13 +36,13 @@ pub inputs-law : (p : NeoHookeanElasticity) (phase h : Float) (f : List (List Fl
     → allOf finite (floats p (phase ∷ h ∷ []) f) ≡ lawFinite p && finite phase && finite h && matFinite f
 unfolding floats
 inputs-law p phase h f =
-    all-append finite (parametersOf p ++ (phase ∷ h ∷ [])) (flat f) ∙ ap (λ b. lawFinite p && finite phase && finite h && b) (all-flat finite f)
+    all-append finite (parametersOf p ++ (phase ∷ h ∷ [])) (joined f) ∙ ap (λ b. lawFinite p && finite phase && finite h && b) (all-joined finite f)
 
 pub fpk-inputs-law : (p : NeoHookeanElasticity) (h : Float) (f : List (List Float))
     → allOf finite (floats p (h ∷ []) f) ≡ lawFinite p && finite h && matFinite f
 unfolding floats
 fpk-inputs-law p h f =
-    all-append finite (parametersOf p ++ (h ∷ [])) (flat f) ∙ ap (λ b. lawFinite p && finite h && b) (all-flat finite f)
+    all-append finite (parametersOf p ++ (h ∷ [])) (joined f) ∙ ap (λ b. lawFinite p && finite h && b) (all-joined finite f)
 
 -- ---- what is worth the same is weakened alike
 value-below : (m : Bool) (c dev vol : Expr) → value (below m c dev vol) ≡ value (below m (num (value c)) (num (value dev)) (num (value vol)))
@@ -66,7 +66,7 @@ module _ (p : NeoHookeanElasticity) (phase h : Float) (f : List (List Float)) (j
       let R : Float → Float → Ended (List (List Float)) = λ x w. result (splitWalk (coefficient phase) (num x) (shear p h (num w) b) (volumetric (num x) (num k))) in
       let K = isNumber k in
       let A = asked (answerOf minus-two-thirds j) (R j) in
-      ap (λ e. cond (isNumber j) e (refused noNumber)) (ap (λ c. cond K (cond c A (refused noNumber)) (refused noNumber)) (numbers-flat (cauchyGreen f)) ∙ both K (matNumber b) A (refused noNumber))
+      ap (λ e. cond (isNumber j) e (refused noNumber)) (ap (λ c. cond K (cond c A (refused noNumber)) (refused noNumber)) (numbers-joined (cauchyGreen f)) ∙ both K (matNumber b) A (refused noNumber))
       ∙ asked-later j (K && matNumber b) minus-two-thirds R
 
   pub pos-law : result (posFrom p phase h f (num j))
@@ -82,7 +82,7 @@ module _ (p : NeoHookeanElasticity) (phase h : Float) (f : List (List Float)) (j
       cond (isNumber vol) (result (posSum phase (num x) (posDeviatoric p h (num w) b) (num vol))) (refused noNumber)) in
       let K = isNumber k in
       let A = asked (answerOf minus-two-thirds j) (R j) in
-      ap (λ e. cond (isNumber j) e (refused noNumber)) (ap (λ c. cond K (cond c A (refused noNumber)) (refused noNumber)) (numbers-flat (cauchyGreen f)) ∙ both K (matNumber b) A (refused noNumber))
+      ap (λ e. cond (isNumber j) e (refused noNumber)) (ap (λ c. cond K (cond c A (refused noNumber)) (refused noNumber)) (numbers-joined (cauchyGreen f)) ∙ both K (matNumber b) A (refused noNumber))
       ∙ asked-later j (K && matNumber b) minus-two-thirds R
 
   -- the logarithm has the power's range: a NaN in j is the power's
@@ -100,7 +100,7 @@ module _ (p : NeoHookeanElasticity) (phase h : Float) (f : List (List Float)) (j
       let R : Float → Float → Ended Float = λ x w. result (matrix 4 (stretch (num w) f) (λ s.
       ask 5 ln (num x) (λ l. sumWalk m (coefficient phase) (record { j = num x; deviatoric = deviatoricEnergy p h s; volumetric = volumetricEnergy (num (value (kappa p h))) (power (num x) 2) l })))) in
       ap (λ e. cond (isNumber (value (kappa p h))) e (refused noNumber)) (tested-later j (λ x. asked (answerOf minus-third x) (R x)) (asked-nan minus-third (R nan)))
-      ∙ simp numbers-flat
+      ∙ simp numbers-joined
 
   -- ---- once the power and the logarithm are known
   number : (f : Function) (w : Float) → answerOf f j ≡ Value w → isNumber tensor.one && isNumber j ≡ true
@@ -157,7 +157,7 @@ module _ {A : Type 0} (n : ℕ) (f : List (List Float)) (K : List (List Float) �
       → cond (isNumber x) (cond c (result (K (identityTimesOf tensor.one))) (result (matrix n (cofactors-over f (num x)) K))) (refused noNumber)
       ≡ (let g = cond c (identityTimesOf tensor.one) (matOverOf (cofactorsOf f) x) in cond (matNumber g) (result (K g)) (refused noNumber))
   picked x true h = simp (h, identity-number)
-  picked x false h = simp (h, numbers-flat, worth-cofactors)
+  picked x false h = simp (h, numbers-joined, worth-cofactors)
 
   pub inverted-law : (x : Float) → isNumber x ≡ true
       → result (inverted n f (num x) K) ≡ cond (matNumber (inverseTransposeOf f x)) (result (K (inverseTransposeOf f x))) (refused noNumber)
@@ -183,7 +183,7 @@ module _ (p : NeoHookeanElasticity) (f : List (List Float)) (h j : Float) where
       let G = matNumber g in
       let B = matNumber (worth (cauchyGreen f)) in
       ap (λ c. cond c (cond K (result (inverted 3 f (num x) (after x))) (refused noNumber)) (refused noNumber)) e
-      ∙ ap (λ r. cond K r (refused noNumber)) (inverted-law 3 f (after x) x e ∙ ap (λ c. cond G (cond c (powered x g) (refused noNumber)) (refused noNumber)) (numbers-flat (cauchyGreen f)) ∙ both G B (powered x g) (refused noNumber))
+      ∙ ap (λ r. cond K r (refused noNumber)) (inverted-law 3 f (after x) x e ∙ ap (λ c. cond G (cond c (powered x g) (refused noNumber)) (refused noNumber)) (numbers-joined (cauchyGreen f)) ∙ both G B (powered x g) (refused noNumber))
       ∙ both K (G && B) (powered x g) (refused noNumber)
   told x false e = simp e (sym (same (isNumber (value (bulk p h)) && (matNumber (inverseTransposeOf f x) && matNumber (worth (cauchyGreen f)))) (refused noNumber)))
 

@@ -11,7 +11,7 @@ use Rattle.tensor.specs.Axes.{allOf}
 use Rattle.walk.specs.Expr.{Expr, num, _+_, _-_, _*_, _/_, value}
 pub use Rattle.walk.specs.Constants.{two}
 use Rattle.walk.specs.Walk.{Walk, inputs, result, answerAs}
-use Rattle.walk.specs.Matrix.{flat}
+use Rattle.walk.specs.Matrix.{joined}
 use Rattle.walk.specs.Tensor.{one, rows, turned, times}
 use Rattle.walk.specs.Answers.{returned}
 use Rattle.elasticity_neo_hookean.specs.declared.NeoHookeanElasticity.{NeoHookeanElasticity}
@@ -31,7 +31,7 @@ lawFinite p = allOf finite (parametersOf p)
 
 -- the law's, then the call's scalars, then F's
 unfoldable pub floats : NeoHookeanElasticity → List Float → List (List Float) → List Float
-floats p scalars f = parametersOf p ++ scalars ++ flat f
+floats p scalars f = parametersOf p ++ scalars ++ joined f
 
 -- ---- `new`
 -- coefficient 0.5

@@ -22,8 +22,8 @@ use Rattle.walk.proofs.Number.{neg-number}
 use Rattle.numbers.proofs.Laws.{finite-number}
 use Rattle.walk.proofs.Steps.{most-answers}
 use Rattle.walk.proofs.Exact.{number-then}
-use Rattle.walk.specs.Matrix.{flat}
-use Rattle.walk.proofs.Every.{and-left, and-right, all-append, all-flat}
+use Rattle.walk.specs.Matrix.{joined}
+use Rattle.walk.proofs.Every.{and-left, and-right, all-append, all-joined}
 use Rattle.walk.specs.Tensor.{worth, deviatoric}
 use Rattle.walk.proofs.Tensor.{worth-rows, worth-turned, worth-plus, worth-scaled, worth-deviatoric}
 use Rattle.walk.specs.Answers.{returned}
@@ -38,10 +38,10 @@ unfolding floats
 pressure-inputs law mass volume density = refl
 
 pub stress-inputs : (law : MonaghanSphEos) (mass volume density det : Float) (gradient : List (List Float))
-    → allOf finite (floats law mass volume density (det ∷ flat gradient)) ≡ inputsFinite law mass volume density && finite det && matFinite gradient
+    → allOf finite (floats law mass volume density (det ∷ joined gradient)) ≡ inputsFinite law mass volume density && finite det && matFinite gradient
 unfolding floats
 stress-inputs law mass volume density det gradient =
-    all-append finite (shared law mass volume density ++ (det ∷ [])) (flat gradient) ∙ rw (all-flat finite gradient)
+    all-append finite (shared law mass volume density ++ (det ∷ [])) (joined gradient) ∙ rw (all-joined finite gradient)
 
 pub timestep-inputs : (law : MonaghanSphEos) (mass volume density j : Float) (velocity : List Float) (width : Float)
     → allOf finite (floats law mass volume density ((j ∷ velocity) ++ (width ∷ []))) ≡ inputsFinite law mass volume density && finite j && rowFinite velocity && finite width

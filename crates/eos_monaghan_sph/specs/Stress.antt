@@ -6,7 +6,7 @@ use Rattle.numbers.specs.Constants as constants
 use Rattle.tensor.specs.declared.MatrixAnswer.{MatrixAnswer}
 use Rattle.walk.specs.Expr.{Expr, num, neg, _*_}
 use Rattle.walk.specs.Walk.{Walk, flag, inputs, split, _then_, result}
-use Rattle.walk.specs.Matrix.{flat}
+use Rattle.walk.specs.Matrix.{joined}
 use Rattle.walk.specs.Tensor.{rows, turned, plus, scaled, identity-times, deviatoric}
 use Rattle.walk.specs.Answers.{returnedMatrix, matrixAs}
 use Rattle.eos_monaghan_sph.specs.Pressure.{floats, pressureSteps}
@@ -32,7 +32,7 @@ stressSteps law det gradient p =
 
 unfoldable pub stressWalk : MonaghanSphEos → Float → Float → Float → Float → List (List Float) → Walk (List (List Float))
 stressWalk law mass volume density det gradient =
-    inputs (floats law mass volume density (det ∷ flat gradient)) (pressureSteps law mass volume density then stressSteps law det gradient)
+    inputs (floats law mass volume density (det ∷ joined gradient)) (pressureSteps law mass volume density then stressSteps law det gradient)
 
 abbrev pub kirchhoffStressOf : MonaghanSphEos → Float → Float → Float → Float → List (List Float) → MatrixAnswer
 kirchhoffStressOf law mass volume density det gradient = matrixAs (result (stressWalk law mass volume density det gradient))

@@ -1,20 +1,11 @@
-// The calls for C, Rust and Python hosts: each answers 0 or RULES' refusal number, and writes nothing where it refuses.
-pub mod causes;
-pub mod determinants;
+// The calls that answer numbers, for C, Rust and Python hosts: each answers 0 or RULES' refusal number, and writes nothing where it refuses.
+// `host_passes` and `host_sheets` have the others.
 pub mod elasticity;
-pub mod factored;
-pub mod in_parts;
 pub mod judged;
 pub mod monaghan;
 pub mod of_record;
-pub mod passes;
 pub mod physics_calls;
-pub mod reports;
 pub mod returns;
-pub mod sheets;
-pub mod slices;
-pub mod update;
-pub mod zones;
 
 use host_lists::put;
 ghost use mathlib.Core.Path.{_≡_};

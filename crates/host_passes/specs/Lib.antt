@@ -1,4 +1,6 @@
+pub mod Determinants
 pub mod Inner
 pub mod Passes
 pub mod Update
 pub mod Zones
+pub mod Causes

@@ -16,7 +16,7 @@ use Rattle.particles.specs.declared.failure.FailureCounts.{FailureCounts}
 use Rattle.particles.specs.Pass.{Worked, threeOf, wellSizedOver, wellSized, workedOver, answersOver, countsOver}
 use Rattle.particles.specs.Plain.{recordLaw}
 use Rattle.particles.specs.Judged.{judgeFinite, failureLaw}
-use Rattle.particles.specs.Factored.{factorLaw, factoredLaw}
+use Rattle.factored_particles.specs.Factored.{factorLaw, factoredLaw}
 use Rattle.host_lists.specs.Refused.{has}
 use Rattle.host_lists.specs.Called.{Called, called, callOf}
 

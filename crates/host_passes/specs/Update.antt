@@ -8,7 +8,7 @@ use Rattle.model.specs.declared.Model.{Model}
 use Rattle.model.specs.Kinds.{parametersFit, modelKnown}
 use Rattle.model.specs.Fields.{modelOf}
 use Rattle.particles.specs.Pass.{Worked, codeOf, valueOf}
-use Rattle.particles.specs.Factored.{factorOutcome, factorAfter}
+use Rattle.factored_particles.specs.Factored.{factorOutcome, factorAfter}
 use Rattle.host_lists.specs.Refused.{has}
 use Rattle.host_lists.specs.Called.{Called, called, callOf}
 

@@ -1,4 +1,4 @@
--- What the passes with tallies by zone leave of a host's lists (RULES, sections 6 and 7): records, answers, tallies.
+-- What clearing the tallies, moving one particle and the passes with tallies by zone leave of a host's lists (RULES, sections 6 and 7).
 use mathlib.Core.Bool.{Bool, _&&_}
 use mathlib.Core.List.{List, [], _∷_}
 use Prim.Native.Nat.{ℕ}
@@ -8,12 +8,20 @@ use Rattle.host_lists.specs.Laws.{corotatedOf, limitsOf}
 use Rattle.particles.specs.Pass.{Worked, wellSized}
 use Rattle.particles.specs.Plain.{recordLaw}
 use Rattle.particles.specs.Judged.{failureLaw}
-use Rattle.tallies.specs.Words.{whole, passed, passedRecords, passedAnswers, passedWords}
+use Rattle.tallies.specs.Words.{whole, cleared, clearedWords, moved, movedZones, movedWords, passed, passedRecords, passedAnswers, passedWords}
 use Rattle.host_lists.specs.Refused.{has}
 use Rattle.host_lists.specs.Called.{Called, called, callOf}
 use Rattle.host_passes.specs.Passes.{failureKnown}
 
--- 12, 13, or the pass
+-- the zones are only read
+unfoldable pub clearBy : ℕ → List ℕ → List ℕ → Called
+clearBy particles zones ws = called (cleared particles zones ws) (clearedWords particles zones ws ∷ [])
+
+unfoldable pub moveBy : ℕ → ℕ → ℕ → List ℕ → List ℕ → Called
+moveBy particles p z zones ws =
+    called (moved particles p z zones ws) (movedZones particles p z zones ws ∷ movedWords particles p z zones ws ∷ [])
+
+-- 12, 13, or the pass: records, answers, tallies
 abbrev pub zonedBy : (List ℕ → Worked) → List ℕ → List ℕ → List ℕ → List ℕ → Called
 zonedBy law zones xs out ws =
     called (passed xs out zones ws) (passedRecords law xs out zones ws ∷ passedAnswers law xs out zones ws ∷ passedWords law xs out zones ws ∷ [])

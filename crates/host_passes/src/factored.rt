@@ -18,17 +18,23 @@ fn code(o: Outcome) -> u8
     }
 }
 
-pub fn factor(r: &mut [u64]) -> u8
+#[no_mangle]
+pub extern "C" fn pasoletu_factor(r: &mut [u64]) -> u8
     ensures { λ n. ⌜ called n (now (r .exit) ∷ []) ≡ factorBy (now (r .entry)) ⌝ }
 {
-    code(particles::factor_record(r))
+    code(factored_particles::factor_record(r))
 }
 
-pub fn factor_list(records: &mut [u64], answers: &mut [u64], counts: &mut [u64]) -> u8
+#[no_mangle]
+pub extern "C" fn pasoletu_factor_list(
+    records: &mut [u64],
+    answers: &mut [u64],
+    counts: &mut [u64],
+) -> u8
     ensures { λ r. ⌜ called r (now (records .exit) ∷ now (answers .exit) ∷ now (counts .exit) ∷ []) ≡ factorsBy (now (records .entry)) (now (answers .entry)) (now (counts .entry)) ⌝ }
 {
     if particles::well_sized(records.len(), answers.len()) & (counts.len() == 3) {
-        let passed = particles::factor_list(records, answers);
+        let passed = factored_particles::factor_list(records, answers);
         return put_counts(passed, counts);
     }
     answers::LENGTH

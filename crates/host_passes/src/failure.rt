@@ -6,7 +6,8 @@ ghost use Rattle.particles.specs.Judged.{failureLaw};
 ghost use Rattle.host_lists.specs.Called.{called};
 ghost use Rattle.host_passes.specs.Passes.{failureBy, factoredFailure};
 
-pub fn pass_with_failure(
+#[no_mangle]
+pub extern "C" fn pasoletu_pass_with_failure(
     model: u64,
     parameters: &[u64],
     limits: &[u64],
@@ -38,7 +39,8 @@ pub fn pass_with_failure(
     answers::LENGTH
 }
 
-pub fn pass_factored_with_failure(
+#[no_mangle]
+pub extern "C" fn pasoletu_pass_factored_with_failure(
     model: u64,
     parameters: &[u64],
     limits: &[u64],
@@ -56,7 +58,7 @@ pub fn pass_factored_with_failure(
         & (counts.len() == 4)
     {
         if model::known(model, parameters) & model::is_flag(record::word(corotated, 0)) {
-            let passed = particles::pass_factored_with_failure(
+            let passed = factored_particles::pass_factored_with_failure(
                 model::model_of(model, parameters),
                 host_lists::limits(limits),
                 host_lists::corotated(corotated),

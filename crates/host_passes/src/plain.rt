@@ -9,7 +9,8 @@ ghost use Rattle.flat_particles.specs.Law.{flatLaw};
 ghost use Rattle.host_lists.specs.Called.{called};
 ghost use Rattle.host_passes.specs.Passes.{passBy, factoredPlain};
 
-pub fn pass(
+#[no_mangle]
+pub extern "C" fn pasoletu_pass(
     model: u64,
     parameters: &[u64],
     records: &mut [u64],
@@ -31,7 +32,8 @@ pub fn pass(
     answers::LENGTH
 }
 
-pub fn pass_factored(
+#[no_mangle]
+pub extern "C" fn pasoletu_pass_factored(
     model: u64,
     parameters: &[u64],
     records: &mut [u64],
@@ -45,7 +47,7 @@ pub fn pass_factored(
         & (counts.len() == 3)
     {
         if model::known(model, parameters) {
-            let passed = particles::pass_factored(
+            let passed = factored_particles::pass_factored(
                 model::model_of(model, parameters),
                 records,
                 answers,
@@ -57,7 +59,8 @@ pub fn pass_factored(
     answers::LENGTH
 }
 
-pub fn flat_pass(
+#[no_mangle]
+pub extern "C" fn pasoletu_flat_pass(
     model: u64,
     parameters: &[u64],
     records: &mut [u64],

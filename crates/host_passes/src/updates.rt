@@ -30,7 +30,13 @@ fn put_outcome(o: Outcome, answer: &mut [u64]) -> u8
     }
 }
 
-pub fn update(model: u64, parameters: &[u64], r: &mut [u64], answer: &mut [u64]) -> u8
+#[no_mangle]
+pub extern "C" fn pasoletu_update(
+    model: u64,
+    parameters: &[u64],
+    r: &mut [u64],
+    answer: &mut [u64],
+) -> u8
     ensures { λ n. ⌜ called n (now (r .exit) ∷ now (answer .exit) ∷ []) ≡ updateBy floats recordLaw model (now (parameters .entry)) (now (r .entry)) (now (answer .entry)) ⌝ }
 {
     if model::fit(model, parameters) & (r.len() == record::FLOATS) & (answer.len() == 2) {
@@ -43,7 +49,13 @@ pub fn update(model: u64, parameters: &[u64], r: &mut [u64], answer: &mut [u64])
     answers::LENGTH
 }
 
-pub fn flat_update(model: u64, parameters: &[u64], r: &mut [u64], answer: &mut [u64]) -> u8
+#[no_mangle]
+pub extern "C" fn pasoletu_flat_update(
+    model: u64,
+    parameters: &[u64],
+    r: &mut [u64],
+    answer: &mut [u64],
+) -> u8
     ensures { λ n. ⌜ called n (now (r .exit) ∷ now (answer .exit) ∷ []) ≡ updateBy flat.floats flatLaw model (now (parameters .entry)) (now (r .entry)) (now (answer .entry)) ⌝ }
 {
     if model::fit(model, parameters) & (r.len() == flat_particles::FLOATS) & (answer.len() == 2) {

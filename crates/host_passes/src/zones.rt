@@ -1,10 +1,37 @@
-// The passes that keep tallies by zone.
+// Tallies by zone: clearing them, moving one particle, and the passes that keep them.
 ghost use mathlib.Core.Path.{_≡_};
 ghost use mathlib.Core.List.{[], _∷_};
 ghost use Rattle.host_lists.specs.Called.{called};
-ghost use Rattle.host_passes.specs.Zones.{zonesPass, failureZonesPass};
+ghost use Rattle.host_passes.specs.Zones.{clearBy, moveBy, zonesPass, failureZonesPass};
 
-pub fn pass_by_zone(
+#[no_mangle]
+pub extern "C" fn pasoletu_clear_tallies(particles: u64, zones: &[u64], tallies: &mut [u64]) -> u8
+    ensures { λ r. ⌜ called r (now (tallies .exit) ∷ []) ≡ clearBy particles (now (zones .entry)) (now (tallies .entry)) ⌝ }
+{
+    tallies::clear_words(particles as usize, zones, tallies)
+}
+
+#[no_mangle]
+pub extern "C" fn pasoletu_move_particle(
+    particles: u64,
+    particle: u64,
+    zone: u64,
+    zones: &mut [u64],
+    tallies: &mut [u64],
+) -> u8
+    ensures { λ r. ⌜ called r (now (zones .exit) ∷ now (tallies .exit) ∷ []) ≡ moveBy particles particle zone (now (zones .entry)) (now (tallies .entry)) ⌝ }
+{
+    tallies::move_particle_words(
+        particles as usize,
+        particle as usize,
+        zone as usize,
+        zones,
+        tallies,
+    )
+}
+
+#[no_mangle]
+pub extern "C" fn pasoletu_pass_by_zone(
     model: u64,
     parameters: &[u64],
     zones: &[u64],
@@ -32,7 +59,8 @@ pub fn pass_by_zone(
     answers::LENGTH
 }
 
-pub fn pass_with_failure_by_zone(
+#[no_mangle]
+pub extern "C" fn pasoletu_pass_with_failure_by_zone(
     model: u64,
     parameters: &[u64],
     limits: &[u64],

@@ -1,3 +1,3 @@
-pub mod Causes
+pub mod Parts
 pub mod Reports
 pub mod Sheets

@@ -73,7 +73,8 @@ fn put_reported(r: Reported, room: &mut [u64]) -> u8
     }
 }
 
-pub fn write_report(records: &[u64], report: &mut [u64]) -> u8
+#[no_mangle]
+pub extern "C" fn pasoletu_report(records: &[u64], report: &mut [u64]) -> u8
     ensures { λ r. ⌜ called r (now (report .exit) ∷ []) ≡ reportBy (now (records .entry)) (now (report .entry)) ⌝ }
 {
     if report.len() != 18 {
@@ -83,7 +84,8 @@ pub fn write_report(records: &[u64], report: &mut [u64]) -> u8
     put_reported(r, report)
 }
 
-pub fn join_reports(first: &[u64], second: &[u64], joined: &mut [u64]) -> u8
+#[no_mangle]
+pub extern "C" fn pasoletu_join_reports(first: &[u64], second: &[u64], joined: &mut [u64]) -> u8
     ensures { λ r. ⌜ called r (now (joined .exit) ∷ []) ≡ joinBy (now (first .entry)) (now (second .entry)) (now (joined .entry)) ⌝ }
 {
     if (first.len() == 18) & (second.len() == 18) & (joined.len() == 18) {

@@ -71,7 +71,8 @@ fn put_written(w: Written, written: &mut [u64]) -> u8
     }
 }
 
-pub fn read_sheet(bytes: &[u8], header: &mut [u64], records: &mut [u64]) -> u8
+#[no_mangle]
+pub extern "C" fn pasoletu_read_sheet(bytes: &[u8], header: &mut [u64], records: &mut [u64]) -> u8
     ensures { λ r. ⌜ called r (now (header .exit) ∷ now (records .exit) ∷ []) ≡ readBy (now (bytes .entry)) (now (header .entry)) (now (records .entry)) ⌝ }
 {
     if header.len() != 11 {
@@ -81,7 +82,13 @@ pub fn read_sheet(bytes: &[u8], header: &mut [u64], records: &mut [u64]) -> u8
     put_header(h, header)
 }
 
-pub fn run_sheet(bytes: &[u8], records: &mut [u64], answers: &mut [u64], counts: &mut [u64]) -> u8
+#[no_mangle]
+pub extern "C" fn pasoletu_run_sheet(
+    bytes: &[u8],
+    records: &mut [u64],
+    answers: &mut [u64],
+    counts: &mut [u64],
+) -> u8
     ensures { λ r. ⌜ called r (now (records .exit) ∷ now (answers .exit) ∷ now (counts .exit) ∷ []) ≡ runBy (now (bytes .entry)) (now (records .entry)) (now (answers .entry)) (now (counts .entry)) ⌝ }
 {
     if counts.len() != 4 {
@@ -91,7 +98,8 @@ pub fn run_sheet(bytes: &[u8], records: &mut [u64], answers: &mut [u64], counts:
     put_ran(ran, counts)
 }
 
-pub fn write_sheet(
+#[no_mangle]
+pub extern "C" fn pasoletu_write_sheet(
     model: u64,
     parameters: &[u64],
     records: &[u64],

@@ -84,7 +84,7 @@ fn write_run(s: &[u8]) -> bool {
     let mut records = [0u64; sheet::MOST_WORDS];
     let mut answers = [0u64; sheet::MOST_ANSWERS];
     let mut out = [0u8; sheet::LONGEST];
-    let w = sheet_out::run_out(s, &mut records, &mut answers, &mut out);
+    let w = sheet_run::run_out(s, &mut records, &mut answers, &mut out);
     match w {
         Written::Length(k) => write_front(&out, k),
         Written::Refused(_) => true,

@@ -1,4 +1,3 @@
-pub mod Ends
 pub mod KindLaws
 pub mod ReadyLaws
 pub mod RowLaws

@@ -40,7 +40,7 @@ use Rattle.walk.specs.Body as body
 use Rattle.model.specs.declared.Ready.{Ready}
 use Rattle.model.specs.declared.Ready.the-variants.{Snow, Rankine, DruckerPrager, Nacc, Refused}
 use Rattle.model.specs.Ready.{readyUpdate}
-use Rattle.model.proofs.Ends.{Ends, Given, ends-given, ends-asks, ends-then, ends-after}
+use Rattle.walk.proofs.Ends.{Ends, Given, ends-given, ends-asks, ends-then, ends-after}
 
 -- a new state is finite, and so is the amount
 abbrev Finite : Change → Type 0

@@ -21,9 +21,11 @@ use Rattle.plasticity_snow.specs.Reason as snow-reason
 use Rattle.plasticity_rankine.specs.declared.RankineArguments.{RankineArguments}
 use Rattle.plasticity_rankine.specs.declared.RankinePlasticity.{RankinePlasticity}
 use Rattle.plasticity_rankine.specs.Law as rankine-law
+use Rattle.plasticity_rankine.specs.Projection as rankine-projection
 use Rattle.plasticity_rankine.specs.Rankine as rankine
 use Rattle.plasticity_drucker_prager.specs.declared.DruckerPragerPlasticity.{DruckerPragerPlasticity}
 use Rattle.plasticity_drucker_prager.specs.Law as drucker-prager-law
+use Rattle.plasticity_drucker_prager.specs.Projection as drucker-prager-projection
 use Rattle.plasticity_drucker_prager.specs.DruckerPrager as drucker-prager
 use Rattle.plasticity_nacc.specs.declared.NaccArguments.{NaccArguments}
 use Rattle.plasticity_nacc.specs.declared.NaccPlasticity.{NaccPlasticity}
@@ -101,35 +103,34 @@ pub record Row : Type 0 where
   pub kinds : List Bool
   -- the parts of a record that an update writes beside F and sigma: 5 plastic determinant, 6 plastic hardening, 7 elastic hardening, 8 log gain, 9 alpha
   pub written : List ℕ
-  -- the branch that a test chose, by the test's number in docs/STEPS.md and whether it held: 0 untouched; Rankine's one, two or all strains;
-  -- Drucker-Prager's ones and cone; NACC's upper tip, lower tip and surface; Snow has one
+  -- the branch that a test chose, by the test's number in docs/STEPS.md and whether it held: 0 untouched
   pub branch : ℕ → Bool → ℕ
   -- the law with parameters of these bits
   pub made : List ℕ → Model
 
 abbrev pub rowOf : Law → Row
 rowOf Snow =
-    record { kinds = false ∷ false ∷ false ∷ []; written = 5 ∷ 7 ∷ []; branch = λ test held. 1; made = λ p. models.Snow (snowOf p) }
+    record { kinds = false ∷ false ∷ false ∷ []; written = 5 ∷ 7 ∷ []; branch = λ test held. snow-reason.branchNumber; made = λ p. models.Snow (snowOf p) }
 rowOf Rankine =
     record {
       kinds = false ∷ false ∷ false ∷ false ∷ [];
       written = 6 ∷ [];
       made = λ p. models.Rankine (rankineOf p);
-      branch = λ test held. cond (eqb test 4) 0 (cond (eqb test 5) 1 (cond held 2 3));
+      branch = λ test held. rankine-projection.branchNumber test held;
     }
 rowOf DruckerPrager =
     record {
       kinds = false ∷ false ∷ false ∷ false ∷ false ∷ false ∷ true ∷ false ∷ [];
       written = 5 ∷ 6 ∷ 8 ∷ [];
       made = λ p. models.DruckerPrager (druckerPragerOf p);
-      branch = λ test held. cond (eqb test 1) 0 (cond (eqb test 13) (cond held 0 2) 1);
+      branch = λ test held. drucker-prager-projection.branchNumber test held;
     }
 rowOf Nacc =
     record {
       kinds = false ∷ false ∷ false ∷ true ∷ false ∷ false ∷ [];
       written = 9 ∷ [];
       made = λ p. models.Nacc (naccOf p);
-      branch = λ test held. cond (eqb test 7) 1 (cond (eqb test 8) 2 (cond held 0 3));
+      branch = λ test held. nacc-projection.branchNumber test held;
     }
 -- a number of none is refused by 6, so that none is made
 rowOf Unknown = record { kinds = []; written = []; branch = λ test held. 0; made = λ p. models.Snow (snowOf p) }

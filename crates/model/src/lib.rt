@@ -1,7 +1,6 @@
 // The models (RULES, sections 5 to 7): which number names which plastic law, what parameters it has, the law from their bits,
 // and the update by it. Which law is which stands in `rows`.
 mod kinds;
-mod readied;
 mod rows;
 
 pub use kinds::fit;
@@ -16,10 +15,10 @@ use plasticity_nacc::NaccPlasticity;
 use plasticity_rankine::RankineArguments;
 use plasticity_rankine::RankinePlasticity;
 use plasticity_snow::SnowPlasticity;
-pub use readied::model_finite;
 pub use rows::branch;
 pub use rows::drucker_prager;
 pub use rows::make_ready;
+pub use rows::model_finite;
 pub use rows::model_of;
 pub use rows::parameters_ready;
 pub use rows::rankine;

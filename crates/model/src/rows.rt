@@ -15,13 +15,12 @@ use reason::Reason;
 ghost use mathlib.Core.Path.{_≡_};
 ghost use mathlib.Core.Bool.{true, cond};
 ghost use lib.ListN.{length};
-ghost use Rattle.answers.specs.Refusals.{notFinite};
 ghost use Rattle.plasticity.specs.State.{scalarsFinite, inputsFinite};
 ghost use Rattle.record.specs.Layout.{floats};
 ghost use Rattle.model.specs.Rows.{whole, rowOf, snowOf, rankineOf, druckerPragerOf, naccOf, rankineReady, naccReady};
 ghost use Rattle.model.specs.Kinds.{shapeOf, modelKnown};
 ghost use Rattle.model.specs.Fields.{modelOf};
-ghost use Rattle.model.specs.Model.{modelReason};
+ghost use Rattle.model.specs.Model.{modelFinite, modelReason};
 ghost use Rattle.model.specs.Ready.{readyOf, readyFinite, parametersReady, readyUpdate};
 ghost use Rattle.model.specs.declared.Ready.the-variants.{Refused};
 ghost use Rattle.model.specs.Named.{readyScalars};
@@ -83,38 +82,10 @@ pub fn branch(law: Law, test: u8, held: bool) -> u64
     ensures { λ n. ⌜ n ≡ rowOf law .branch test held ⌝ }
 {
     match law {
-        Law::Snow => 1,
-        Law::Rankine => {
-            if test == 4 {
-                0
-            } else if test == 5 {
-                1
-            } else if held {
-                2
-            } else {
-                3
-            }
-        }
-        Law::DruckerPrager => {
-            if test == 1 {
-                0
-            } else if test == 13 {
-                if held { 0 } else { 2 }
-            } else {
-                1
-            }
-        }
-        Law::Nacc => {
-            if test == 7 {
-                1
-            } else if test == 8 {
-                2
-            } else if held {
-                0
-            } else {
-                3
-            }
-        }
+        Law::Snow => plasticity_snow::branch_number(),
+        Law::Rankine => plasticity_rankine::branch_number(test, held),
+        Law::DruckerPrager => plasticity_drucker_prager::branch_number(test, held),
+        Law::Nacc => plasticity_nacc::branch_number(test, held),
         Law::Unknown => 0,
     }
 }
@@ -199,35 +170,22 @@ pub fn reason_of(m: Model, u: [[f64; 3]; 3], vt: [[f64; 3]; 3], s: State) -> Rea
 }
 
 // ---- made ready
+fn ready_if(finite: bool, n: u8, q: Ready) -> Ready
+    ensures { λ r. ⌜ r ≡ cond finite q (Refused n) ⌝ }
+{
+    if finite { q } else { Ready::Refused(n) }
+}
+
 fn ready_rankine(p: RankinePlasticity) -> Ready
     ensures { λ r. ⌜ r ≡ rankineReady p ⌝ }
 {
-    if p.moduli_finite() {
-        Ready::Rankine(p)
-    } else {
-        Ready::Refused(answers::NO_NUMBER)
-    }
+    ready_if(p.moduli_finite(), answers::NO_NUMBER, Ready::Rankine(p))
 }
 
 fn ready_nacc(p: NaccPlasticity) -> Ready
     ensures { λ r. ⌜ r ≡ naccReady p ⌝ }
 {
-    if p.moduli_finite() {
-        Ready::Nacc(p)
-    } else {
-        Ready::Refused(answers::NO_NUMBER)
-    }
-}
-
-// 1 for a parameter comes first.
-fn ready_if(finite: bool, q: Ready) -> Ready
-    ensures { λ r. ⌜ r ≡ cond finite q (Refused notFinite) ⌝ }
-{
-    if finite {
-        q
-    } else {
-        Ready::Refused(answers::NOT_FINITE)
-    }
+    ready_if(p.moduli_finite(), answers::NO_NUMBER, Ready::Nacc(p))
 }
 
 // A model made ready once: 1 for a parameter, then 3 for a modulus.
@@ -235,10 +193,22 @@ pub fn make_ready(m: Model) -> Ready
     ensures { λ r. ⌜ r ≡ readyOf m ⌝ }
 {
     match m {
-        Model::Snow(p) => ready_if(p.parameters_finite(), Ready::Snow(p)),
-        Model::Rankine(a) => ready_if(a.parameters_finite(), ready_rankine(a.law())),
-        Model::DruckerPrager(p) => ready_if(p.parameters_finite(), Ready::DruckerPrager(p)),
-        Model::Nacc(a) => ready_if(a.parameters_finite(), ready_nacc(a.law())),
+        Model::Snow(p) => ready_if(p.parameters_finite(), answers::NOT_FINITE, Ready::Snow(p)),
+        Model::Rankine(a) => ready_if(
+            a.parameters_finite(),
+            answers::NOT_FINITE,
+            ready_rankine(a.law()),
+        ),
+        Model::DruckerPrager(p) => ready_if(
+            p.parameters_finite(),
+            answers::NOT_FINITE,
+            Ready::DruckerPrager(p),
+        ),
+        Model::Nacc(a) => ready_if(
+            a.parameters_finite(),
+            answers::NOT_FINITE,
+            ready_nacc(a.law()),
+        ),
     }
 }
 
@@ -253,6 +223,13 @@ pub fn parameters_ready(q: Ready) -> bool
         Ready::Nacc(_) => true,
         Ready::Refused(n) => n != answers::NOT_FINITE,
     }
+}
+
+// Whether every float of the parameters is finite.
+pub fn model_finite(m: Model) -> bool
+    ensures { λ r. ⌜ r ≡ modelFinite m ⌝ }
+{
+    parameters_ready(make_ready(m))
 }
 
 // The update of a finite record: nothing of the model is tested again.

@@ -19,14 +19,12 @@ use Rattle.particles.specs.declared.failure.FailureCounts.{FailureCounts
 use Rattle.particles.specs.declared.failure.PassedWithFailure.the-variants as pass
 use Rattle.particles.specs.declared.failure.PassedWithFailure.the-variants.{Done}
 use Rattle.particles.specs.declared.step.Step.{Step}
-use Rattle.particles.specs.declared.step.Step.the-variants.{Plain, Judged, Factors, FactoredPlain, FactoredJudged}
+use Rattle.particles.specs.declared.step.Step.the-variants.{Plain, Judged}
 use Rattle.particles.specs.Pass.{Worked, codeOf, recordAt, answers, counted, counts, wellSized, passedWithFailure, passAnswers, countsOver}
 use Rattle.particles.specs.Plain.{recordLaw}
 use Rattle.particles.specs.Judged.{judgeFinite, judgedAt, refusedRecord, marked, failureLaw, unlessRefused}
-use Rattle.particles.specs.Factored.{withFactors, factorRefusal, factorLaw, factoredLaw, orAsItCame}
 use Rattle.particles.specs.Step.{stepLaw}
 use Rattle.particles.proofs.PassLaws.{answers-at}
-use Rattle.particles.proofs.FactoredLaws.{factor-unjudged}
 
 -- how many numbers below n are so
 abbrev pub howMany : (ℕ → Bool) → ℕ → ℕ
@@ -101,7 +99,7 @@ unfailed verdict.Yes (Stored x) r w e f h = absurd (let z = sym (ap codeOf e) �
 unfailed (verdict.Refused n) (Stored x) r w e f h = refl
 unfailed v (Refused n) r w e f h = f
 
-abbrev Never : (List ℕ → Worked) → Type 0
+abbrev pub Never : (List ℕ → Worked) → Type 0
 Never step = (r : List ℕ) → codeOf (step r .outcome) ≡ 2 → step r .failed ≡ false
 
 record-never : (m : Model) → Never (recordLaw m)
@@ -116,21 +114,9 @@ failure-never m l e r = go (judgeFinite l e)
     go true h = unfailed _ (recordLaw m r .outcome) r (recordLaw m r) refl refl h
     go false h = refl
 
-factored-never : (inputs : Bool) (step : List ℕ → Worked) → Never step → Never (factoredLaw inputs step)
-unfolding factoredLaw
-factored-never inputs step f r = go inputs (eqb (factorRefusal r) 0)
-  where
-    go : (a b : Bool) → let w = cond a (cond b (orAsItCame r (step (withFactors r))) (refusedRecord (factorRefusal r) r)) (refusedRecord 1 r) in codeOf (w .outcome) ≡ 2 → w .failed ≡ false
-    go true true h = f (withFactors r) h
-    go true false h = refl
-    go false b h = refl
-
-step-never : (s : Step) → Never (stepLaw s)
+pub step-never : (s : Step) → Never (stepLaw s)
 step-never (Plain m) = record-never m
 step-never (Judged m l e) = failure-never m l e
-step-never Factors = λ r h. factor-unjudged r
-step-never (FactoredPlain m) = factored-never _ (recordLaw m) (record-never m)
-step-never (FactoredJudged m l e) = factored-never _ (failureLaw m l e) (failure-never m l e)
 
 -- ---- of a pass that is not refused
 done-same : {b c : FailureCounts} → Done b ≡ Done c → b ≡ c
@@ -139,13 +125,17 @@ done-same e = cc
 refused-not : {G : Type 0} (n : ℕ) (c : FailureCounts) → pass.Refused n ≡ Done c → G
 refused-not n c e = absurd (let z : _≡_ {A = ℕ} 0 1 = cc in omega arith)
 
+module _ (law : List ℕ → Worked) (never : Never law) (xs out : List ℕ) (c : FailureCounts) where
+  pub counted-by : passedWithFailure law xs out ≡ Done c → CountsTold law xs (passAnswers law xs out) (length xs / floats) c
+  counted-by = go (wellSized xs out)
+    where
+      go : (b : Bool) → cond b (Done (counts law xs (length xs / floats))) (pass.Refused 8) ≡ Done c
+          → CountsTold law xs (cond b (answers law xs (length xs / floats)) out) (length xs / floats) c
+      go true e =
+          let n = length xs / floats in
+          subst (CountsTold law xs (answers law xs n) n) (done-same e) (counts-told law xs never n)
+      go false e = refused-not 8 c e
+
 pub pass-counted : (s : Step) (xs out : List ℕ) (c : FailureCounts) → passedWithFailure (stepLaw s) xs out ≡ Done c
     → CountsTold (stepLaw s) xs (passAnswers (stepLaw s) xs out) (length xs / floats) c
-pass-counted s xs out c = go (wellSized xs out)
-  where
-    go : (b : Bool) → cond b (Done (counts (stepLaw s) xs (length xs / floats))) (pass.Refused 8) ≡ Done c
-        → CountsTold (stepLaw s) xs (cond b (answers (stepLaw s) xs (length xs / floats)) out) (length xs / floats) c
-    go true e =
-        let n = length xs / floats in
-        subst (CountsTold (stepLaw s) xs (answers (stepLaw s) xs n) n) (done-same e) (counts-told (stepLaw s) xs (step-never s) n)
-    go false e = refused-not 8 c e
+pass-counted s = counted-by (stepLaw s) (step-never s)

@@ -30,10 +30,9 @@ use Rattle.particles.specs.Plain.{Beside, lawAt, recordLaw}
 use Rattle.particles.specs.Judged.{verdictOn, judgeFinite, verdictAfter, unlessRefused, judgedAt, refusedRecord, marked, outcomeBy, failedBy, failureLaw}
 use Rattle.particles.specs.Readied.{readyKept, readyKeptBy}
 use Rattle.particles.specs.declared.step.Step.{Step}
-use Rattle.particles.specs.declared.step.Step.the-variants.{Plain, Judged, Factors, FactoredPlain, FactoredJudged}
+use Rattle.particles.specs.declared.step.Step.the-variants.{Plain, Judged}
 use Rattle.particles.specs.Step.{stepLaw}
 use Rattle.particles.proofs.PassLaws.{Keeps, record-keeps}
-use Rattle.particles.proofs.FactoredLaws.{factor-keeps, factored-keeps}
 
 pub marked-length : (v : Verdict) (r : List ℕ) (w : Worked) → length (w .after) ≡ length r → length (marked v r w .after) ≡ length r
 marked-length No r w h = h
@@ -77,9 +76,6 @@ beside-left (Refused n) o r s w h = tt
 pub step-keeps : (s : Step) → Keeps (stepLaw s)
 step-keeps (Plain m) = record-keeps m
 step-keeps (Judged m l e) = failure-keeps m l e
-step-keeps Factors = factor-keeps
-step-keeps (FactoredPlain m) = factored-keeps _ (recordLaw m) (record-keeps m)
-step-keeps (FactoredJudged m l e) = factored-keeps _ (failureLaw m l e) (failure-keeps m l e)
 
 -- no walk refuses by 0, so that its refusal is handed on
 handed : (l : MaximumStressFailure) (w : Walk (List Float)) (x : Ended (List Float)) → result w ≡ x

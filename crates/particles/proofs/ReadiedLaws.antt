@@ -5,14 +5,12 @@ use mathlib.Core.Bool.{Bool, true, false, cond, _&&_}
 use mathlib.Core.List.{List}
 use mathlib.Core.Logic.{inl, inr}
 use Prim.Native.Nat.{ℕ}
-use lib.Dec.{eqb}
 use lib.Ieee as Ieee
 use lib.Ieee.{Float, binary64}
 use lib.ListN.{length, length-set}
 use Rattle.numbers.specs.Floats.{finite}
 use Rattle.numbers.proofs.Laws.{and-both}
 use Rattle.answers.specs.Refusals.{notFinite, noNumber, wrongDeterminant}
-use Rattle.tensor.specs.Matrix.{zero}
 use Rattle.failure_maximum_stress.specs.declared.Verdict.{Verdict}
 use Rattle.failure_maximum_stress.specs.declared.Verdict.the-variants as verdicts
 use Rattle.plasticity.specs.State.{refused}
@@ -28,29 +26,23 @@ use Rattle.model.specs.declared.Ready.{Ready}
 use Rattle.model.specs.declared.Ready.the-variants as ready
 use Rattle.model.specs.Rows.{actsOf, preparedOf}
 use Rattle.model.specs.Named.{named}
-use Rattle.model.specs.Model.{modelFinite}
 use Rattle.model.specs.Ready.{readyOf, parametersReady, readyUpdate}
-use Rattle.model.proofs.KindLaws.{and-true}
 use Rattle.model.proofs.ReadyLaws.{ready-finite, ready-parameters, Lawful, ready-lawful, ready-update}
 use Rattle.model.proofs.StoredFinite.{stored-finite}
 use Rattle.particles.specs.declared.judged.Judge.{Judge}
 use Rattle.particles.specs.declared.judged.Judge.the-variants.{Nobody, By}
 use Rattle.particles.specs.declared.step.Step.{Step}
 use Rattle.particles.specs.declared.step.Step.the-variants as steps
-use Rattle.particles.specs.declared.step.How.{How}
-use Rattle.particles.specs.declared.step.How.the-variants as hows
 use Rattle.particles.specs.declared.step.Taken.{Taken}
 use Rattle.particles.specs.Pass.{Worked, AmountFinite}
 use Rattle.particles.specs.Plain.{kept, keptBy, updatedAt, lawAt, recordLaw}
 use Rattle.particles.specs.Judged.{verdictBy, refusedRecord, marked, finiteBy, lawBy}
-use Rattle.particles.specs.Factored.{withFactors, factorRefusal, factorLaw, orAsItCame, factoredLaw}
-use Rattle.particles.specs.Readied.{shaped, readyKept, readyKeptBy, readyAt, readyMarked, readyLaw, readyFirst}
-use Rattle.particles.specs.Step.{stepLaw, takenOf, takenFinite, howLaw, takenLaw}
+use Rattle.particles.specs.Readied.{shaped, readyKept, readyKeptBy, readyAt, readyMarked, readyLaw}
+use Rattle.particles.specs.Step.{stepLaw, takenOf, takenFinite, takenLaw}
 use Rattle.particles.proofs.Written.{scalars-last}
 use Rattle.particles.proofs.NotFinite.{law-right, law-wrong, refused-first, finite-first}
 use Rattle.particles.proofs.PassLaws.{Keeps, named-length}
 use Rattle.particles.proofs.JudgedLaws.{marked-length}
-use Rattle.particles.proofs.FactoredLaws.{factor-keeps, factored-keeps}
 
 -- a refused model refuses
 refused-at : (n : ℕ) (r : List ℕ) → (k : ℕ) × (readyAt (ready.Refused n) r ≡ refused k (stateAt r))
@@ -111,21 +103,10 @@ module _ (m : Model) (r : List ℕ) where
 pub taken-finite : (s : Step) → takenFinite (takenOf s) ≡ true
 taken-finite (steps.Plain m) = ready-finite m
 taken-finite (steps.Judged m l e) = ready-finite m
-taken-finite steps.Factors = refl
-taken-finite (steps.FactoredPlain m) = ready-finite m
-taken-finite (steps.FactoredJudged m l e) = ready-finite m
-
-ready-first : (m : Model) (j : Judge) → readyFirst (readyOf m) j ≡ factoredLaw (modelFinite m && finiteBy j) (lawBy m j)
-ready-first m j =
-    let law : readyLaw (readyOf m) j ≡ lawBy m j = λ i r. ready-law m r j i in
-    rw (ready-parameters m, law) refl
 
 pub taken-law : (s : Step) → takenLaw (takenOf s) ≡ stepLaw s
 taken-law (steps.Plain m) = λ i r. ready-law m r Nobody i
 taken-law (steps.Judged m l e) = λ i r. ready-law m r (By l e) i
-taken-law steps.Factors = refl
-taken-law (steps.FactoredPlain m) = ready-first m Nobody ∙ ap (λ (b : Bool). factoredLaw b (recordLaw m)) (and-true (modelFinite m))
-taken-law (steps.FactoredJudged m l e) = ready-first m (By l e)
 
 -- ---- every record keeps its length
 ready-kept-length : (q : Ready) (o : Outcome) (r : List ℕ) (s : State) → length (readyKept q o r s) ≡ length r
@@ -133,7 +114,7 @@ ready-kept-length q Untouched r s = refl
 ready-kept-length q (Stored a) r s = named-length layout (preparedOf q .law) (putShape r s) (s .scalars) ∙ simp length-set
 ready-kept-length q (Refused n) r s = refl
 
-ready-keeps : (q : Ready) (j : Judge) → Keeps (readyLaw q j)
+pub ready-keeps : (q : Ready) (j : Judge) → Keeps (readyLaw q j)
 unfolding readyLaw
 ready-keeps q j r = go (finiteBy j && recordFinite r)
   where
@@ -142,12 +123,7 @@ ready-keeps q j r = go (finiteBy j && recordFinite r)
     go false = refl
 
 pub taken-keeps : (t : Taken) → Keeps (takenLaw t)
-taken-keeps t = go (t .how) (t .ready) (t .judge)
-  where
-    go : (h : How) (q : Ready) (j : Judge) → Keeps (howLaw h q j)
-    go hows.Law q j = ready-keeps q j
-    go hows.Factors q j = factor-keeps
-    go hows.Factored q j = factored-keeps _ (readyLaw q j) (ready-keeps q j)
+taken-keeps t = ready-keeps (t .ready) (t .judge)
 
 -- ---- an amount that is stored is finite
 amount : (o : Outcome) → ((a : Float) → o ≡ Stored a → finite a ≡ true) → AmountFinite o
@@ -172,37 +148,10 @@ at-amount q r f = go (determinantRight r) _ (finite (floatAt (shaped (d .outcome
     go true n false = tt
     go false n c = tt
 
-ready-amount : (q : Ready) (j : Judge) (r : List ℕ) → AmountFinite (readyLaw q j r .outcome)
+pub ready-amount : (q : Ready) (j : Judge) (r : List ℕ) → AmountFinite (readyLaw q j r .outcome)
 unfolding readyLaw
 ready-amount q j r = go (finiteBy j && recordFinite r) refl
   where
     go : (b : Bool) → finiteBy j && recordFinite r ≡ b → AmountFinite (cond b (readyMarked q j r) (refusedRecord notFinite r) .outcome)
     go true t = marked-amount (verdictBy j (stateAt r .scalars .phase) (readyAt q r)) r (readyKeptBy q (readyAt q r) r) (at-amount q r (and-both (finiteBy j) (recordFinite r) t .1))
     go false t = tt
-
-factor-amount : (r : List ℕ) → AmountFinite (factorLaw r .outcome)
-unfolding factorLaw finite Ieee.ofBits
-factor-amount r = go (eqb (factorRefusal r) 0)
-  where
-    go : (b : Bool) → AmountFinite (cond b (record { outcome = Stored zero; failed = false; after = withFactors r }) (refusedRecord (factorRefusal r) r) .outcome)
-    go true = refl
-    go false = tt
-
-first-amount : (q : Ready) (j : Judge) (r : List ℕ) → AmountFinite (readyFirst q j r .outcome)
-unfolding factoredLaw
-first-amount q j r = go (parametersReady q && finiteBy j) (eqb (factorRefusal r) 0)
-  where
-    go : (a b : Bool) → AmountFinite (cond a (cond b (orAsItCame r (readyLaw q j (withFactors r))) (refusedRecord (factorRefusal r) r)) (refusedRecord notFinite r) .outcome)
-    go true true = ready-amount q j (withFactors r)
-    go true false = tt
-    go false b = tt
-
-pub how-amount : (h : How) (q : Ready) (j : Judge) (r : List ℕ) → AmountFinite (howLaw h q j r .outcome)
-how-amount hows.Law q j = ready-amount q j
-how-amount hows.Factors q j = factor-amount
-how-amount hows.Factored q j = first-amount q j
-
-pub step-amount : (s : Step) (r : List ℕ) → AmountFinite (stepLaw s r .outcome)
-step-amount s r =
-    let t = takenOf s in
-    rw (← taken-law s) (how-amount (t .how) (t .ready) (t .judge) r)

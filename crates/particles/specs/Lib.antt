@@ -1,5 +1,4 @@
 pub mod Bare
-pub mod Factored
 pub mod Fill
 pub mod Judged
 pub mod Named

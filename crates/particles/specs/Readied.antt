@@ -1,4 +1,4 @@
--- What a model made ready makes of one record, by itself, with a judge, and after our own factors: as the model does (proofs/ReadiedLaws).
+-- What a model made ready makes of one record (RULES, section 7), by itself and with a judge: as the model does (proofs/ReadiedLaws).
 use mathlib.Core.Bool.{false, cond, _&&_}
 use mathlib.Core.List.{List}
 use Prim.Native.Nat.{ℕ}
@@ -16,7 +16,6 @@ use Rattle.model.specs.Named.{readyScalars}
 use Rattle.particles.specs.declared.judged.Judge.{Judge}
 use Rattle.particles.specs.Pass.{Worked}
 use Rattle.particles.specs.Judged.{verdictBy, refusedRecord, marked, finiteBy}
-use Rattle.particles.specs.Factored.{factoredLaw}
 
 -- the record but for the scalars
 abbrev pub shaped : Outcome → List ℕ → State → List ℕ
@@ -48,6 +47,3 @@ readyMarked q j r = marked (verdictBy j (stateAt r .scalars .phase) (readyAt q r
 
 unfoldable pub readyLaw : Ready → Judge → List ℕ → Worked
 readyLaw q j r = cond (finiteBy j && recordFinite r) (readyMarked q j r) (refusedRecord notFinite r)
-
-abbrev pub readyFirst : Ready → Judge → List ℕ → Worked
-readyFirst q j = factoredLaw (parametersReady q && finiteBy j) (readyLaw q j)

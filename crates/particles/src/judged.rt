@@ -136,7 +136,7 @@ fn mark(q: Ready, x: Left, v: Verdict, r: &mut [u64]) -> Stepped
 }
 
 // One finite record, with a finite judge: the law first, then the verdict on what it leaves.
-fn finite_step(q: Ready, j: Judge, r: &mut [u64]) -> Stepped
+pub fn finite_step(q: Ready, j: Judge, r: &mut [u64]) -> Stepped
     requires { ⌜ (length (now r) ≡ floats) × (recordFinite (now r) ≡ true) × (readyFinite q ≡ true) ⌝ }
     ensures outcome { λ x. ⌜ x .outcome ≡ readyMarked q j (now (r .entry)) .outcome ⌝ }
     ensures failed { λ x. ⌜ x .failed ≡ readyMarked q j (now (r .entry)) .failed ⌝ }
@@ -159,7 +159,7 @@ pub fn judge_finite(j: Judge) -> bool
 }
 
 // One record. A float that isn't finite is the first refusal of every law, so all its patterns are tested at once.
-pub fn step(q: Ready, j: Judge, r: &mut [u64]) -> Stepped
+pub fn take_step(q: Ready, j: Judge, r: &mut [u64]) -> Stepped
     requires { ⌜ (length (now r) ≡ floats) × (readyFinite q ≡ true) ⌝ }
     ensures outcome { λ x. ⌜ x .outcome ≡ readyLaw q j (now (r .entry)) .outcome ⌝ }
     ensures failed { λ x. ⌜ x .failed ≡ readyLaw q j (now (r .entry)) .failed ⌝ }

@@ -4,7 +4,6 @@ use crate::failure::PassedWithFailure;
 use crate::judged;
 use crate::judged::Judge;
 use crate::step;
-use crate::step::How;
 use crate::step::Step;
 use crate::step::Stepped;
 use crate::step::Taken;
@@ -18,7 +17,8 @@ ghost use lib.ListN.{length};
 ghost use Rattle.record.specs.Layout.{floats};
 ghost use Rattle.model.specs.Ready.{readyFinite};
 ghost use Rattle.particles.specs.Plain.{recordLaw, recordOutcome, recordAfter};
-ghost use Rattle.particles.specs.Step.{stepLaw, howLaw, takenFinite, takenLaw};
+ghost use Rattle.particles.specs.Readied.{readyLaw};
+ghost use Rattle.particles.specs.Step.{stepLaw, takenFinite, takenLaw};
 ghost use Rattle.particles.specs.Pass.{codeOf, valueOf, AmountFinite, answered, recordAt, replaced, worked, answers, countedIf, counted, counts, sized, withoutVerdicts, passed, passedWithFailure, passRecords, passAnswers};
 
 // How many records were left untouched, stored and refused.
@@ -39,7 +39,7 @@ pub fn update_record(m: Model, r: &mut [u64]) -> Outcome
     ensures { λ x. ⌜ now (r .exit) ≡ recordAfter m (now (r .entry)) ⌝ }
 {
     if r.len() == record::FLOATS {
-        let d = judged::step(model::make_ready(m), Judge::Nobody, r);
+        let d = judged::take_step(model::make_ready(m), Judge::Nobody, r);
         return d.outcome;
     }
     Outcome::Refused(answers::LENGTH)
@@ -76,7 +76,7 @@ fn count_failed(n: usize, failed: bool) -> usize
 }
 
 // One record more.
-fn count_one(c: FailureCounts, o: Outcome, failed: bool) -> FailureCounts
+pub fn count_one(c: FailureCounts, o: Outcome, failed: bool) -> FailureCounts
     requires { ⌜ (c .untouched < 2 ^ 63) × (c .stored < 2 ^ 63) × (c .refused < 2 ^ 63) × (c .failed < 2 ^ 63) ⌝ }
     ensures { λ r. ⌜ r ≡ counted c o failed ⌝ }
 {
@@ -104,7 +104,7 @@ fn count_one(c: FailureCounts, o: Outcome, failed: bool) -> FailureCounts
 }
 
 // The two answers of record i.
-fn write_answer(out: &mut [u64], i: usize, o: Outcome)
+pub fn write_answer(out: &mut [u64], i: usize, o: Outcome)
     requires { ⌜ (i * 2 + 2 ≤ length (now out)) × AmountFinite o ⌝ }
     ensures { λ _. ⌜ now (out .exit) ≡ answered (now (out .entry)) i o ⌝ }
 {
@@ -113,34 +113,17 @@ fn write_answer(out: &mut [u64], i: usize, o: Outcome)
     out[k + 1] = value(o);
 }
 
-// Record i, and its two answers. The loop alone calls it, and it alone `take_step`: so both are compiled into the loop, and no record
-// costs a copy of what was made ready.
-fn one_ready(how: How, q: Ready, j: Judge, xs: &mut [u64], out: &mut [u64], i: usize) -> Stepped
+// Record i, and its two answers. The loop alone calls it: so it is compiled into the loop, and no record costs a copy of what was made ready.
+fn one_ready(q: Ready, j: Judge, xs: &mut [u64], out: &mut [u64], i: usize) -> Stepped
     requires { ⌜ (i * floats + floats ≤ length (now xs)) × (i * 2 + 2 ≤ length (now out)) × (readyFinite q ≡ true) ⌝ }
-    ensures outcome { λ d. ⌜ d .outcome ≡ howLaw how q j (recordAt (now (xs .entry)) i) .outcome ⌝ }
-    ensures failed { λ d. ⌜ d .failed ≡ howLaw how q j (recordAt (now (xs .entry)) i) .failed ⌝ }
-    ensures record { λ d. ⌜ now (xs .exit) ≡ replaced (now (xs .entry)) i (howLaw how q j (recordAt (now (xs .entry)) i) .after) ⌝ }
+    ensures outcome { λ d. ⌜ d .outcome ≡ readyLaw q j (recordAt (now (xs .entry)) i) .outcome ⌝ }
+    ensures failed { λ d. ⌜ d .failed ≡ readyLaw q j (recordAt (now (xs .entry)) i) .failed ⌝ }
+    ensures record { λ d. ⌜ now (xs .exit) ≡ replaced (now (xs .entry)) i (readyLaw q j (recordAt (now (xs .entry)) i) .after) ⌝ }
     ensures answer { λ d. ⌜ now (out .exit) ≡ answered (now (out .entry)) i (d .outcome) ⌝ }
 {
     let a = i * record::FLOATS;
     let b = a + record::FLOATS;
-    let d = step::take_step(how, q, j, &mut xs[a..b]);
-    let o = d.outcome;
-    write_answer(out, i, o);
-    d
-}
-
-// The same by itself, made ready for it alone: written out, so that `one_ready` has one caller, the loop.
-pub fn one(s: Step, xs: &mut [u64], out: &mut [u64], i: usize) -> Stepped
-    requires { ⌜ (i * floats + floats ≤ length (now xs)) × (i * 2 + 2 ≤ length (now out)) ⌝ }
-    ensures outcome { λ d. ⌜ d .outcome ≡ stepLaw s (recordAt (now (xs .entry)) i) .outcome ⌝ }
-    ensures failed { λ d. ⌜ d .failed ≡ stepLaw s (recordAt (now (xs .entry)) i) .failed ⌝ }
-    ensures record { λ d. ⌜ now (xs .exit) ≡ replaced (now (xs .entry)) i (stepLaw s (recordAt (now (xs .entry)) i) .after) ⌝ }
-    ensures answer { λ d. ⌜ now (out .exit) ≡ answered (now (out .entry)) i (d .outcome) ⌝ }
-{
-    let a = i * record::FLOATS;
-    let b = a + record::FLOATS;
-    let d = step::step_alone(s, &mut xs[a..b]);
+    let d = judged::take_step(q, j, &mut xs[a..b]);
     let o = d.outcome;
     write_answer(out, i, o);
     d
@@ -159,12 +142,11 @@ fn pass_all(t: Taken, xs: &mut [u64], out: &mut [u64], n: usize) -> FailureCount
         refused: 0,
         failed: 0,
     };
-    let how = t.how;
     let q = t.ready;
     let j = t.judge;
     let mut i = 0;
     while i < n {
-        let d = one_ready(how, q, j, xs, out, i);
+        let d = one_ready(q, j, xs, out, i);
         let o = d.outcome;
         c = count_one(c, o, d.failed);
         i += 1;
@@ -195,6 +177,7 @@ pub fn pass_by(s: Step, xs: &mut [u64], out: &mut [u64]) -> PassedWithFailure
     }
 }
 
+// A pass's first three counts.
 pub fn three(p: PassedWithFailure) -> Passed
     ensures { λ r. ⌜ r ≡ withoutVerdicts p ⌝ }
 {

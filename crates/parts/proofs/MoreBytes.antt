@@ -14,7 +14,7 @@ use Rattle.sheet.specs.Sheet.{most, numberAt, Fields, Got, Stopped, parametersA
 use Rattle.sheet.specs.Spelling.{spellNumber, spellWords, Below, Fits}
 use Rattle.sheet.specs.declared.Number.{Number}
 use Rattle.sheet.specs.declared.Number.the-variants.{Read as Number·Read, Refused as Number·Refused}
-use Rattle.sheet.proofs.Taken.{either}
+use Rattle.sheet.proofs.ReadFrom.{either}
 use Rattle.sheet.proofs.Refusals.{number-stable, parameters-stable}
 use Rattle.sheet.proofs.Pieces.{after, number-spelled, number-read, parameters-spelled, parameters-read}
 

@@ -12,7 +12,7 @@ use Rattle.record.specs.Layout.{floats}
 use Rattle.particles.specs.Pass.{wellSized, worked, answers, counts, threeOf}
 use Rattle.sheet.specs.Sheet.{most, refusedBy, headerOf, readOf, recordsOf, roomOf}
 use Rattle.sheet.specs.declared.Header.{Header}
-use Rattle.sheet.proofs.Taken.{few}
+use Rattle.sheet.proofs.ReadFrom.{few}
 use Rattle.sheet_run.specs.Run.{lawOf, frontOf, frontRecords, frontAnswers, ranOf, ranRecords, ranAnswers}
 use Rattle.sheet_run.proofs.Rooms.{records-length}
 use Rattle.sheet_run.proofs.Parts.{well}

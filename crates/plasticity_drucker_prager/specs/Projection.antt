@@ -1,6 +1,8 @@
 -- The Drucker-Prager projection (RULES, section 5; plasticity_drucker_prager.rs, `project_deformation_gradient`), over however many axes.
+use mathlib.Core.Bool.{Bool, cond}
 use mathlib.Core.List.{List, [], _∷_, _++_, map}
 use Prim.Native.Nat.{ℕ}
+use lib.Dec.{eqb}
 use lib.ListN.{getD}
 use lib.Ieee.{Float, nan}
 use Rattle.tensor.specs.Matrix as tensor
@@ -27,7 +29,10 @@ pub data Way : Type 0 where
   inside : Float → Way
   surface : Float → Float → Way
 
--- the branch's number (docs/STEPS.md)
+-- the branch's number (docs/STEPS.md), by the test that chose it and whether that held: untouched, the ones, the cone
+abbrev pub branchNumber : ℕ → Bool → ℕ
+branchNumber test held = cond (eqb test 1) 0 (cond (eqb test 13) (cond held 0 2) 1)
+
 abbrev pub wayNumber : Way → ℕ
 wayNumber (isotropic d) = 1
 wayNumber (expanding x) = 1

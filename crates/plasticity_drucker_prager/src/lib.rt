@@ -8,6 +8,7 @@ mod update;
 
 use answers::Pair;
 use plasticity::Outcome;
+pub use reasons::branch_number;
 pub use update::scalars_of;
 ghost use mathlib.Core.Path.{_≡_};
 ghost use Rattle.plasticity_drucker_prager.specs.Law.{defaultsOf, madeOf, newOf, parametersFinite};

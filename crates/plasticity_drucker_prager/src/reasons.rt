@@ -11,8 +11,22 @@ use reason::Reason;
 ghost use mathlib.Core.Path.{_≡_};
 ghost use Rattle.reason.specs.Reason.{reasonOf};
 ghost use Rattle.reason.specs.Why.{why};
+ghost use Rattle.plasticity_drucker_prager.specs.Projection.{branchNumber};
 ghost use Rattle.plasticity_drucker_prager.specs.DruckerPrager.{runWalk, druckerWalk, movedWalk};
 ghost use Rattle.plasticity_drucker_prager.specs.Inner.{branchTold, followWalk};
+
+// The branch that a test chose, by the test's number and whether it held: 0 is untouched, 1 the ones, 2 the cone.
+pub fn branch_number(test: u8, held: bool) -> u64
+    ensures { λ n. ⌜ n ≡ branchNumber test held ⌝ }
+{
+    if test == steps::FLAG {
+        0
+    } else if test == steps::YIELD {
+        if held { 0 } else { 2 }
+    } else {
+        1
+    }
+}
 
 impl DruckerPragerPlasticity {
     // Of new singular values: the reason of their branch, unless a step after it refuses.

@@ -23,8 +23,8 @@ use Rattle.walk.proofs.Number.{neg-number, add-number, sub-number, finite-sub, 
 use Rattle.numbers.proofs.Laws.{finite-number}
 use Rattle.walk.specs.Exact.{andThen}
 use Rattle.walk.proofs.Exact.{result-then}
-use Rattle.walk.specs.Matrix.{flat, value-entry, values-nums}
-use Rattle.walk.proofs.Every.{and-left, and-right, all-append, all-flat}
+use Rattle.walk.specs.Matrix.{joined, value-entry, values-nums}
+use Rattle.walk.proofs.Every.{and-left, and-right, all-append, all-joined}
 use Rattle.walk.specs.Body as body
 use Rattle.walk.specs.Body.{Body, keptOf}
 use Rattle.walk.proofs.Body.{inputs-finite, finite-scalars, store-law}
@@ -242,8 +242,8 @@ pub project-inputs : (p : NaccPlasticity) (f u : List (List Float)) (sigma : Lis
 unfolding projectFloats
 project-inputs p f u sigma vt alpha =
     let last = alpha ∷ [] in
-    all-append finite (parametersOf p) (flat f ++ (flat u ++ (sigma ++ (flat vt ++ last))))
-    ∙ rw (all-append finite (flat f) (flat u ++ (sigma ++ (flat vt ++ last))), all-append finite (flat u) (sigma ++ (flat vt ++ last)), all-append finite sigma (flat vt ++ last), all-append finite (flat vt) last, all-flat finite f, all-flat finite u, all-flat finite vt)
+    all-append finite (parametersOf p) (joined f ++ (joined u ++ (sigma ++ (joined vt ++ last))))
+    ∙ rw (all-append finite (joined f) (joined u ++ (sigma ++ (joined vt ++ last))), all-append finite (joined u) (sigma ++ (joined vt ++ last)), all-append finite sigma (joined vt ++ last), all-append finite (joined vt) last, all-joined finite f, all-joined finite u, all-joined finite vt)
     (leftwards (parametersFinite p) (matFinite f) (matFinite u) (rowFinite sigma) (matFinite vt) (finite alpha))
 
 -- the arguments' own test, and then the law's

@@ -1,7 +1,9 @@
 -- The NACC projection (RULES, sections 5 and 6; plasticity_nacc.rs, `project_deformation_gradient`): its steps over however many axes, and in three axes F
 -- recomposed, as a call by itself.
+use mathlib.Core.Bool.{Bool, cond}
 use mathlib.Core.List.{List, [], _∷_, _++_}
 use Prim.Native.Nat.{ℕ}
+use lib.Dec.{eqb}
 use lib.ListN.{getD}
 use lib.Ieee.{Float, nan}
 use Rattle.tensor.specs.Matrix as tensor
@@ -12,7 +14,7 @@ use Rattle.plasticity.specs.declared.Outcome.{Outcome}
 use Rattle.plasticity.specs.declared.Outcome.the-variants as outcome
 use Rattle.walk.specs.Expr.{Expr, num, neg, _+_, _-_, _*_, _/_, value, values, nums}
 use Rattle.walk.specs.Walk.{Walk, Test, ln, root, sinh, less, flag, inputs, ask, asks, work, works, most, size, branch, split, when, results, end, _then_, Ended}
-use Rattle.walk.specs.Matrix.{product, flat}
+use Rattle.walk.specs.Matrix.{product, joined}
 use Rattle.walk.specs.Update.{recomposed}
 use Rattle.reason.specs.Traced.{Traced, reached, stopped, stepless}
 use Rattle.plasticity_nacc.specs.declared.Branch.{Branch}
@@ -33,7 +35,10 @@ pub data Way : Type 0 where
   inside : Float → Float → Way
   surface : Float → Float → Way
 
--- the branch's number (docs/STEPS.md)
+-- the branch's number (docs/STEPS.md), by the test that chose it and whether that held: untouched, the upper tip, the lower tip, the surface
+abbrev pub branchNumber : ℕ → Bool → ℕ
+branchNumber test held = cond (eqb test 7) 1 (cond (eqb test 8) 2 (cond held 0 3))
+
 abbrev pub wayNumber : Way → ℕ
 wayNumber (upper x y) = 1
 wayNumber (lower x y) = 2
@@ -177,7 +182,7 @@ abbrev pub moduli : {A : Type 0} → NaccPlasticity → Walk A → Walk A
 moduli p w = results 1 ((num (p .mu) ∷ num (p .kappa) ∷ []) ∷ []) w
 
 unfoldable pub projectFloats : NaccPlasticity → List (List Float) → List (List Float) → List Float → List (List Float) → Float → List Float
-projectFloats p f u sigma vt alpha = parametersOf p ++ (flat f ++ (flat u ++ (sigma ++ (flat vt ++ (alpha ∷ [])))))
+projectFloats p f u sigma vt alpha = parametersOf p ++ (joined f ++ (joined u ++ (sigma ++ (joined vt ++ (alpha ∷ [])))))
 
 unfoldable pub projectCall : NaccPlasticity → List (List Float) → List (List Float) → List Float → List (List Float) → Float → Walk Result
 projectCall p f u sigma vt alpha = inputs (projectFloats p f u sigma vt alpha) (moduli p (projectWalk p (rowsOf f) u sigma vt alpha))

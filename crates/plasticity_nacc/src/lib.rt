@@ -12,6 +12,7 @@ mod update;
 pub use friction::friction_of;
 pub use friction::friction_on_path;
 use plasticity::Outcome;
+pub use reasons::branch_number;
 use tensor::Rows;
 pub use update::scalars_of;
 

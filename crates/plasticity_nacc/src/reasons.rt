@@ -10,9 +10,24 @@ ghost use mathlib.Core.Path.{_≡_};
 ghost use mathlib.Core.Bool.{true};
 ghost use Rattle.numbers.specs.Floats.{finite};
 ghost use Rattle.reason.specs.Reason.{reasonOf};
-ghost use Rattle.plasticity_nacc.specs.Projection.{moduli};
+ghost use Rattle.plasticity_nacc.specs.Projection.{branchNumber, moduli};
 ghost use Rattle.plasticity_nacc.specs.Nacc.{runWalk, argumentsWalk};
 ghost use Rattle.plasticity_nacc.specs.Inner.{testOf};
+
+// The branch that a test chose, by the test's number and whether it held: 0 is untouched, 1 the upper tip, 2 the lower, 3 the surface.
+pub fn branch_number(test: u8, held: bool) -> u64
+    ensures { λ n. ⌜ n ≡ branchNumber test held ⌝ }
+{
+    if test == steps::UPPER {
+        1
+    } else if test == steps::LOWER {
+        2
+    } else if held {
+        0
+    } else {
+        3
+    }
+}
 
 // The branch's own test is the last: p0 < p, p < -beta p0, y < 1e-4.
 fn branch_reason(q: Projected) -> Reason

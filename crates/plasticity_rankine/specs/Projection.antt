@@ -1,7 +1,9 @@
 -- The Rankine projection on log strains (RULES, section 5; plasticity_rankine.rs, `update_particle`). The steps: 4, 5 and 6 the tests,
 -- 10 the results of a call by itself.
+use mathlib.Core.Bool.{Bool, cond}
 use mathlib.Core.List.{List, [], _∷_, _++_}
 use Prim.Native.Nat.{ℕ}
+use lib.Dec.{eqb}
 use lib.Ieee.{Float}
 use Rattle.numbers.specs.Constants as constants
 pub use Rattle.numbers.specs.Constants.{two}
@@ -54,7 +56,10 @@ pub data Way : Type 0 where
   two-move : Float → Float → Way
   all-move : Float → Float → Way
 
--- the branch's number (docs/STEPS.md): how many strains move
+-- the branch's number (docs/STEPS.md), by the test that chose it and whether that held: how many strains move
+abbrev pub branchNumber : ℕ → Bool → ℕ
+branchNumber test held = cond (eqb test 4) 0 (cond (eqb test 5) 1 (cond held 2 3))
+
 abbrev pub wayNumber : Way → ℕ
 wayNumber (none-moves x y) = 0
 wayNumber (one-moves x y) = 1

@@ -6,6 +6,8 @@ mod sorting;
 mod steps;
 mod update;
 
+pub use reasons::branch_number;
+
 // The law with its moduli, which come from `new`.
 pub struct RankinePlasticity {
     mu: f64,

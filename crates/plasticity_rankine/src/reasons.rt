@@ -17,8 +17,24 @@ ghost use Rattle.walk.specs.Expr.{num, nums};
 ghost use Rattle.reason.specs.Reason.{untold, reasonOf};
 ghost use Rattle.reason.specs.Why.{why};
 ghost use Rattle.plasticity_rankine.specs.Law.{parametersFinite};
+ghost use Rattle.plasticity_rankine.specs.Projection.{branchNumber};
 ghost use Rattle.plasticity_rankine.specs.Rankine.{movedWalk, runWalk, rankineWalk, argumentsWalk, expsWalk};
 ghost use Rattle.plasticity_rankine.specs.Inner.{followedReason};
+
+// The branch that a test chose, by the test's number and whether it held: how many strains move.
+pub fn branch_number(test: u8, held: bool) -> u64
+    ensures { λ n. ⌜ n ≡ branchNumber test held ⌝ }
+{
+    if test == steps::FIRST_TEST {
+        0
+    } else if test == steps::SECOND_TEST {
+        1
+    } else if held {
+        2
+    } else {
+        3
+    }
+}
 
 // The exponentials and the results; `told` is the last test's.
 fn exps_reason(

@@ -1,6 +1,7 @@
--- Why a Snow update answered as it did (ticket 8): "names for each sigma the bound whose step last changed it, or neither".
+-- Why a Snow update answered as it did (RULES, section 7; ticket 8): "names for each sigma the bound whose step last changed it, or neither".
 use mathlib.Core.Bool.{cond}
 use mathlib.Core.List.{List}
+use Prim.Native.Nat.{ℕ}
 use lib.Dec.{eqb}
 use lib.ListN.{getD}
 use lib.Ieee as Ieee
@@ -26,3 +27,7 @@ boundOf p e =
 
 abbrev pub boundsOf : SnowPlasticity → List Float → Reason
 boundsOf p sigma = Clamped (boundOf p (getD sigma 0 nan)) (boundOf p (getD sigma 1 nan)) (boundOf p (getD sigma 2 nan))
+
+-- the branch's number (docs/STEPS.md): no test is made, and there is one
+abbrev pub branchNumber : ℕ
+branchNumber = 1

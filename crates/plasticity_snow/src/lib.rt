@@ -6,6 +6,7 @@ use plasticity::Outcome;
 use plasticity::Scalars;
 use plasticity::State;
 use plasticity::Updated;
+pub use reasons::branch_number;
 ghost use mathlib.Core.Path.{_≡_};
 ghost use mathlib.Core.Bool.{true, _&&_};
 ghost use Rattle.numbers.specs.Floats.{finite, isNumber, maxOf, minOf};

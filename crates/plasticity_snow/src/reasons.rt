@@ -10,13 +10,20 @@ ghost use Rattle.plasticity.specs.State.{inputsFinite};
 ghost use Rattle.reason.specs.Reason.{reasonFrom};
 ghost use Rattle.reason.specs.Why.{why};
 ghost use Rattle.plasticity_snow.specs.Snow.{parametersFinite, runWalk, snowWalk};
-ghost use Rattle.plasticity_snow.specs.Reason.{boundOf, boundsOf};
+ghost use Rattle.plasticity_snow.specs.Reason.{boundOf, boundsOf, branchNumber};
 
 const INPUTS: u8 = 0;
 
 const EXPONENTIAL: u8 = 3;
 
 const RESULTS: u8 = 4;
+
+// The branch's number: no test is made, and there is one.
+pub fn branch_number() -> u64
+    ensures { λ n. ⌜ n ≡ branchNumber ⌝ }
+{
+    1
+}
 
 impl SnowPlasticity {
     // Changed is in bits: -0.0 to 0.0 too.

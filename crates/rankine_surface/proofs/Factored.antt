@@ -15,10 +15,10 @@ use Rattle.model.specs.Model.{modelFinite}
 use Rattle.particles.specs.Pass.{Worked, recordAt}
 use Rattle.particles.specs.Plain.{recordLaw}
 use Rattle.particles.specs.Judged.{judgeFinite, refusedRecord, failureLaw}
-use Rattle.particles.specs.Factored.{withFactors, factorRefusal, heldBy, orAsItCame, factoredLaw}
+use Rattle.factored_particles.specs.Factored.{withFactors, factorRefusal, heldBy, orAsItCame, factoredLaw}
 use Rattle.particles.proofs.PassLaws.{record-keeps}
 use Rattle.particles.proofs.JudgedLaws.{failure-keeps}
-use Rattle.particles.proofs.FactoredLaws.{factors-length, factored-keeps}
+use Rattle.factored_particles.proofs.FactoredLaws.{factors-length, factored-keeps}
 use Rattle.rankine_surface.specs.Surface.{Accepted}
 use Rattle.rankine_surface.specs.Record.{Premises, Found, foundOf, Demand3At, ArchivesAt, InPass, passFound, LawStep}
 use Rattle.rankine_surface.proofs.Passes.{same, in-pass, found}

@@ -28,8 +28,8 @@ use Rattle.walk.specs.Expr.{Expr, num, nums, value, values}
 use Rattle.walk.specs.Walk as walk
 use Rattle.walk.specs.Walk.{Walk, root, inputs, results, end, _then_, Ended, result, answerAs}
 use Rattle.walk.specs.Exact.{path}
-use Rattle.walk.specs.Matrix.{flat, values-nums}
-use Rattle.walk.proofs.Every.{all-flat, all-append}
+use Rattle.walk.specs.Matrix.{joined, values-nums}
+use Rattle.walk.proofs.Every.{all-joined, all-append}
 use Rattle.walk.specs.Tensor.{worth, rows}
 use Rattle.walk.proofs.Tensor.{worth-rows}
 use Rattle.walk.specs.Answers.{returned, returnedMatrix, refusalIn, matrixAs}
@@ -134,7 +134,7 @@ module _ (l : List Float) (ok : Bool) (q : allOf finite l ≡ ok) where
 
 floats-in : (t : DecomposedTensor) → allOf finite (floatsIn t) ≡ tensorFinite t
 floats-in t =
-    all-append finite (flat (ofRows (t .«deviatoric_part»))) (t .«spherical_part» ∷ []) ∙ ap (λ b. b && finite (t .«spherical_part»)) (all-flat finite (ofRows (t .«deviatoric_part»)))
+    all-append finite (joined (ofRows (t .«deviatoric_part»))) (t .«spherical_part» ∷ []) ∙ ap (λ b. b && finite (t .«spherical_part»)) (all-joined finite (ofRows (t .«deviatoric_part»)))
 
 phase-gives : (phase : Float) → Gives (neo-hookean.phaseCoeff phase) (path (inputs (phase ∷ []) (returned 1 (neo-hookean.coefficient phase))))
 unfolding neo-hookean.phaseCoeff
@@ -195,7 +195,7 @@ module _ (p : CorotatedLinearElasticity) where
       → Beside (corotated-stress.kirchhoffStress p phase h f u s vt .refusal) (path (corotated-stress.stressWalk p phase h f u s vt))
   unfolding corotated-stress.stressWalk
   corotated-stress-gives phase h f u s vt =
-      walk-beside (corotated.floats p ((phase ∷ h ∷ []) ++ flat f ++ flat u ++ s ++ flat vt)) (corotated-stress.stressSteps p phase h f u s vt)
+      walk-beside (corotated.floats p ((phase ∷ h ∷ []) ++ joined f ++ joined u ++ s ++ joined vt)) (corotated-stress.stressSteps p phase h f u s vt)
       (corotated-laws.stress-inner p phase h f u s vt)
 
   corotated-energy-gives : (s : List Float) (h : Float) → Gives (corotated-energy.elasticEnergyDensity p s h) (path (corotated-energy.energyWalk p s h))
@@ -205,7 +205,7 @@ module _ (p : CorotatedLinearElasticity) where
   corotated-pos-gives : (f : List (List Float)) (s : List Float) (h : Float) → Gives (corotated-energy.posEnergy p f s h) (path (corotated-energy.posWalk p f s h))
   unfolding corotated-energy.posWalk
   corotated-pos-gives f s h =
-      walk-gives (corotated.floats p (flat f ++ s ++ (h ∷ []))) (corotated-energy.posSteps p f s h) (corotated-laws.pos-inner p s h f)
+      walk-gives (corotated.floats p (joined f ++ s ++ (h ∷ []))) (corotated-energy.posSteps p f s h) (corotated-laws.pos-inner p s h f)
 
 -- ---- Monaghan
 module _ (law : MonaghanSphEos) (mass volume density : Float) where
@@ -231,7 +231,7 @@ module _ (law : MonaghanSphEos) (mass volume density : Float) where
   unfolding monaghan-stress.stressWalk
   stress-gives det gradient =
       let g : Float → Walk (List (List Float)) = monaghan-stress.stressSteps law det gradient in
-      walk-beside (monaghan.floats law mass volume density (det ∷ flat gradient)) (pressed then g) (inner-then pressed g pressed-inner (stress-inner det gradient))
+      walk-beside (monaghan.floats law mass volume density (det ∷ joined gradient)) (pressed then g) (inner-then pressed g pressed-inner (stress-inner det gradient))
 
   timestep-inner : (j : Float) (velocity : List Float) (width p : Float) → Inner (monaghan-timestep.timestepSteps j mass volume velocity width p)
   unfolding monaghan-timestep.timestepSteps monaghan-timestep.singleSteps monaghan-timestep.smallerSteps monaghan-timestep.cflSteps
@@ -254,11 +254,11 @@ calls =
       bulk-modulus = λ y p. number-gives (y ∷ p ∷ []) (finite y && finite p) refl (num (bulkModulusOf y p));
       shear-modulus-from-lame = λ l m. number-gives (l ∷ m ∷ []) (finite l && finite m) refl (num (shearFromLameOf l m));
       bulk-modulus-from-lame = λ l m. number-gives (l ∷ m ∷ []) (finite l && finite m) refl (num (bulkFromLameOf l m));
-      spin-tensor = λ m. numbers-give (flat m) (matFinite m) (all-flat finite m) (spinTensorOf m);
-      strain-rate = λ m. numbers-give (flat m) (matFinite m) (all-flat finite m) (strainRateOf m);
-      deviatoric-part = λ m. numbers-give (flat m) (matFinite m) (all-flat finite m) (deviatoricOf m);
-      spherical-part = λ m. number-gives (flat m) (matFinite m) (all-flat finite m) (num (sphericalOf m));
-      decompose = λ m. tensor-gives (flat m) (matFinite m) (all-flat finite m) (decomposeOf m);
+      spin-tensor = λ m. numbers-give (joined m) (matFinite m) (all-joined finite m) (spinTensorOf m);
+      strain-rate = λ m. numbers-give (joined m) (matFinite m) (all-joined finite m) (strainRateOf m);
+      deviatoric-part = λ m. numbers-give (joined m) (matFinite m) (all-joined finite m) (deviatoricOf m);
+      spherical-part = λ m. number-gives (joined m) (matFinite m) (all-joined finite m) (num (sphericalOf m));
+      decompose = λ m. tensor-gives (joined m) (matFinite m) (all-joined finite m) (decomposeOf m);
       recompose = λ t. numbers-give (floatsIn t) (tensorFinite t) (floats-in t) (recomposedOf t);
       add = λ t u. tensor-gives (floatsIn t ++ floatsIn u) (tensorFinite t && tensorFinite u) (all-append finite (floatsIn t) (floatsIn u) ∙ (λ i. floats-in t i && floats-in u i)) (sumOf t u);
       times = λ t v. row-gives (floatsIn t ++ v) (tensorFinite t && rowFinite v) (all-append finite (floatsIn t) v ∙ ap (λ b. b && rowFinite v) (floats-in t)) (timesOf t v);

@@ -37,7 +37,7 @@ use Rattle.particles.specs.declared.step.Step.the-variants.{Judged}
 use Rattle.particles.specs.Pass.{Worked}
 use Rattle.particles.specs.Plain.{keptBy, lawAt, recordLaw}
 use Rattle.particles.specs.Judged.{verdictOn, judgeFinite, verdictAfter, unlessRefused, judgedAt, refusedRecord, marked, failureLaw}
-use Rattle.refusals.specs.Refusals.{SomeNotFinite, RecordNotFinite, parametersOf, recordFloats, recordSteps, failureOf, leftBy, stressesOf, failureSteps, failureWalk, StepRefuses}
+use Rattle.refusals.specs.Refusals.{SomeNotFinite, RecordNotFinite, without, parametersOf, recordFloats, recordSteps, failureOf, leftBy, stressesOf, failureSteps, failureWalk, StepRefuses}
 use Rattle.refusals.proofs.Inner.{inner-then, principal-inner}
 use Rattle.refusals.proofs.Inputs.{some-append}
 use Rattle.refusals.proofs.Updates.{record-inputs, steps-by, law-one-first, law-eleven-next, record-inner, outcome-record, input-places}
@@ -131,7 +131,7 @@ module _ (m : Model) (l : MaximumStressFailure) (e : CorotatedLinearElasticity) 
       ap (λ v. cond (judgeFinite l e) (Law v) (refusedRecord notFinite r) .outcome) (law-eleven-next m r d) ∙ wrong (judgeFinite l e) inner
       ∙ ap (λ b. cond b (outcome.Refused wrongDeterminant) (outcome.Refused notFinite)) (sym all-inputs)
 
-  pub failure-refuses : StepRefuses (failureLaw m l e r .outcome) (Judged m l e) r
+  pub failure-refuses : StepRefuses (failureLaw m l e r .outcome) (without (Judged m l e)) r
   failure-refuses =
       let s = stateAt r in
       outcome-record s (failureLaw m l e r .outcome) (determinantRight r) (failureOf l e ++ (parametersOf m ++ recordFloats r)) (failureSteps m e r)

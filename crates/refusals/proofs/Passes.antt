@@ -9,16 +9,14 @@ use lib.ListN.{length, getD}
 use Rattle.plasticity.specs.declared.Outcome.{Outcome}
 use Rattle.plasticity.specs.declared.Outcome.the-variants.{Untouched, Stored, Refused}
 use Rattle.record.specs.Layout.{floats}
-use Rattle.particles.specs.declared.step.Step.{Step}
 use Rattle.particles.specs.declared.list.Counts.{Counts}
 use Rattle.particles.specs.declared.list.Passed.the-variants as pass
 use Rattle.particles.specs.declared.failure.FailureCounts.{FailureCounts}
 use Rattle.particles.specs.declared.failure.PassedWithFailure.the-variants as failure-pass
 use Rattle.particles.specs.Pass.{codeOf, valueOf, recordAt, answers, wellSized, passAnswers}
-use Rattle.particles.specs.Step.{stepLaw}
 use Rattle.particles.proofs.PassLaws.{answers-at}
 use Rattle.sheet_run.proofs.Parts.{taken, sized, quotient, well}
-use Rattle.refusals.specs.Refusals.{StepRefuses, Answers, Sized, Eight, Pass}
+use Rattle.refusals.specs.Refusals.{AnyStep, anyLaw, StepRefuses, Answers, Sized, Eight, Pass}
 use Rattle.refusals.proofs.Numbers.{record-transfer}
 use Rattle.refusals.proofs.Inputs.{no-both, decide}
 
@@ -67,7 +65,7 @@ refused-by (Refused n) e = refl
 answered : (o : Outcome) (n : ℕ) → ((codeOf o ≡ 2) × (valueOf o ≡ n)) ↔ (o ≡ Refused n)
 answered o n = (λ p. refused-by o (p .0) ∙ ap Refused (p .1), λ e. (ap codeOf e, ap valueOf e))
 
-answers-of : (s : Step) (r : List ℕ) (o : Outcome) → StepRefuses o s r → (a : List ℕ) (i : ℕ)
+answers-of : (s : AnyStep) (r : List ℕ) (o : Outcome) → StepRefuses o s r → (a : List ℕ) (i : ℕ)
     → getD a (i * 2) 0 ≡ codeOf o → getD a (i * 2 + 1) 0 ≡ valueOf o → Answers a i s r
 answers-of s r o f a i c v = record-transfer (λ n. (to n, from n)) f
   where
@@ -77,13 +75,13 @@ answers-of s r o f a i c v = record-transfer (λ n. (to n, from n)) f
     from : (n : ℕ) → o ≡ Refused n → (getD a (i * 2) 0 ≡ 2) × (getD a (i * 2 + 1) 0 ≡ n)
     from n e = let q = answered o n .1 e in (c ∙ q .0, v ∙ q .1)
 
-pub pass-refuses : (s : Step) (R : ℕ → Type 0) (xs out : List ℕ) → ((r : List ℕ) → StepRefuses (stepLaw s r .outcome) s r) → Eight R xs out → Pass s R xs out
+pub pass-refuses : (s : AnyStep) (R : ℕ → Type 0) (xs out : List ℕ) → ((r : List ℕ) → StepRefuses (anyLaw s r .outcome) s r) → Eight R xs out → Pass s R xs out
 pass-refuses s R xs out f e = record { eight = e; records = records }
   where
-    records : (k : ℕ) → Sized xs out k → (i : ℕ) → i < k → Answers (passAnswers (stepLaw s) xs out) i s (recordAt xs i)
+    records : (k : ℕ) → Sized xs out k → (i : ℕ) → i < k → Answers (passAnswers (anyLaw s) xs out) i s (recordAt xs i)
     records k z i h =
-        let q : passAnswers (stepLaw s) xs out ≡ answers (stepLaw s) xs k =
-        taken (wellSized xs out) (answers (stepLaw s) xs (length xs / floats)) out (well xs out k z) ∙ ap (answers (stepLaw s) xs) (quotient xs out k (z .0)) in
-        let u = answers-at floats (stepLaw s) xs k i h in
-        answers-of s (recordAt xs i) (stepLaw s (recordAt xs i) .outcome) (f (recordAt xs i)) (passAnswers (stepLaw s) xs out) i (ap (λ (a : List ℕ). getD a (i * 2) 0) q ∙ u .0)
+        let q : passAnswers (anyLaw s) xs out ≡ answers (anyLaw s) xs k =
+        taken (wellSized xs out) (answers (anyLaw s) xs (length xs / floats)) out (well xs out k z) ∙ ap (answers (anyLaw s) xs) (quotient xs out k (z .0)) in
+        let u = answers-at floats (anyLaw s) xs k i h in
+        answers-of s (recordAt xs i) (anyLaw s (recordAt xs i) .outcome) (f (recordAt xs i)) (passAnswers (anyLaw s) xs out) i (ap (λ (a : List ℕ). getD a (i * 2) 0) q ∙ u .0)
         (ap (λ (a : List ℕ). getD a (i * 2 + 1) 0) q ∙ u .1)

@@ -23,16 +23,15 @@ use Rattle.walk.specs.Walk.{Function, lowOf, highOf, at, ask, end}
 use Rattle.walk.specs.Answers.{refusalIn}
 use Rattle.record.specs.Layout.{floats, recordFinite, determinantRight}
 use Rattle.model.specs.Model.{modelFinite}
-use Rattle.particles.specs.declared.step.Step.{Step}
-use Rattle.particles.specs.declared.step.Step.the-variants.{Plain, Judged, Factors, FactoredPlain, FactoredJudged}
+use Rattle.particles.specs.declared.step.Step.the-variants.{Plain, Judged}
 use Rattle.particles.specs.declared.list.Passed.the-variants as pass
 use Rattle.particles.specs.declared.failure.PassedWithFailure.the-variants as failure-pass
 use Rattle.particles.specs.Plain.{recordLaw}
 use Rattle.particles.specs.Judged.{judgeFinite, failureLaw}
 use Rattle.particles.specs.Fill.{fillAnswer}
-use Rattle.particles.specs.Step.{stepLaw}
 use Rattle.particles.specs.Pass.{counts, threeOf, wholeRecords, passed, passedWithFailure}
-use Rattle.refusals.specs.Refusals.{inputsOf, pathOf, failurePath, stepPath, checkedBy, StepRefuses, Gives, callPath, Pass, Lent, Filled, Section6}
+use Rattle.factored_particles.specs.declared.step.FactoredStep.the-variants.{Factors, First}
+use Rattle.refusals.specs.Refusals.{inputsOf, pathOf, failurePath, AnyStep, without, with-factors, anyLaw, stepPath, checkedBy, StepRefuses, Gives, callPath, Pass, Lent, Filled, Section6}
 use Rattle.refusals.proofs.Inputs.{no-both, decide}
 use Rattle.refusals.proofs.Numbers.{not-finite}
 use Rattle.refusals.proofs.Updates.{record-inputs, law-refuses, law-one, law-eleven}
@@ -62,23 +61,23 @@ judged-inputs true false c = refl
 judged-inputs false true c = refl
 judged-inputs false false c = refl
 
-step-refuses : (s : Step) (r : List ℕ) → StepRefuses (stepLaw s r .outcome) s r
-step-refuses (Plain m) r = law-refuses m r
-step-refuses (Judged m l e) r = failure-refuses m l e r
-step-refuses Factors r = factor-refuses r
-step-refuses (FactoredPlain m) r = factored-refuses (modelFinite m) (recordLaw m) (pathOf m) (record-inputs m) (law-refuses m) r
-step-refuses (FactoredJudged m l e) r =
+step-refuses : (s : AnyStep) (r : List ℕ) → StepRefuses (anyLaw s r .outcome) s r
+step-refuses (without (Plain m)) r = law-refuses m r
+step-refuses (without (Judged m l e)) r = failure-refuses m l e r
+step-refuses (with-factors Factors) r = factor-refuses r
+step-refuses (with-factors (First (Plain m))) r = factored-refuses (modelFinite m) (recordLaw m) (pathOf m) (record-inputs m) (law-refuses m) r
+step-refuses (with-factors (First (Judged m l e))) r =
     factored-refuses (modelFinite m && judgeFinite l e) (failureLaw m l e) (failurePath m l e)
     (λ q. all-inputs m l e q ∙ judged-inputs (judgeFinite l e) (modelFinite m) (recordFinite q)) (failure-refuses m l e) r
 
 -- ---- one record lent by itself
-no-eight : (s : Step) (r : List ℕ) → stepLaw s r .outcome ≡ outcome.Refused 8 → ⊥
+no-eight : (s : AnyStep) (r : List ℕ) → anyLaw s r .outcome ≡ outcome.Refused 8 → ⊥
 no-eight s r e = rest (decide (allOf finite (inputsOf (stepPath s r)))) (decide (determinantRight r)) (decide (checkedBy s r))
   where
-    q : StepRefuses (stepLaw s r .outcome) s r
+    q : StepRefuses (anyLaw s r .outcome) s r
     q = step-refuses s r
 
-    other : (n : ℕ) → (n ≡ 8 → ⊥) → stepLaw s r .outcome ≡ outcome.Refused n → ⊥
+    other : (n : ℕ) → (n ≡ 8 → ⊥) → anyLaw s r .outcome ≡ outcome.Refused n → ⊥
     other n h z = h (q .alone n 8 z e)
 
     rest : _⊎_ (allOf finite (inputsOf (stepPath s r)) ≡ true) (allOf finite (inputsOf (stepPath s r)) ≡ false) → _⊎_ (determinantRight r ≡ true) (determinantRight r ≡ false)
@@ -89,10 +88,10 @@ no-eight s r e = rest (decide (allOf finite (inputsOf (stepPath s r)))) (decide 
     rest (inl t) (inl d) (inl k) =
         ⊎-elim (λ z. omega arith) (λ z. omega arith) (q .goes-on (λ z. no-both (allOf finite (inputsOf (stepPath s r))) t (not-finite (inputsOf (stepPath s r)) .1 z)) d k .only 8 e)
 
-lent : (s : Step) (r : List ℕ) → Lent s (cond (eqb (length r) floats) (stepLaw s r .outcome) (outcome.Refused 8)) r
+lent : (s : AnyStep) (r : List ℕ) → Lent s (cond (eqb (length r) floats) (anyLaw s r .outcome) (outcome.Refused 8)) r
 lent s r = go (eqb (length r) floats) refl
   where
-    go : (b : Bool) → eqb (length r) floats ≡ b → Lent s (cond b (stepLaw s r .outcome) (outcome.Refused 8)) r
+    go : (b : Bool) → eqb (length r) floats ≡ b → Lent s (cond b (anyLaw s r .outcome) (outcome.Refused 8)) r
     go true e = record { eight = (λ q. absurd (no-eight s r q), λ h. absurd (h (eqb-true (length r) floats e))); numbers = λ k. step-refuses s r }
     go false e =
         let h : length r ≡ floats → ⊥ = λ k. no-both (eqb (length r) floats) (eq-eqb (length r) floats k) e in
@@ -110,12 +109,12 @@ fills xs = go (wholeRecords (length xs)) refl
     go false e = record { eight = (λ q k z. no-both (wholeRecords (length xs)) (whole xs k z) e, λ h. refl); only = λ h. absurd (h refl) }
 
 -- ---- the table
-module _ (s : Step) (xs out : List ℕ) where
-  pass-by : Pass s (λ n. passed (stepLaw s) xs out ≡ pass.Refused n) xs out
-  pass-by = pass-refuses s _ xs out (step-refuses s) (pass-eight (threeOf (counts (stepLaw s) xs (length xs / floats))) xs out)
+module _ (s : AnyStep) (xs out : List ℕ) where
+  pass-by : Pass s (λ n. passed (anyLaw s) xs out ≡ pass.Refused n) xs out
+  pass-by = pass-refuses s _ xs out (step-refuses s) (pass-eight (threeOf (counts (anyLaw s) xs (length xs / floats))) xs out)
 
-  judged-by : Pass s (λ n. passedWithFailure (stepLaw s) xs out ≡ failure-pass.Refused n) xs out
-  judged-by = pass-refuses s _ xs out (step-refuses s) (failure-eight (counts (stepLaw s) xs (length xs / floats)) xs out)
+  judged-by : Pass s (λ n. passedWithFailure (anyLaw s) xs out ≡ failure-pass.Refused n) xs out
+  judged-by = pass-refuses s _ xs out (step-refuses s) (failure-eight (counts (anyLaw s) xs (length xs / floats)) xs out)
 
 pub section-6 : Section6
 section-6 =
@@ -125,13 +124,13 @@ section-6 =
       law-eleven = law-eleven;
       failure-one = failure-one;
       failure-eleven = failure-eleven;
-      one-record = λ m r. lent (Plain m) r;
-      one-factored = λ r. lent Factors r;
+      one-record = λ m r. lent (without (Plain m)) r;
+      one-factored = λ r. lent (with-factors Factors) r;
       filled = fills;
-      the-pass = λ m. pass-by (Plain m);
-      the-pass-with-failure = λ m l e. judged-by (Judged m l e);
-      the-factor-list = pass-by Factors;
-      the-pass-factored = λ m. pass-by (FactoredPlain m);
-      the-pass-factored-with-failure = λ m l e. judged-by (FactoredJudged m l e);
+      the-pass = λ m. pass-by (without (Plain m));
+      the-pass-with-failure = λ m l e. judged-by (without (Judged m l e));
+      the-factor-list = pass-by (with-factors Factors);
+      the-pass-factored = λ m. pass-by (with-factors (First (Plain m)));
+      the-pass-factored-with-failure = λ m l e. judged-by (with-factors (First (Judged m l e)));
       call = call-gives;
     }

@@ -32,7 +32,7 @@ use Rattle.particles.specs.declared.step.Step.the-variants.{Plain}
 use Rattle.particles.specs.Pass.{valueOf}
 use Rattle.particles.specs.Plain.{putState, updatedAt, measured, lawAt, recordLaw}
 use Rattle.particles.proofs.NotFinite.{last-finite, law-right}
-use Rattle.refusals.specs.Refusals.{SomeNotFinite, RecordNotFinite, parametersOf, stepsOf, walkOf, recordFloats, measureWalk, recordSteps, recordWalk, Refuses, RecordNumbers, StepRefuses}
+use Rattle.refusals.specs.Refusals.{SomeNotFinite, RecordNotFinite, without, parametersOf, stepsOf, walkOf, recordFloats, measureWalk, recordSteps, recordWalk, Refuses, RecordNumbers, StepRefuses}
 use Rattle.refusals.proofs.Inner.{Inner, inner-then, steps-inner}
 use Rattle.refusals.proofs.Inputs.{some-append, places}
 use Rattle.refusals.proofs.Numbers.{not-finite, told, by-one, by-eleven, by-law}
@@ -137,7 +137,7 @@ told-by : (b : Bool) (s : State) → cond b (law.refused wrongDeterminant s) (la
 told-by true s = refl
 told-by false s = refl
 
-pub law-refuses : (m : Model) (r : List ℕ) → StepRefuses (recordLaw m r .outcome) (Plain m) r
+pub law-refuses : (m : Model) (r : List ℕ) → StepRefuses (recordLaw m r .outcome) (without (Plain m)) r
 unfolding recordLaw
 law-refuses m r =
     outcome-record (stateAt r) (recordLaw m r .outcome) (determinantRight r) (parametersOf m ++ recordFloats r) (recordSteps m r) (record-inner m r) (record-walked m r)

@@ -21,7 +21,7 @@ use Rattle.physics.specs.Quadratic.{solveQuadraticOf}
 use Rattle.walk.specs.Expr.{Expr, num, nums, neg, _+_, _-_, _*_, _/_, value, values}
 use Rattle.walk.specs.Walk.{Walk, root, inputs, ask, results, end, result, answerAs}
 use Rattle.walk.specs.Exact.{Met, path}
-use Rattle.walk.specs.Matrix.{flat}
+use Rattle.walk.specs.Matrix.{joined}
 use Rattle.walk.specs.Tensor.{rows}
 use Rattle.walk.specs.Answers.{returned, returnedMatrix}
 use Rattle.plasticity_drucker_prager.specs.declared.DruckerPragerPlasticity.{DruckerPragerPlasticity}
@@ -59,7 +59,7 @@ matrixPath l m = path (inputs l (returnedMatrix 1 (rows m)))
 
 -- a tensor's floats
 abbrev pub floatsIn : DecomposedTensor → List Float
-floatsIn t = flat (ofRows (t .«deviatoric_part»)) ++ (t .«spherical_part» ∷ [])
+floatsIn t = joined (ofRows (t .«deviatoric_part»)) ++ (t .«spherical_part» ∷ [])
 
 abbrev pub pairWalk : List Float → Expr → Expr → Walk Float
 pairWalk l a b = inputs l (results 1 ((a ∷ b ∷ []) ∷ []) (end (value a)))
@@ -94,12 +94,12 @@ pub record Calls : Type 0 where
       → Gives (given (finite lambda && finite mu) (answeredOf (shearFromLameOf lambda mu))) (numberPath (lambda ∷ mu ∷ []) (shearFromLameOf lambda mu))
   pub bulk-modulus-from-lame : (lambda mu : Float)
       → Gives (given (finite lambda && finite mu) (answeredOf (bulkFromLameOf lambda mu))) (numberPath (lambda ∷ mu ∷ []) (bulkFromLameOf lambda mu))
-  pub spin-tensor : (m : List (List Float)) → Beside (givenMatrix (matFinite m) (answered (spinTensorOf m)) .refusal) (matrixPath (flat m) (spinTensorOf m))
-  pub strain-rate : (m : List (List Float)) → Beside (givenMatrix (matFinite m) (answered (strainRateOf m)) .refusal) (matrixPath (flat m) (strainRateOf m))
-  pub deviatoric-part : (m : List (List Float)) → Beside (givenMatrix (matFinite m) (answered (deviatoricOf m)) .refusal) (matrixPath (flat m) (deviatoricOf m))
-  pub spherical-part : (m : List (List Float)) → Gives (given (matFinite m) (answeredOf (sphericalOf m))) (numberPath (flat m) (sphericalOf m))
+  pub spin-tensor : (m : List (List Float)) → Beside (givenMatrix (matFinite m) (answered (spinTensorOf m)) .refusal) (matrixPath (joined m) (spinTensorOf m))
+  pub strain-rate : (m : List (List Float)) → Beside (givenMatrix (matFinite m) (answered (strainRateOf m)) .refusal) (matrixPath (joined m) (strainRateOf m))
+  pub deviatoric-part : (m : List (List Float)) → Beside (givenMatrix (matFinite m) (answered (deviatoricOf m)) .refusal) (matrixPath (joined m) (deviatoricOf m))
+  pub spherical-part : (m : List (List Float)) → Gives (given (matFinite m) (answeredOf (sphericalOf m))) (numberPath (joined m) (sphericalOf m))
   -- ---- `DecomposedTensor`
-  pub decompose : (m : List (List Float)) → Beside (givenTensor (matFinite m) (answeredTensor (decomposeOf m)) .refusal) (path (tensorWalk (flat m) (decomposeOf m)))
+  pub decompose : (m : List (List Float)) → Beside (givenTensor (matFinite m) (answeredTensor (decomposeOf m)) .refusal) (path (tensorWalk (joined m) (decomposeOf m)))
   pub recompose : (t : DecomposedTensor) → Beside (givenMatrix (tensorFinite t) (answered (recomposedOf t)) .refusal) (matrixPath (floatsIn t) (recomposedOf t))
   pub add : (t u : DecomposedTensor)
       → Beside (givenTensor (tensorFinite t && tensorFinite u) (answeredTensor (sumOf t u)) .refusal) (path (tensorWalk (floatsIn t ++ floatsIn u) (sumOf t u)))

@@ -14,7 +14,7 @@ use Rattle.sheet.specs.Spelling.{Below}
 use Rattle.sheet.specs.Refused.{ReasonWithRoom}
 use Rattle.model.specs.Fields.{modelOf}
 use Rattle.sheet_run.specs.Run.{recordsIn, ranOf, ranAnswers}
-use Rattle.refusals.specs.Refusals.{Answers, Sized}
+use Rattle.refusals.specs.Refusals.{without, Answers, Sized}
 
 module _ (s xs out : List ℕ) where
   -- what the sheet's header says, with the room's length
@@ -34,4 +34,4 @@ pub record Ran (s xs out : List ℕ) : Type 0 where
   -- s: bytes
   pub numbers : Below 256 s → (k : ℕ) → Sized xs out k → (n : ℕ) → (n ≡ 0 → ⊥) → (ranOf s xs out .refusal ≡ n) ↔ ReasonWithRoom s (length xs) n
   pub records : (k : ℕ) → Sized xs out k → header s xs out .refusal ≡ 0 → (i : ℕ) → i < header s xs out .count
-      → Answers (ranAnswers s xs out) i (Plain (model s xs out)) (recordOf s xs out i)
+      → Answers (ranAnswers s xs out) i (without (Plain (model s xs out))) (recordOf s xs out i)

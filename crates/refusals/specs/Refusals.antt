@@ -38,13 +38,16 @@ use Rattle.model.specs.Model.{modelFinite}
 use Rattle.particles.specs.declared.list.Passed.the-variants as pass
 use Rattle.particles.specs.declared.failure.PassedWithFailure.the-variants as failure-pass
 use Rattle.particles.specs.declared.step.Step.{Step}
-use Rattle.particles.specs.declared.step.Step.the-variants.{Plain, Judged, Factors, FactoredPlain, FactoredJudged}
+use Rattle.particles.specs.declared.step.Step.the-variants.{Plain, Judged}
 use Rattle.particles.specs.Plain.{putState, recordLaw, recordOutcome}
 use Rattle.particles.specs.Judged.{judgeFinite, failureLaw}
-use Rattle.particles.specs.Factored.{withFactors, factorLaw, factoredLaw, factorOutcome}
 use Rattle.particles.specs.Fill.{fillAnswer}
 use Rattle.particles.specs.Step.{stepLaw}
-use Rattle.particles.specs.Pass.{recordAt, passed, passAnswers, passedWithFailure}
+use Rattle.particles.specs.Pass.{Worked, recordAt, passed, passAnswers, passedWithFailure}
+use Rattle.factored_particles.specs.declared.step.FactoredStep.{FactoredStep}
+use Rattle.factored_particles.specs.declared.step.FactoredStep.the-variants.{Factors, First}
+use Rattle.factored_particles.specs.Factored.{withFactors, factorLaw, factoredLaw, factorOutcome}
+use Rattle.factored_particles.specs.Step.{ownStepLaw}
 
 -- ---- 1: "an input float is NaN or infinite"
 abbrev pub NotFinite : Float → Type 0
@@ -144,44 +147,49 @@ failureWalk m l e r = inputs (failureOf l e ++ (parametersOf m ++ recordFloats r
 abbrev pub failurePath : Model → MaximumStressFailure → CorotatedLinearElasticity → List ℕ → List Met
 failurePath m l e r = path (failureWalk m l e r)
 
--- ---- a step of a pass
+-- ---- a step of a pass, without our own factors or with them
+pub data AnyStep : Type 0 where
+  without : Step → AnyStep
+  with-factors : FactoredStep → AnyStep
+
+abbrev pub anyLaw : AnyStep → List ℕ → Worked
+anyLaw (without s) = stepLaw s
+anyLaw (with-factors s) = ownStepLaw s
+
 -- the path of its law on a record; factors by themselves have no law, and nothing is met after the record's floats
-abbrev pub stepPath : Step → List ℕ → List Met
-stepPath (Plain m) r = pathOf m r
-stepPath (Judged m l e) r = failurePath m l e r
-stepPath Factors r = path (inputs (recordFloats r) (end r))
-stepPath (FactoredPlain m) r = pathOf m r
-stepPath (FactoredJudged m l e) r = failurePath m l e r
+abbrev pub lawPath : Step → List ℕ → List Met
+lawPath (Plain m) r = pathOf m r
+lawPath (Judged m l e) r = failurePath m l e r
+
+abbrev pub stepPath : AnyStep → List ℕ → List Met
+stepPath (without s) r = lawPath s r
+stepPath (with-factors Factors) r = path (inputs (recordFloats r) (end r))
+stepPath (with-factors (First s)) r = lawPath s r
 
 -- whether our own factors of the record's F pass the check
 abbrev pub checkedAt : List ℕ → Bool
 checkedAt r = acceptedOf (matAt r placeF) (factorsOf (matAt r placeF))
 
 -- where the step asks for them
-abbrev pub checkedBy : Step → List ℕ → Bool
-checkedBy (Plain m) r = true
-checkedBy (Judged m l e) r = true
-checkedBy Factors r = checkedAt r
-checkedBy (FactoredPlain m) r = checkedAt r
-checkedBy (FactoredJudged m l e) r = checkedAt r
+abbrev pub checkedBy : AnyStep → List ℕ → Bool
+checkedBy (without s) r = true
+checkedBy (with-factors s) r = checkedAt r
 
 -- the record that its law meets
-abbrev pub metBy : Step → List ℕ → List ℕ
-metBy (Plain m) r = r
-metBy (Judged m l e) r = r
-metBy Factors r = r
-metBy (FactoredPlain m) r = withFactors r
-metBy (FactoredJudged m l e) r = withFactors r
+abbrev pub metBy : AnyStep → List ℕ → List ℕ
+metBy (without s) r = r
+metBy (with-factors Factors) r = r
+metBy (with-factors (First s)) r = withFactors r
 
 -- 1 of the step's own inputs and of the record as it came; 11; 14; then the law's on the record that it meets
-abbrev pub StepNumbers : (ℕ → Type 0) → Step → List ℕ → Type 0
+abbrev pub StepNumbers : (ℕ → Type 0) → AnyStep → List ℕ → Type 0
 StepNumbers R s r = RecordNumbers R (inputsOf (stepPath s r)) (determinantRight r) (checkedBy s r) (stepPath s (metBy s r))
 
 -- as an outcome, and as it stands in the answer list at record i
-abbrev pub StepRefuses : Outcome → Step → List ℕ → Type 0
+abbrev pub StepRefuses : Outcome → AnyStep → List ℕ → Type 0
 StepRefuses o s r = StepNumbers (λ n. o ≡ Refused n) s r
 
-abbrev pub Answers : List ℕ → ℕ → Step → List ℕ → Type 0
+abbrev pub Answers : List ℕ → ℕ → AnyStep → List ℕ → Type 0
 Answers a i s r = StepNumbers (λ n. (getD a (i * 2) 0 ≡ 2) × (getD a (i * 2 + 1) 0 ≡ n)) s r
 
 -- ---- an elementary function by itself
@@ -198,12 +206,12 @@ pub record Eight (R : ℕ → Type 0) (xs out : List ℕ) : Type 0 where
   pub only-then : (n : ℕ) → R n → (n ≡ 8) × ((k : ℕ) → Sized xs out k → ⊥)
 
 -- a pass by a step: "8 .. come[s] before any record"; otherwise each answer is its record's
-pub record Pass (s : Step) (R : ℕ → Type 0) (xs out : List ℕ) : Type 0 where
+pub record Pass (s : AnyStep) (R : ℕ → Type 0) (xs out : List ℕ) : Type 0 where
   pub eight : Eight R xs out
-  pub records : (k : ℕ) → Sized xs out k → (i : ℕ) → i < k → Answers (passAnswers (stepLaw s) xs out) i s (recordAt xs i)
+  pub records : (k : ℕ) → Sized xs out k → (i : ℕ) → i < k → Answers (passAnswers (anyLaw s) xs out) i s (recordAt xs i)
 
 -- one record lent by itself, answered o
-pub record Lent (s : Step) (o : Outcome) (r : List ℕ) : Type 0 where
+pub record Lent (s : AnyStep) (o : Outcome) (r : List ℕ) : Type 0 where
   pub eight : (o ≡ Refused 8) ↔ (length r ≡ floats → ⊥)
   pub numbers : length r ≡ floats → StepRefuses o s r
 
@@ -219,7 +227,7 @@ RecordNotFinite r = (k : ℕ) × (k < floats) × NotFinite (floatAt r k)
 -- ---- the table
 pub record Section6 : Type 0 where
   -- a record by each of the five steps; 1 and 11 by place
-  pub step : (s : Step) (r : List ℕ) → StepRefuses (stepLaw s r .outcome) s r
+  pub step : (s : AnyStep) (r : List ℕ) → StepRefuses (anyLaw s r .outcome) s r
   pub law-one : (m : Model) (r : List ℕ) → (recordLaw m r .outcome ≡ Refused 1) ↔ (SomeNotFinite (parametersOf m) ⊎ RecordNotFinite r)
   pub law-eleven : (m : Model) (r : List ℕ)
       → (recordLaw m r .outcome ≡ Refused wrongDeterminant) ↔ ((SomeNotFinite (parametersOf m) ⊎ RecordNotFinite r → ⊥) × (determinantRight r ≡ false))
@@ -229,16 +237,16 @@ pub record Section6 : Type 0 where
       → (failureLaw m l e r .outcome ≡ Refused wrongDeterminant)
       ↔ ((SomeNotFinite (failureOf l e) ⊎ (SomeNotFinite (parametersOf m) ⊎ RecordNotFinite r) → ⊥) × (determinantRight r ≡ false))
   -- `update_record`, `factor_record`, `fill_determinants`
-  pub one-record : (m : Model) (r : List ℕ) → Lent (Plain m) (recordOutcome m r) r
-  pub one-factored : (r : List ℕ) → Lent Factors (factorOutcome r) r
+  pub one-record : (m : Model) (r : List ℕ) → Lent (without (Plain m)) (recordOutcome m r) r
+  pub one-factored : (r : List ℕ) → Lent (with-factors Factors) (factorOutcome r) r
   pub filled : (xs : List ℕ) → Filled (fillAnswer xs) xs
   -- `pass`, `pass_with_failure`, `factor_list`, `pass_factored`, `pass_factored_with_failure`
-  pub the-pass : (m : Model) (xs out : List ℕ) → Pass (Plain m) (λ n. passed (recordLaw m) xs out ≡ pass.Refused n) xs out
+  pub the-pass : (m : Model) (xs out : List ℕ) → Pass (without (Plain m)) (λ n. passed (recordLaw m) xs out ≡ pass.Refused n) xs out
   pub the-pass-with-failure : (m : Model) (l : MaximumStressFailure) (e : CorotatedLinearElasticity) (xs out : List ℕ)
-      → Pass (Judged m l e) (λ n. passedWithFailure (failureLaw m l e) xs out ≡ failure-pass.Refused n) xs out
-  pub the-factor-list : (xs out : List ℕ) → Pass Factors (λ n. passed factorLaw xs out ≡ pass.Refused n) xs out
+      → Pass (without (Judged m l e)) (λ n. passedWithFailure (failureLaw m l e) xs out ≡ failure-pass.Refused n) xs out
+  pub the-factor-list : (xs out : List ℕ) → Pass (with-factors Factors) (λ n. passed factorLaw xs out ≡ pass.Refused n) xs out
   pub the-pass-factored : (m : Model) (xs out : List ℕ)
-      → Pass (FactoredPlain m) (λ n. passed (factoredLaw (modelFinite m) (recordLaw m)) xs out ≡ pass.Refused n) xs out
+      → Pass (with-factors (First (Plain m))) (λ n. passed (factoredLaw (modelFinite m) (recordLaw m)) xs out ≡ pass.Refused n) xs out
   pub the-pass-factored-with-failure : (m : Model) (l : MaximumStressFailure) (e : CorotatedLinearElasticity) (xs out : List ℕ)
-      → Pass (FactoredJudged m l e) (λ n. passedWithFailure (factoredLaw (modelFinite m && judgeFinite l e) (failureLaw m l e)) xs out ≡ failure-pass.Refused n) xs out
+      → Pass (with-factors (First (Judged m l e))) (λ n. passedWithFailure (factoredLaw (modelFinite m && judgeFinite l e) (failureLaw m l e)) xs out ≡ failure-pass.Refused n) xs out
   pub call : (f : Function) (x : Float) → Gives (bare x (ranged (lowOf f) (highOf f) x (at f x))) (callPath f x)

@@ -11,7 +11,7 @@ use Rattle.sheet.specs.Records.{sheetFloats}
 use Rattle.sheet.specs.Sheet.{most, wordsOf, wordsIn, padded, preambleOf, recordsEnd, headerOf}
 use Rattle.sheet.specs.Spelling.{spellNumber, spellWords, spell, Below, Fits, Writable, parametersOf}
 use Rattle.sheet.specs.declared.Header.{Header}
-use Rattle.sheet.proofs.Taken.{Taken, taken}
+use Rattle.sheet.proofs.ReadFrom.{ReadFrom, read-from}
 use Rattle.sheet.proofs.Steps.{words-length}
 use Rattle.sheet.proofs.Pieces.{below-drop, after, number-spelled, number-read, parameters-spelled, parameters-read, fits-length, spelled-length, words-spelled, words-below, words-read}
 
@@ -26,7 +26,7 @@ pub record Accepted (s : List ℕ) (h : Header) : Type 0 where
   pub zeros : h .parameters ≡ padded (parametersOf h)
   pub spelled : s ≡ spell (h .model) (parametersOf h) (h .count) (wordsIn s h)
 
-module _ (s : List ℕ) (b : Below 256 s) (h : Header) (t : Taken s h) where
+module _ (s : List ℕ) (b : Below 256 s) (h : Header) (t : ReadFrom s h) where
   words-stand : Fits (kindsOf (t .model)) (t .words)
   words-stand = parameters-spelled s b (kindsOf (t .model)) (t .after-model) (t .words) (t .after-words) (t .are-words) .fits
 
@@ -46,8 +46,8 @@ module _ (s : List ℕ) (b : Below 256 s) (h : Header) (t : Taken s h) where
       let w = words-spelled (t .count * sheetFloats (t .model)) (drop (t .at) s) (below-drop 256 (t .at) s b) rest-length in
       rw w (m ∙ ap (λ (l : List ℕ). spellNumber (t .model) ++ l) (p ∙ ap (λ (l : List ℕ). spellWords (t .words) ++ l) c))
 
-  of-taken : Accepted s (record { refusal = 0; model = t .model; parameters = padded (t .words); count = t .count; at = t .at })
-  of-taken =
+  of-read : Accepted s (record { refusal = 0; model = t .model; parameters = padded (t .words); count = t .count; at = t .at })
+  of-read =
       record {
         writable = record {
           known = t .known;
@@ -61,7 +61,7 @@ module _ (s : List ℕ) (b : Below 256 s) (h : Header) (t : Taken s h) where
       }
 
 pub accepted : (s : List ℕ) → Below 256 s → headerOf s .refusal ≡ 0 → Accepted s (headerOf s)
-accepted s b z = let t = taken s z in subst (Accepted s) (t .is) (of-taken s b (headerOf s) t)
+accepted s b z = let t = read-from s z in subst (Accepted s) (t .is) (of-read s b (headerOf s) t)
 
 -- Every spelling of values that can be written is read without refusal, and gives them back.
 pub record ReadBack (model : ℕ) (parameters : List ℕ) (count : ℕ) (words : List ℕ) (s : List ℕ) (h : Header) : Type 0 where

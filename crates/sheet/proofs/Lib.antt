@@ -3,7 +3,7 @@ pub mod RecordLaws
 pub mod Steps
 pub mod Bounds
 pub mod Preambles
-pub mod Taken
+pub mod ReadFrom
 pub mod Known
 pub mod Rooms
 pub mod Filling

@@ -13,7 +13,7 @@ use borrow.Author.Tests.{ltb-true, ltb-false, eqb-false, lt-ltb, le-ltb, lt-leb,
 use Rattle.model.specs.Kinds.{allowed}
 use Rattle.sheet.specs.Sheet.{numberAt, firstGroup, secondGroup, wordOf, wordAt, wordsOf, checked, parameterAt, Fields, Got, Stopped, before, andThen, parametersAt}
 use Rattle.sheet.specs.Spelling.{spellNumber, spellBytes, spellWords, Below, Fits}
-use Rattle.sheet.proofs.Taken.{either}
+use Rattle.sheet.proofs.ReadFrom.{either}
 use Rattle.sheet.specs.declared.Number.the-variants.{Read as Number·Read, Refused as Number·Refused}
 use Rattle.sheet.specs.declared.Word.{Word}
 use Rattle.sheet.specs.declared.Word.the-variants.{Read as Word·Read, Refused as Word·Refused}

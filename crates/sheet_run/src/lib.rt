@@ -1,4 +1,7 @@
 // A sheet from its bytes to its answers: read, then passed (RULES, section 7).
+mod out;
+
+pub use out::run_out;
 use particles::Counts;
 use particles::Passed;
 use sheet::Header;

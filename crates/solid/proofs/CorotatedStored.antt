@@ -12,7 +12,7 @@ use Rattle.tensor.specs.Axes.{allOf}
 use Rattle.tensor.specs.Finite.{rowFinite}
 use Rattle.walk.specs.Expr.{num}
 use Rattle.walk.specs.Walk.{refused, result, answerAs}
-use Rattle.walk.specs.Matrix.{flat}
+use Rattle.walk.specs.Matrix.{joined}
 use Rattle.walk.specs.Answers.{matrixAs}
 use Rattle.record.specs.Layout.{placeF, placeSigma, placePhase, placeElasticHardening, placeDeterminant, floatAt, rowAt, matAt, uAt, vtAt, recordFinite}
 use Rattle.record.proofs.Parts.{record-parts, state-parts, scalars-parts}
@@ -54,7 +54,7 @@ module _ (p : CorotatedLinearElasticity) (r : List ℕ) where
     abbrev fine : recordFinite r ≡ true
     fine = and-both (lawFinite p) (recordFinite r) k .1
 
-    pub all-finite : allOf finite (floats p ((phase ∷ h ∷ []) ++ flat f ++ flat u ++ s ++ flat vt)) ≡ true
+    pub all-finite : allOf finite (floats p ((phase ∷ h ∷ []) ++ joined f ++ joined u ++ s ++ joined vt)) ≡ true
     all-finite =
         let t = scalars-parts r fine in
         let m = record-parts r fine in
@@ -64,7 +64,7 @@ module _ (p : CorotatedLinearElasticity) (r : List ℕ) where
     pub energy-finite : allOf finite (floats p (s ++ (h ∷ []))) ≡ true
     energy-finite = energy-inputs p s h ∙ rw (law, state-parts r fine .1, scalars-parts r fine .1 .0)
 
-    pub pos-finite : allOf finite (floats p (flat f ++ s ++ (h ∷ []))) ≡ true
+    pub pos-finite : allOf finite (floats p (joined f ++ s ++ (h ∷ []))) ≡ true
     pos-finite = let d = state-parts r fine in pos-inputs p f s h ∙ rw (law, d .0, d .1, scalars-parts r fine .1 .0)
 
   module _ (q : refusalOf (lawFinite p) r ≡ 0) where

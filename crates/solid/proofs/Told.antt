@@ -15,7 +15,7 @@ use Rattle.tensor.specs.Axes.{allOf}
 use Rattle.tensor.specs.Answer.{refusedMatrix}
 use Rattle.walk.specs.Walk.{Walk, inputs, refused, result, answerAs}
 use Rattle.walk.specs.Exact.{path}
-use Rattle.walk.specs.Matrix.{flat}
+use Rattle.walk.specs.Matrix.{joined}
 use Rattle.walk.specs.Numbers.{Stops}
 use Rattle.walk.specs.Answers.{returned, matrixAs}
 use Rattle.walk.proofs.Answers.{number-refused, matrix-refused}
@@ -130,7 +130,7 @@ module _ (r : List ℕ) where
       let u = uAt r in
       let vt = vtAt r in
       record {
-        judged = judged-told ok (corotated.floats p ((phase ∷ h ∷ []) ++ flat f ++ flat u ++ s ++ flat vt)) (corotated-stress.stressSteps p phase h f u s vt) (corotated-laws.stress-inner p phase h f u s vt) (corotated-ends p phase h f u s vt) (corotated-stored.all-finite p r);
+        judged = judged-told ok (corotated.floats p ((phase ∷ h ∷ []) ++ joined f ++ joined u ++ s ++ joined vt)) (corotated-stress.stressSteps p phase h f u s vt) (corotated-laws.stress-inner p phase h f u s vt) (corotated-ends p phase h f u s vt) (corotated-stored.all-finite p r);
         energy = number-told ok (corotated.floats p (s ++ (h ∷ []))) (returned 1 (corotated-energy.density p s h)) tt (corotated-stored.energy-finite p r);
-        pos-energy = number-told ok (corotated.floats p (flat f ++ s ++ (h ∷ []))) (corotated-energy.posSteps p f s h) (corotated-laws.pos-inner p s h f) (corotated-stored.pos-finite p r);
+        pos-energy = number-told ok (corotated.floats p (joined f ++ s ++ (h ∷ []))) (corotated-energy.posSteps p f s h) (corotated-laws.pos-inner p s h f) (corotated-stored.pos-finite p r);
       }

@@ -1,5 +1,5 @@
 -- A pass over lent tallies, record by record: what is so at the head of a turn, what the turn asks of the step, and what stands after the last. Assumes nothing.
-use mathlib.Core.Path.{_≡_, refl, ap, _∙_}
+use mathlib.Core.Path.{_≡_, refl, ap, subst, _∙_}
 use mathlib.Core.Bool.{Bool, true}
 use mathlib.Core.List.{List, _++_}
 use Prim.Native.Nat.{ℕ, _+_, _*_, _≤_, _<_, zero-le}
@@ -10,9 +10,10 @@ use Rattle.plasticity.specs.declared.Outcome.{Outcome}
 use Rattle.plasticity.specs.declared.Outcome.the-variants.{Untouched, Stored, Refused}
 use Rattle.record.specs.Layout.{floats}
 use Rattle.particles.specs.declared.step.Step.{Step}
-use Rattle.particles.specs.Step.{stepLaw}
+use Rattle.particles.specs.Step.{stepLaw, takenOf, takenFinite, takenLaw}
 use Rattle.particles.specs.Pass.{Worked, recordAt, replaced, answered, worked, answers, workedOver, answersOver}
 use Rattle.particles.proofs.JudgedLaws.{step-keeps}
+use Rattle.particles.proofs.ReadiedLaws.{taken-finite, taken-law}
 use Rattle.particles.proofs.PassLaws.{worked-step, answers-step, records-length, record-same, answers-long, all-done}
 use Rattle.tallies.specs.declared.tally.Tally.{Tally}
 use Rattle.tallies.specs.declared.tally.Told.{Told}
@@ -48,10 +49,14 @@ pub record State (s : Step) (xs₀ out₀ zones : List ℕ) (ts₀ : List Tally)
   pub records : xs ≡ worked (stepLaw s) xs₀ i ++ drop (i * floats) xs₀
   pub answered-so : out ≡ answers (stepLaw s) xs₀ i ++ drop (i * 2) out₀
 
--- what the step ensures of record i
-abbrev pub Stepped : Step → ℕ → List ℕ → List ℕ → Told → List ℕ → List ℕ → Type 0
-Stepped s i xs out d xs′ out′ =
-    (d ≡ toldOf (stepLaw s (recordAt xs i) .outcome) (stepLaw s (recordAt xs i) .failed)) × (xs′ ≡ replaced xs i (stepLaw s (recordAt xs i) .after)) × (out′ ≡ answered out i (stepLaw s (recordAt xs i) .outcome))
+-- what the step ensures of record i, by its law
+abbrev pub Stepped : (List ℕ → Worked) → ℕ → List ℕ → List ℕ → Told → List ℕ → List ℕ → Type 0
+Stepped law i xs out d xs′ out′ =
+    (d ≡ toldOf (law (recordAt xs i) .outcome) (law (recordAt xs i) .failed)) × (xs′ ≡ replaced xs i (law (recordAt xs i) .after)) × (out′ ≡ answered out i (law (recordAt xs i) .outcome))
+
+-- a step made ready works as the step does
+pub as-the-step : (s : Step) (i : ℕ) (xs out : List ℕ) (d : Told) (xs′ out′ : List ℕ) → Stepped (takenLaw (takenOf s)) i xs out d xs′ out′ → Stepped (stepLaw s) i xs out d xs′ out′
+as-the-step s i xs out d xs′ out′ = subst (λ (law : List ℕ → Worked). Stepped law i xs out d xs′ out′) (taken-law s)
 
 -- and what the pass ensures
 abbrev pub Passed : Step → List ℕ → List ℕ → List Tally → List Tally → List ℕ → List ℕ → Type 0
@@ -111,13 +116,13 @@ module _ (s : Step) (xs₀ out₀ zones : List ℕ) (ts₀ : List Tally) where
       inside = omega (arith, inside₀, ts-long)
 
       -- of the step, and of the store
-      pub asks : (st .i * floats + floats ≤ length (st .xs)) × (st .i * 2 + 2 ≤ length (st .out))
-      asks = (omega (arith, within, xs-long, ready .0), omega (arith, within, out-long, ready .1))
+      pub asks : (st .i * floats + floats ≤ length (st .xs)) × (st .i * 2 + 2 ≤ length (st .out)) × (takenFinite (takenOf s) ≡ true)
+      asks = (omega (arith, within, xs-long, ready .0), omega (arith, within, out-long, ready .1), taken-finite s)
 
       pub asks-too : (zone < length (st .ts)) × Small told
       asks-too = (inside, rw (st .counted) (small law xs₀ zones ts₀ n (st .i) zone (st .upto) zone-below inside₀ (ready .4)))
 
-      module _ (d : Told) (xs out : List ℕ) (ts : List Tally) (e : Stepped s (st .i) (st .xs) (st .out) d xs out) (w : ts ≡ set (st .ts) zone (grown told d)) where
+      module _ (d : Told) (xs out : List ℕ) (ts : List Tally) (e : Stepped law (st .i) (st .xs) (st .out) d xs out) (w : ts ≡ set (st .ts) zone (grown told d)) where
         same : recordAt (st .xs) (st .i) ≡ recordAt xs₀ (st .i)
         same = let h = st .upto in record-same floats law (step-keeps s) xs₀ (st .i) (st .xs) (st .records) (omega (arith, h, ready .0))
 

@@ -117,7 +117,7 @@ pub fn move_particle_words(
     answers::LENGTH
 }
 
-// A pass by any step of `particles`, each outcome in the tally of its particle's zone. A step that only stores a record's factors counts as its outcome says: stored, or refused.
+// A pass by any step of `particles`, each outcome in the tally of its particle's zone.
 pub fn pass_by_words(
     s: Step,
     xs: &mut [u64],

@@ -8,6 +8,7 @@ use elasticity_corotated_linear::CorotatedLinearElasticity;
 use failure_maximum_stress::MaximumStressFailure;
 use model::Model;
 use particles::Step;
+use particles::Taken;
 ghost use mathlib.Core.Path.{_≡_};
 ghost use mathlib.Core.Bool.{true};
 ghost use Prim.Native.Nat.{_+_, _*_, _≤_, _<_};
@@ -16,18 +17,23 @@ ghost use Rattle.record.specs.Layout.{floats};
 ghost use Rattle.particles.specs.Pass.{recordAt, replaced, answered, worked, answers};
 ghost use Rattle.particles.specs.Judged.{failureLaw};
 ghost use Rattle.particles.specs.Plain.{recordLaw};
-ghost use Rattle.particles.specs.Step.{stepLaw};
+ghost use Rattle.particles.specs.Step.{stepLaw, takenFinite, takenLaw};
 ghost use Rattle.tallies.specs.Zones.{belowIn};
 ghost use Rattle.tallies.specs.Tallies.{none, toldOf, grown, Small, byZone, recounted, talliedIn, roomIn, clearRefusal, clearTallies, moveRefusal, moveZones, moveTallies, passRefusal, recordsAfter, answersAfter, passTallies};
 ghost use Rattle.tallies.specs.Plans.{planned, roomBy};
 
-// Record i is worked, and what its outcome adds to is told.
-fn tell_record(s: Step, xs: &mut [u64], out: &mut [u64], i: usize) -> Told
-    requires { ⌜ (i * floats + floats ≤ length (now xs)) × (i * 2 + 2 ≤ length (now out)) ⌝ }
-    ensures { λ d. ⌜ (d ≡ toldOf (stepLaw s (recordAt (now (xs .entry)) i) .outcome) (stepLaw s (recordAt (now (xs .entry)) i) .failed)) × (now (xs .exit) ≡ replaced (now (xs .entry)) i (stepLaw s (recordAt (now (xs .entry)) i) .after)) × (now (out .exit) ≡ answered (now (out .entry)) i (stepLaw s (recordAt (now (xs .entry)) i) .outcome)) ⌝ }
+// Record i is worked by what was made ready, its two answers are written, and what its outcome adds to is told.
+fn tell_record(t: Taken, xs: &mut [u64], out: &mut [u64], i: usize) -> Told
+    requires { ⌜ (i * floats + floats ≤ length (now xs)) × (i * 2 + 2 ≤ length (now out)) × (takenFinite t ≡ true) ⌝ }
+    ensures { λ d. ⌜ (d ≡ toldOf (takenLaw t (recordAt (now (xs .entry)) i) .outcome) (takenLaw t (recordAt (now (xs .entry)) i) .failed)) × (now (xs .exit) ≡ replaced (now (xs .entry)) i (takenLaw t (recordAt (now (xs .entry)) i) .after)) × (now (out .exit) ≡ answered (now (out .entry)) i (takenLaw t (recordAt (now (xs .entry)) i) .outcome)) ⌝ }
 {
-    let d = particles::one(s, xs, out, i);
+    let q = t.ready;
+    let j = t.judge;
+    let a = i * record::FLOATS;
+    let b = a + record::FLOATS;
+    let d = particles::take_step(q, j, &mut xs[a..b]);
     let o = d.outcome;
+    particles::write_answer(out, i, o);
     tally::tell(o, d.failed)
 }
 
@@ -50,15 +56,16 @@ fn count_told(ts: &mut [Tally], z: usize, d: Told)
     ts[z].refused = ts[z].refused + 1;
 }
 
-// Every record by its index, whatever the ones before it gave, and its outcome in the tally of its zone.
+// Every record by its index, whatever the ones before it gave, and its outcome in the tally of its zone. The step is made ready once.
 fn pass_all(s: Step, xs: &mut [u64], out: &mut [u64], zones: &[u64], ts: &mut [Tally], n: usize)
     requires { ⌜ (length (now xs) ≡ length (now zones) * floats) × (length (now out) ≡ length (now zones) * 2) × (n ≤ length (now ts)) × (belowIn n (now zones) (length (now zones)) ≡ true) × (roomIn (recounted (now zones) (now ts)) n ≡ true) ⌝ }
     ensures { λ _. ⌜ (now (ts .exit) ≡ byZone (talliedIn (stepLaw s) (now (xs .entry)) (now (zones .entry)) (length (now (zones .entry)))) 0 (now (ts .entry))) × (now (xs .exit) ≡ worked (stepLaw s) (now (xs .entry)) (length (now (zones .entry)))) × (now (out .exit) ≡ answers (stepLaw s) (now (xs .entry)) (length (now (zones .entry)))) ⌝ }
 {
+    let t = particles::ready_for(s);
     let mut i = 0;
     while i < zones.len() {
         let z = zones[i] as usize;
-        let d = tell_record(s, xs, out, i);
+        let d = tell_record(t, xs, out, i);
         count_told(ts, z, d);
         i = i + 1;
     }

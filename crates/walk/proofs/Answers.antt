@@ -24,7 +24,7 @@ use Rattle.walk.specs.Update.{numberOf}
 use Rattle.walk.specs.Numbers.{Stops, Refuses, Clear}
 use Rattle.walk.proofs.Numbers.{first-stops, first-clear}
 use Rattle.walk.specs.Tensor.{worth}
-use Rattle.walk.proofs.Tensor.{numbers-flat}
+use Rattle.walk.proofs.Tensor.{numbers-joined}
 use Rattle.walk.specs.Answers.{matrix, returned, returnedMatrix, returnedVector, vectorAs, matrixAs, refusalIn}
 
 -- ---- what the code tests

@@ -14,11 +14,11 @@ use Rattle.plasticity.specs.State.{scalarsFinite}
 use Rattle.plasticity.specs.declared.Outcome.the-variants as outcome
 use Rattle.plasticity.specs.declared.Scalars.{Scalars}
 use Rattle.walk.specs.Expr.{Expr, values, nums}
-use Rattle.walk.specs.Matrix.{values-nums, flat}
+use Rattle.walk.specs.Matrix.{values-nums, joined}
 use Rattle.walk.specs.Walk.{Test, Walk, given, refused, answerOf, read, unnoted, result}
 use Rattle.walk.specs.Exact.{Refusal, path, final, first, answer}
 use Rattle.walk.proofs.Exact.{exactly}
-use Rattle.walk.proofs.Every.{all-append, all-flat, and-left, and-right, and-assoc}
+use Rattle.walk.proofs.Every.{all-append, all-joined, and-left, and-right, and-assoc}
 use Rattle.walk.specs.Body.{Body, Change, untouched, stored, scalarsOf, floatsOver, refusalOf, numberOf, updatedOf, stateFinite, inputsFinite, floatsOf, storeWalk, keptOf, outcomeOf}
 
 ordered : (f u g v x : Bool) → f && (u && (g && (v && x))) ≡ u && v && (f && g && x)
@@ -33,8 +33,8 @@ ordered true true true v x = refl
 finite-over : (f u : List (List Float)) (sigma : List Float) (vt : List (List Float)) (x : Scalars)
     → allOf finite (floatsOver f u sigma vt x) ≡ matFinite u && matFinite vt && (matFinite f && rowFinite sigma && scalarsFinite x)
 finite-over f u sigma vt x =
-    all-append finite (flat f) (flat u ++ (sigma ++ (flat vt ++ scalarsOf x)))
-    ∙ rw (all-append finite (flat u) (sigma ++ (flat vt ++ scalarsOf x)), all-append finite sigma (flat vt ++ scalarsOf x), all-append finite (flat vt) (scalarsOf x), all-flat finite f, all-flat finite u, all-flat finite vt)
+    all-append finite (joined f) (joined u ++ (sigma ++ (joined vt ++ scalarsOf x)))
+    ∙ rw (all-append finite (joined u) (sigma ++ (joined vt ++ scalarsOf x)), all-append finite sigma (joined vt ++ scalarsOf x), all-append finite (joined vt) (scalarsOf x), all-joined finite f, all-joined finite u, all-joined finite vt)
     (ordered (matFinite f) (matFinite u) (rowFinite sigma) (matFinite vt) (scalarsFinite x))
 
 map-append : {A B : Type 0} (f : A → B) (a b : List A) → map f (a ++ b) ≡ map f a ++ map f b

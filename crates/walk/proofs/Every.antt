@@ -9,7 +9,7 @@ use lib.Ieee.{Float, nan}
 use Rattle.numbers.specs.Floats.{finite}
 use Rattle.tensor.specs.Axes.{allOf}
 use Rattle.walk.specs.Exact.{placeOf}
-use Rattle.walk.specs.Matrix.{flat}
+use Rattle.walk.specs.Matrix.{joined}
 
 pub and-left : (a b : Bool) → a && b ≡ true → a ≡ true
 and-left true b h = refl
@@ -49,9 +49,9 @@ module _ {A : Type 0} (t : A → Bool) where
   all-append a b = rw (all-every (a ++ b), all-every a, all-every b) (every-append a b)
 
 module _ {A : Type 0} (t : A → Bool) where
-  every-flat : (m : List (List A)) → every t (flat m) ≡ every (allOf t) m
-  every-flat [] = refl
-  every-flat (l ∷ m) = every-append t l (flat m) ∙ rw (all-every t l, every-flat m)
+  every-joined : (m : List (List A)) → every t (joined m) ≡ every (allOf t) m
+  every-joined [] = refl
+  every-joined (l ∷ m) = every-append t l (joined m) ∙ rw (all-every t l, every-joined m)
 
-  pub all-flat : (m : List (List A)) → allOf t (flat m) ≡ allOf (allOf t) m
-  all-flat m = all-every t (flat m) ∙ every-flat m ∙ sym (all-every (allOf t) m)
+  pub all-joined : (m : List (List A)) → allOf t (joined m) ≡ allOf (allOf t) m
+  all-joined m = all-every t (joined m) ∙ every-joined m ∙ sym (all-every (allOf t) m)

@@ -13,3 +13,4 @@ pub mod Steps
 pub mod Reason
 pub mod Inner
 pub mod Three
+pub mod Ends

@@ -13,8 +13,8 @@ use Rattle.tensor.specs.Decomposed.{deviatoricOf}
 use Rattle.tensor.specs.Inverse.{cofactorsOf, matOverOf}
 use Rattle.tensor.specs.Number.{matNumber}
 use Rattle.walk.specs.Expr.{Expr, num, value, values}
-use Rattle.walk.specs.Matrix.{value-total, value-dots, value-entry, values-nums, flat}
-use Rattle.walk.proofs.Every.{all-flat}
+use Rattle.walk.specs.Matrix.{value-total, value-dots, value-entry, values-nums, joined}
+use Rattle.walk.proofs.Every.{all-joined}
 use Rattle.walk.specs.Update.{recomposed}
 use Rattle.walk.specs.Tensor.{worth, rows, turned, times, row-plus, plus, row-scaled, scaled, identity-times, determinant, trace, deviatoric, cofactors-over, diagonal}
 
@@ -90,10 +90,10 @@ values-append : (a b : List Expr) → values (a ++ b) ≡ values a ++ values b
 values-append [] b = refl
 values-append (x ∷ a) b = ap (λ l. value x ∷ l) (values-append a b)
 
-values-flat : (m : List (List Expr)) → values (flat m) ≡ flat (worth m)
-values-flat [] = refl
-values-flat (r ∷ m) = values-append r (flat m) ∙ ap (λ l. values r ++ l) (values-flat m)
+values-joined : (m : List (List Expr)) → values (joined m) ≡ joined (worth m)
+values-joined [] = refl
+values-joined (r ∷ m) = values-append r (joined m) ∙ ap (λ l. values r ++ l) (values-joined m)
 
-pub numbers-flat : (m : List (List Expr)) → allOf isNumber (values (flat m)) ≡ matNumber (worth m)
+pub numbers-joined : (m : List (List Expr)) → allOf isNumber (values (joined m)) ≡ matNumber (worth m)
 unfolding matNumber
-numbers-flat m = ap (allOf isNumber) (values-flat m) ∙ all-flat isNumber (worth m)
+numbers-joined m = ap (allOf isNumber) (values-joined m) ∙ all-joined isNumber (worth m)

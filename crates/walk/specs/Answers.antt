@@ -9,12 +9,12 @@ use Rattle.tensor.specs.declared.MatrixAnswer.{MatrixAnswer}
 use Rattle.tensor.specs.declared.VectorAnswer.{VectorAnswer}
 use Rattle.walk.specs.Expr.{Expr, value, values}
 use Rattle.walk.specs.Walk.{Walk, works, results, end, Ended, given, refused}
-use Rattle.walk.specs.Matrix.{flat}
+use Rattle.walk.specs.Matrix.{joined}
 use Rattle.walk.specs.Tensor.{worth}
 
 -- the entries of a matrix are worked
 abbrev pub matrix : {A : Type 0} → ℕ → List (List Expr) → (List (List Float) → Walk A) → Walk A
-matrix n m k = works n (flat m) (λ l. k (worth m))
+matrix n m k = works n (joined m) (λ l. k (worth m))
 
 -- a number is returned, a matrix or a vector: what is returned is finite
 abbrev pub returned : ℕ → Expr → Walk Float

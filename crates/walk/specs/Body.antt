@@ -15,7 +15,7 @@ use Rattle.plasticity.specs.declared.Scalars.{Scalars}
 use Rattle.walk.specs.Expr.{Expr, values, nums}
 use Rattle.walk.specs.Walk.{Walk, results, end, Ended, given, refused}
 use Rattle.walk.specs.Exact.{Refusal}
-use Rattle.walk.specs.Matrix.{flat}
+use Rattle.walk.specs.Matrix.{joined}
 
 -- what a law is given beside U and V^T, a state S, and what it hands back, R
 pub record Body (S R : Type 0) : Type 0 where
@@ -48,7 +48,7 @@ abbrev pub scalarsOf : Scalars → List Float
 scalarsOf x = x .phase ∷ x .«plastic_determinant» ∷ x .«plastic_hardening» ∷ x .«elastic_hardening» ∷ x .«log_gain» ∷ x .alpha ∷ []
 
 abbrev pub floatsOver : List (List Float) → List (List Float) → List Float → List (List Float) → Scalars → List Float
-floatsOver f u sigma vt x = flat f ++ (flat u ++ (sigma ++ (flat vt ++ scalarsOf x)))
+floatsOver f u sigma vt x = joined f ++ (joined u ++ (sigma ++ (joined vt ++ scalarsOf x)))
 
 -- ---- the number that refuses, of an outcome and of a path
 abbrev pub refusalOf : Outcome → Option ℕ

@@ -31,9 +31,9 @@ abbrev pub recompose : List (List Float) → List Float → List (List Float) �
 recompose rows s columns = map (λ row. map (λ column. entry row s column) columns) rows
 
 -- one row after the other
-abbrev pub flat : {A : Type 0} → List (List A) → List A
-flat [] = []
-flat (l ∷ m) = l ++ flat m
+abbrev pub joined : {A : Type 0} → List (List A) → List A
+joined [] = []
+joined (l ∷ m) = l ++ joined m
 
 -- ---- what they are worth, as `Body` has it of U sigma V^T
 pub values-nums : (l : List Float) → values (nums l) ≡ l

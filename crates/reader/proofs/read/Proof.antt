@@ -1,6 +1,6 @@
 -- `reader::read` meets its contract: each return is a case of `readOf` and `roomOf`.
 use Rattle.sheet.proofs.Rooms.{odd, bad, narrow, good}
-use Rattle.sheet.proofs.Taken.{few, named-model, within}
+use Rattle.sheet.proofs.ReadFrom.{few, named-model, within}
 use native.Mathlib.Omega.{arith}
 use borrow.Author.Needs.{needs}
 use Rattle.reader.proofs.read.Statement.{statement}

@@ -1,4 +1,4 @@
--- `model::rows::drucker_prager` meets its contract: each place as it is read.
+-- `model::rows::drucker_prager` meets its contract: each place as it is read. Made by tools/table from calls.toml: edit that, not this file.
 use borrow.Author.Needs.{needs}
 use Rattle.model.proofs.rows.drucker_prager.Statement.{statement}
 use Rattle.model.proofs.rows.drucker_prager.Tie as tie
@@ -9,5 +9,6 @@ returns c = simp (c .float7 .ensures, c .before .word .ensures, c .before .befor
 pub drucker-prager-spec : {M : Type 1} → statement M
 drucker-prager-spec =
     tie.close
-    (tie.spec (λ c κs. search needs) (λ c κs. search needs) (λ c κs. search needs) (λ c κs. search needs)
-    (λ c κs. search needs) (λ c κs. search needs) (λ c κs. search needs) (λ c κs. search needs) returns)
+    (tie.spec
+    (λ c κs. search needs) (λ c κs. search needs) (λ c κs. search needs) (λ c κs. search needs) (λ c κs. search needs) (λ c κs. search needs) (λ c κs. search needs) (λ c κs. search needs)
+    returns)

@@ -1,4 +1,4 @@
--- `model::rows::nacc` meets its contract: each place as it is read.
+-- `model::rows::nacc` meets its contract: each place as it is read. Made by tools/table from calls.toml: edit that, not this file.
 use borrow.Author.Needs.{needs}
 use Rattle.model.proofs.rows.nacc.Statement.{statement}
 use Rattle.model.proofs.rows.nacc.Tie as tie
@@ -9,5 +9,6 @@ returns c = simp (c .float5 .ensures, c .before .float4 .ensures, c .before .bef
 pub nacc-spec : {M : Type 1} → statement M
 nacc-spec =
     tie.close
-    (tie.spec (λ c κs. search needs) (λ c κs. search needs) (λ c κs. search needs) (λ c κs. search needs)
-    (λ c κs. search needs) (λ c κs. search needs) returns)
+    (tie.spec
+    (λ c κs. search needs) (λ c κs. search needs) (λ c κs. search needs) (λ c κs. search needs) (λ c κs. search needs) (λ c κs. search needs)
+    returns)

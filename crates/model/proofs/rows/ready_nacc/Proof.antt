@@ -1,13 +1,14 @@
--- `model::rows::ready_nacc` meets its contract: by the moduli.
+-- `model::rows::ready_nacc` meets its contract: by the moduli. Made by tools/table from calls.toml: edit that, not this file.
 use borrow.Author.Needs.{needs}
 use Rattle.model.proofs.rows.ready_nacc.Statement.{statement}
 use Rattle.model.proofs.rows.ready_nacc.Tie as tie
 
 returns : tie.Need-returns
-returns c = let t = simp (c .before .moduli-finite .ensures) at (c .if1 .taken) in simp t
-
-returns-2 : tie.Need-returns-2
-returns-2 c = let t = simp (c .before .moduli-finite .ensures) at (c .if1 .left) in simp t
+returns c = simp (c .ready-if .ensures, c .before .moduli-finite .ensures)
 
 pub ready-nacc-spec : {M : Type 1} → statement M
-ready-nacc-spec = tie.close (tie.spec (λ c κs. search needs) returns returns-2)
+ready-nacc-spec =
+    tie.close
+    (tie.spec
+    (λ c κs. search needs) (λ c κs. search needs)
+    returns)

@@ -1,27 +1,30 @@
--- `model::rows::shape_of` meets its contract: by the number.
+-- `model::rows::shape_of` meets its contract: by the number. Made by tools/table from calls.toml: edit that, not this file.
 use Rattle.model.specs.Kinds.{lawOf, kindsOf}
 use Rattle.model.proofs.rows.shape_of.Statement.{statement}
 use Rattle.model.proofs.rows.shape_of.Tie as tie
 
-returns : tie.Need-returns
+returns-snow : tie.Need-returns
 unfolding lawOf kindsOf
-returns c = rw (c .if1 .taken)
+returns-snow c = rw (c .if1 .taken)
 
-returns-2 : tie.Need-returns-2
+returns-rankine : tie.Need-returns-2
 unfolding lawOf kindsOf
-returns-2 c = rw (c .before .if1 .left, c .if2 .taken)
+returns-rankine c = rw (c .before .if1 .left, c .if2 .taken)
 
-returns-3 : tie.Need-returns-3
+returns-drucker-prager : tie.Need-returns-3
 unfolding lawOf kindsOf
-returns-3 c = rw (c .before .before .if1 .left, c .before .if2 .left, c .if3 .taken)
+returns-drucker-prager c = rw (c .before .before .if1 .left, c .before .if2 .left, c .if3 .taken)
 
-returns-4 : tie.Need-returns-4
+returns-nacc : tie.Need-returns-4
 unfolding lawOf kindsOf
-returns-4 c = rw (c .before .before .before .if1 .left, c .before .before .if2 .left, c .before .if3 .left, c .if4 .taken)
+returns-nacc c = rw (c .before .before .before .if1 .left, c .before .before .if2 .left, c .before .if3 .left, c .if4 .taken)
 
-returns-5 : tie.Need-returns-5
+returns-unknown : tie.Need-returns-5
 unfolding lawOf kindsOf
-returns-5 c = rw (c .before .before .before .if1 .left, c .before .before .if2 .left, c .before .if3 .left, c .if4 .left)
+returns-unknown c = rw (c .before .before .before .if1 .left, c .before .before .if2 .left, c .before .if3 .left, c .if4 .left)
 
 pub shape-of-spec : {M : Type 1} → statement M
-shape-of-spec = tie.close (tie.spec returns returns-2 returns-3 returns-4 returns-5)
+shape-of-spec =
+    tie.close
+    (tie.spec
+    returns-snow returns-rankine returns-drucker-prager returns-nacc returns-unknown)

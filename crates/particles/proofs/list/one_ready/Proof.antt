@@ -3,14 +3,14 @@ use Prim.Native.Nat.{_*_}
 use native.Mathlib.Nat.{add-sub-cancel-left}
 use Rattle.record.specs.Layout.{floats}
 use borrow.Author.Needs.{needs}
-use Rattle.particles.proofs.ReadiedLaws.{how-amount}
+use Rattle.particles.proofs.ReadiedLaws.{ready-amount}
 use Rattle.particles.proofs.list.one_ready.Statement.{statement}
 use Rattle.particles.proofs.list.one_ready.Tie as tie
 
 write-answer-requires : tie.Need-write-answer-requires
 write-answer-requires c κs =
     let a = c .before .before .before .before .before .before .before .args in
-    (search needs, rw (c .before .before .before .take-step .ensures .0) (how-amount (a .how) (a .q) (a .j) _))
+    (search needs, rw (c .before .before .before .take-step .ensures .0) (ready-amount (a .q) (a .j) _))
 
 returns : tie.Need-returns
 returns c =

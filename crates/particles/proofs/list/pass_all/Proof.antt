@@ -6,7 +6,8 @@ use mathlib.Core.List.{List, _++_}
 use Prim.Native.Nat.{ℕ, _≤_, _<_, _*_, _-_}
 use lib.ListN.{drop}
 use Rattle.record.specs.Layout.{floats}
-use Rattle.particles.specs.Step.{howLaw, takenLaw}
+use Rattle.particles.specs.Readied.{readyLaw}
+use Rattle.particles.specs.Step.{takenLaw}
 use Rattle.particles.specs.Pass.{worked, answers, counts, workedOver, answersOver, countsOver}
 use Rattle.particles.proofs.ReadiedLaws.{taken-keeps}
 use Rattle.particles.proofs.PassLaws.{worked-step, answers-step, counts-step, counts-most, records-length, record-same, answers-long, all-done}
@@ -14,11 +15,11 @@ use Rattle.particles.proofs.list.pass_all.Statement.{statement}
 use Rattle.particles.proofs.list.pass_all.Tie as tie
 
 abbrev Inv-loop : tie.InvT-loop
-Inv-loop xs₀ out₀ n c₀ how q j i₀ xs out c i =
-    (i ≤ n) × (c ≡ counts (howLaw how q j) xs₀ i) × (xs ≡ worked (howLaw how q j) xs₀ i ++ drop (i * floats) xs₀) × (out ≡ answers (howLaw how q j) xs₀ i ++ drop (i * 2) out₀)
+Inv-loop xs₀ out₀ n c₀ q j i₀ xs out c i =
+    (i ≤ n) × (c ≡ counts (readyLaw q j) xs₀ i) × (xs ≡ worked (readyLaw q j) xs₀ i ++ drop (i * floats) xs₀) × (out ≡ answers (readyLaw q j) xs₀ i ++ drop (i * 2) out₀)
 
 abbrev μ-loop : tie.MeasureT-loop
-μ-loop xs₀ out₀ n c₀ how q j i₀ xs out c i = n - i
+μ-loop xs₀ out₀ n c₀ q j i₀ xs out c i = n - i
 
 loop-holds : tie.Need-loop-holds Inv-loop μ-loop
 unfolding workedOver answersOver countsOver

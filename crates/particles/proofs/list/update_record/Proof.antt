@@ -6,12 +6,12 @@ use Rattle.particles.proofs.ReadiedLaws.{ready-law}
 use Rattle.particles.proofs.list.update_record.Statement.{statement}
 use Rattle.particles.proofs.list.update_record.Tie as tie
 
-step-requires : tie.Need-step-requires
-step-requires c κs = (search needs, rw (c .before .make-ready .ensures) (ready-finite _))
+take-step-requires : tie.Need-take-step-requires
+take-step-requires c κs = (search needs, rw (c .before .make-ready .ensures) (ready-finite _))
 
 returns : tie.Need-returns
 returns c =
-    let s = c .before .before .step .ensures in
+    let s = c .before .before .take-step .ensures in
     let q = c .before .before .before .before .make-ready .ensures in
     let e = eq-eqb _ _ (c .before .before .before .before .before .if1 .taken) in
     (simp (s .0, q, ready-law, e), simp (s .1 .1, q, ready-law, e))
@@ -24,4 +24,4 @@ returns-2 c =
 pub update-record-spec : {M : Type 1} → statement M
 update-record-spec =
     tie.close
-    (tie.spec (λ c κs. search needs) step-requires (λ c. search needs) returns returns-2)
+    (tie.spec (λ c κs. search needs) take-step-requires (λ c. search needs) returns returns-2)

@@ -1,0 +1,2 @@
+pub mod Factored
+pub mod Step
