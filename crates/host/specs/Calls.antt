@@ -1,15 +1,12 @@
 -- The answers of the calls that read lists: each law's own answer, after 8 for a length and 6 for a flag (RULES, section 6).
-use mathlib.Core.Bool.{cond, not, _&&_}
+use mathlib.Core.Bool.{not, _&&_}
 use mathlib.Core.List.{List}
 use Prim.Native.Nat.{ℕ}
 use lib.Dec.{eqb}
 use lib.ListN.{getD}
 use lib.Ieee.{Float, binary64, toBits}
 use Rattle.answers.specs.Answer.{answeredOf, given}
-use Rattle.answers.specs.Refusals.{unknown}
 use Rattle.answers.specs.declared.Answer.{Answer}
-use Rattle.answers.specs.declared.Answer.the-variants.{Refused}
-use Rattle.numbers.specs.Constants.{two, three}
 use Rattle.tensor.specs.Finite.{rowFinite, matFinite}
 use Rattle.tensor.specs.Answer.{answered, answeredVector, givenMatrix, givenVector}
 use Rattle.tensor.specs.Decomposed.{deviatoricOf, sphericalOf, timesOf, tensorFinite}
@@ -26,7 +23,6 @@ use Rattle.plasticity_snow.specs.Snow.{clampedOf}
 use Rattle.plasticity_snow.specs.declared.SnowPlasticity.{SnowPlasticity}
 use Rattle.plasticity_rankine.specs.Projection.{argumentsProject}
 use Rattle.plasticity_drucker_prager.specs.Alpha.{alphaOf}
-use Rattle.plasticity_nacc.specs.Friction.{frictionOf}
 use Rattle.record.specs.Layout.{rowAt, matAt}
 use Rattle.host_lists.specs.Refused.{has, sizedNumber, sizedVector, sizedMatrix, flaggedNumber}
 use Rattle.host_lists.specs.Read.{decomposedOf}
@@ -104,10 +100,6 @@ rankineProject p s e = sizedVector (has 4 p && has 3 e) (argumentsProject (ranki
 -- ---- Drucker-Prager's slope
 unfoldable pub druckerPragerAlpha : List ℕ → Float → Answer
 druckerPragerAlpha p q = sizedNumber (has 8 p) (flaggedNumber (getD p 6 0) (alphaOf (druckerPragerOf p) q))
-
--- ---- NACC's friction of an angle, in two axes or three; of any other number of axes 6
-unfoldable pub naccFriction : ℕ → Float → Answer
-naccFriction axes angle = cond (eqb axes 2) (frictionOf two angle) (cond (eqb axes 3) (frictionOf three angle) (Refused unknown))
 
 -- ---- DecomposedTensor times a vector
 abbrev pub timesAnswer : Float → List ℕ → List Float → VectorAnswer

@@ -1,12 +1,11 @@
-// The bare clamp, Rankine's projection, Drucker-Prager's slope, NACC's friction and DecomposedTensor's product for hosts.
-use answers::Answer;
+// The bare clamp, Rankine's projection, Drucker-Prager's slope and DecomposedTensor's product for hosts.
 use plasticity_snow::SnowPlasticity;
 use tensor::VectorAnswer;
 ghost use mathlib.Core.Path.{_≡_};
 ghost use mathlib.Core.List.{[], _∷_};
 ghost use Rattle.host_lists.specs.Called.{called};
 ghost use Rattle.host_lists.specs.Out.{numberIn, vectorIn};
-ghost use Rattle.host.specs.Calls.{snowOf, snowClamp, vectorOf, rankineProject, druckerPragerAlpha, naccFriction, decomposedTimes};
+ghost use Rattle.host.specs.Calls.{snowOf, snowClamp, vectorOf, rankineProject, druckerPragerAlpha, decomposedTimes};
 
 #[no_mangle]
 pub extern "C" fn pasoletu_snow_clamp(
@@ -65,26 +64,6 @@ pub extern "C" fn pasoletu_drucker_prager_alpha(fields: &[u64], q: f64, out: &mu
         host_lists::sized(ok, host_lists::flagged(record::word(fields, 6), p.alpha(q))),
         out,
     )
-}
-
-// In two axes or three.
-fn friction_in(axes: u64, angle: f64) -> Answer
-    ensures { λ r. ⌜ r ≡ naccFriction axes angle ⌝ }
-{
-    if axes == 2 {
-        plasticity_nacc::friction_of(2.0, angle)
-    } else if axes == 3 {
-        plasticity_nacc::friction_of(3.0, angle)
-    } else {
-        Answer::Refused(answers::UNKNOWN)
-    }
-}
-
-#[no_mangle]
-pub extern "C" fn pasoletu_nacc_friction(axes: u64, friction_angle: f64, out: &mut [u64]) -> u8
-    ensures { λ r. ⌜ called r (now (out .exit) ∷ []) ≡ numberIn (naccFriction axes «friction_angle») (now (out .entry)) ⌝ }
-{
-    host_lists::put(friction_in(axes, friction_angle), out)
 }
 
 #[no_mangle]

@@ -1,4 +1,5 @@
 pub mod Determinants
+pub mod Friction
 pub mod Inner
 pub mod Passes
 pub mod Update

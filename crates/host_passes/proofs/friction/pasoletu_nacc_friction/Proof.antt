@@ -1,7 +1,7 @@
--- `host::returns::pasoletu_nacc_friction` meets its contract.
+-- `host_passes::friction::pasoletu_nacc_friction` meets its contract.
 use borrow.Author.Needs.{needs}
-use Rattle.host.proofs.returns.pasoletu_nacc_friction.Statement.{statement}
-use Rattle.host.proofs.returns.pasoletu_nacc_friction.Tie as tie
+use Rattle.host_passes.proofs.friction.pasoletu_nacc_friction.Statement.{statement}
+use Rattle.host_passes.proofs.friction.pasoletu_nacc_friction.Tie as tie
 
 returns : tie.Need-returns
 returns c =

@@ -1,9 +1,9 @@
--- `host::returns::friction_in` answers `naccFriction axes angle`.
+-- `host_passes::friction::friction_in` answers `naccFriction axes angle`.
 use borrow.Author.Needs.{needs}
 use borrow.Author.Tests.{ne-eqb}
-use Rattle.host.specs.Calls.{naccFriction}
-use Rattle.host.proofs.returns.friction_in.Statement.{statement}
-use Rattle.host.proofs.returns.friction_in.Tie as tie
+use Rattle.host_passes.specs.Friction.{naccFriction}
+use Rattle.host_passes.proofs.friction.friction_in.Statement.{statement}
+use Rattle.host_passes.proofs.friction.friction_in.Tie as tie
 
 returns : tie.Need-returns
 unfolding naccFriction
