@@ -111,27 +111,21 @@ fn sin_value(x: f64) -> f64
     at_eighth(eighth(e, m), b >= 0x8000_0000_0000_0000)
 }
 
-// The sine within its range; outside it the refusal of its side.
-fn sin_ranged(x: f64) -> Answer
-    ensures { λ r. ⌜ r ≡ sinRanged x ⌝ }
-{
-    if answers::in_range(-8.0, 8.0, x) {
-        Answer::Value(sin_value(x))
-    } else {
-        answers::outside(-8.0, 8.0, x)
-    }
-}
-
 // sin x, within 2^-45 of the exact value. A NaN or an infinity is refused by 1, a number below the range by 2, above it by 10.
 pub fn sin(x: f64) -> Answer
     ensures { λ r. ⌜ (r ≡ bare x (sinRanged x)) × ((v : Float) → r ≡ Value v → SinNear x v) ⌝ }
 {
-    answers::bare(x, sin_ranged(x))
+    answers::bare(x, sin_on_path(x))
 }
 
-// sin x within a law: a NaN is refused by 3, what lies below the range by 2, above it by 10.
+// sin x within a law: a NaN is refused by 3, what lies below the range by 2, above it by 10. What lies in the range is a number:
+// that isn't tested again.
 pub fn sin_on_path(x: f64) -> Answer
     ensures { λ r. ⌜ r ≡ onPath x (sinRanged x) ⌝ }
 {
-    answers::on_path(x, sin_ranged(x))
+    if answers::in_range(-8.0, 8.0, x) {
+        Answer::Value(sin_value(x))
+    } else {
+        answers::on_path(x, answers::outside(-8.0, 8.0, x))
+    }
 }
