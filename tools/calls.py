@@ -96,14 +96,14 @@ NANS = [
     ("answers: outside", "10, as of what doesn't lie below the range; `answers::bare` and `answers::on_path`, through which every function goes, hand it on of no NaN"),
     ("answers: answered finite_answer answered_pair; tensor: answered answered_vector", "3: a number to be returned"),
     (
-        "numbers: powi bits_of; tensor: transpose dot mat_mul determinant inverse_transpose recompose sum product trace row_add row_sub row_scale mat_add mat_sub "
-        "mat_scale identity_times to_rows of_rows; flat: dot sum product row_sub to_rows",
+        "numbers: powi bits_of; tensor: transpose dot mat_mul determinant recompose sum product row_add row_sub row_scale mat_add mat_scale identity_times "
+        "to_rows of_rows; decomposed: inverse_transpose trace; flat: dot sum product row_sub to_rows",
         "as the Rust works it; the bits of a NaN are 7ff8000000000000",
     ),
     (
-        "tensor: plain::spherical_part plain::deviatoric_part plain::decompose plain::recompose plain::add plain::add_assign plain::times; physics: plain::inv_exact plain::lame_lambda_mu "
-        "plain::shear_modulus plain::bulk_modulus plain::shear_modulus_from_lame plain::bulk_modulus_from_lame plain::spin_tensor plain::strain_rate plain::deviatoric_part "
-        "plain::spherical_part; elasticity_neo_hookean: plain::phase_coeff",
+        "physics: plain::inv_exact plain::lame_lambda_mu plain::shear_modulus plain::bulk_modulus plain::shear_modulus_from_lame plain::bulk_modulus_from_lame; "
+        "decomposed: plain::spherical_part plain::deviatoric_part plain::decompose plain::recompose plain::add plain::add_assign plain::times plain::spin_tensor plain::strain_rate; "
+        "elasticity_neo_hookean: plain::phase_coeff",
         "as the Rust works it; the call of the same name outside `plain` refuses",
     ),
     (
@@ -144,7 +144,7 @@ NANS = [
     ("factors: factors_of principal_of", "as the sweeps work it: what comes out misses the check"),
     ("factors: factored principals", "14: it misses the check. A record's call has refused it by 1 before"),
     (
-        "numbers: is_finite is_number; answers: in_range all_in_range; tensor: row_finite mat_finite rows_finite row_number mat_number; flat: row_finite; "
+        "numbers: is_finite is_number; answers: in_range all_in_range; tensor: row_finite mat_finite rows_finite row_number; decomposed: mat_number; flat: row_finite; "
         "nearness: near_all orthogonal surely_near surely_orthogonal; factors: accepted principal_accepted; plasticity: scalars_finite inputs_finite; "
         "flat: inputs_finite; plasticity_*: *::parameters_finite *::moduli_finite; "
         "elasticity_neo_hookean: NeoHookeanElasticity::law_finite NeoHookeanElasticity::is_fluid; elasticity_corotated_linear: CorotatedLinearElasticity::law_finite "
@@ -159,8 +159,9 @@ NANS = [
 # Calls with floats whose answer can be a refusal, and that refuse a NaN by 1 (`*` stands for any name): the other half of what NANS tells.
 FIRST = [
     "exponential: exp sinh; logarithm: ln; sine: sin; thirds: cbrt inv_cbrt cbrt_squared inv_cbrt_squared; square_root: sqrt; answers: bare",
-    "tensor: DecomposedTensor::decompose DecomposedTensor::recompose DecomposedTensor::add DecomposedTensor::add_assign DecomposedTensor::times",
-    "physics: inv_exact lame_lambda_mu shear_modulus bulk_modulus shear_modulus_from_lame bulk_modulus_from_lame solve_quadratic spin_tensor strain_rate deviatoric_part spherical_part",
+    "physics: inv_exact lame_lambda_mu shear_modulus bulk_modulus shear_modulus_from_lame bulk_modulus_from_lame solve_quadratic",
+    "decomposed: DecomposedTensor::decompose DecomposedTensor::recompose DecomposedTensor::add DecomposedTensor::add_assign DecomposedTensor::times",
+    "decomposed: spin_tensor strain_rate deviatoric_part spherical_part",
     "plasticity_*: *::new *::with_m *::update_particle *::reason *::project *::project_deformation_gradient *::alpha; plasticity_nacc: friction_of; flat_*: update_particle project project_deformation_gradient new; model: reason_of make_ready",
     "elasticity_*: *::new *::fpk_stress *::phase_coeff *::elastic_energy_density *::elastic_energy_density_in *::pos_energy",
     "eos_monaghan_sph: *::new *::pressure *::kirchhoff_stress *::timestep_bound; failure_maximum_stress: *::new *::particle_failed",

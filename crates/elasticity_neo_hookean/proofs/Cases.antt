@@ -12,7 +12,8 @@ use Rattle.thirds.specs.Thirds.{invCbrtOf}
 use Rattle.exponential.specs.Worked.{expOf, nearestOf, restOf, seriesOf, scaleBits, timesOf}
 use Rattle.logarithm.specs.Worked.{partOf, exponentOf, fractionOf, lnOf}
 use Rattle.walk.specs.Matrix.{total}
-use Rattle.walk.specs.Tensor.{rows, turned, times, scaled, determinant, trace}
+use Rattle.walk.specs.Tensor.{rows, turned, times, scaled, determinant}
+use Rattle.decomposed.specs.Formulas.{trace}
 use Rattle.walk.specs.Power.{halved, power}
 use Rattle.elasticity_neo_hookean.specs.Law.{floats, phaseCoeff}
 use Rattle.elasticity_neo_hookean.specs.Energy.{partsFrom, partsWalk, energySteps, energyWalkIn, elasticEnergyDensityIn}

@@ -14,16 +14,18 @@ use Rattle.tensor.specs.Matrix as tensor
 use Rattle.tensor.specs.Matrix.{identityTimesOf, detOf}
 use Rattle.tensor.specs.Answer.{answered}
 use Rattle.tensor.specs.Finite.{matFinite}
-use Rattle.tensor.specs.Number.{matNumber}
-use Rattle.tensor.specs.Inverse.{inverseTransposeOf, matOverOf, cofactorsOf}
+use Rattle.decomposed.specs.Number.{matNumber}
+use Rattle.decomposed.specs.Inverse.{inverseTransposeOf, matOverOf, cofactorsOf}
 use Rattle.walk.specs.Expr.{Expr, num, _+_, _*_, value}
 use Rattle.walk.specs.Walk.{Walk, Function, minus-third, minus-two-thirds, ln, less, at-most, answerOf, asked, ask, Ended, refused, result, answerAs}
 use Rattle.walk.specs.Power.{power}
 use Rattle.walk.proofs.Inner.{Inner}
 use Rattle.walk.specs.Matrix.{joined}
 use Rattle.walk.proofs.Every.{all-append, all-joined}
-use Rattle.walk.specs.Tensor.{one, worth, rows, plus, times, determinant, cofactors-over}
-use Rattle.walk.proofs.Tensor.{one-number, worth-cofactors, numbers-joined}
+use Rattle.walk.specs.Tensor.{one, worth, rows, plus, times, determinant}
+use Rattle.walk.proofs.Tensor.{one-number}
+use Rattle.decomposed.specs.Formulas.{cofactors-over}
+use Rattle.decomposed.proofs.Formulas.{worth-cofactors, numbers-joined}
 use Rattle.walk.specs.Answers.{matrix, returnedMatrix, matrixAs}
 use Rattle.walk.proofs.Answers.{returned-matrix, split-number, split-matrix, asked-number, both, same, tested-later, asked-nan, asked-later}
 use Rattle.elasticity_neo_hookean.specs.declared.NeoHookeanElasticity.{NeoHookeanElasticity}

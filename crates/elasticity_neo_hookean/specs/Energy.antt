@@ -7,7 +7,8 @@ use Rattle.answers.specs.declared.Answer.{Answer}
 use Rattle.tensor.specs.Matrix as tensor
 use Rattle.walk.specs.Expr.{Expr, num, _+_, _-_, _*_, _/_}
 use Rattle.walk.specs.Walk.{Walk, ln, minus-third, minus-two-thirds, less, at-most, inputs, ask, work, split, end, _then_, result, answerAs}
-use Rattle.walk.specs.Tensor.{one, rows, turned, times, scaled, determinant, trace}
+use Rattle.walk.specs.Tensor.{one, rows, turned, times, scaled, determinant}
+use Rattle.decomposed.specs.Formulas.{trace}
 use Rattle.walk.specs.Power.{power}
 use Rattle.walk.specs.Answers.{matrix, returned}
 use Rattle.elasticity_neo_hookean.specs.Law.{two, dim, floats, coefficient, bulk, cauchyGreen}

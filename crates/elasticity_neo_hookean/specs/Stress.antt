@@ -8,7 +8,8 @@ use Rattle.tensor.specs.Answer.{zeroRow}
 use Rattle.tensor.specs.declared.MatrixAnswer.{MatrixAnswer}
 use Rattle.walk.specs.Expr.{Expr, num, _-_, _*_, _/_, value}
 use Rattle.walk.specs.Walk.{Walk, minus-two-thirds, zeros, at-most, inputs, ask, work, split, result}
-use Rattle.walk.specs.Tensor.{one, rows, times, plus, scaled, identity-times, determinant, deviatoric, cofactors-over}
+use Rattle.walk.specs.Tensor.{one, rows, times, plus, scaled, identity-times, determinant}
+use Rattle.decomposed.specs.Formulas.{deviatoric, cofactors-over}
 use Rattle.walk.specs.Answers.{matrix, returnedMatrix, matrixAs}
 use Rattle.elasticity_neo_hookean.specs.Law.{two, floats, coefficient, bulk, cauchyGreen}
 use Rattle.elasticity_neo_hookean.specs.declared.NeoHookeanElasticity.{NeoHookeanElasticity}

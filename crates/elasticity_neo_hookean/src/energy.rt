@@ -38,7 +38,7 @@ fn stretch(w: f64, f: [[f64; 3]; 3]) -> [[f64; 3]; 3]
 fn deviatoric_energy(p: NeoHookeanElasticity, hardening: f64, s: [[f64; 3]; 3]) -> f64
     ensures { λ r. ⌜ r ≡ value (deviatoricEnergy p hardening s) ⌝ }
 {
-    p.mu * hardening / 2.0 * (tensor::trace(s) - 3.0)
+    p.mu * hardening / 2.0 * (decomposed::trace(s) - 3.0)
 }
 
 // Below j = 1 the volumetric part is the tensile one, as the text has it; with one split for stress and energy the
@@ -71,7 +71,7 @@ pub fn density(
         match thirds::inv_cbrt_on_path(j) {
             Answer::Value(w) => {
                 let s = stretch(w, f);
-                if tensor::mat_number(s) {
+                if decomposed::mat_number(s) {
                     match logarithm::ln_on_path(j) {
                         Answer::Value(l) => {
                             let vol = volumetric_energy(k, numbers::powi(j, 2), l);
@@ -95,7 +95,7 @@ pub fn density(
 fn pos_deviatoric(p: NeoHookeanElasticity, hardening: f64, w: f64, b: [[f64; 3]; 3]) -> f64
     ensures { λ r. ⌜ r ≡ value (posDeviatoric p hardening (num w) b) ⌝ }
 {
-    hardening * p.mu / 2.0 * (tensor::trace(b) * w - 3.0)
+    hardening * p.mu / 2.0 * (decomposed::trace(b) * w - 3.0)
 }
 
 // From j = 1 up the phase itself multiplies, not its coefficient, as the text has it.
@@ -115,7 +115,7 @@ pub fn pos(p: NeoHookeanElasticity, phase: f64, hardening: f64, f: [[f64; 3]; 3]
 {
     let k = p.bulk(hardening);
     let b = stress::cauchy_green_strain(f);
-    if numbers::is_number(k) & tensor::mat_number(b) {
+    if numbers::is_number(k) & decomposed::mat_number(b) {
         match thirds::inv_cbrt_squared_on_path(j) {
             Answer::Value(w) => match logarithm::ln_on_path(j) {
                 Answer::Value(l) => {

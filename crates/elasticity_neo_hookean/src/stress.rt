@@ -25,7 +25,7 @@ pub fn cauchy_green_strain(f: [[f64; 3]; 3]) -> [[f64; 3]; 3]
 fn shear_stress(p: NeoHookeanElasticity, hardening: f64, w: f64, b: [[f64; 3]; 3]) -> [[f64; 3]; 3]
     ensures { λ r. ⌜ r ≡ worth (shear p hardening (num w) b) ⌝ }
 {
-    let d = physics::plain::deviatoric_part(b);
+    let d = decomposed::plain::deviatoric_part(b);
     tensor::mat_scale(p.mu * hardening * w, d)
 }
 
@@ -41,9 +41,9 @@ pub fn fpk(p: NeoHookeanElasticity, f: [[f64; 3]; 3], hardening: f64, j: f64) ->
     ensures { λ r. ⌜ r ≡ matrixAs (result (fpkFrom p f hardening (num j))) ⌝ }
 {
     let k = p.bulk(hardening);
-    let g = tensor::inverse_transpose(f, j);
+    let g = decomposed::inverse_transpose(f, j);
     let b = cauchy_green_strain(f);
-    if numbers::is_number(k) & (tensor::mat_number(g) & tensor::mat_number(b)) {
+    if numbers::is_number(k) & (decomposed::mat_number(g) & decomposed::mat_number(b)) {
         match thirds::inv_cbrt_squared_on_path(j) {
             Answer::Value(w) => {
                 let dev = tensor::mat_mul(shear_stress(p, hardening, w, b), g);
@@ -87,7 +87,7 @@ pub fn kirchhoff(
 {
     let k = p.bulk(hardening);
     let b = cauchy_green_strain(f);
-    if numbers::is_number(k) & tensor::mat_number(b) {
+    if numbers::is_number(k) & decomposed::mat_number(b) {
         match thirds::inv_cbrt_squared_on_path(j) {
             Answer::Value(w) => {
                 let dev = shear_stress(p, hardening, w, b);

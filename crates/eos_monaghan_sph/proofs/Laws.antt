@@ -13,9 +13,9 @@ use Rattle.numbers.specs.Constants.{two}
 use Rattle.numbers.specs.Floats.{finite, isNumber, maxOf}
 use Rattle.tensor.specs.Axes.{allOf}
 use Rattle.tensor.specs.Matrix.{mul, matScaleOf}
-use Rattle.tensor.specs.Decomposed.{deviatoricOf}
 use Rattle.tensor.specs.Finite.{rowFinite, matFinite}
-use Rattle.physics.specs.Physics.{strainRateOf}
+use Rattle.decomposed.specs.Decomposed.{deviatoricOf}
+use Rattle.decomposed.specs.Rates.{strainRateOf}
 use Rattle.walk.specs.Expr.{num, neg, _*_, _/_, value}
 use Rattle.walk.specs.Walk.{Walk, most, end, _then_, refused, result, answerAs, asked}
 use Rattle.walk.proofs.Number.{neg-number}
@@ -24,8 +24,10 @@ use Rattle.walk.proofs.Steps.{most-answers}
 use Rattle.walk.proofs.Exact.{number-then}
 use Rattle.walk.specs.Matrix.{joined}
 use Rattle.walk.proofs.Every.{and-left, and-right, all-append, all-joined}
-use Rattle.walk.specs.Tensor.{worth, deviatoric}
-use Rattle.walk.proofs.Tensor.{worth-rows, worth-turned, worth-plus, worth-scaled, worth-deviatoric}
+use Rattle.walk.specs.Tensor.{worth}
+use Rattle.walk.proofs.Tensor.{worth-rows, worth-turned, worth-plus, worth-scaled}
+use Rattle.decomposed.specs.Formulas.{deviatoric}
+use Rattle.decomposed.proofs.Formulas.{worth-deviatoric}
 use Rattle.walk.specs.Answers.{returned}
 use Rattle.walk.proofs.Answers.{number-split}
 use Rattle.eos_monaghan_sph.specs.declared.MonaghanSphEos.{MonaghanSphEos}

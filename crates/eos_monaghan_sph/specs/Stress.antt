@@ -7,7 +7,8 @@ use Rattle.tensor.specs.declared.MatrixAnswer.{MatrixAnswer}
 use Rattle.walk.specs.Expr.{Expr, num, neg, _*_}
 use Rattle.walk.specs.Walk.{Walk, flag, inputs, split, _then_, result}
 use Rattle.walk.specs.Matrix.{joined}
-use Rattle.walk.specs.Tensor.{rows, turned, plus, scaled, identity-times, deviatoric}
+use Rattle.walk.specs.Tensor.{rows, turned, plus, scaled, identity-times}
+use Rattle.decomposed.specs.Formulas.{deviatoric}
 use Rattle.walk.specs.Answers.{returnedMatrix, matrixAs}
 use Rattle.eos_monaghan_sph.specs.Pressure.{floats, pressureSteps}
 use Rattle.eos_monaghan_sph.specs.declared.MonaghanSphEos.{MonaghanSphEos}

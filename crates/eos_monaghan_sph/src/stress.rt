@@ -19,10 +19,10 @@ impl MonaghanSphEos {
     fn viscous_part(self, det: f64, gradient: [[f64; 3]; 3]) -> [[f64; 3]; 3]
         ensures { λ r. ⌜ r ≡ worth (viscousPart self det gradient) ⌝ }
     {
-        let rate = physics::plain::strain_rate(gradient);
+        let rate = decomposed::plain::strain_rate(gradient);
         tensor::mat_scale(
             2.0 * self.viscosity * det,
-            physics::plain::deviatoric_part(rate),
+            decomposed::plain::deviatoric_part(rate),
         )
     }
 

@@ -9,10 +9,10 @@ use Rattle.answers.specs.Answer.{answeredOf, given}
 use Rattle.answers.specs.declared.Answer.{Answer}
 use Rattle.tensor.specs.Finite.{rowFinite, matFinite}
 use Rattle.tensor.specs.Answer.{answered, answeredVector, givenMatrix, givenVector}
-use Rattle.tensor.specs.Decomposed.{deviatoricOf, sphericalOf, timesOf, tensorFinite}
 use Rattle.tensor.specs.declared.VectorAnswer.{VectorAnswer}
 use Rattle.tensor.specs.declared.MatrixAnswer.{MatrixAnswer}
-use Rattle.physics.specs.Physics.{spinTensorOf, strainRateOf}
+use Rattle.decomposed.specs.Decomposed.{deviatoricOf, sphericalOf, timesOf, tensorFinite}
+use Rattle.decomposed.specs.Rates.{spinTensorOf, strainRateOf}
 use Rattle.elasticity_neo_hookean.specs.Stress as neo
 use Rattle.elasticity_neo_hookean.specs.Energy as neoEnergy
 use Rattle.elasticity_corotated_linear.specs.Energy as corotatedEnergy

@@ -67,7 +67,7 @@ pub extern "C" fn pasoletu_spin_tensor(m: &[u64], out: &mut [u64]) -> u8
 {
     let ok = m.len() == 9;
     host_lists::put_matrix(
-        host_lists::sized_matrix(ok, physics::spin_tensor(host_lists::matrix(m))),
+        host_lists::sized_matrix(ok, decomposed::spin_tensor(host_lists::matrix(m))),
         out,
     )
 }
@@ -78,7 +78,7 @@ pub extern "C" fn pasoletu_strain_rate(m: &[u64], out: &mut [u64]) -> u8
 {
     let ok = m.len() == 9;
     host_lists::put_matrix(
-        host_lists::sized_matrix(ok, physics::strain_rate(host_lists::matrix(m))),
+        host_lists::sized_matrix(ok, decomposed::strain_rate(host_lists::matrix(m))),
         out,
     )
 }
@@ -89,7 +89,7 @@ pub extern "C" fn pasoletu_deviatoric_part(m: &[u64], out: &mut [u64]) -> u8
 {
     let ok = m.len() == 9;
     host_lists::put_matrix(
-        host_lists::sized_matrix(ok, physics::deviatoric_part(host_lists::matrix(m))),
+        host_lists::sized_matrix(ok, decomposed::deviatoric_part(host_lists::matrix(m))),
         out,
     )
 }
@@ -100,7 +100,7 @@ pub extern "C" fn pasoletu_spherical_part(m: &[u64], out: &mut [u64]) -> u8
 {
     let ok = m.len() == 9;
     host_lists::put(
-        host_lists::sized(ok, physics::spherical_part(host_lists::matrix(m))),
+        host_lists::sized(ok, decomposed::spherical_part(host_lists::matrix(m))),
         out,
     )
 }

@@ -2,7 +2,7 @@
 use mathlib.Core.List.{List}
 use Prim.Native.Nat.{ℕ}
 use lib.Ieee.{Float}
-use Rattle.tensor.specs.declared.DecomposedTensor.{DecomposedTensor}
+use Rattle.decomposed.specs.declared.DecomposedTensor.{DecomposedTensor}
 use Rattle.record.specs.Layout.{rowsAt}
 
 -- the deviatoric part by rows

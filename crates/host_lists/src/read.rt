@@ -1,5 +1,5 @@
 // Rows and matrices of a host's list, each place read as `record::float` does.
-use tensor::DecomposedTensor;
+use decomposed::DecomposedTensor;
 ghost use mathlib.Core.Path.{_≡_};
 ghost use Prim.Native.Nat.{_≤_};
 ghost use Rattle.record.specs.Layout.{rowAt, matAt};

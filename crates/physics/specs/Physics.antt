@@ -1,10 +1,9 @@
 -- The formulas of physics.rs, in its order of operations (RULES, sections 1 and 4).
 use mathlib.Core.Bool.{cond}
-use mathlib.Core.List.{List}
 use lib.Ieee as Ieee
 use lib.Ieee.{Float}
-pub use Rattle.numbers.specs.Constants.{two, three, half}
-use Rattle.tensor.specs.Matrix.{add, sub, mul, div, zero, one, transposeOf, matAddOf, matSubOf, matScaleOf}
+pub use Rattle.numbers.specs.Constants.{two, three}
+use Rattle.tensor.specs.Matrix.{add, sub, mul, div, zero, one}
 use Rattle.physics.specs.declared.Lame.{Lame}
 
 -- no threshold: only the two zeros are told apart
@@ -28,10 +27,3 @@ shearFromLameOf lambda mu = mu
 
 unfoldable pub bulkFromLameOf : Float → Float → Float
 bulkFromLameOf lambda mu = add lambda (div (mul two mu) three)
-
--- half of the difference of a velocity gradient and its transpose, and of their sum
-unfoldable pub spinTensorOf : List (List Float) → List (List Float)
-spinTensorOf m = matScaleOf half (matSubOf m (transposeOf m))
-
-unfoldable pub strainRateOf : List (List Float) → List (List Float)
-strainRateOf m = matScaleOf half (matAddOf m (transposeOf m))

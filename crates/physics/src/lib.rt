@@ -1,10 +1,9 @@
-// Moduli, the quadratic and tensor parts (physics.rs). Module `plain` has the text's functions as they stand, on every
-// input; the calls of the same names here refuse by RULES, section 6.
+// Moduli and the quadratic (physics.rs, whose functions of tensors stand in `decomposed`). Module `plain` has the text's
+// functions as they stand, on every input; the calls of the same names here refuse by RULES, section 6.
 mod moduli;
 mod norm;
 pub mod plain;
 mod quadratic;
-mod tensors;
 
 pub use moduli::bulk_modulus;
 pub use moduli::bulk_modulus_from_lame;
@@ -14,10 +13,6 @@ pub use moduli::shear_modulus;
 pub use moduli::shear_modulus_from_lame;
 pub use norm::norm_on_path;
 pub use quadratic::solve_quadratic;
-pub use tensors::deviatoric_part;
-pub use tensors::spherical_part;
-pub use tensors::spin_tensor;
-pub use tensors::strain_rate;
 
 // The Lamé parameters.
 pub struct Lame {

@@ -1,7 +1,6 @@
 use crate::Lame;
 ghost use mathlib.Core.Path.{_≡_};
-ghost use Rattle.tensor.specs.Decomposed.{deviatoricOf, sphericalOf};
-ghost use Rattle.physics.specs.Physics.{invExactOf, shearModulusOf, bulkModulusOf, lambdaOf, lameOf, shearFromLameOf, bulkFromLameOf, spinTensorOf, strainRateOf};
+ghost use Rattle.physics.specs.Physics.{invExactOf, shearModulusOf, bulkModulusOf, lambdaOf, lameOf, shearFromLameOf, bulkFromLameOf};
 
 // The inverse, and 0 of a zero: no threshold.
 pub fn inv_exact(e: f64) -> f64
@@ -47,30 +46,4 @@ pub fn bulk_modulus_from_lame(lambda: f64, mu: f64) -> f64
     ensures { λ r. ⌜ r ≡ bulkFromLameOf lambda mu ⌝ }
 {
     lambda + 2.0 * mu / 3.0
-}
-
-pub fn spin_tensor(gradient: [[f64; 3]; 3]) -> [[f64; 3]; 3]
-    ensures { λ r. ⌜ r ≡ spinTensorOf gradient ⌝ }
-{
-    let t = tensor::transpose(gradient);
-    tensor::mat_scale(0.5, tensor::mat_sub(gradient, t))
-}
-
-pub fn strain_rate(gradient: [[f64; 3]; 3]) -> [[f64; 3]; 3]
-    ensures { λ r. ⌜ r ≡ strainRateOf gradient ⌝ }
-{
-    let t = tensor::transpose(gradient);
-    tensor::mat_scale(0.5, tensor::mat_add(gradient, t))
-}
-
-pub fn deviatoric_part(m: [[f64; 3]; 3]) -> [[f64; 3]; 3]
-    ensures { λ r. ⌜ r ≡ deviatoricOf m ⌝ }
-{
-    tensor::plain::deviatoric_part(m)
-}
-
-pub fn spherical_part(m: [[f64; 3]; 3]) -> f64
-    ensures { λ r. ⌜ r ≡ sphericalOf m ⌝ }
-{
-    tensor::plain::spherical_part(m)
 }

@@ -19,11 +19,12 @@ use Rattle.tensor.specs.Matrix as tensor
 use Rattle.tensor.specs.Matrix.{ofRows}
 use Rattle.tensor.specs.Finite.{rowFinite, matFinite, rowsFinite}
 use Rattle.tensor.specs.Answer.{answered, answeredVector, givenMatrix, givenVector, refusedMatrix, refusedVector}
-use Rattle.tensor.specs.Decomposed.{sphericalOf, deviatoricOf, decomposeOf, recomposedOf, sumOf, timesOf, tensorFinite, refusedTensor, answeredTensor, givenTensor}
-use Rattle.tensor.specs.declared.DecomposedAnswer.{DecomposedAnswer}
-use Rattle.tensor.specs.declared.DecomposedTensor.{DecomposedTensor}
-use Rattle.physics.specs.Physics.{invExactOf, shearModulusOf, bulkModulusOf, lambdaOf, shearFromLameOf, bulkFromLameOf, spinTensorOf, strainRateOf}
+use Rattle.physics.specs.Physics.{invExactOf, shearModulusOf, bulkModulusOf, lambdaOf, shearFromLameOf, bulkFromLameOf}
 use Rattle.physics.specs.Quadratic.{discriminantOf, rootsOf, solveQuadraticOf}
+use Rattle.decomposed.specs.Decomposed.{sphericalOf, deviatoricOf, decomposeOf, recomposedOf, sumOf, timesOf, tensorFinite, refusedTensor, answeredTensor, givenTensor}
+use Rattle.decomposed.specs.declared.DecomposedAnswer.{DecomposedAnswer}
+use Rattle.decomposed.specs.declared.DecomposedTensor.{DecomposedTensor}
+use Rattle.decomposed.specs.Rates.{spinTensorOf, strainRateOf}
 use Rattle.walk.specs.Expr.{Expr, num, nums, value, values}
 use Rattle.walk.specs.Walk as walk
 use Rattle.walk.specs.Walk.{Walk, root, inputs, results, end, _then_, Ended, result, answerAs}

@@ -12,12 +12,13 @@ use Rattle.answers.specs.declared.Pair.the-variants as pair
 use Rattle.tensor.specs.Matrix.{ofRows}
 use Rattle.tensor.specs.Answer.{answered, answeredVector, givenMatrix, givenVector}
 use Rattle.tensor.specs.Finite.{rowFinite, matFinite}
-use Rattle.tensor.specs.Decomposed.{sphericalOf, deviatoricOf, decomposeOf, recomposedOf, sumOf, timesOf, tensorFinite, answeredTensor, givenTensor}
-use Rattle.tensor.specs.declared.DecomposedTensor.{DecomposedTensor}
 use Rattle.tensor.specs.declared.MatrixAnswer.{MatrixAnswer}
 use Rattle.numbers.specs.Constants.{two, four}
-use Rattle.physics.specs.Physics.{invExactOf, shearModulusOf, bulkModulusOf, lambdaOf, shearFromLameOf, bulkFromLameOf, spinTensorOf, strainRateOf}
+use Rattle.physics.specs.Physics.{invExactOf, shearModulusOf, bulkModulusOf, lambdaOf, shearFromLameOf, bulkFromLameOf}
 use Rattle.physics.specs.Quadratic.{solveQuadraticOf}
+use Rattle.decomposed.specs.Decomposed.{sphericalOf, deviatoricOf, decomposeOf, recomposedOf, sumOf, timesOf, tensorFinite, answeredTensor, givenTensor}
+use Rattle.decomposed.specs.declared.DecomposedTensor.{DecomposedTensor}
+use Rattle.decomposed.specs.Rates.{spinTensorOf, strainRateOf}
 use Rattle.walk.specs.Expr.{Expr, num, nums, neg, _+_, _-_, _*_, _/_, value, values}
 use Rattle.walk.specs.Walk.{Walk, root, inputs, ask, results, end, result, answerAs}
 use Rattle.walk.specs.Exact.{Met, path}

@@ -16,7 +16,8 @@ use Rattle.tensor.specs.Matrix.{three, at}
 use Rattle.tensor.specs.Finite.{rowFinite, matFinite}
 use Rattle.walk.specs.Expr.{Expr, num, value, values}
 use Rattle.walk.specs.Walk.{Walk, inputs, ask, works, either, branch, split, results, end, mosts, leasts, Ended, given, refused, asked, answerOf, numbers, tellable, holds, picked, result}
-use Rattle.walk.specs.Tensor.{worth, rows, turned, times, plus, scaled, identity-times, determinant, deviatoric}
+use Rattle.walk.specs.Tensor.{worth, rows, turned, times, plus, scaled, identity-times, determinant}
+use Rattle.decomposed.specs.Formulas.{deviatoric}
 use Rattle.walk.specs.Answers.{matrixAs}
 use Rattle.elasticity_neo_hookean.specs.declared.NeoHookeanElasticity.{NeoHookeanElasticity}
 use Rattle.elasticity_neo_hookean.specs.Law.{coefficient, bulk, cauchyGreen}

@@ -1,6 +1,6 @@
 -- Matrices of three rows of three, as lists of rows, with the orders of RULES, section 4.
 use mathlib.Core.List.{List, [], _∷_, map}
-use Prim.Native.Nat.{ℕ, suc}
+use Prim.Native.Nat.{ℕ}
 use lib.ListN.{getD}
 use lib.Ieee as Ieee
 use lib.Ieee.{Float, nan, binary64, ofBits}
@@ -70,14 +70,6 @@ scaledOf u s = three (scaledRowOf (getD u 0 []) s) (scaledRowOf (getD u 1 []) s)
 abbrev pub recomposeOf : List (List Float) → List Float → List (List Float) → List (List Float)
 recomposeOf u s vt = mulOf (scaledOf u s) vt
 
--- the diagonal, its first entry in column i
-abbrev pub diagonalFrom : ℕ → List (List Float) → List Float
-diagonalFrom i [] = []
-diagonalFrom i (row ∷ rows) = getD row i nan ∷ diagonalFrom (suc i) rows
-
-unfoldable pub traceOf : List (List Float) → Float
-traceOf m = sumOf (diagonalFrom 0 m)
-
 -- sums, differences and multiples go entry by entry
 unfoldable pub rowAddOf : List Float → List Float → List Float
 rowAddOf a b = pairwise add a b
@@ -91,9 +83,6 @@ rowScaleOf k a = map (mul k) a
 abbrev pub matAddOf : List (List Float) → List (List Float) → List (List Float)
 matAddOf a b = three (rowAddOf (getD a 0 []) (getD b 0 [])) (rowAddOf (getD a 1 []) (getD b 1 [])) (rowAddOf (getD a 2 []) (getD b 2 []))
 
-abbrev pub matSubOf : List (List Float) → List (List Float) → List (List Float)
-matSubOf a b = three (rowSubOf (getD a 0 []) (getD b 0 [])) (rowSubOf (getD a 1 []) (getD b 1 [])) (rowSubOf (getD a 2 []) (getD b 2 []))
-
 abbrev pub matScaleOf : Float → List (List Float) → List (List Float)
 matScaleOf k a = three (rowScaleOf k (getD a 0 [])) (rowScaleOf k (getD a 1 [])) (rowScaleOf k (getD a 2 []))
 
@@ -103,9 +92,6 @@ identityTimesOf k =
     three (three (mul k one) (mul k zero) (mul k zero))
     (three (mul k zero) (mul k one) (mul k zero))
     (three (mul k zero) (mul k zero) (mul k one))
-
-abbrev pub matVecOf : List (List Float) → List Float → List Float
-matVecOf a v = three (dotOf (getD a 0 []) v) (dotOf (getD a 1 []) v) (dotOf (getD a 2 []) v)
 
 abbrev pub rowsOf : List (List Float) → Rows
 rowsOf m = record { r0 = getD m 0 []; r1 = getD m 1 []; r2 = getD m 2 [] }

@@ -7,6 +7,3 @@ use Rattle.tensor.specs.Axes.{allOf}
 
 abbrev pub rowNumber : List Float → Bool
 rowNumber a = allOf isNumber a
-
-unfoldable pub matNumber : List (List Float) → Bool
-matNumber m = allOf rowNumber m

@@ -1,16 +1,15 @@
 use crate::Rows;
 ghost use mathlib.Core.Path.{_≡_};
-ghost use Rattle.tensor.specs.Matrix.{detOf, scaledRowOf, scaledOf, recomposeOf, transposeOf, dotOf, rowTimesOf, mulColsOf, mulOf, sumOf, productOf, rowsOf, ofRows, traceOf, rowAddOf, rowSubOf, rowScaleOf, matAddOf, matSubOf, matScaleOf, identityTimesOf, matVecOf};
+ghost use Rattle.tensor.specs.Matrix.{detOf, scaledRowOf, scaledOf, recomposeOf, transposeOf, dotOf, rowTimesOf, mulColsOf, mulOf, sumOf, productOf, rowsOf, ofRows, rowAddOf, rowSubOf, rowScaleOf, matAddOf, matScaleOf, identityTimesOf};
 ghost use Rattle.tensor.specs.Finite.{rowFinite, matFinite, rowsFinite};
 
 pub fn transpose(m: [[f64; 3]; 3]) -> [[f64; 3]; 3]
     ensures { λ r. ⌜ r ≡ transposeOf m ⌝ }
 {
-    [
-        [m[0][0], m[1][0], m[2][0]],
-        [m[0][1], m[1][1], m[2][1]],
-        [m[0][2], m[1][2], m[2][2]],
-    ]
+    let a = m[0];
+    let b = m[1];
+    let c = m[2];
+    [[a[0], b[0], c[0]], [a[1], b[1], c[1]], [a[2], b[2], c[2]]]
 }
 
 // The sum of products, by rising index.
@@ -43,13 +42,16 @@ pub fn mat_mul(a: [[f64; 3]; 3], b: [[f64; 3]; 3]) -> [[f64; 3]; 3]
 pub fn determinant(m: [[f64; 3]; 3]) -> f64
     ensures { λ r. ⌜ r ≡ detOf m ⌝ }
 {
-    let d = m[1][0];
-    let e = m[1][1];
-    let f = m[1][2];
-    let g = m[2][0];
-    let h = m[2][1];
-    let i = m[2][2];
-    m[0][0] * (e * i - h * f) - m[0][1] * (d * i - g * f) + m[0][2] * (d * h - g * e)
+    let a = m[0];
+    let b = m[1];
+    let c = m[2];
+    let d = b[0];
+    let e = b[1];
+    let f = b[2];
+    let g = c[0];
+    let h = c[1];
+    let i = c[2];
+    a[0] * (e * i - h * f) - a[1] * (d * i - g * f) + a[2] * (d * h - g * e)
 }
 
 fn scaled_row(u: [f64; 3], s: [f64; 3]) -> [f64; 3]
@@ -89,13 +91,6 @@ pub fn product(s: [f64; 3]) -> f64
     s[0] * s[1] * s[2]
 }
 
-// The sum of the diagonal, by rising index.
-pub fn trace(m: [[f64; 3]; 3]) -> f64
-    ensures { λ r. ⌜ r ≡ traceOf m ⌝ }
-{
-    m[0][0] + m[1][1] + m[2][2]
-}
-
 pub fn row_add(a: [f64; 3], b: [f64; 3]) -> [f64; 3]
     ensures { λ r. ⌜ r ≡ rowAddOf a b ⌝ }
 {
@@ -125,16 +120,6 @@ pub fn mat_add(a: [[f64; 3]; 3], b: [[f64; 3]; 3]) -> [[f64; 3]; 3]
     ]
 }
 
-pub fn mat_sub(a: [[f64; 3]; 3], b: [[f64; 3]; 3]) -> [[f64; 3]; 3]
-    ensures { λ r. ⌜ r ≡ matSubOf a b ⌝ }
-{
-    [
-        row_sub(a[0], b[0]),
-        row_sub(a[1], b[1]),
-        row_sub(a[2], b[2]),
-    ]
-}
-
 // Each entry times k.
 pub fn mat_scale(k: f64, a: [[f64; 3]; 3]) -> [[f64; 3]; 3]
     ensures { λ r. ⌜ r ≡ matScaleOf k a ⌝ }
@@ -146,17 +131,9 @@ pub fn mat_scale(k: f64, a: [[f64; 3]; 3]) -> [[f64; 3]; 3]
 pub fn identity_times(k: f64) -> [[f64; 3]; 3]
     ensures { λ r. ⌜ r ≡ identityTimesOf k ⌝ }
 {
-    [
-        [k * 1.0, k * 0.0, k * 0.0],
-        [k * 0.0, k * 1.0, k * 0.0],
-        [k * 0.0, k * 0.0, k * 1.0],
-    ]
-}
-
-pub fn mat_vec(a: [[f64; 3]; 3], v: [f64; 3]) -> [f64; 3]
-    ensures { λ r. ⌜ r ≡ matVecOf a v ⌝ }
-{
-    [dot(a[0], v), dot(a[1], v), dot(a[2], v)]
+    let d = k * 1.0;
+    let o = k * 0.0;
+    [[d, o, o], [o, d, o], [o, o, d]]
 }
 
 pub fn to_rows(m: [[f64; 3]; 3]) -> Rows

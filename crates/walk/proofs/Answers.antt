@@ -14,7 +14,6 @@ use Rattle.answers.specs.declared.Answer.the-variants as answers
 use Rattle.numbers.specs.Floats.{finite, isNumber}
 use Rattle.tensor.specs.Matrix.{rowsOf}
 use Rattle.tensor.specs.Finite.{rowFinite, matFinite}
-use Rattle.tensor.specs.Number.{matNumber}
 use Rattle.tensor.specs.Answer.{refusedMatrix, refusedVector, answered, answeredVector}
 use Rattle.walk.specs.Expr.{Expr, value, values}
 use Rattle.walk.specs.Walk.{Function, lowOf, highOf, at, answerOf, Walk, Test, tellable, holds, split, Ended, given, refused, asked, result, answerAs}
@@ -24,7 +23,6 @@ use Rattle.walk.specs.Update.{numberOf}
 use Rattle.walk.specs.Numbers.{Stops, Refuses, Clear}
 use Rattle.walk.proofs.Numbers.{first-stops, first-clear}
 use Rattle.walk.specs.Tensor.{worth}
-use Rattle.walk.proofs.Tensor.{numbers-joined}
 use Rattle.walk.specs.Answers.{matrix, returned, returnedMatrix, returnedVector, vectorAs, matrixAs, refusalIn}
 
 -- ---- what the code tests

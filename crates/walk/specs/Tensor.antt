@@ -1,14 +1,14 @@
 -- Matrices of formulas, three rows of three, with the orders of RULES, section 4: what the calls of `tensor` work, part by part.
 use mathlib.Core.List.{List, [], _∷_, map}
-use Prim.Native.Nat.{ℕ, suc}
+use Prim.Native.Nat.{ℕ}
 use lib.ListN.{getD}
-use lib.Ieee.{Float, nan, binary64, ofBits}
+use lib.Ieee.{Float, nan}
 use Rattle.tensor.specs.Axes.{pairwise}
 use Rattle.tensor.specs.Matrix as tensor
 use Rattle.tensor.specs.Matrix.{three}
 pub use Rattle.walk.specs.Constants.{one}
-use Rattle.walk.specs.Expr.{Expr, num, _+_, _-_, _*_, _/_, values, nums}
-use Rattle.walk.specs.Matrix.{total, dots}
+use Rattle.walk.specs.Expr.{Expr, num, _+_, _-_, _*_, values, nums}
+use Rattle.walk.specs.Matrix.{dots}
 
 -- what a matrix is worth, and a matrix of numbers
 abbrev pub worth : List (List Expr) → List (List Float)
@@ -18,7 +18,7 @@ unfoldable pub rows : List (List Float) → List (List Expr)
 rows m = map nums m
 
 -- the entry in row i and column j
-abbrev item : List (List Expr) → ℕ → ℕ → Expr
+abbrev pub item : List (List Expr) → ℕ → ℕ → Expr
 item m i j = getD (getD m i []) j (num nan)
 
 unfoldable pub turned : List (List Expr) → List (List Expr)
@@ -60,36 +60,3 @@ unfoldable pub determinant : List (List Float) → Expr
 determinant m =
     let x : ℕ → ℕ → Expr = λ i j. num (tensor.at m i j) in
     x 0 0 * (x 1 1 * x 2 2 - x 2 1 * x 1 2) - x 0 1 * (x 1 0 * x 2 2 - x 2 0 * x 1 2) + x 0 2 * (x 1 0 * x 2 1 - x 2 0 * x 1 1)
-
--- the diagonal, its first entry in column i
-abbrev pub diagonal : ℕ → List (List Expr) → List Expr
-diagonal i [] = []
-diagonal i (row ∷ m) = getD row i (num nan) ∷ diagonal (suc i) m
-
-unfoldable pub trace : List (List Expr) → Expr
-trace m = total (diagonal 0 m)
-
--- a third of the trace is taken from the diagonal
-unfoldable pub deviatoric : List (List Expr) → List (List Expr)
-deviatoric m =
-    let s = trace m / num (ofBits binary64 0x4008_0000_0000_0000) in
-    three (three (item m 0 0 - s) (item m 0 1) (item m 0 2))
-    (three (item m 1 0) (item m 1 1 - s) (item m 1 2))
-    (three (item m 2 0) (item m 2 1) (item m 2 2 - s))
-
-abbrev cofactor-row : List Float → List Float → List Expr
-cofactor-row a b =
-    let x : ℕ → Expr = λ i. num (getD a i nan) in
-    let y : ℕ → Expr = λ i. num (getD b i nan) in
-    three (x 1 * y 2 - x 2 * y 1) (x 2 * y 0 - x 0 * y 2) (x 0 * y 1 - x 1 * y 0)
-
-abbrev row-over : List Expr → Expr → List Expr
-row-over a d = three (getD a 0 (num nan) / d) (getD a 1 (num nan) / d) (getD a 2 (num nan) / d)
-
--- the cofactors over d, the determinant of m: the inverse of the transpose
-unfoldable pub cofactors-over : List (List Float) → Expr → List (List Expr)
-cofactors-over m d =
-    let r0 = getD m 0 [] in
-    let r1 = getD m 1 [] in
-    let r2 = getD m 2 [] in
-    three (row-over (cofactor-row r1 r2) d) (row-over (cofactor-row r2 r0) d) (row-over (cofactor-row r0 r1) d)

@@ -1,6 +1,7 @@
 -- The deviatoric part of `pos_energy` as its formula has it.
 use borrow.Author.Needs.{needs}
-use Rattle.walk.proofs.Tensor.{value-trace, worth-rows}
+use Rattle.walk.proofs.Tensor.{worth-rows}
+use Rattle.decomposed.proofs.Formulas.{value-trace}
 use Rattle.elasticity_neo_hookean.proofs.energy.pos_deviatoric.Statement.{statement}
 use Rattle.elasticity_neo_hookean.proofs.energy.pos_deviatoric.Tie as tie
 

@@ -1,6 +1,7 @@
 -- The deviatoric part of both stresses as its formula has it.
 use borrow.Author.Needs.{needs}
-use Rattle.walk.proofs.Tensor.{worth-scaled, worth-deviatoric, worth-rows}
+use Rattle.walk.proofs.Tensor.{worth-scaled, worth-rows}
+use Rattle.decomposed.proofs.Formulas.{worth-deviatoric}
 use Rattle.elasticity_neo_hookean.proofs.stress.shear_stress.Statement.{statement}
 use Rattle.elasticity_neo_hookean.proofs.stress.shear_stress.Tie as tie
 
