@@ -52,11 +52,9 @@ REQUIRES = [
     ("particles: count_one", "that no count is near the end of its range, as in a pass none is: it counts records of a list"),
     ("writer: write_words", "that the room has place for the words, as bytes"),
     ("model: model_of", "that the number is one of the eight and each flag is one, which `model::known` tells: every caller has asked it, or has read a header, which names such a model (`sheet/proofs/Known: read-known`)"),
-    ("model: write_scalars", "a list of a record's length, and that what is written is finite"),
-    (
-        "plasticity_*: *::update_ready; model: update_ready",
-        "that the record's floats are finite, and the law's parameters and moduli, as `model::make_ready` leaves them",
-    ),
+    ("model: keep", "a list of a record's length, and, where it stores, that what is written is finite and the word its F's determinant, as `model::updated_record` leaves them"),
+    ("model: updated_record", "a list of a record's length, whose floats are finite, and that what was made ready is finite, as `model::make_ready` leaves it"),
+    ("plasticity_*: *::update_ready", "that the record's floats are finite, and the law's parameters and moduli, as `model::make_ready` leaves them"),
     (
         "plasticity_nacc: NaccPlasticity::hardened",
         "of the hardening step, on three axes or two: that the numbers compared are no NaN, and that the two roots handed in are what the root answers",
@@ -138,7 +136,7 @@ NANS = [
     ),
     (
         "record: finite_bits read_f read_u read_vt read_state store_row store_rows determinant_right; plasticity_*: *::update_ready; "
-        "model: update_ready write_scalars; particles: write_answer",
+        "model: updated_record keep; particles: write_answer",
         "none comes in: they require that all floats are finite",
     ),
     ("factors: factors_of principal_of", "as the sweeps work it: what comes out misses the check"),

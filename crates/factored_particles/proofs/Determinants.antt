@@ -20,7 +20,7 @@ use Rattle.record.proofs.Places.{other, right-other}
 use Rattle.particles.specs.Pass.{Worked}
 use Rattle.particles.specs.Judged.{refusedRecord}
 use Rattle.particles.specs.Step.{stepLaw}
-use Rattle.particles.proofs.NotFinite.{last-finite}
+use Rattle.model.proofs.RecordLaws.{last-finite}
 use Rattle.particles.proofs.Determinants as plain
 use Rattle.particles.proofs.Determinants.{Stands, Measured, differ}
 use Rattle.factored_particles.specs.declared.step.FactoredStep.{FactoredStep}

@@ -24,7 +24,7 @@ use Rattle.particles.specs.declared.failure.FailureCounts.{FailureCounts}
 use Rattle.particles.specs.declared.failure.PassedWithFailure.the-variants.{Done}
 use Rattle.particles.specs.declared.step.Step.the-variants.{Plain, Judged}
 use Rattle.particles.specs.Pass.{Worked, AmountFinite, codeOf, passedWithFailure, passAnswers}
-use Rattle.particles.specs.Plain.{recordLaw}
+use Rattle.model.specs.RecordLaw.{recordLaw}
 use Rattle.particles.specs.Judged.{refusedRecord, finiteBy, lawBy}
 use Rattle.particles.specs.Readied.{readyLaw}
 use Rattle.particles.specs.Step.{stepLaw}

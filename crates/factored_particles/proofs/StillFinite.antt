@@ -18,7 +18,7 @@ use Rattle.factors.specs.declared.Factors.{Factors}
 use Rattle.factors.specs.Sweeps.{factorsOf}
 use Rattle.factors.specs.Check.{nearAll, orthogonalOf, largestIn, notBelow, acceptedOf}
 use Rattle.factors.proofs.Entries.{Row, AllRows}
-use Rattle.particles.proofs.NotFinite.{last-finite}
+use Rattle.model.proofs.RecordLaws.{last-finite}
 use Rattle.model.specs.declared.Ready.{Ready}
 use Rattle.particles.specs.declared.judged.Judge.{Judge}
 use Rattle.particles.specs.Judged.{finiteBy}

@@ -1,6 +1,9 @@
 pub mod Fields
+pub mod Kept
 pub mod Kinds
 pub mod Model
 pub mod Named
 pub mod Ready
+pub mod ReadyRecord
+pub mod RecordLaw
 pub mod Rows

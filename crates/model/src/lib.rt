@@ -1,7 +1,9 @@
 // The models (RULES, sections 5 to 7): which number names which plastic law, what parameters it has, the law from their bits,
-// and the update by it. Which law is which stands in `rows`.
+// the update by it, of one record too. Which law is which stands in `rows`.
 mod kinds;
+mod record_law;
 mod rows;
+mod stored;
 
 pub use kinds::fit;
 pub use kinds::is_flag;
@@ -15,6 +17,8 @@ use plasticity_nacc::NaccPlasticity;
 use plasticity_rankine::RankineArguments;
 use plasticity_rankine::RankinePlasticity;
 use plasticity_snow::SnowPlasticity;
+pub use record_law::Left;
+pub use record_law::updated_record;
 pub use rows::branch;
 pub use rows::drucker_prager;
 pub use rows::make_ready;
@@ -23,9 +27,8 @@ pub use rows::model_of;
 pub use rows::parameters_ready;
 pub use rows::rankine;
 pub use rows::reason_of;
-pub use rows::update_ready;
 pub use rows::whole;
-pub use rows::write_scalars;
+pub use stored::keep;
 
 // The plastic laws.
 pub enum Law {

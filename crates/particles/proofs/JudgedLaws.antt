@@ -26,9 +26,9 @@ use Rattle.elasticity_corotated_linear.specs.declared.CorotatedLinearElasticity
 use Rattle.model.specs.declared.Model.{Model}
 use Rattle.model.specs.declared.Ready.{Ready}
 use Rattle.particles.specs.Pass.{Worked, codeOf}
-use Rattle.particles.specs.Plain.{Beside, lawAt, recordLaw}
+use Rattle.model.specs.RecordLaw.{Beside, lawAt, recordLaw}
 use Rattle.particles.specs.Judged.{verdictOn, judgeFinite, verdictAfter, unlessRefused, judgedAt, refusedRecord, marked, outcomeBy, failedBy, failureLaw}
-use Rattle.particles.specs.Readied.{readyKept, readyKeptBy}
+use Rattle.model.specs.ReadyRecord.{readyKept, readyKeptBy}
 use Rattle.particles.specs.declared.step.Step.{Step}
 use Rattle.particles.specs.declared.step.Step.the-variants.{Plain, Judged}
 use Rattle.particles.specs.Step.{stepLaw}

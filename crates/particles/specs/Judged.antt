@@ -22,7 +22,7 @@ use Rattle.model.specs.declared.Model.{Model}
 use Rattle.particles.specs.declared.judged.Judge.{Judge}
 use Rattle.particles.specs.declared.judged.Judge.the-variants.{Nobody, By}
 use Rattle.particles.specs.Pass.{Worked}
-use Rattle.particles.specs.Plain.{lawAt, recordLaw}
+use Rattle.model.specs.RecordLaw.{lawAt, recordLaw}
 
 -- on the principal stresses, whose refusal is handed on
 abbrev pub verdictOn : MaximumStressFailure → Ended (List Float) → Verdict

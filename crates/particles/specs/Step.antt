@@ -8,7 +8,7 @@ use Rattle.particles.specs.declared.step.Step.the-variants.{Plain, Judge
 use Rattle.particles.specs.declared.step.Taken.{Taken}
 use Rattle.particles.specs.declared.judged.Judge.the-variants.{Nobody, By}
 use Rattle.particles.specs.Pass.{Worked}
-use Rattle.particles.specs.Plain.{recordLaw}
+use Rattle.model.specs.RecordLaw.{recordLaw}
 use Rattle.particles.specs.Judged.{failureLaw}
 use Rattle.particles.specs.Readied.{readyLaw}
 

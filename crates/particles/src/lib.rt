@@ -2,11 +2,9 @@
 mod failure;
 mod fill;
 mod judged;
-mod law;
 mod list;
 mod saved;
 mod step;
-mod stored;
 
 pub use failure::FailureCounts;
 pub use failure::PassedWithFailure;

@@ -16,7 +16,7 @@ ghost use Prim.Native.Nat.{_+_, _*_, _^_, _≤_, _<_};
 ghost use lib.ListN.{length};
 ghost use Rattle.record.specs.Layout.{floats};
 ghost use Rattle.model.specs.Ready.{readyFinite};
-ghost use Rattle.particles.specs.Plain.{recordLaw, recordOutcome, recordAfter};
+ghost use Rattle.model.specs.RecordLaw.{recordLaw, recordOutcome, recordAfter};
 ghost use Rattle.particles.specs.Readied.{readyLaw};
 ghost use Rattle.particles.specs.Step.{stepLaw, takenFinite, takenLaw};
 ghost use Rattle.particles.specs.Pass.{codeOf, valueOf, AmountFinite, answered, recordAt, replaced, worked, answers, countedIf, counted, counts, sized, withoutVerdicts, passed, passedWithFailure, passRecords, passAnswers};

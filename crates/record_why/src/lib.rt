@@ -13,7 +13,7 @@ ghost use mathlib.Core.Bool.{true};
 ghost use lib.ListN.{length};
 ghost use Rattle.record.specs.Layout.{floats, recordFinite};
 ghost use Rattle.reason.specs.Told.{reasonNumber, outcomeNumber};
-ghost use Rattle.particles.specs.Plain.{recordLaw};
+ghost use Rattle.model.specs.RecordLaw.{recordLaw};
 ghost use Rattle.record_why.specs.Why.{reasonWith, recordReason, toldOf, whyOf};
 
 // The record's own steps: 11 comes before the law's, 3 of the new determinant after them.

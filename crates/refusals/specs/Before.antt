@@ -20,7 +20,7 @@ use Rattle.failure_maximum_stress.specs.declared.MaximumStressFailure.{MaximumS
 use Rattle.elasticity_corotated_linear.specs.declared.CorotatedLinearElasticity.{CorotatedLinearElasticity}
 use Rattle.model.specs.declared.Model.{Model}
 use Rattle.model.specs.Model.{modelUpdate}
-use Rattle.particles.specs.Plain.{recordLaw}
+use Rattle.model.specs.RecordLaw.{recordLaw}
 use Rattle.particles.specs.Judged.{failureLaw}
 use Rattle.refusals.specs.Refusals.{walkOf, recordWalk, failureWalk}
 

@@ -18,9 +18,9 @@ use Rattle.model.specs.declared.Model.{Model}
 use Rattle.model.specs.Fields.{modelOf}
 use Rattle.model.specs.Kinds.{whole}
 use Rattle.particles.specs.Pass.{recordAt}
-use Rattle.particles.specs.Plain.{recordLaw, keptBy}
+use Rattle.model.specs.RecordLaw.{recordLaw, keptBy}
 use Rattle.particles.specs.Judged.{refusedRecord}
-use Rattle.particles.proofs.NotFinite.{law-not-finite}
+use Rattle.model.proofs.RecordLaws.{law-not-finite}
 use Rattle.sheet.specs.declared.Header.{Header}
 use Rattle.sheet.specs.Records.{sheetFloats, completed}
 use Rattle.sheet.specs.Sheet.{headerOf, wordsIn, recordsOf}

@@ -13,7 +13,7 @@ ghost use Prim.Native.Nat.{_*_, _≤_};
 ghost use lib.Dec.{eqb};
 ghost use lib.ListN.{length};
 ghost use Rattle.particles.specs.Judged.{failureLaw};
-ghost use Rattle.particles.specs.Plain.{recordLaw};
+ghost use Rattle.model.specs.RecordLaw.{recordLaw};
 ghost use Rattle.particles.specs.Step.{stepLaw};
 ghost use Rattle.tallies.specs.Zones.{zonesFit, moveFits};
 ghost use Rattle.tallies.specs.Tallies.{clearRefusal, clearTallies, moveRefusal, moveZones, moveTallies, passRefusal, passGoes, recordsAfter, answersAfter, passTallies};

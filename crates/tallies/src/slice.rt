@@ -16,7 +16,7 @@ ghost use lib.ListN.{length, getD, set};
 ghost use Rattle.record.specs.Layout.{floats};
 ghost use Rattle.particles.specs.Pass.{recordAt, replaced, answered, worked, answers};
 ghost use Rattle.particles.specs.Judged.{failureLaw};
-ghost use Rattle.particles.specs.Plain.{recordLaw};
+ghost use Rattle.model.specs.RecordLaw.{recordLaw};
 ghost use Rattle.particles.specs.Step.{stepLaw, takenFinite, takenLaw};
 ghost use Rattle.tallies.specs.Zones.{belowIn};
 ghost use Rattle.tallies.specs.Tallies.{none, toldOf, grown, Small, byZone, recounted, talliedIn, roomIn, clearRefusal, clearTallies, moveRefusal, moveZones, moveTallies, passRefusal, recordsAfter, answersAfter, passTallies};

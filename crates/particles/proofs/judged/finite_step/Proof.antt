@@ -5,13 +5,13 @@ use Rattle.particles.proofs.judged.finite_step.Statement.{statement}
 use Rattle.particles.proofs.judged.finite_step.Tie as tie
 
 mark-requires : tie.Need-mark-requires
-mark-requires c κs = (c .before .before .before .before .before .before .before .pre .0, c .before .before .before .before .updated .ensures .1)
+mark-requires c κs = (c .before .before .before .before .before .before .before .pre .0, c .before .before .before .before .updated-record .ensures .1)
 
 returns : tie.Need-returns
 returns c =
     let k = c .before .before .mark .ensures in
     let v = c .before .before .before .before .verdict .ensures in
-    let u = c .before .before .before .before .before .before .before .updated .ensures .0 in
+    let u = c .before .before .before .before .before .before .before .updated-record .ensures .0 in
     (k .0 ∙ simp (v, u), (k .1 .0 ∙ simp (v, u), k .1 .1 ∙ simp (v, u)))
 
 pub finite-step-spec : {M : Type 1} → statement M

@@ -1,8 +1,8 @@
--- `particles::stored::write_state` meets its contract: what its calls ensure, on each path.
+-- `model::stored::write_state` meets its contract: what its calls ensure, on each path.
 use borrow.Author.Needs.{needs}
 use Rattle.plasticity.proofs.Parts.{state-parts}
-use Rattle.particles.proofs.stored.write_state.Statement.{statement}
-use Rattle.particles.proofs.stored.write_state.Tie as tie
+use Rattle.model.proofs.stored.write_state.Statement.{statement}
+use Rattle.model.proofs.stored.write_state.Tie as tie
 
 write-scalars-requires : tie.Need-write-scalars-requires
 write-scalars-requires c κs = let s = c .before .before .before .before .before .before in (search needs, state-parts (s .args .s) (s .pre .1 .1) .2)

@@ -1,5 +1,6 @@
 // The law on a finite record: 11 comes before it, 3 of the new determinant after it.
-use model::Ready;
+use crate::Ready;
+use crate::rows;
 use plasticity::Outcome;
 use plasticity::State;
 use plasticity::Updated;
@@ -13,9 +14,9 @@ ghost use lib.Ieee.{Float};
 ghost use Rattle.plasticity.specs.State.{stateFinite, refused};
 ghost use Rattle.plasticity.specs.declared.Outcome.the-variants.{Stored};
 ghost use Rattle.record.specs.Layout.{floats, recordFinite};
 ghost use Rattle.model.specs.Ready.{readyFinite, parametersReady};
-ghost use Rattle.particles.specs.Plain.{Beside};
-ghost use Rattle.particles.specs.Readied.{measuredAt, readyAt};
+ghost use Rattle.model.specs.RecordLaw.{Beside};
+ghost use Rattle.model.specs.ReadyRecord.{measuredAt, readyAt};
 
 // What the law leaves: the update, and beside it the determinant of the F that it stores, 0 where it stores none.
 pub struct Left {
@@ -66,7 +67,7 @@ fn measured(d: Updated) -> Left
 fn wrong(q: Ready, s: State) -> Updated
     ensures { λ x. ⌜ x ≡ refused (cond (parametersReady q) wrongDeterminant notFinite) s ⌝ }
 {
-    let n = if model::parameters_ready(q) {
+    let n = if rows::parameters_ready(q) {
         answers::WRONG_DETERMINANT
     } else {
         answers::NOT_FINITE
@@ -78,7 +79,7 @@ fn wrong(q: Ready, s: State) -> Updated
 }
 
 // The law on a finite record, where its determinant is right.
-pub fn updated(q: Ready, r: &[u64]) -> Left
+pub fn updated_record(q: Ready, r: &[u64]) -> Left
     requires { ⌜ (length (now r) ≡ floats) × (recordFinite (now r) ≡ true) × (readyFinite q ≡ true) ⌝ }
     ensures updated { λ x. ⌜ x .updated ≡ readyAt q (now (r .entry)) ⌝ }
     ensures determinant { λ x. ⌜ Beside (x .updated .outcome) (now (r .entry)) (x .updated .state) (x .determinant) ⌝ }
@@ -86,7 +87,7 @@ pub fn updated(q: Ready, r: &[u64]) -> Left
     let s = record::read_state(r);
     let f = s.f;
     if r[record::DETERMINANT] == record::determinant_with(f) {
-        measured(model::update_ready(q, record::read_u(r), record::read_vt(r), s))
+        measured(rows::update_ready(q, record::read_u(r), record::read_vt(r), s))
     } else {
         unstored(wrong(q, s))
     }

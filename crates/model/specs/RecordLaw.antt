@@ -1,6 +1,6 @@
 -- What the model's law makes of one record (RULES, sections 6 and 7).
 use mathlib.Core.Path.{_≡_}
-use mathlib.Core.Bool.{true, false, cond, _&&_}
+use mathlib.Core.Bool.{Bool, true, false, cond, _&&_}
 use mathlib.Core.List.{List}
 use Prim.Native.Nat.{ℕ}
 use lib.Dec.{eqb}
@@ -13,12 +13,17 @@ use Rattle.plasticity.specs.declared.Outcome.the-variants.{Untouched, Stored, R
 use Rattle.plasticity.specs.declared.State.{State}
 use Rattle.plasticity.specs.declared.Updated.{Updated}
 use Rattle.record.specs.Layout.{layout, floats, placeDeterminant, floatAt, uAt, vtAt, stateAt, recordFinite, determinantAt, determinantRight, putBare, putShape}
 use Rattle.model.specs.declared.Model.{Model}
 use Rattle.model.specs.Rows.{actsOf}
 use Rattle.model.specs.Model.{modelFinite, modelUpdate}
 use Rattle.model.specs.Named.{named}
-use Rattle.particles.specs.Named.{storedOver, keptOver}
-use Rattle.particles.specs.Pass.{Worked}
+use Rattle.model.specs.Kept.{storedOver, keptOver}
+
+-- what a step makes of one record: the outcome, whether the record failed and was not refused, and the record afterwards
+pub record Worked : Type 0 where
+  pub outcome : Outcome
+  pub failed : Bool
+  pub after : List ℕ
 
 -- ---- three axes
 abbrev pub putScalars : Model → List ℕ → State → List ℕ

@@ -1,7 +1,7 @@
--- `particles::stored::keep` meets its contract: by the outcome.
+-- `model::stored::keep` meets its contract: by the outcome.
 use borrow.Author.Needs.{needs}
-use Rattle.particles.proofs.stored.keep.Statement.{statement}
-use Rattle.particles.proofs.stored.keep.Tie as tie
+use Rattle.model.proofs.stored.keep.Statement.{statement}
+use Rattle.model.proofs.stored.keep.Tie as tie
 
 write-state-requires : tie.Need-write-state-requires
 write-state-requires c κs = let p = c .before .before .before .before .pre in (p .0, rw (c .before .enum-told2 .given .1) at (p .1))

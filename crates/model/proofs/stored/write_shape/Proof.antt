@@ -1,9 +1,9 @@
--- `particles::stored::write_shape` meets its contract: the word is the determinant of the F that was written.
+-- `model::stored::write_shape` meets its contract: the word is the determinant of the F that was written.
 use borrow.Author.Needs.{needs}
 use Rattle.plasticity.proofs.Parts.{state-parts}
-use Rattle.particles.proofs.Written.{shape-length}
-use Rattle.particles.proofs.stored.write_shape.Statement.{statement}
-use Rattle.particles.proofs.stored.write_shape.Tie as tie
+use Rattle.model.proofs.RecordLaws.{shape-length}
+use Rattle.model.proofs.stored.write_shape.Statement.{statement}
+use Rattle.model.proofs.stored.write_shape.Tie as tie
 
 store-rows-requires : tie.Need-store-rows-requires
 store-rows-requires c κs = let s = c .before .before .before .before in (search needs, state-parts (s .args .s) (s .pre .1 .1) .0)

@@ -1,8 +1,8 @@
--- `particles::law::wrong` meets its contract: 1 where the parameters aren't finite.
+-- `model::record_law::wrong` meets its contract: 1 where the parameters aren't finite.
 use mathlib.Core.Path.{sym, _∙_}
 use borrow.Author.Needs.{needs}
-use Rattle.particles.proofs.law.wrong.Statement.{statement}
-use Rattle.particles.proofs.law.wrong.Tie as tie
+use Rattle.model.proofs.record_law.wrong.Statement.{statement}
+use Rattle.model.proofs.record_law.wrong.Tie as tie
 
 returns : tie.Need-returns
 returns c = simp (sym (c .before .parameters-ready .ensures) ∙ c .if1 .taken)

@@ -1,11 +1,10 @@
--- `particles::law::measured` meets its contract: by the outcome, and by the determinant that would be stored.
+-- `model::record_law::measured` meets its contract: by the outcome, and by the determinant that would be stored.
 use mathlib.Core.Path.{sym, _∙_}
 use native.Mathlib.Omega.{arith}
 use borrow.Author.Needs.{needs}
-use Rattle.particles.proofs.NotFinite.{last-finite}
-use Rattle.particles.proofs.Written.{bare-determinant, shape-last}
-use Rattle.particles.proofs.law.measured.Statement.{statement}
-use Rattle.particles.proofs.law.measured.Tie as tie
+use Rattle.model.proofs.RecordLaws.{last-finite, bare-determinant, shape-last}
+use Rattle.model.proofs.record_law.measured.Statement.{statement}
+use Rattle.model.proofs.record_law.measured.Tie as tie
 
 returns : tie.Need-returns
 returns c = let u = c .unstored .ensures in let t = c .before .enum-told .given .1 in (λ r k f. simp (u, t, last-finite r f), λ r k. rw (u, t) tt)

@@ -1,14 +1,14 @@
--- `particles::law::updated` meets its contract: 11 before the law, and then its determinant.
+-- `model::record_law::updated_record` meets its contract: 11 before the law, and then its determinant.
 use mathlib.Core.Path.{ap, _∙_}
 use borrow.Author.Needs.{needs}
 use borrow.Author.Tests.{eq-eqb, ne-eqb}
 use Rattle.record.specs.Layout.{determinantAt, determinantRight}
 use Rattle.record.proofs.Parts.{record-inputs}
 use Rattle.model.proofs.StoredFinite.{stored-finite}
-use Rattle.particles.specs.declared.law.Left.{Left}
-use Rattle.particles.specs.Readied.{readyAt}
-use Rattle.particles.proofs.law.updated.Statement.{statement}
-use Rattle.particles.proofs.law.updated.Tie as tie
+use Rattle.model.specs.declared.record_law.Left.{Left}
+use Rattle.model.specs.ReadyRecord.{readyAt}
+use Rattle.model.proofs.record_law.updated_record.Statement.{statement}
+use Rattle.model.proofs.record_law.updated_record.Tie as tie
 
 update-ready-requires : tie.Need-update-ready-requires
 update-ready-requires c κs =
@@ -56,7 +56,7 @@ returns-2 c =
       rw (u, n) tt,
     )
 
-pub updated-spec : {M : Type 1} → statement M
-updated-spec =
+pub updated-record-spec : {M : Type 1} → statement M
+updated-record-spec =
     tie.close
     (tie.spec (λ c κs. search needs) (λ c. search needs) (λ c κs. search needs) (λ c κs. search needs) (λ c κs. search needs) update-ready-requires measured-requires (λ c κs. search needs) (λ c κs. search needs) returns returns-2)

@@ -1,5 +1,6 @@
 // What a law that stores writes into the record. All of it is finite, and so none is tested for a NaN.
-use model::Ready;
+use crate::Ready;
+use crate::rows;
 use plasticity::Outcome;
 use plasticity::State;
 ghost use mathlib.Core.Path.{_≡_};
@@ -7,9 +8,9 @@ ghost use mathlib.Core.Bool.{true};
 ghost use lib.ListN.{length};
 ghost use Rattle.plasticity.specs.State.{stateFinite};
 ghost use Rattle.record.specs.Layout.{floats, determinantAt, putBare, putShape};
 ghost use Rattle.model.specs.Named.{readyScalars};
-ghost use Rattle.particles.specs.Plain.{Beside};
-ghost use Rattle.particles.specs.Readied.{readyKept};
+ghost use Rattle.model.specs.RecordLaw.{Beside};
+ghost use Rattle.model.specs.ReadyRecord.{readyKept};
 
 // F and sigma are written, and w, the determinant of that F.
 fn write_shape(r: &mut [u64], s: State, w: u64)
@@ -29,7 +30,7 @@ fn write_state(q: Ready, r: &mut [u64], s: State, w: u64)
     ensures { λ _. ⌜ now (r .exit) ≡ readyScalars q (putShape (now (r .entry)) s) s ⌝ }
 {
     write_shape(r, s, w);
-    model::write_scalars(q, r, s);
+    rows::write_scalars(q, r, s);
 }
 
 // What an outcome leaves of the record: one that is refused or untouched keeps its bits.
