@@ -18,7 +18,7 @@ use Rattle.plasticity.specs.declared.Outcome.the-variants as outcome
 use Rattle.record.specs.Layout.{floats, placeU, placeSigma, placeVT, placeDeterminant, putRow, putRows, bits}
 use Rattle.record.proofs.Places.{other, right-other}
 use Rattle.particles.specs.Pass.{Worked}
-use Rattle.particles.specs.Judged.{refusedRecord}
+use Rattle.model.specs.Judged.{refusedRecord}
 use Rattle.particles.specs.Step.{stepLaw}
 use Rattle.model.proofs.RecordLaws.{last-finite}
 use Rattle.particles.proofs.Determinants as plain

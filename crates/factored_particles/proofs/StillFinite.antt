@@ -20,9 +20,9 @@ use Rattle.factors.specs.Check.{nearAll, orthogonalOf, largestIn, notBelow, acc
 use Rattle.factors.proofs.Entries.{Row, AllRows}
 use Rattle.model.proofs.RecordLaws.{last-finite}
 use Rattle.model.specs.declared.Ready.{Ready}
-use Rattle.particles.specs.declared.judged.Judge.{Judge}
-use Rattle.particles.specs.Judged.{finiteBy}
-use Rattle.particles.specs.Readied.{readyMarked, readyLaw}
+use Rattle.model.specs.declared.judged.Judge.{Judge}
+use Rattle.model.specs.Judged.{finiteBy}
+use Rattle.model.specs.ReadyRecord.{readyMarked, readyLaw}
 use Rattle.factored_particles.specs.Factored.{withFactors, factorRefusal}
 use Rattle.factored_particles.proofs.FactoredLaws.{Factored}
 use Rattle.factored_particles.proofs.Fourteen as fourteen

@@ -2,11 +2,11 @@
 use crate::step;
 use crate::step::FactoredStep;
 use crate::step::FactoredTaken;
+use model::Judge;
 use model::Ready;
+use model::Stepped;
 use particles::FailureCounts;
-use particles::Judge;
 use particles::PassedWithFailure;
-use particles::Stepped;
 ghost use mathlib.Core.Path.{_≡_};
 ghost use mathlib.Core.Bool.{true};
 ghost use Prim.Native.Nat.{_+_, _*_, _≤_};

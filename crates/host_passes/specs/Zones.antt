@@ -7,7 +7,7 @@ use Rattle.model.specs.Fields.{modelOf}
 use Rattle.host_lists.specs.Laws.{corotatedOf, limitsOf}
 use Rattle.particles.specs.Pass.{Worked, wellSized}
 use Rattle.model.specs.RecordLaw.{recordLaw}
-use Rattle.particles.specs.Judged.{failureLaw}
+use Rattle.model.specs.Judged.{failureLaw}
 use Rattle.tallies.specs.Words.{whole, cleared, clearedWords, moved, movedZones, movedWords, passed, passedRecords, passedAnswers, passedWords}
 use Rattle.host_lists.specs.Refused.{has}
 use Rattle.host_lists.specs.Called.{Called, called, callOf}

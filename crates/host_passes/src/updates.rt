@@ -1,5 +1,5 @@
 // The update of one record by a plastic law, of a flat record too.
-use particles::copy;
+use model::copy;
 use plasticity::Outcome;
 ghost use mathlib.Core.Path.{_≡_};
 ghost use mathlib.Core.List.{[], _∷_};
@@ -41,7 +41,7 @@ pub extern "C" fn pasoletu_update(
 {
     if model::fit(model, parameters) & (r.len() == record::FLOATS) & (answer.len() == 2) {
         if model::known(model, parameters) {
-            let o = particles::update_record(model::model_of(model, parameters), r);
+            let o = model::update_record(model::model_of(model, parameters), r);
             return put_outcome(o, answer);
         }
         return answers::UNKNOWN;

@@ -1,4 +1,6 @@
+pub mod JudgedLaws
 pub mod KindLaws
+pub mod NotFinite
 pub mod ReadyLaws
 pub mod ReadyRecordLaws
 pub mod RecordLaws

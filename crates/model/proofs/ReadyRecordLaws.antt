@@ -1,6 +1,6 @@
--- A model made ready makes of one record what the model makes of it. Assumes nothing.
+-- A model made ready makes of one record, with a judge too, what the model makes of it. Assumes nothing.
 use mathlib.Core.Path.{_≡_, refl, sym, ap, _∙_}
-use mathlib.Core.Bool.{Bool, true, false, cond}
+use mathlib.Core.Bool.{Bool, true, false, cond, _&&_}
 use mathlib.Core.List.{List}
 use mathlib.Core.Logic.{inl, inr}
 use Prim.Native.Nat.{ℕ}
@@ -20,10 +20,13 @@ use Rattle.model.specs.declared.Ready.the-variants as ready
 use Rattle.model.specs.Rows.{actsOf, preparedOf}
 use Rattle.model.specs.Named.{named}
 use Rattle.model.specs.Ready.{readyOf, parametersReady}
-use Rattle.model.specs.RecordLaw.{kept, keptBy, updatedAt, lawAt}
-use Rattle.model.specs.ReadyRecord.{shaped, readyKept, readyKeptBy, readyAt}
+use Rattle.model.specs.declared.judged.Judge.{Judge}
+use Rattle.model.specs.RecordLaw.{kept, keptBy, updatedAt, lawAt, recordLaw}
+use Rattle.model.specs.Judged.{finiteBy, lawBy}
+use Rattle.model.specs.ReadyRecord.{shaped, readyKept, readyKeptBy, readyAt, readyLaw}
 use Rattle.model.proofs.RowLaws.{ready-parameters, Lawful, ready-lawful, ready-update}
 use Rattle.model.proofs.RecordLaws.{scalars-last, law-right, law-wrong}
+use Rattle.model.proofs.NotFinite.{refused-first, finite-first}
 
 -- a refused model refuses
 refused-at : (n : ℕ) (r : List ℕ) → (k : ℕ) × (readyAt (ready.Refused n) r ≡ refused k (stateAt r))
@@ -44,7 +47,7 @@ module _ (m : Model) (r : List ℕ) where
   kept-same h (Stored a) s = ap (λ (l : Law). named layout l (putShape r s) (s .scalars)) h
   kept-same h (Refused n) s = refl
 
-  pub kept-by : readyKeptBy (readyOf m) (readyAt (readyOf m) r) r ≡ keptBy m (readyAt (readyOf m) r) r
+  kept-by : readyKeptBy (readyOf m) (readyAt (readyOf m) r) r ≡ keptBy m (readyAt (readyOf m) r) r
   kept-by = go (ready-lawful m)
     where
       go : Lawful (readyOf m) m → readyKeptBy (readyOf m) (readyAt (readyOf m) r) r ≡ keptBy m (readyAt (readyOf m) r) r
@@ -59,7 +62,7 @@ module _ (m : Model) (r : List ℕ) where
   last-same (Stored a) s = ap (Ieee.ofBits binary64) (scalars-last m (putShape r s) s)
   last-same (Refused n) s = refl
 
-  pub at-same : recordFinite r ≡ true → readyAt (readyOf m) r ≡ lawAt m r
+  at-same : recordFinite r ≡ true → readyAt (readyOf m) r ≡ lawAt m r
   unfolding readyAt updatedAt
   at-same f = go (determinantRight r) refl
     where
@@ -69,3 +72,13 @@ module _ (m : Model) (r : List ℕ) where
           let x = updatedAt m r in
           (rw (d, u) refl) ∙ ap (λ (y : Float). cond (finite y) x (refused noNumber (x .state))) (sym (last-same (x .outcome) (x .state))) ∙ sym (law-right m r f d)
       go false d = (rw (d, ready-parameters m) refl) ∙ sym (law-wrong m r f d)
+
+  pub ready-law : (j : Judge) → readyLaw (readyOf m) j r ≡ lawBy m j r
+  unfolding readyLaw recordLaw
+  ready-law j = go (finiteBy j && recordFinite r) refl
+    where
+      go : (b : Bool) → finiteBy j && recordFinite r ≡ b → readyLaw (readyOf m) j r ≡ lawBy m j r
+      go true t =
+          let f = finite-first m r j t in
+          (rw (t, kept-by, at-same (f .0)) refl) ∙ sym (f .1)
+      go false t = (rw t refl) ∙ sym (refused-first m r j t)

@@ -1,4 +1,5 @@
 pub mod Fields
+pub mod Judged
 pub mod Kept
 pub mod Kinds
 pub mod Model

@@ -1,5 +1,5 @@
--- What a model made ready makes of one record (RULES, section 7): as the model does (proofs/ReadyRecordLaws).
-use mathlib.Core.Bool.{false, cond}
+-- What a model made ready makes of one record (RULES, section 7), by itself and with a judge: as the model does (proofs/ReadyRecordLaws).
+use mathlib.Core.Bool.{false, cond, _&&_}
 use mathlib.Core.List.{List}
 use Prim.Native.Nat.{ℕ}
 use Rattle.numbers.specs.Floats.{finite}
@@ -9,11 +9,13 @@ use Rattle.plasticity.specs.declared.Outcome.{Outcome}
 use Rattle.plasticity.specs.declared.Outcome.the-variants as outcome
 use Rattle.plasticity.specs.declared.State.{State}
 use Rattle.plasticity.specs.declared.Updated.{Updated}
-use Rattle.record.specs.Layout.{placeDeterminant, floatAt, uAt, vtAt, stateAt, determinantRight, putShape}
+use Rattle.record.specs.Layout.{placeDeterminant, floatAt, uAt, vtAt, stateAt, recordFinite, determinantRight, putShape}
 use Rattle.model.specs.declared.Ready.{Ready}
 use Rattle.model.specs.Ready.{parametersReady, readyUpdate}
 use Rattle.model.specs.Named.{readyScalars}
+use Rattle.model.specs.declared.judged.Judge.{Judge}
 use Rattle.model.specs.RecordLaw.{Worked}
+use Rattle.model.specs.Judged.{verdictBy, refusedRecord, marked, finiteBy}
 
 -- the record but for the scalars
 abbrev pub shaped : Outcome → List ℕ → State → List ℕ
@@ -39,3 +41,9 @@ readyAt q r =
     cond (determinantRight r)
     (measuredAt r (readyUpdate q (uAt r) (vtAt r) (stateAt r)))
     (refused (cond (parametersReady q) wrongDeterminant notFinite) (stateAt r))
+
+abbrev pub readyMarked : Ready → Judge → List ℕ → Worked
+readyMarked q j r = marked (verdictBy j (stateAt r .scalars .phase) (readyAt q r)) r (readyKeptBy q (readyAt q r) r)
+
+unfoldable pub readyLaw : Ready → Judge → List ℕ → Worked
+readyLaw q j r = cond (finiteBy j && recordFinite r) (readyMarked q j r) (refusedRecord notFinite r)

@@ -1,10 +1,19 @@
 // The models (RULES, sections 5 to 7): which number names which plastic law, what parameters it has, the law from their bits,
-// the update by it, of one record too. Which law is which stands in `rows`.
+// the update by it, and one record with it: its law, and the verdict on what the law leaves. Which law is which stands in `rows`.
+mod alone;
+mod judged;
 mod kinds;
 mod record_law;
 mod rows;
+mod saved;
 mod stored;
 
+pub use alone::update_record;
+pub use judged::Judge;
+pub use judged::Stepped;
+pub use judged::finite_step;
+pub use judged::judge_finite;
+pub use judged::take_step;
 pub use kinds::fit;
 pub use kinds::is_flag;
 pub use kinds::is_flag_of;
@@ -17,8 +26,6 @@ use plasticity_nacc::NaccPlasticity;
 use plasticity_rankine::RankineArguments;
 use plasticity_rankine::RankinePlasticity;
 use plasticity_snow::SnowPlasticity;
-pub use record_law::Left;
-pub use record_law::updated_record;
 pub use rows::branch;
 pub use rows::drucker_prager;
 pub use rows::make_ready;
@@ -28,7 +35,7 @@ pub use rows::parameters_ready;
 pub use rows::rankine;
 pub use rows::reason_of;
 pub use rows::whole;
-pub use stored::keep;
+pub use saved::copy;
 
 // The plastic laws.
 pub enum Law {

@@ -26,7 +26,7 @@ use Rattle.model.specs.Model.{modelFinite}
 use Rattle.model.proofs.KindLaws.{and-true}
 use Rattle.particles.specs.Pass.{Worked, codeOf}
 use Rattle.model.specs.RecordLaw.{putState, updatedAt, kept, lawAt, keptBy, recordLaw}
-use Rattle.particles.specs.Judged.{judgeFinite, verdictAfter, unlessRefused, judgedAt, refusedRecord, marked, failureLaw}
+use Rattle.model.specs.Judged.{judgeFinite, verdictAfter, unlessRefused, judgedAt, refusedRecord, marked, failureLaw}
 use Rattle.particles.specs.Bare.{bareLaw, Unrefused}
 use Rattle.particles.specs.Fill.{fillLaw}
 use Rattle.particles.specs.declared.step.Step.{Step}

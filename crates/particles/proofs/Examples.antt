@@ -37,7 +37,7 @@ use Rattle.elasticity_corotated_linear.specs.Principal.{principalWalk, principa
 use Rattle.record.specs.Layout.{stateAt, determinantAt, determinantRight}
 use Rattle.model.specs.declared.Model.the-variants.{Snow, Rankine, DruckerPrager}
 use Rattle.model.specs.RecordLaw.{updatedAt, lawAt, recordLaw}
-use Rattle.particles.specs.Judged.{verdictAfter, judgedAt, refusedRecord, failureLaw}
+use Rattle.model.specs.Judged.{verdictAfter, judgedAt, refusedRecord, failureLaw}
 
 abbrev f64 : ℕ → Float
 f64 x = ofBits binary64 x

@@ -1,6 +1,6 @@
 -- A model made ready makes of a record, with a judge too, what the model makes of it, and so does a step; it keeps the record's length, and an amount
 -- that it stores is finite. Assumes nothing.
-use mathlib.Core.Path.{_≡_, refl, sym, _∙_}
+use mathlib.Core.Path.{_≡_, refl, _∙_}
 use mathlib.Core.Bool.{Bool, true, false, cond, _&&_}
 use mathlib.Core.List.{List}
 use Prim.Native.Nat.{ℕ}
@@ -18,38 +18,24 @@ use Rattle.plasticity.specs.declared.State.{State}
 use Rattle.plasticity.specs.declared.Updated.{Updated}
 use Rattle.record.specs.Layout.{layout, placeDeterminant, floatAt, uAt, vtAt, stateAt, recordFinite, determinantRight, putShape}
 use Rattle.record.proofs.Parts.{record-inputs}
-use Rattle.model.specs.declared.Model.{Model}
 use Rattle.model.specs.declared.Ready.{Ready}
 use Rattle.model.specs.Rows.{preparedOf}
-use Rattle.model.specs.Ready.{readyOf, readyUpdate}
+use Rattle.model.specs.Ready.{readyUpdate}
 use Rattle.model.proofs.ReadyLaws.{ready-finite}
 use Rattle.model.proofs.StoredFinite.{stored-finite}
-use Rattle.model.proofs.ReadyRecordLaws.{kept-by, at-same}
-use Rattle.particles.specs.declared.judged.Judge.{Judge}
-use Rattle.particles.specs.declared.judged.Judge.the-variants.{Nobody, By}
+use Rattle.model.proofs.ReadyRecordLaws.{ready-law}
+use Rattle.model.specs.declared.judged.Judge.{Judge}
+use Rattle.model.specs.declared.judged.Judge.the-variants.{Nobody, By}
 use Rattle.particles.specs.declared.step.Step.{Step}
 use Rattle.particles.specs.declared.step.Step.the-variants as steps
 use Rattle.particles.specs.declared.step.Taken.{Taken}
 use Rattle.particles.specs.Pass.{Worked, AmountFinite}
-use Rattle.model.specs.RecordLaw.{recordLaw}
-use Rattle.particles.specs.Judged.{verdictBy, refusedRecord, marked, finiteBy, lawBy}
+use Rattle.model.specs.Judged.{verdictBy, refusedRecord, marked, finiteBy}
 use Rattle.model.specs.ReadyRecord.{shaped, readyKept, readyKeptBy, readyAt}
-use Rattle.particles.specs.Readied.{readyMarked, readyLaw}
+use Rattle.model.specs.ReadyRecord.{readyMarked, readyLaw}
 use Rattle.particles.specs.Step.{stepLaw, takenOf, takenFinite, takenLaw}
-use Rattle.particles.proofs.NotFinite.{refused-first, finite-first}
 use Rattle.particles.proofs.PassLaws.{Keeps, named-length}
 use Rattle.particles.proofs.JudgedLaws.{marked-length}
-
-module _ (m : Model) (r : List ℕ) where
-  pub ready-law : (j : Judge) → readyLaw (readyOf m) j r ≡ lawBy m j r
-  unfolding readyLaw recordLaw
-  ready-law j = go (finiteBy j && recordFinite r) refl
-    where
-      go : (b : Bool) → finiteBy j && recordFinite r ≡ b → readyLaw (readyOf m) j r ≡ lawBy m j r
-      go true t =
-          let f = finite-first m r j t in
-          (rw (t, kept-by m r, at-same m r (f .0)) refl) ∙ sym (f .1)
-      go false t = (rw t refl) ∙ sym (refused-first m r j t)
 
 -- ---- of a step
 pub taken-finite : (s : Step) → takenFinite (takenOf s) ≡ true

@@ -18,7 +18,7 @@ use Rattle.plasticity_rankine.specs.Rankine.{argumentsUpdate}
 use Rattle.model.specs.declared.Model.the-variants.{Rankine}
 use Rattle.model.specs.RecordLaw.{updatedAt, recordLaw}
 use Rattle.particles.specs.Pass.{codeOf, recordAt}
-use Rattle.particles.specs.Judged.{judgeFinite, judgedAt, refusedRecord, marked, failureLaw}
+use Rattle.model.specs.Judged.{judgeFinite, judgedAt, refusedRecord, marked, failureLaw}
 use Rattle.particles.proofs.PassLaws.{record-keeps}
 use Rattle.particles.proofs.JudgedLaws.{failure-keeps}
 use Rattle.particles.proofs.Determinants.{Stands, unrefused, unrefused-law}

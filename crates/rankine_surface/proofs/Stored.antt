@@ -15,7 +15,7 @@ use Rattle.plasticity_rankine.specs.Law.{lawOf}
 use Rattle.model.specs.declared.Model.the-variants.{Rankine}
 use Rattle.model.specs.RecordLaw.{recordLaw}
 use Rattle.particles.specs.Pass.{recordAt}
-use Rattle.particles.specs.Judged.{failureLaw}
+use Rattle.model.specs.Judged.{failureLaw}
 use Rattle.rankine_surface.specs.Surface.{threeAxes, AssumedBy, Archived, Archives}
 use Rattle.rankine_surface.specs.Record.{threeRecords, Premises, Found, foundOf, Demand3At, ArchivesAt, softenedAt, InPass, passFound, markedBy}
 use Rattle.rankine_surface.specs.Sheet.{argumentsIn, recordIn, InSheet, SheetPremises, sheetFound}

@@ -60,8 +60,8 @@ fn record_number(m: Model, r: &[u64]) -> u8
     ensures { λ n. ⌜ n ≡ outcomeNumber (recordLaw m (now (r .entry)) .outcome) ⌝ }
 {
     let mut c = [0u64; record::FLOATS];
-    particles::copy(r, &mut c);
-    outcome_number(particles::update_record(m, &mut c))
+    model::copy(r, &mut c);
+    outcome_number(model::update_record(m, &mut c))
 }
 
 // The law's own reason; but where the pass refuses by another number, 3 of the new determinant.

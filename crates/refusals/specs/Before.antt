@@ -21,7 +21,7 @@ use Rattle.elasticity_corotated_linear.specs.declared.CorotatedLinearElasticity
 use Rattle.model.specs.declared.Model.{Model}
 use Rattle.model.specs.Model.{modelUpdate}
 use Rattle.model.specs.RecordLaw.{recordLaw}
-use Rattle.particles.specs.Judged.{failureLaw}
+use Rattle.model.specs.Judged.{failureLaw}
 use Rattle.refusals.specs.Refusals.{walkOf, recordWalk, failureWalk}
 
 -- 2 for 10, all else as it is

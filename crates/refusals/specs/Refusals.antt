@@ -40,7 +40,7 @@ use Rattle.particles.specs.declared.failure.PassedWithFailure.the-variants as f
 use Rattle.particles.specs.declared.step.Step.{Step}
 use Rattle.particles.specs.declared.step.Step.the-variants.{Plain, Judged}
 use Rattle.model.specs.RecordLaw.{putState, recordLaw, recordOutcome}
-use Rattle.particles.specs.Judged.{judgeFinite, failureLaw}
+use Rattle.model.specs.Judged.{judgeFinite, failureLaw}
 use Rattle.particles.specs.Fill.{fillAnswer}
 use Rattle.particles.specs.Step.{stepLaw}
 use Rattle.particles.specs.Pass.{Worked, recordAt, passed, passAnswers, passedWithFailure}

@@ -19,7 +19,7 @@ use Rattle.model.specs.Fields.{modelOf}
 use Rattle.model.specs.Kinds.{whole}
 use Rattle.particles.specs.Pass.{recordAt}
 use Rattle.model.specs.RecordLaw.{recordLaw, keptBy}
-use Rattle.particles.specs.Judged.{refusedRecord}
+use Rattle.model.specs.Judged.{refusedRecord}
 use Rattle.model.proofs.RecordLaws.{law-not-finite}
 use Rattle.sheet.specs.declared.Header.{Header}
 use Rattle.sheet.specs.Records.{sheetFloats, completed}

@@ -12,7 +12,7 @@ ghost use mathlib.Core.Bool.{cond, _&&_};
 ghost use Prim.Native.Nat.{_*_, _≤_};
 ghost use lib.Dec.{eqb};
 ghost use lib.ListN.{length};
-ghost use Rattle.particles.specs.Judged.{failureLaw};
+ghost use Rattle.model.specs.Judged.{failureLaw};
 ghost use Rattle.model.specs.RecordLaw.{recordLaw};
 ghost use Rattle.particles.specs.Step.{stepLaw};
 ghost use Rattle.tallies.specs.Zones.{zonesFit, moveFits};

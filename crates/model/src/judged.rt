@@ -1,10 +1,11 @@
 // One record: its law, and then the verdict on what the law leaves, where there is a judge.
-use crate::step::Stepped;
+use crate::Ready;
+use crate::record_law;
+use crate::record_law::Left;
+use crate::stored;
 use elasticity_corotated_linear::CorotatedLinearElasticity;
 use failure_maximum_stress::MaximumStressFailure;
 use failure_maximum_stress::Verdict;
-use model::Left;
-use model::Ready;
 use plasticity::Outcome;
 use plasticity::State;
 use plasticity::Updated;
@@ -17,16 +18,22 @@ ghost use Rattle.record.specs.Layout.{floats, stateAt, recordFinite};
 ghost use Rattle.failure_maximum_stress.specs.Failure.{verdictOf};
 ghost use Rattle.failure_maximum_stress.specs.declared.Verdict.{Verdict};
 ghost use Rattle.failure_maximum_stress.specs.declared.Verdict.the-variants as verdict;
 ghost use Rattle.model.specs.Ready.{readyFinite};
-ghost use Rattle.particles.specs.Judged.{verdictAfter, unlessRefused, verdictBy, marked, outcomeBy, failedBy, finiteBy};
+ghost use Rattle.model.specs.Judged.{verdictAfter, unlessRefused, verdictBy, marked, outcomeBy, failedBy, finiteBy};
 ghost use Rattle.model.specs.RecordLaw.{Beside};
 ghost use Rattle.model.specs.ReadyRecord.{readyKeptBy};
-ghost use Rattle.particles.specs.Readied.{readyMarked, readyLaw};
+ghost use Rattle.model.specs.ReadyRecord.{readyMarked, readyLaw};
 
 // Nobody, or these limits on the stress by this law.
 pub enum Judge {
     Nobody,
     By(MaximumStressFailure, CorotatedLinearElasticity),
+}
+
+// The outcome, and whether the record failed and was not refused.
+pub struct Stepped {
+    pub outcome: Outcome,
+    pub failed: bool,
 }
 
 // A refused stress is handed on.
@@ -119,7 +126,7 @@ fn mark(q: Ready, x: Left, v: Verdict, r: &mut [u64]) -> Stepped
     let s = d.state;
     let left = d.outcome;
     let o = outcome_by(v, left);
-    model::keep(q, o, s, x.determinant, r);
+    stored::keep(q, o, s, x.determinant, r);
     if failed_by(v) {
         r[record::PHASE] = numbers::bits_of(0.0);
         Stepped {
@@ -141,7 +148,7 @@ pub fn finite_step(q: Ready, j: Judge, r: &mut [u64]) -> Stepped
     ensures failed { λ x. ⌜ x .failed ≡ readyMarked q j (now (r .entry)) .failed ⌝ }
     ensures record { λ x. ⌜ now (r .exit) ≡ readyMarked q j (now (r .entry)) .after ⌝ }
 {
-    let x = model::updated_record(q, &r[..]);
+    let x = record_law::updated_record(q, &r[..]);
     let d = x.updated;
     let v = verdict(j, &r[..], d);
     mark(q, x, v, r)

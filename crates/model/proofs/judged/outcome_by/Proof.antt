@@ -1,7 +1,7 @@
--- `particles::judged::outcome_by` meets its contract: by the verdict.
+-- `model::judged::outcome_by` meets its contract: by the verdict.
 use borrow.Author.Needs.{needs}
-use Rattle.particles.proofs.judged.outcome_by.Statement.{statement}
-use Rattle.particles.proofs.judged.outcome_by.Tie as tie
+use Rattle.model.proofs.judged.outcome_by.Statement.{statement}
+use Rattle.model.proofs.judged.outcome_by.Tie as tie
 
 returns-3 : tie.Need-returns-3
 returns-3 c = simp (c .before .v .given .1)

@@ -18,11 +18,11 @@ use Rattle.failure_maximum_stress.specs.Failure.{limitsFinite, verdictOf}
 use Rattle.elasticity_corotated_linear.specs.declared.CorotatedLinearElasticity.{CorotatedLinearElasticity}
 use Rattle.elasticity_corotated_linear.specs.Law.{lawFinite}
 use Rattle.elasticity_corotated_linear.specs.Principal.{principalWalk}
 use Rattle.model.specs.declared.Model.{Model}
-use Rattle.particles.specs.declared.judged.Judge.{Judge}
-use Rattle.particles.specs.declared.judged.Judge.the-variants.{Nobody, By}
-use Rattle.particles.specs.Pass.{Worked}
+use Rattle.model.specs.declared.judged.Judge.{Judge}
+use Rattle.model.specs.declared.judged.Judge.the-variants.{Nobody, By}
+use Rattle.model.specs.RecordLaw.{Worked}
 use Rattle.model.specs.RecordLaw.{lawAt, recordLaw}
 
 -- on the principal stresses, whose refusal is handed on
 abbrev pub verdictOn : MaximumStressFailure → Ended (List Float) → Verdict

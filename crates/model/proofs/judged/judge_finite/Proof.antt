@@ -1,7 +1,7 @@
--- `particles::judged::judge_finite` meets its contract: by the judge.
+-- `model::judged::judge_finite` meets its contract: by the judge.
 use borrow.Author.Needs.{needs}
-use Rattle.particles.proofs.judged.judge_finite.Statement.{statement}
-use Rattle.particles.proofs.judged.judge_finite.Tie as tie
+use Rattle.model.proofs.judged.judge_finite.Statement.{statement}
+use Rattle.model.proofs.judged.judge_finite.Tie as tie
 
 returns-2 : tie.Need-returns-2
 returns-2 c = simp (c .law-finite .ensures, c .before .limits-finite .ensures, c .before .before .before .j .given .1)

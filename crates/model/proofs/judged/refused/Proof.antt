@@ -1,7 +1,7 @@
--- `particles::judged::refused` meets its contract: by the outcome.
+-- `model::judged::refused` meets its contract: by the outcome.
 use borrow.Author.Needs.{needs}
-use Rattle.particles.proofs.judged.refused.Statement.{statement}
-use Rattle.particles.proofs.judged.refused.Tie as tie
+use Rattle.model.proofs.judged.refused.Statement.{statement}
+use Rattle.model.proofs.judged.refused.Tie as tie
 
 returns : tie.Need-returns
 returns c v = simp (c .enum-told .given .1)

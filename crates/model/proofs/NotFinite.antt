@@ -11,13 +11,13 @@ use Rattle.record.specs.Layout.{recordFinite}
 use Rattle.failure_maximum_stress.specs.declared.MaximumStressFailure.{MaximumStressFailure}
 use Rattle.failure_maximum_stress.specs.declared.Verdict.{Verdict}
 use Rattle.elasticity_corotated_linear.specs.declared.CorotatedLinearElasticity.{CorotatedLinearElasticity}
 use Rattle.model.specs.declared.Model.{Model}
 use Rattle.model.proofs.RecordLaws.{law-not-finite}
 use Rattle.model.specs.RecordLaw.{lawAt, keptBy, recordLaw}
-use Rattle.particles.specs.declared.judged.Judge.{Judge}
-use Rattle.particles.specs.declared.judged.Judge.the-variants.{Nobody, By}
-use Rattle.particles.specs.Pass.{Worked}
-use Rattle.particles.specs.Judged.{judgeFinite, unlessRefused, judgedAt, refusedRecord, marked, failureLaw, markedBy, finiteBy, lawBy}
+use Rattle.model.specs.declared.judged.Judge.{Judge}
+use Rattle.model.specs.declared.judged.Judge.the-variants.{Nobody, By}
+use Rattle.model.specs.RecordLaw.{Worked}
+use Rattle.model.specs.Judged.{judgeFinite, unlessRefused, judgedAt, refusedRecord, marked, failureLaw, markedBy, finiteBy, lawBy}
 
 -- ---- one record
 module _ (m : Model) (r : List ℕ) where

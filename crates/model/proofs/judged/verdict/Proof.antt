@@ -1,7 +1,7 @@
--- `particles::judged::verdict` meets its contract: by the judge, and by the law's outcome.
+-- `model::judged::verdict` meets its contract: by the judge, and by the law's outcome.
 use borrow.Author.Needs.{needs}
-use Rattle.particles.proofs.judged.verdict.Statement.{statement}
-use Rattle.particles.proofs.judged.verdict.Tie as tie
+use Rattle.model.proofs.judged.verdict.Statement.{statement}
+use Rattle.model.proofs.judged.verdict.Tie as tie
 
 returns : tie.Need-returns
 returns c = simp (c .enum-told .given .1)

@@ -1,9 +1,9 @@
--- `particles::judged::verdict_on` meets its contract: a refused stress is handed on.
+-- `model::judged::verdict_on` meets its contract: a refused stress is handed on.
 use borrow.Author.Needs.{needs}
 use borrow.Author.Tests.{eq-eqb, ne-eqb}
 use mathlib.Core.Path.{refl}
-use Rattle.particles.proofs.judged.verdict_on.Statement.{statement}
-use Rattle.particles.proofs.judged.verdict_on.Tie as tie
+use Rattle.model.proofs.judged.verdict_on.Statement.{statement}
+use Rattle.model.proofs.judged.verdict_on.Tie as tie
 
 returns : tie.Need-returns
 returns c = rw (eq-eqb _ 0 (c .before .before .if1 .taken)) (c .particle-failed .ensures)

@@ -1,4 +1,4 @@
--- `particles::saved::copy` meets its contract. The loop's invariant: the places before i hold what stands in `from`.
+-- `model::saved::copy` meets its contract. The loop's invariant: the places before i hold what stands in `from`.
 use mathlib.Core.Path.{_≡_, refl, sym, _∙_}
 use mathlib.Core.List.{List, [], _∷_, _++_}
 use Prim.Native.Nat.{ℕ, suc, _+_, _-_, _≤_, _<_}
@@ -7,8 +7,8 @@ use native.Mathlib.Omega.{arith}
 use lib.ListN.{length, take, set, getD, length-set}
 use lib.Seq.{take-suc, take-suc-set, take-all}
 use borrow.Author.Needs.{needs}
-use Rattle.particles.proofs.saved.copy.Statement.{statement}
-use Rattle.particles.proofs.saved.copy.Tie as tie
+use Rattle.model.proofs.saved.copy.Statement.{statement}
+use Rattle.model.proofs.saved.copy.Tie as tie
 
 step : (from to : List ℕ) (i : ℕ) → i < length from → i < length to → take i to ≡ take i from
     → take (i + 1) (set to i (getD from i 0)) ≡ take (i + 1) from

@@ -1,11 +1,11 @@
--- `particles::judged::take_step` meets its contract: 1 comes first.
+-- `model::judged::take_step` meets its contract: 1 comes first.
 use borrow.Author.Needs.{needs}
 use Rattle.numbers.proofs.Laws.{and-both}
 use Rattle.record.specs.Layout.{recordFinite}
-use Rattle.particles.specs.Judged.{finiteBy}
-use Rattle.particles.specs.Readied.{readyLaw}
-use Rattle.particles.proofs.judged.take_step.Statement.{statement}
-use Rattle.particles.proofs.judged.take_step.Tie as tie
+use Rattle.model.specs.Judged.{finiteBy}
+use Rattle.model.specs.ReadyRecord.{readyLaw}
+use Rattle.model.proofs.judged.take_step.Statement.{statement}
+use Rattle.model.proofs.judged.take_step.Tie as tie
 
 finite-step-requires : tie.Need-finite-step-requires
 finite-step-requires c κs =

@@ -1,8 +1,8 @@
--- `particles::judged::finite_step` meets its contract: the law, the verdict on what it leaves, and the mark.
+-- `model::judged::finite_step` meets its contract: the law, the verdict on what it leaves, and the mark.
 use mathlib.Core.Path.{_∙_}
 use borrow.Author.Needs.{needs}
-use Rattle.particles.proofs.judged.finite_step.Statement.{statement}
-use Rattle.particles.proofs.judged.finite_step.Tie as tie
+use Rattle.model.proofs.judged.finite_step.Statement.{statement}
+use Rattle.model.proofs.judged.finite_step.Tie as tie
 
 mark-requires : tie.Need-mark-requires
 mark-requires c κs = (c .before .before .before .before .before .before .before .pre .0, c .before .before .before .before .updated-record .ensures .1)

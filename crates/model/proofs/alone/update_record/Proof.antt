@@ -1,10 +1,10 @@
--- `particles::list::update_record` meets its contract: what its calls ensure, on each path.
+-- `model::alone::update_record` meets its contract: what its calls ensure, on each path.
 use borrow.Author.Tests.{eq-eqb, ne-eqb}
 use borrow.Author.Needs.{needs}
 use Rattle.model.proofs.ReadyLaws.{ready-finite}
-use Rattle.particles.proofs.ReadiedLaws.{ready-law}
-use Rattle.particles.proofs.list.update_record.Statement.{statement}
-use Rattle.particles.proofs.list.update_record.Tie as tie
+use Rattle.model.proofs.ReadyRecordLaws.{ready-law}
+use Rattle.model.proofs.alone.update_record.Statement.{statement}
+use Rattle.model.proofs.alone.update_record.Tie as tie
 
 take-step-requires : tie.Need-take-step-requires
 take-step-requires c κs = (search needs, rw (c .before .make-ready .ensures) (ready-finite _))

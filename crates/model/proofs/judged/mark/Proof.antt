@@ -1,9 +1,9 @@
--- `particles::judged::mark` meets its contract: by the verdict's outcome and its mark.
+-- `model::judged::mark` meets its contract: by the verdict's outcome and its mark.
 use mathlib.Core.Path.{sym, _∙_}
 use borrow.Author.Needs.{needs}
-use Rattle.particles.proofs.JudgedLaws.{marked-yes, marked-no, beside-left}
-use Rattle.particles.proofs.judged.mark.Statement.{statement}
-use Rattle.particles.proofs.judged.mark.Tie as tie
+use Rattle.model.proofs.JudgedLaws.{marked-yes, marked-no, beside-left}
+use Rattle.model.proofs.judged.mark.Statement.{statement}
+use Rattle.model.proofs.judged.mark.Tie as tie
 
 keep-requires : tie.Need-keep-requires
 keep-requires c κs =
