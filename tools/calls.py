@@ -45,14 +45,18 @@ REQUIRES = [
     ("record: write_row write_rows", "a place inside the list"),
     ("record: finite_bits", "that what is written is finite"),
     ("record: store_row store_rows", "that what is written is finite, and a place inside the list"),
-    ("model: copy", "two lists of one length"),
-    ("model: take_step", "a list of a record's length, and that what was made ready is finite, as `model::make_ready` leaves it"),
-    ("model: finite_step", "that too, and that the record's floats are finite"),
+    ("one_record: copy", "two lists of one length"),
+    ("one_record: take_step", "a list of a record's length, and that what was made ready is finite, as `model::make_ready` leaves it"),
+    ("one_record: finite_step", "that too, and that the record's floats are finite"),
     ("particles: write_answer", "that the two places are inside the list, and that an amount which is stored is finite"),
     ("particles: count_one", "that no count is near the end of its range, as in a pass none is: it counts records of a list"),
     ("writer: write_words", "that the room has place for the words, as bytes"),
     ("model: model_of", "that the number is one of the eight and each flag is one, which `model::known` tells: every caller has asked it, or has read a header, which names such a model (`sheet/proofs/Known: read-known`)"),
-    ("plasticity_*: *::update_ready", "that the record's floats are finite, and the law's parameters and moduli, as `model::make_ready` leaves them"),
+    ("model: write_scalars", "a list of a record's length, and that what is written is finite"),
+    (
+        "plasticity_*: *::update_ready; model: update_ready",
+        "that the record's floats are finite, and the law's parameters and moduli, as `model::make_ready` leaves them",
+    ),
     (
         "plasticity_nacc: NaccPlasticity::hardened",
         "of the hardening step, on three axes or two: that the numbers compared are no NaN, and that the two roots handed in are what the root answers",
@@ -64,7 +68,7 @@ REQUIRES = [
 INNER = [
     (
         "failure_maximum_stress: MaximumStressFailure::particle_failed",
-        "the verdict on principal stresses that are handed in. `model` asks it (of a record that is judged, on those of its own rule) and `solid` (on those of the stress that it answers); "
+        "the verdict on principal stresses that are handed in. `one_record` asks it (of a record that is judged, on those of its own rule) and `solid` (on those of the stress that it answers); "
         "sections 5 and 8 (P10, P11) are stated of it",
     ),
     ("plasticity_*: branch_number", "the branch of a test by the number that is handed in, whichever it is. `model::branch` asks it, of the test that a law has told"),
@@ -128,13 +132,13 @@ NANS = [
         "handed on: a state as it came, or an answer that its call has tested. Of `flat::stored` 3 where it is in F or sigma; `named` says that the other numbers are finite",
     ),
     (
-        "record: word float write_row write_rows determinant determinant_with; model: copy; particles: fill_determinants; writer: write_words; host_lists: row matrix decomposed; model: rankine "
+        "record: word float write_row write_rows determinant determinant_with; one_record: copy; particles: fill_determinants; writer: write_words; host_lists: row matrix decomposed; model: rankine "
         "drucker_prager model_of fit known; host_lists: neo_hookean corotated limits; host_passes: pasoletu_fill_determinants",
         "read, written or copied as it is, of a determinant as worked (7ff8000000000000); the law refuses that record or those parameters by 1",
     ),
     (
         "record: finite_bits read_f read_u read_vt read_state store_row store_rows determinant_right; plasticity_*: *::update_ready; "
-        "particles: write_answer",
+        "model: update_ready write_scalars; particles: write_answer",
         "none comes in: they require that all floats are finite",
     ),
     ("factors: factors_of principal_of", "as the sweeps work it: what comes out misses the check"),
@@ -145,7 +149,7 @@ NANS = [
         "flat: inputs_finite; plasticity_*: *::parameters_finite *::moduli_finite; "
         "elasticity_neo_hookean: NeoHookeanElasticity::law_finite NeoHookeanElasticity::is_fluid; elasticity_corotated_linear: CorotatedLinearElasticity::law_finite "
         "CorotatedLinearElasticity::is_fluid; eos_monaghan_sph: MonaghanSphEos::is_fluid; failure_maximum_stress: MaximumStressFailure::limits_finite; record: all_finite; "
-        "model: model_finite parameters_ready judge_finite",
+        "model: model_finite parameters_ready; one_record: judge_finite",
         "a test's answer",
     ),
     ("answer_text: put_sheet", "its bits in sixteen digits: an answer that its call has tested"),
@@ -161,7 +165,7 @@ FIRST = [
     "elasticity_*: *::new *::fpk_stress *::phase_coeff *::elastic_energy_density *::elastic_energy_density_in *::pos_energy",
     "eos_monaghan_sph: *::new *::pressure *::kirchhoff_stress *::timestep_bound; failure_maximum_stress: *::new *::particle_failed",
     "solid: *::stress_and_verdict *::fpk_stress *::elastic_energy_density *::elastic_energy_density_in *::pos_energy",
-    "model: update_record take_step finite_step; particles: pass* ready_for; factored_particles: factor_* pass_*; flat_particles: update_record pass; tallies: pass*; host*: pasoletu_*",
+    "one_record: update_record take_step finite_step; particles: pass* ready_for; factored_particles: factor_* pass_*; flat_particles: update_record pass; tallies: pass*; host*: pasoletu_*",
 ]
 
 FLOATS, LISTS = r"\bf64\b", r"\[u64"

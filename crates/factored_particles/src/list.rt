@@ -2,9 +2,9 @@
 use crate::step;
 use crate::step::FactoredStep;
 use crate::step::FactoredTaken;
-use model::Judge;
 use model::Ready;
-use model::Stepped;
+use one_record::Judge;
+use one_record::Stepped;
 use particles::FailureCounts;
 use particles::PassedWithFailure;
 ghost use mathlib.Core.Path.{_≡_};

@@ -1,8 +1,8 @@
 // The step that a pass with our own factors takes with each record.
 use crate::factored;
-use model::Judge;
 use model::Ready;
-use model::Stepped;
+use one_record::Judge;
+use one_record::Stepped;
 use particles::Step;
 use plasticity::Outcome;
 ghost use mathlib.Core.Path.{_≡_};

@@ -1,5 +1,5 @@
 // A pass's counts into a lent list of their number.
-use model::copy;
+use one_record::copy;
 use particles::Passed;
 use particles::PassedWithFailure;
 ghost use mathlib.Core.Path.{_≡_};

@@ -1,10 +1,6 @@
 pub mod Fields
-pub mod Judged
-pub mod Kept
 pub mod Kinds
 pub mod Model
 pub mod Named
 pub mod Ready
-pub mod ReadyRecord
-pub mod RecordLaw
 pub mod Rows

@@ -1,19 +1,8 @@
 // The models (RULES, sections 5 to 7): which number names which plastic law, what parameters it has, the law from their bits,
-// the update by it, and one record with it: its law, and the verdict on what the law leaves. Which law is which stands in `rows`.
-mod alone;
-mod judged;
+// and the update by it. Which law is which stands in `rows`.
 mod kinds;
-mod record_law;
 mod rows;
-mod saved;
-mod stored;
 
-pub use alone::update_record;
-pub use judged::Judge;
-pub use judged::Stepped;
-pub use judged::finite_step;
-pub use judged::judge_finite;
-pub use judged::take_step;
 pub use kinds::fit;
 pub use kinds::is_flag;
 pub use kinds::is_flag_of;
@@ -34,8 +23,9 @@ pub use rows::model_of;
 pub use rows::parameters_ready;
 pub use rows::rankine;
 pub use rows::reason_of;
+pub use rows::update_ready;
 pub use rows::whole;
-pub use saved::copy;
+pub use rows::write_scalars;
 
 // The plastic laws.
 pub enum Law {

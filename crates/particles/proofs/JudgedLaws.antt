@@ -14,8 +14,8 @@ use Rattle.failure_maximum_stress.specs.declared.Verdict.the-variants.{No, Yes,
 use Rattle.elasticity_corotated_linear.specs.declared.CorotatedLinearElasticity.{CorotatedLinearElasticity}
 use Rattle.model.specs.declared.Model.{Model}
 use Rattle.particles.specs.Pass.{Worked, codeOf}
-use Rattle.model.specs.RecordLaw.{lawAt, recordLaw}
-use Rattle.model.specs.Judged.{judgeFinite, verdictAfter, unlessRefused, judgedAt, refusedRecord, marked, failureLaw}
+use Rattle.one_record.specs.RecordLaw.{lawAt, recordLaw}
+use Rattle.one_record.specs.Judged.{judgeFinite, verdictAfter, unlessRefused, judgedAt, refusedRecord, marked, failureLaw}
 use Rattle.particles.specs.declared.step.Step.{Step}
 use Rattle.particles.specs.declared.step.Step.the-variants.{Plain, Judged}
 use Rattle.particles.specs.Step.{stepLaw}

@@ -23,16 +23,16 @@ use Rattle.model.specs.Rows.{preparedOf}
 use Rattle.model.specs.Ready.{readyUpdate}
 use Rattle.model.proofs.ReadyLaws.{ready-finite}
 use Rattle.model.proofs.StoredFinite.{stored-finite}
-use Rattle.model.proofs.ReadyRecordLaws.{ready-law}
-use Rattle.model.specs.declared.judged.Judge.{Judge}
-use Rattle.model.specs.declared.judged.Judge.the-variants.{Nobody, By}
+use Rattle.one_record.proofs.ReadyRecordLaws.{ready-law}
+use Rattle.one_record.specs.declared.judged.Judge.{Judge}
+use Rattle.one_record.specs.declared.judged.Judge.the-variants.{Nobody, By}
 use Rattle.particles.specs.declared.step.Step.{Step}
 use Rattle.particles.specs.declared.step.Step.the-variants as steps
 use Rattle.particles.specs.declared.step.Taken.{Taken}
 use Rattle.particles.specs.Pass.{Worked, AmountFinite}
-use Rattle.model.specs.Judged.{verdictBy, refusedRecord, marked, finiteBy}
-use Rattle.model.specs.ReadyRecord.{shaped, readyKept, readyKeptBy, readyAt}
-use Rattle.model.specs.ReadyRecord.{readyMarked, readyLaw}
+use Rattle.one_record.specs.Judged.{verdictBy, refusedRecord, marked, finiteBy}
+use Rattle.one_record.specs.ReadyRecord.{shaped, readyKept, readyKeptBy, readyAt}
+use Rattle.one_record.specs.ReadyRecord.{readyMarked, readyLaw}
 use Rattle.particles.specs.Step.{stepLaw, takenOf, takenFinite, takenLaw}
 use Rattle.particles.proofs.PassLaws.{Keeps, named-length}
 use Rattle.particles.proofs.JudgedLaws.{marked-length}

@@ -19,7 +19,7 @@ use Rattle.model.specs.declared.Model.{Model}
 use Rattle.model.specs.Rows.{rowOf, actsOf}
 use Rattle.model.specs.Named.{scalarOf, partsWritten}
 use Rattle.model.proofs.RowLaws.{aside, written-aside}
-use Rattle.model.specs.RecordLaw.{putScalars, kept}
+use Rattle.one_record.specs.RecordLaw.{putScalars, kept}
 use Rattle.particles.specs.Bare.{bareKept}
 
 -- of parts that stand behind F and before its determinant

@@ -12,7 +12,7 @@ use Rattle.answers.specs.Refusals.{wrongLength}
 use Rattle.plasticity.specs.declared.Outcome.{Outcome}
 use Rattle.plasticity.specs.declared.Outcome.the-variants.{Untouched, Stored, Refused}
 use Rattle.record.specs.Layout.{floats}
-pub use Rattle.model.specs.RecordLaw.{Worked}
+pub use Rattle.one_record.specs.RecordLaw.{Worked}
 use Rattle.particles.specs.declared.list.Counts.{Counts}
 use Rattle.particles.specs.declared.list.Passed.{Passed}
 use Rattle.particles.specs.declared.list.Passed.the-variants as passed-variants

@@ -4,10 +4,10 @@ use crate::failure::PassedWithFailure;
 use crate::step;
 use crate::step::Step;
 use crate::step::Taken;
-use model::Judge;
 use model::Model;
 use model::Ready;
-use model::Stepped;
+use one_record::Judge;
+use one_record::Stepped;
 use plasticity::Outcome;
 ghost use mathlib.Core.Path.{_≡_};
 ghost use mathlib.Core.Bool.{true};
@@ -15,8 +15,8 @@ ghost use Prim.Native.Nat.{_+_, _*_, _^_, _≤_, _<_};
 ghost use lib.ListN.{length};
 ghost use Rattle.record.specs.Layout.{floats};
 ghost use Rattle.model.specs.Ready.{readyFinite};
-ghost use Rattle.model.specs.RecordLaw.{recordLaw};
-ghost use Rattle.model.specs.ReadyRecord.{readyLaw};
+ghost use Rattle.one_record.specs.RecordLaw.{recordLaw};
+ghost use Rattle.one_record.specs.ReadyRecord.{readyLaw};
 ghost use Rattle.particles.specs.Step.{stepLaw, takenFinite, takenLaw};
 ghost use Rattle.particles.specs.Pass.{codeOf, valueOf, AmountFinite, answered, recordAt, replaced, worked, answers, countedIf, counted, counts, sized, withoutVerdicts, passed, passedWithFailure, passRecords, passAnswers};
 
@@ -110,7 +110,7 @@ fn one_ready(q: Ready, j: Judge, xs: &mut [u64], out: &mut [u64], i: usize) -> S
 {
     let a = i * record::FLOATS;
     let b = a + record::FLOATS;
-    let d = model::take_step(q, j, &mut xs[a..b]);
+    let d = one_record::take_step(q, j, &mut xs[a..b]);
     let o = d.outcome;
     write_answer(out, i, o);
     d

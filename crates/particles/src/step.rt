@@ -1,9 +1,9 @@
 // The step that a pass takes with each record.
 use elasticity_corotated_linear::CorotatedLinearElasticity;
 use failure_maximum_stress::MaximumStressFailure;
-use model::Judge;
 use model::Model;
 use model::Ready;
+use one_record::Judge;
 ghost use mathlib.Core.Path.{_≡_};
 ghost use Rattle.model.specs.Ready.{readyOf};
 ghost use Rattle.particles.specs.Step.{takenOf};
