@@ -45,9 +45,9 @@ REQUIRES = [
     ("record: write_row write_rows", "a place inside the list"),
     ("record: finite_bits", "that what is written is finite"),
     ("record: store_row store_rows", "that what is written is finite, and a place inside the list"),
-    ("particles: copy", "two lists of one length"),
-    ("particles: take_step", "a list of a record's length, and that what was made ready is finite, as `particles::ready_for` leaves it"),
-    ("particles: finite_step", "that too, and that the record's floats are finite"),
+    ("one_record: copy", "two lists of one length"),
+    ("one_record: take_step", "a list of a record's length, and that what was made ready is finite, as `model::make_ready` leaves it"),
+    ("one_record: finite_step", "that too, and that the record's floats are finite"),
     ("particles: write_answer", "that the two places are inside the list, and that an amount which is stored is finite"),
     ("particles: count_one", "that no count is near the end of its range, as in a pass none is: it counts records of a list"),
     ("writer: write_words", "that the room has place for the words, as bytes"),
@@ -68,7 +68,7 @@ REQUIRES = [
 INNER = [
     (
         "failure_maximum_stress: MaximumStressFailure::particle_failed",
-        "the verdict on principal stresses that are handed in. `particles` asks it (the pass with failure, on those of its own rule) and `solid` (on those of the stress that it answers); "
+        "the verdict on principal stresses that are handed in. `one_record` asks it (of a record that is judged, on those of its own rule) and `solid` (on those of the stress that it answers); "
         "sections 5 and 8 (P10, P11) are stated of it",
     ),
     ("plasticity_*: branch_number", "the branch of a test by the number that is handed in, whichever it is. `model::branch` asks it, of the test that a law has told"),
@@ -132,7 +132,7 @@ NANS = [
         "handed on: a state as it came, or an answer that its call has tested. Of `flat::stored` 3 where it is in F or sigma; `named` says that the other numbers are finite",
     ),
     (
-        "record: word float write_row write_rows determinant determinant_with; particles: copy fill_determinants; writer: write_words; host_lists: row matrix decomposed; model: rankine "
+        "record: word float write_row write_rows determinant determinant_with; one_record: copy; particles: fill_determinants; writer: write_words; host_lists: row matrix decomposed; model: rankine "
         "drucker_prager model_of fit known; host_lists: neo_hookean corotated limits; host_passes: pasoletu_fill_determinants",
         "read, written or copied as it is, of a determinant as worked (7ff8000000000000); the law refuses that record or those parameters by 1",
     ),
@@ -149,7 +149,7 @@ NANS = [
         "flat: inputs_finite; plasticity_*: *::parameters_finite *::moduli_finite; "
         "elasticity_neo_hookean: NeoHookeanElasticity::law_finite NeoHookeanElasticity::is_fluid; elasticity_corotated_linear: CorotatedLinearElasticity::law_finite "
         "CorotatedLinearElasticity::is_fluid; eos_monaghan_sph: MonaghanSphEos::is_fluid; failure_maximum_stress: MaximumStressFailure::limits_finite; record: all_finite; "
-        "model: model_finite parameters_ready; particles: judge_finite",
+        "model: model_finite parameters_ready; one_record: judge_finite",
         "a test's answer",
     ),
     ("answer_text: put_sheet", "its bits in sixteen digits: an answer that its call has tested"),
@@ -166,7 +166,7 @@ FIRST = [
     "elasticity_*: *::new *::fpk_stress *::phase_coeff *::elastic_energy_density *::elastic_energy_density_in *::pos_energy",
     "eos_monaghan_sph: *::new *::pressure *::kirchhoff_stress *::timestep_bound; failure_maximum_stress: *::new *::particle_failed",
     "solid: *::stress_and_verdict *::fpk_stress *::elastic_energy_density *::elastic_energy_density_in *::pos_energy",
-    "particles: update_record pass* ready_for take_step finite_step; factored_particles: factor_* pass_*; flat_particles: update_record pass; tallies: pass*; host*: pasoletu_*",
+    "one_record: update_record take_step finite_step; particles: pass* ready_for; factored_particles: factor_* pass_*; flat_particles: update_record pass; tallies: pass*; host*: pasoletu_*",
 ]
 
 FLOATS, LISTS = r"\bf64\b", r"\[u64"

@@ -18,9 +18,9 @@ use Rattle.plasticity.specs.declared.Outcome.the-variants as outcome
 use Rattle.record.specs.Layout.{floats, placeU, placeSigma, placeVT, placeDeterminant, putRow, putRows, bits}
 use Rattle.record.proofs.Places.{other, right-other}
 use Rattle.particles.specs.Pass.{Worked}
-use Rattle.particles.specs.Judged.{refusedRecord}
+use Rattle.one_record.specs.Judged.{refusedRecord}
 use Rattle.particles.specs.Step.{stepLaw}
-use Rattle.particles.proofs.NotFinite.{last-finite}
+use Rattle.one_record.proofs.RecordLaws.{last-finite}
 use Rattle.particles.proofs.Determinants as plain
 use Rattle.particles.proofs.Determinants.{Stands, Measured, differ}
 use Rattle.factored_particles.specs.declared.step.FactoredStep.{FactoredStep}

@@ -12,7 +12,7 @@ use Rattle.plasticity.specs.declared.Outcome.{Outcome}
 use Rattle.plasticity.specs.declared.Outcome.the-variants.{Untouched, Stored, Refused}
 use Rattle.record.specs.Layout.{recordFinite, determinantRight}
 use Rattle.particles.specs.Pass.{Worked}
-use Rattle.particles.specs.Judged.{refusedRecord}
+use Rattle.one_record.specs.Judged.{refusedRecord}
 use Rattle.factored_particles.specs.Factored.{factorsAt, withFactors, factorRefusal, factorLaw, heldBy, orAsItCame, factoredLaw}
 use Rattle.particles.proofs.PassLaws.{Keeps}
 

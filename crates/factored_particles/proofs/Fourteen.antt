@@ -14,7 +14,7 @@ use Rattle.factors.specs.Answers.{factoredOf, refusedFactors}
 use Rattle.plasticity.specs.declared.Outcome.the-variants.{Stored}
 use Rattle.record.specs.Layout.{placeF, matAt, recordFinite, determinantRight}
 use Rattle.particles.specs.Pass.{Worked}
-use Rattle.particles.specs.Judged.{refusedRecord}
+use Rattle.one_record.specs.Judged.{refusedRecord}
 use Rattle.factored_particles.specs.Factored.{withFactors, putFactors, factorRefusal, factorLaw, orAsItCame, factoredLaw}
 
 module _ (r : List ℕ) where

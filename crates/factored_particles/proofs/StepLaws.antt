@@ -18,18 +18,19 @@ use Rattle.model.specs.Model.{modelFinite}
 use Rattle.model.specs.Ready.{readyOf, readyFinite, parametersReady}
 use Rattle.model.proofs.KindLaws.{and-true}
 use Rattle.model.proofs.ReadyLaws.{ready-parameters}
-use Rattle.particles.specs.declared.judged.Judge.{Judge}
-use Rattle.particles.specs.declared.judged.Judge.the-variants.{Nobody, By}
+use Rattle.one_record.specs.declared.judged.Judge.{Judge}
+use Rattle.one_record.specs.declared.judged.Judge.the-variants.{Nobody, By}
 use Rattle.particles.specs.declared.failure.FailureCounts.{FailureCounts}
 use Rattle.particles.specs.declared.failure.PassedWithFailure.the-variants.{Done}
 use Rattle.particles.specs.declared.step.Step.the-variants.{Plain, Judged}
 use Rattle.particles.specs.Pass.{Worked, AmountFinite, codeOf, passedWithFailure, passAnswers}
-use Rattle.particles.specs.Plain.{recordLaw}
-use Rattle.particles.specs.Judged.{refusedRecord, finiteBy, lawBy}
-use Rattle.particles.specs.Readied.{readyLaw}
+use Rattle.one_record.specs.RecordLaw.{recordLaw}
+use Rattle.one_record.specs.Judged.{refusedRecord, finiteBy, lawBy}
+use Rattle.one_record.specs.ReadyRecord.{readyLaw}
 use Rattle.particles.specs.Step.{stepLaw}
 use Rattle.particles.proofs.PassLaws.{Keeps}
-use Rattle.particles.proofs.ReadiedLaws.{ready-law, ready-keeps, ready-amount, taken-finite}
+use Rattle.one_record.proofs.ReadyRecordLaws.{ready-law}
+use Rattle.particles.proofs.ReadiedLaws.{ready-keeps, ready-amount, taken-finite}
 use Rattle.particles.proofs.CountLaws.{CountsTold, Never, step-never, counted-by}
 use Rattle.factored_particles.specs.declared.step.FactoredStep.{FactoredStep}
 use Rattle.factored_particles.specs.declared.step.FactoredStep.the-variants.{Factors, First}

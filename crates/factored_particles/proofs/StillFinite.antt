@@ -18,11 +18,11 @@ use Rattle.factors.specs.declared.Factors.{Factors}
 use Rattle.factors.specs.Sweeps.{factorsOf}
 use Rattle.factors.specs.Check.{nearAll, orthogonalOf, largestIn, notBelow, acceptedOf}
 use Rattle.factors.proofs.Entries.{Row, AllRows}
-use Rattle.particles.proofs.NotFinite.{last-finite}
+use Rattle.one_record.proofs.RecordLaws.{last-finite}
 use Rattle.model.specs.declared.Ready.{Ready}
-use Rattle.particles.specs.declared.judged.Judge.{Judge}
-use Rattle.particles.specs.Judged.{finiteBy}
-use Rattle.particles.specs.Readied.{readyMarked, readyLaw}
+use Rattle.one_record.specs.declared.judged.Judge.{Judge}
+use Rattle.one_record.specs.Judged.{finiteBy}
+use Rattle.one_record.specs.ReadyRecord.{readyMarked, readyLaw}
 use Rattle.factored_particles.specs.Factored.{withFactors, factorRefusal}
 use Rattle.factored_particles.proofs.FactoredLaws.{Factored}
 use Rattle.factored_particles.proofs.Fourteen as fourteen

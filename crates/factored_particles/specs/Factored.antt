@@ -13,7 +13,7 @@ use Rattle.factors.specs.declared.Factors.{Factors}
 use Rattle.factors.specs.declared.FactorsAnswer.{FactorsAnswer}
 use Rattle.factors.specs.Answers.{factoredOf}
 use Rattle.particles.specs.Pass.{Worked}
-use Rattle.particles.specs.Judged.{refusedRecord}
+use Rattle.one_record.specs.Judged.{refusedRecord}
 
 -- of the F that stands in a record
 abbrev pub factorsAt : List ℕ → FactorsAnswer

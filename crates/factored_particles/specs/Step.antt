@@ -6,13 +6,13 @@ use Rattle.model.specs.declared.Ready.{Ready}
 use Rattle.model.specs.declared.Ready.the-variants.{Refused}
 use Rattle.model.specs.Model.{modelFinite}
 use Rattle.model.specs.Ready.{parametersReady}
-use Rattle.particles.specs.declared.judged.Judge.{Judge}
-use Rattle.particles.specs.declared.judged.Judge.the-variants.{Nobody}
+use Rattle.one_record.specs.declared.judged.Judge.{Judge}
+use Rattle.one_record.specs.declared.judged.Judge.the-variants.{Nobody}
 use Rattle.particles.specs.declared.step.Step as particle-steps
 use Rattle.particles.specs.declared.step.Step.the-variants.{Plain, Judged}
 use Rattle.particles.specs.Pass.{Worked}
-use Rattle.particles.specs.Judged.{judgeFinite, finiteBy}
-use Rattle.particles.specs.Readied.{readyLaw}
+use Rattle.one_record.specs.Judged.{judgeFinite, finiteBy}
+use Rattle.one_record.specs.ReadyRecord.{readyLaw}
 use Rattle.particles.specs.Step.{stepLaw, takenOf}
 use Rattle.factored_particles.specs.declared.step.FactoredStep.{FactoredStep}
 use Rattle.factored_particles.specs.declared.step.FactoredStep.the-variants.{Factors, First}

@@ -1,8 +1,8 @@
 // Our own factors of a record, by themselves or before a step (RULES, section 7).
 use factors::Factors;
 use model::Ready;
-use particles::Judge;
-use particles::Stepped;
+use one_record::Judge;
+use one_record::Stepped;
 use plasticity::Outcome;
 ghost use mathlib.Core.Path.{_≡_};
 ghost use mathlib.Core.Bool.{true, cond};
@@ -67,7 +67,7 @@ fn hold(o: Outcome, old: &[u64], r: &mut [u64])
         Outcome::Untouched => {}
         Outcome::Stored(_) => {}
         Outcome::Refused(_) => {
-            particles::copy(old, r);
+            one_record::copy(old, r);
         }
     }
 }
@@ -79,14 +79,14 @@ pub fn first(q: Ready, j: Judge, r: &mut [u64]) -> Stepped
     ensures failed { λ x. ⌜ x .failed ≡ readyFirst q j (now (r .entry)) .failed ⌝ }
     ensures record { λ x. ⌜ now (r .exit) ≡ readyFirst q j (now (r .entry)) .after ⌝ }
 {
-    if !(model::parameters_ready(q) & particles::judge_finite(j)) {
+    if !(model::parameters_ready(q) & one_record::judge_finite(j)) {
         return Stepped {
             outcome: Outcome::Refused(answers::NOT_FINITE),
             failed: false,
         };
     }
     let mut old = [0u64; record::FLOATS];
-    particles::copy(&r[..], &mut old);
+    one_record::copy(&r[..], &mut old);
     let n = factor(r);
     if n != 0 {
         return Stepped {
@@ -94,7 +94,7 @@ pub fn first(q: Ready, j: Judge, r: &mut [u64]) -> Stepped
             failed: false,
         };
     }
-    let d = particles::finite_step(q, j, r);
+    let d = one_record::finite_step(q, j, r);
     let o = d.outcome;
     hold(o, &old, r);
     d

@@ -12,8 +12,8 @@ use plasticity::Outcome;
 ghost use mathlib.Core.Path.{_≡_};
 ghost use mathlib.Core.Bool.{_&&_};
 ghost use Rattle.model.specs.Model.{modelFinite};
-ghost use Rattle.particles.specs.Plain.{recordLaw};
-ghost use Rattle.particles.specs.Judged.{judgeFinite, failureLaw};
+ghost use Rattle.one_record.specs.RecordLaw.{recordLaw};
+ghost use Rattle.one_record.specs.Judged.{judgeFinite, failureLaw};
 ghost use Rattle.factored_particles.specs.Factored.{factorLaw, factoredLaw, factorOutcome, factorAfter};
 ghost use Rattle.particles.specs.Pass.{passed, passedWithFailure, passRecords, passAnswers};
 

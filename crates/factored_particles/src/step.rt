@@ -1,9 +1,9 @@
 // The step that a pass with our own factors takes with each record.
 use crate::factored;
 use model::Ready;
-use particles::Judge;
+use one_record::Judge;
+use one_record::Stepped;
 use particles::Step;
-use particles::Stepped;
 use plasticity::Outcome;
 ghost use mathlib.Core.Path.{_≡_};
 ghost use mathlib.Core.Bool.{true, false};

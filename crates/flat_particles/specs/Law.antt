@@ -14,7 +14,7 @@ use Rattle.model.specs.declared.Model.the-variants.{Snow, Rankine, DruckerPrage
 use Rattle.record.specs.Layout.{widths}
 use Rattle.model.specs.Rows.{actsOf}
 use Rattle.model.specs.Named.{named}
-use Rattle.particles.specs.Named.{storedOver, keptOver}
+use Rattle.one_record.specs.Kept.{storedOver, keptOver}
 use Rattle.particles.specs.Pass.{Worked}
 use Rattle.flat.specs.declared.State.{State}
 use Rattle.flat.specs.declared.Updated.{Updated}

@@ -14,8 +14,8 @@ use Rattle.host_lists.specs.Laws.{corotatedOf, limitsOf}
 use Rattle.particles.specs.declared.list.Counts.{Counts}
 use Rattle.particles.specs.declared.failure.FailureCounts.{FailureCounts}
 use Rattle.particles.specs.Pass.{Worked, threeOf, wellSizedOver, wellSized, workedOver, answersOver, countsOver}
-use Rattle.particles.specs.Plain.{recordLaw}
-use Rattle.particles.specs.Judged.{judgeFinite, failureLaw}
+use Rattle.one_record.specs.RecordLaw.{recordLaw}
+use Rattle.one_record.specs.Judged.{judgeFinite, failureLaw}
 use Rattle.factored_particles.specs.Factored.{factorLaw, factoredLaw}
 use Rattle.host_lists.specs.Refused.{has}
 use Rattle.host_lists.specs.Called.{Called, called, callOf}

@@ -6,8 +6,8 @@ use Rattle.model.specs.Kinds.{parametersFit, modelKnown}
 use Rattle.model.specs.Fields.{modelOf}
 use Rattle.host_lists.specs.Laws.{corotatedOf, limitsOf}
 use Rattle.particles.specs.Pass.{Worked, wellSized}
-use Rattle.particles.specs.Plain.{recordLaw}
-use Rattle.particles.specs.Judged.{failureLaw}
+use Rattle.one_record.specs.RecordLaw.{recordLaw}
+use Rattle.one_record.specs.Judged.{failureLaw}
 use Rattle.tallies.specs.Words.{whole, cleared, clearedWords, moved, movedZones, movedWords, passed, passedRecords, passedAnswers, passedWords}
 use Rattle.host_lists.specs.Refused.{has}
 use Rattle.host_lists.specs.Called.{Called, called, callOf}

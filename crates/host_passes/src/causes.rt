@@ -1,5 +1,5 @@
 // Why a record moves, or why it doesn't.
-use particles::copy;
+use one_record::copy;
 use record_why::Cause;
 ghost use mathlib.Core.Path.{_≡_};
 ghost use mathlib.Core.List.{[], _∷_};

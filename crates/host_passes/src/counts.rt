@@ -1,7 +1,7 @@
 // A pass's counts into a lent list of their number.
+use one_record::copy;
 use particles::Passed;
 use particles::PassedWithFailure;
-use particles::copy;
 ghost use mathlib.Core.Path.{_≡_};
 ghost use lib.ListN.{length};
 ghost use Rattle.host_passes.specs.Inner.{passedCode, passedCounts, failureCode, failureCounts};

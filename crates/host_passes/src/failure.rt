@@ -2,7 +2,7 @@
 use crate::counts::put_failure_counts;
 ghost use mathlib.Core.Path.{_≡_};
 ghost use mathlib.Core.List.{[], _∷_};
-ghost use Rattle.particles.specs.Judged.{failureLaw};
+ghost use Rattle.one_record.specs.Judged.{failureLaw};
 ghost use Rattle.host_lists.specs.Called.{called};
 ghost use Rattle.host_passes.specs.Passes.{failureBy, factoredFailure};
 

@@ -3,7 +3,7 @@ use crate::counts::put_counts;
 ghost use mathlib.Core.Path.{_≡_};
 ghost use mathlib.Core.List.{[], _∷_};
 ghost use Rattle.record.specs.Layout.{floats};
-ghost use Rattle.particles.specs.Plain.{recordLaw};
+ghost use Rattle.one_record.specs.RecordLaw.{recordLaw};
 ghost use Rattle.flat_particles.specs.Layout as flat;
 ghost use Rattle.flat_particles.specs.Law.{flatLaw};
 ghost use Rattle.host_lists.specs.Called.{called};

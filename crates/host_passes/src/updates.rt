@@ -1,11 +1,11 @@
 // The update of one record by a plastic law, of a flat record too.
-use particles::copy;
+use one_record::copy;
 use plasticity::Outcome;
 ghost use mathlib.Core.Path.{_≡_};
 ghost use mathlib.Core.List.{[], _∷_};
 ghost use lib.ListN.{length};
 ghost use Rattle.record.specs.Layout.{floats};
-ghost use Rattle.particles.specs.Plain.{recordLaw};
+ghost use Rattle.one_record.specs.RecordLaw.{recordLaw};
 ghost use Rattle.flat_particles.specs.Layout as flat;
 ghost use Rattle.flat_particles.specs.Law.{flatLaw};
 ghost use Rattle.host_lists.specs.Called.{called};
@@ -41,7 +41,7 @@ pub extern "C" fn pasoletu_update(
 {
     if model::fit(model, parameters) & (r.len() == record::FLOATS) & (answer.len() == 2) {
         if model::known(model, parameters) {
-            let o = particles::update_record(model::model_of(model, parameters), r);
+            let o = one_record::update_record(model::model_of(model, parameters), r);
             return put_outcome(o, answer);
         }
         return answers::UNKNOWN;

@@ -1,5 +1,5 @@
 // The report over a list of records, and two reports put together.
-use particles::copy;
+use one_record::copy;
 use report::Column;
 use report::Report;
 use report::Reported;

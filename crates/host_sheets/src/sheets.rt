@@ -1,5 +1,5 @@
 // A sheet of bytes: read, run to its answers, or written.
-use particles::copy;
+use one_record::copy;
 use sheet::Header;
 use sheet_run::Ran;
 use writer::Written;

@@ -21,8 +21,8 @@ use Rattle.particles.specs.declared.failure.PassedWithFailure.the-varian
 use Rattle.particles.specs.declared.step.Step.{Step}
 use Rattle.particles.specs.declared.step.Step.the-variants.{Plain, Judged}
 use Rattle.particles.specs.Pass.{Worked, codeOf, recordAt, answers, counted, counts, wellSized, passedWithFailure, passAnswers, countsOver}
-use Rattle.particles.specs.Plain.{recordLaw}
-use Rattle.particles.specs.Judged.{judgeFinite, judgedAt, refusedRecord, marked, failureLaw, unlessRefused}
+use Rattle.one_record.specs.RecordLaw.{recordLaw}
+use Rattle.one_record.specs.Judged.{judgeFinite, judgedAt, refusedRecord, marked, failureLaw, unlessRefused}
 use Rattle.particles.specs.Step.{stepLaw}
 use Rattle.particles.proofs.PassLaws.{answers-at}
 

@@ -25,15 +25,15 @@ use Rattle.model.specs.declared.Model.{Model}
 use Rattle.model.specs.Model.{modelFinite}
 use Rattle.model.proofs.KindLaws.{and-true}
 use Rattle.particles.specs.Pass.{Worked, codeOf}
-use Rattle.particles.specs.Plain.{putState, updatedAt, kept, lawAt, keptBy, recordLaw}
-use Rattle.particles.specs.Judged.{judgeFinite, verdictAfter, unlessRefused, judgedAt, refusedRecord, marked, failureLaw}
+use Rattle.one_record.specs.RecordLaw.{putState, updatedAt, kept, lawAt, keptBy, recordLaw}
+use Rattle.one_record.specs.Judged.{judgeFinite, verdictAfter, unlessRefused, judgedAt, refusedRecord, marked, failureLaw}
 use Rattle.particles.specs.Bare.{bareLaw, Unrefused}
 use Rattle.particles.specs.Fill.{fillLaw}
 use Rattle.particles.specs.declared.step.Step.{Step}
 use Rattle.particles.specs.declared.step.Step.the-variants.{Plain, Judged}
 use Rattle.particles.specs.Step.{stepLaw}
 use Rattle.model.proofs.RowLaws.{not-finite}
-use Rattle.particles.proofs.NotFinite.{last-finite, law-wrong}
+use Rattle.one_record.proofs.RecordLaws.{last-finite, law-wrong}
 use Rattle.particles.proofs.PassLaws.{outcome-same}
 use Rattle.particles.proofs.Written.{kept-right, take-kept}
 

@@ -36,8 +36,8 @@ use Rattle.elasticity_corotated_linear.specs.declared.CorotatedLinearElasticity
 use Rattle.elasticity_corotated_linear.specs.Principal.{principalWalk, principalStresses}
 use Rattle.record.specs.Layout.{stateAt, determinantAt, determinantRight}
 use Rattle.model.specs.declared.Model.the-variants.{Snow, Rankine, DruckerPrager}
-use Rattle.particles.specs.Plain.{updatedAt, lawAt, recordLaw}
-use Rattle.particles.specs.Judged.{verdictAfter, judgedAt, refusedRecord, failureLaw}
+use Rattle.one_record.specs.RecordLaw.{updatedAt, lawAt, recordLaw}
+use Rattle.one_record.specs.Judged.{verdictAfter, judgedAt, refusedRecord, failureLaw}
 
 abbrev f64 : ℕ → Float
 f64 x = ofBits binary64 x

@@ -1,34 +1,21 @@
 -- The pass with failure keeps a record's length; a record fails exactly on a yes where nothing is refused. Assumes nothing.
 use mathlib.Core.Path.{_≡_, refl, sym, ap, _∙_}
-use mathlib.Core.Bool.{Bool, true, false, cond, false≢true, true≢false}
+use mathlib.Core.Bool.{Bool, true, false, cond, false≢true}
 use mathlib.Core.List.{List}
 use Prim.Native.Nat.{ℕ}
 use lib.ListN.{length, length-set}
 use native.Mathlib.Omega.{arith}
-use lib.Dec.{eqb}
-use borrow.Author.Tests.{ne-eqb}
-use Rattle.record.specs.Layout.{stateAt, putPhase}
-use Rattle.tensor.specs.Matrix.{zero}
-use lib.Ieee.{Float}
-use Rattle.walk.specs.Walk.{Walk, Ended, given, refused, result}
-use Rattle.walk.specs.Exact.{path}
-use Rattle.walk.specs.Answers.{vectorAs, refusalIn}
-use Rattle.walk.proofs.Answers.{refused-when, stops-positive}
-use Rattle.failure_maximum_stress.specs.Failure.{verdictOf}
+use Rattle.record.specs.Layout.{stateAt}
 use Rattle.plasticity.specs.declared.Outcome.{Outcome}
 use Rattle.plasticity.specs.declared.Outcome.the-variants as outcome
-use Rattle.plasticity.specs.declared.State.{State}
-use Rattle.plasticity.specs.declared.Updated.{Updated}
 use Rattle.failure_maximum_stress.specs.declared.MaximumStressFailure.{MaximumStressFailure}
 use Rattle.failure_maximum_stress.specs.declared.Verdict.{Verdict}
 use Rattle.failure_maximum_stress.specs.declared.Verdict.the-variants.{No, Yes, Refused}
 use Rattle.elasticity_corotated_linear.specs.declared.CorotatedLinearElasticity.{CorotatedLinearElasticity}
 use Rattle.model.specs.declared.Model.{Model}
-use Rattle.model.specs.declared.Ready.{Ready}
 use Rattle.particles.specs.Pass.{Worked, codeOf}
-use Rattle.particles.specs.Plain.{Beside, lawAt, recordLaw}
-use Rattle.particles.specs.Judged.{verdictOn, judgeFinite, verdictAfter, unlessRefused, judgedAt, refusedRecord, marked, outcomeBy, failedBy, failureLaw}
-use Rattle.particles.specs.Readied.{readyKept, readyKeptBy}
+use Rattle.one_record.specs.RecordLaw.{lawAt, recordLaw}
+use Rattle.one_record.specs.Judged.{judgeFinite, verdictAfter, unlessRefused, judgedAt, refusedRecord, marked, failureLaw}
 use Rattle.particles.specs.declared.step.Step.{Step}
 use Rattle.particles.specs.declared.step.Step.the-variants.{Plain, Judged}
 use Rattle.particles.specs.Step.{stepLaw}
@@ -47,45 +34,10 @@ failure-keeps m l e r = go (judgeFinite l e)
     go true = marked-length (judgedAt m l e r) r (recordLaw m r) (record-keeps m r)
     go false = refl
 
--- what a verdict leaves of an update: its outcome, whether the record failed, and the phase on a yes
-module _ (q : Ready) (r : List ℕ) (d : Updated) where
-  abbrev Leaves : Verdict → Outcome → Bool → List ℕ → Type 0
-  Leaves v o f after = let w = marked v r (readyKeptBy q d r) in (o ≡ w .outcome) × (f ≡ w .failed) × (after ≡ w .after)
-
-  module _ {o : Outcome} {l : List ℕ} where
-    written : {p : Outcome} → o ≡ p → l ≡ readyKept q o r (d .state) → l ≡ readyKept q p r (d .state)
-    written a b = b ∙ ap (λ (x : Outcome). readyKept q x r (d .state)) a
-
-    pub marked-yes : (v : Verdict) → o ≡ outcomeBy v (d .outcome) → l ≡ readyKept q o r (d .state) → failedBy v ≡ true → Leaves v o true (putPhase l zero)
-    marked-yes No a b f = absurd (false≢true f)
-    marked-yes Yes a b f = (a, refl, ap (λ (x : List ℕ). putPhase x zero) (written a b))
-    marked-yes (Refused n) a b f = absurd (false≢true f)
-
-    pub marked-no : (v : Verdict) → o ≡ outcomeBy v (d .outcome) → l ≡ readyKept q o r (d .state) → failedBy v ≡ false → Leaves v o false l
-    marked-no No a b f = (a, refl, written a b)
-    marked-no Yes a b f = absurd (true≢false f)
-    marked-no (Refused n) a b f = (a, refl, written a b)
-
--- and what it leaves to be stored is the law's
-pub beside-left : (v : Verdict) (o : Outcome) (r : List ℕ) (s : State) (w : ℕ) → Beside o r s w → Beside (outcomeBy v o) r s w
-beside-left No o r s w h = h
-beside-left Yes o r s w h = h
-beside-left (Refused n) o r s w h = tt
-
 -- every step of a pass keeps a record's length
 pub step-keeps : (s : Step) → Keeps (stepLaw s)
 step-keeps (Plain m) = record-keeps m
 step-keeps (Judged m l e) = failure-keeps m l e
-
--- no walk refuses by 0, so that its refusal is handed on
-handed : (l : MaximumStressFailure) (w : Walk (List Float)) (x : Ended (List Float)) → result w ≡ x
-    → cond (eqb (vectorAs x .refusal) 0) (verdictOf l (vectorAs x .vector)) (Refused (vectorAs x .refusal)) ≡ verdictOn l x
-handed l w (given v) e = refl
-handed l w (refused n) e = rw (ne-eqb n 0 (λ z. let q = stops-positive (path w) n (refused-when w n .0 (ap refusalIn e)) in omega (arith, q, z))) refl
-
-pub verdict-handed : (l : MaximumStressFailure) (w : Walk (List Float))
-    → cond (eqb (vectorAs (result w) .refusal) 0) (verdictOf l (vectorAs (result w) .vector)) (Refused (vectorAs (result w) .refusal)) ≡ verdictOn l (result w)
-verdict-handed l w = handed l w (result w) refl
 
 -- ---- a record fails exactly on a yes where nothing is refused
 pub record Failed (m : Model) (l : MaximumStressFailure) (e : CorotatedLinearElasticity) (r : List ℕ) : Type 0 where

@@ -23,8 +23,8 @@ use Rattle.model.specs.Named.{scalarOf, partsWritten, named}
 use Rattle.particles.specs.declared.list.Passed.the-variants as passed-variants
 use Rattle.particles.specs.declared.failure.FailureCounts.{FailureCounts}
 use Rattle.particles.specs.declared.failure.PassedWithFailure.the-variants as failure-variants
-use Rattle.particles.specs.Named.{byOutcome}
-use Rattle.particles.specs.Plain.{recordLaw, kept, lawAt, putState}
+use Rattle.one_record.specs.Kept.{byOutcome}
+use Rattle.one_record.specs.RecordLaw.{recordLaw, kept, lawAt, putState}
 use Rattle.particles.specs.Fill.{fillLaw}
 use Rattle.particles.specs.Pass.{Worked, codeOf, valueOf, answered, countedIf, counted, recordOver, replacedOver, workedOver, answersOver, countsOver, threeOf, withoutVerdicts}
 

@@ -1,49 +1,29 @@
--- What an update writes: the determinant is that of the F written, and no scalar touches either. Assumes nothing.
+-- What an update leaves: the determinant stays right, and the floats before it are those of the law by itself. Assumes nothing.
 use mathlib.Core.Path.{_≡_, refl, ap, _∙_}
 use mathlib.Core.List.{List, [], _∷_}
-use Prim.Native.Nat.{ℕ, _+_, _<_}
+use Prim.Native.Nat.{ℕ, _+_}
 use native.Mathlib.Omega.{arith}
 use mathlib.Core.Bool.{true, _&&_}
 use lib.Dec.{ltb}
 use borrow.Author.Tests.{ltb-true}
-use lib.ListN.{length, getD, set, take, length-set}
-use lib.Seq.{getD-set-same, getD-set-other, take-set-le}
+use lib.ListN.{length, set, take, length-set}
+use lib.Seq.{take-set-le}
 use Rattle.numbers.proofs.Laws.{and-both}
 use Rattle.plasticity.specs.declared.Outcome.{Outcome}
 use Rattle.plasticity.specs.declared.Outcome.the-variants.{Untouched, Stored, Refused}
 use Rattle.plasticity.specs.declared.Scalars.{Scalars}
 use Rattle.plasticity.specs.declared.State.{State}
 use Rattle.record.specs.Layout.{layout, floats, bare, place, placeF, placeSigma, placeDeterminant, bits, determinantAt, determinantRight, putRow, putRows, putBare, putShape}
-use Rattle.record.proofs.Places.{determinant-row, filled-right, right-other, take-set, take-row}
+use Rattle.record.proofs.Places.{filled-right, right-other, take-set, take-row}
 use Rattle.model.specs.declared.Model.{Model}
 use Rattle.model.specs.Rows.{rowOf, actsOf}
 use Rattle.model.specs.Named.{scalarOf, partsWritten}
 use Rattle.model.proofs.RowLaws.{aside, written-aside}
-use Rattle.particles.specs.Plain.{putScalars, kept}
+use Rattle.one_record.specs.RecordLaw.{putScalars, kept}
 use Rattle.particles.specs.Bare.{bareKept}
-
--- the determinant of the F that is written
-pub bare-determinant : (r : List ℕ) (s : State) → determinantAt (putBare r s) ≡ determinantAt (putRows r placeF (s .f))
-bare-determinant r s = determinant-row (putRows r placeF (s .f)) placeSigma (s .sigma) (omega arith)
-
-pub shape-length : (r : List ℕ) (s : State) (v : ℕ) → length (set (putBare r s) placeDeterminant v) ≡ length r
-shape-length r s v = simp length-set
-
--- no scalar stands in its place
-apart : (r : List ℕ) (i v : ℕ) → i < placeDeterminant → getD (set r i v) placeDeterminant 0 ≡ getD r placeDeterminant 0
-apart r i v h = getD-set-other r i placeDeterminant v 0 (λ e. omega arith)
 
 -- of parts that stand behind F and before its determinant
 module _ (x : Scalars) where
-  parts-last : (parts : List ℕ) → aside parts ≡ true → (r : List ℕ) → getD (partsWritten layout parts r x) placeDeterminant 0 ≡ getD r placeDeterminant 0
-  parts-last [] h r = refl
-  parts-last (part ∷ parts) h r =
-      let i = place layout part in
-      let q = and-both (ltb 8 i && ltb i placeDeterminant) (aside parts) h in
-      let between = and-both (ltb 8 i) (ltb i placeDeterminant) (q .0) in
-      parts-last parts (q .1) (set r i (bits (scalarOf x part))) ∙ apart r i _ (ltb-true i placeDeterminant (between .1))
-
-  -- the determinant stays right under them
   parts-right : (parts : List ℕ) → aside parts ≡ true → (r : List ℕ) → determinantRight (partsWritten layout parts r x) ≡ determinantRight r
   parts-right [] h r = refl
   parts-right (part ∷ parts) h r =
@@ -58,12 +38,6 @@ module _ (x : Scalars) where
   take-parts n (part ∷ parts) r =
       let v = bits (scalarOf x part) in
       take-parts n parts (set r (place layout part) v) ∙ ap (λ (t : List ℕ). partsWritten layout parts t x) (take-set n r (place layout part) v)
-
-pub scalars-last : (m : Model) (r : List ℕ) (s : State) → getD (putScalars m r s) placeDeterminant 0 ≡ getD r placeDeterminant 0
-scalars-last m r s = parts-last (s .scalars) (rowOf (actsOf m .law) .written) (written-aside (actsOf m .law)) r
-
-pub shape-last : (r : List ℕ) (s : State) → length r ≡ floats → getD (putShape r s) placeDeterminant 0 ≡ determinantAt (putRows r placeF (s .f))
-shape-last r s k = getD-set-same (putBare r s) placeDeterminant (determinantAt (putBare r s)) 0 (simp length-set (omega arith)) ∙ bare-determinant r s
 
 -- ---- what is kept
 scalars-right : (m : Model) (r : List ℕ) (s : State) → determinantRight (putScalars m r s) ≡ determinantRight r

@@ -10,7 +10,7 @@ use Rattle.plasticity.specs.declared.State.{State}
 use Rattle.record.specs.Layout.{placeDeterminant, floatAt, determinantRight, putBare}
 use Rattle.model.specs.declared.Model.{Model}
 use Rattle.particles.specs.Pass.{Worked}
-use Rattle.particles.specs.Plain.{putScalars, updatedAt, kept}
+use Rattle.one_record.specs.RecordLaw.{putScalars, updatedAt, kept}
 
 abbrev pub bareKept : Model → Outcome → List ℕ → State → List ℕ
 bareKept m Untouched q s = q

@@ -12,18 +12,13 @@ use Rattle.answers.specs.Refusals.{wrongLength}
 use Rattle.plasticity.specs.declared.Outcome.{Outcome}
 use Rattle.plasticity.specs.declared.Outcome.the-variants.{Untouched, Stored, Refused}
 use Rattle.record.specs.Layout.{floats}
+pub use Rattle.one_record.specs.RecordLaw.{Worked}
 use Rattle.particles.specs.declared.list.Counts.{Counts}
 use Rattle.particles.specs.declared.list.Passed.{Passed}
 use Rattle.particles.specs.declared.list.Passed.the-variants as passed-variants
 use Rattle.particles.specs.declared.failure.FailureCounts.{FailureCounts}
 use Rattle.particles.specs.declared.failure.PassedWithFailure.{PassedWithFailure}
 use Rattle.particles.specs.declared.failure.PassedWithFailure.the-variants as failure-variants
-
--- what a step makes of one record: the outcome, whether the record failed and was not refused, and the record afterwards
-pub record Worked : Type 0 where
-  pub outcome : Outcome
-  pub failed : Bool
-  pub after : List ℕ
 
 -- RULES' numbers of an outcome: 0, 1 or 2, and 0, the amount's bits or the refusal number
 abbrev pub codeOf : Outcome → ℕ

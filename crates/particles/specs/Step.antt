@@ -6,11 +6,11 @@ use Rattle.model.specs.Ready.{readyOf, readyFinite}
 use Rattle.particles.specs.declared.step.Step.{Step}
 use Rattle.particles.specs.declared.step.Step.the-variants.{Plain, Judged}
 use Rattle.particles.specs.declared.step.Taken.{Taken}
-use Rattle.particles.specs.declared.judged.Judge.the-variants.{Nobody, By}
+use Rattle.one_record.specs.declared.judged.Judge.the-variants.{Nobody, By}
 use Rattle.particles.specs.Pass.{Worked}
-use Rattle.particles.specs.Plain.{recordLaw}
-use Rattle.particles.specs.Judged.{failureLaw}
-use Rattle.particles.specs.Readied.{readyLaw}
+use Rattle.one_record.specs.RecordLaw.{recordLaw}
+use Rattle.one_record.specs.Judged.{failureLaw}
+use Rattle.one_record.specs.ReadyRecord.{readyLaw}
 
 abbrev pub stepLaw : Step → List ℕ → Worked
 stepLaw (Plain m) = recordLaw m

@@ -5,7 +5,7 @@ use elasticity_corotated_linear::CorotatedLinearElasticity;
 use failure_maximum_stress::MaximumStressFailure;
 use model::Model;
 ghost use mathlib.Core.Path.{_≡_};
-ghost use Rattle.particles.specs.Judged.{failureLaw};
+ghost use Rattle.one_record.specs.Judged.{failureLaw};
 ghost use Rattle.particles.specs.Pass.{passedWithFailure, passRecords, passAnswers};
 
 // How many records were left untouched, stored and refused, and how many of those not refused failed.

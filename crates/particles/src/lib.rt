@@ -1,31 +1,20 @@
-// One record by itself, the pass over a lent list of records, the pass with failure, and determinants filled in (RULES, section 7).
+// The pass over a lent list of records, the pass with failure, and determinants filled in (RULES, section 7).
 mod failure;
 mod fill;
-mod judged;
-mod law;
 mod list;
-mod saved;
 mod step;
-mod stored;
 
 pub use failure::FailureCounts;
 pub use failure::PassedWithFailure;
 pub use failure::pass_with_failure;
 pub use fill::fill_determinants;
-pub use judged::Judge;
-pub use judged::finite_step;
-pub use judged::judge_finite;
-pub use judged::take_step;
 pub use list::Counts;
 pub use list::Passed;
 pub use list::count_one;
 pub use list::pass;
 pub use list::three;
-pub use list::update_record;
 pub use list::well_sized;
 pub use list::write_answer;
-pub use saved::copy;
 pub use step::Step;
-pub use step::Stepped;
 pub use step::Taken;
 pub use step::ready_for;

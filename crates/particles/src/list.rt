@@ -1,14 +1,13 @@
 // The pass over a lent list of records by any step.
 use crate::failure::FailureCounts;
 use crate::failure::PassedWithFailure;
-use crate::judged;
-use crate::judged::Judge;
 use crate::step;
 use crate::step::Step;
-use crate::step::Stepped;
 use crate::step::Taken;
 use model::Model;
 use model::Ready;
+use one_record::Judge;
+use one_record::Stepped;
 use plasticity::Outcome;
 ghost use mathlib.Core.Path.{_≡_};
 ghost use mathlib.Core.Bool.{true};
@@ -16,8 +15,8 @@ ghost use Prim.Native.Nat.{_+_, _*_, _^_, _≤_, _<_};
 ghost use lib.ListN.{length};
 ghost use Rattle.record.specs.Layout.{floats};
 ghost use Rattle.model.specs.Ready.{readyFinite};
-ghost use Rattle.particles.specs.Plain.{recordLaw, recordOutcome, recordAfter};
-ghost use Rattle.particles.specs.Readied.{readyLaw};
+ghost use Rattle.one_record.specs.RecordLaw.{recordLaw};
+ghost use Rattle.one_record.specs.ReadyRecord.{readyLaw};
 ghost use Rattle.particles.specs.Step.{stepLaw, takenFinite, takenLaw};
 ghost use Rattle.particles.specs.Pass.{codeOf, valueOf, AmountFinite, answered, recordAt, replaced, worked, answers, countedIf, counted, counts, sized, withoutVerdicts, passed, passedWithFailure, passRecords, passAnswers};
 
@@ -31,18 +30,6 @@ pub struct Counts {
 pub enum Passed {
     Done(Counts),
     Refused(u8),
-}
-
-// One record by itself. A list of another length is refused by 8 and keeps its bits.
-pub fn update_record(m: Model, r: &mut [u64]) -> Outcome
-    ensures { λ x. ⌜ x ≡ recordOutcome m (now (r .entry)) ⌝ }
-    ensures { λ x. ⌜ now (r .exit) ≡ recordAfter m (now (r .entry)) ⌝ }
-{
-    if r.len() == record::FLOATS {
-        let d = judged::take_step(model::make_ready(m), Judge::Nobody, r);
-        return d.outcome;
-    }
-    Outcome::Refused(answers::LENGTH)
 }
 
 // The answer's first number: 0 untouched, 1 stored, 2 refused.
@@ -123,7 +110,7 @@ fn one_ready(q: Ready, j: Judge, xs: &mut [u64], out: &mut [u64], i: usize) -> S
 {
     let a = i * record::FLOATS;
     let b = a + record::FLOATS;
-    let d = judged::take_step(q, j, &mut xs[a..b]);
+    let d = one_record::take_step(q, j, &mut xs[a..b]);
     let o = d.outcome;
     write_answer(out, i, o);
     d

@@ -1,10 +1,9 @@
 // The step that a pass takes with each record.
-use crate::judged::Judge;
 use elasticity_corotated_linear::CorotatedLinearElasticity;
 use failure_maximum_stress::MaximumStressFailure;
 use model::Model;
 use model::Ready;
-use plasticity::Outcome;
+use one_record::Judge;
 ghost use mathlib.Core.Path.{_≡_};
 ghost use Rattle.model.specs.Ready.{readyOf};
 ghost use Rattle.particles.specs.Step.{takenOf};
@@ -13,12 +12,6 @@ ghost use Rattle.particles.specs.Step.{takenOf};
 pub enum Step {
     Plain(Model),
     Judged(Model, MaximumStressFailure, CorotatedLinearElasticity),
-}
-
-// The outcome, and whether the record failed and was not refused.
-pub struct Stepped {
-    pub outcome: Outcome,
-    pub failed: bool,
 }
 
 // A step with its model made ready, once for all records.

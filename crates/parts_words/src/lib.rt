@@ -1,6 +1,6 @@
 // A sheet in parts for hosts (RULES, section 7): how far it has come stands in a lent list of words, and any words answer for some state.
 use model::PARAMETERS;
-use particles::copy;
+use one_record::copy;
 use parts::Arrival;
 use parts::ROOM;
 use parts::Told;

@@ -13,7 +13,7 @@ use Rattle.plasticity_snow.specs.Over as snow
 use Rattle.record.specs.Layout.{floats, determinantAt, determinantRight}
 use Rattle.model.specs.Kinds as model
 use Rattle.model.specs.Fields.{modelOf}
-use Rattle.particles.specs.Plain.{updatedAt, lawAt, recordLaw}
+use Rattle.one_record.specs.RecordLaw.{updatedAt, lawAt, recordLaw}
 use Rattle.particles.specs.Pass.{workedOver, answersOver, countsOver}
 use Rattle.sheet.specs.Sheet.{numberAt, wordOf, wordAt, wordsOf, parameterAt, parametersAt, preambleOf, recordsEnd, headerOf, readOf, roomOf}
 use Rattle.sheet.specs.Records.{sheetFloats, completed, each}

@@ -24,7 +24,7 @@ use Rattle.walk.specs.Body as body
 use Rattle.plasticity_rankine.specs.Over as over
 use Rattle.record.specs.Layout.{bare, determinantAt, determinantRight}
 use Rattle.model.specs.declared.Model.the-variants.{Rankine}
-use Rattle.particles.specs.Plain.{updatedAt, lawAt, recordLaw}
+use Rattle.one_record.specs.RecordLaw.{updatedAt, lawAt, recordLaw}
 use Rattle.sheet.specs.Sheet.{numberAt, wordOf, wordAt, wordsOf, parameterAt, parametersAt, preambleOf, recordsEnd, headerOf, readOf, roomOf}
 use Rattle.sheet.specs.Records.{sheetFloats, completed, each}
 use Rattle.sheet.specs.Spelling.{spellNumber, spellBytes, spellWords, spell}

@@ -13,8 +13,8 @@ use Rattle.plasticity_rankine.specs.declared.RankineArguments.{RankineArguments
 use Rattle.model.specs.declared.Model.the-variants.{Rankine}
 use Rattle.model.specs.Model.{modelFinite}
 use Rattle.particles.specs.Pass.{Worked, recordAt}
-use Rattle.particles.specs.Plain.{recordLaw}
-use Rattle.particles.specs.Judged.{judgeFinite, refusedRecord, failureLaw}
+use Rattle.one_record.specs.RecordLaw.{recordLaw}
+use Rattle.one_record.specs.Judged.{judgeFinite, refusedRecord, failureLaw}
 use Rattle.factored_particles.specs.Factored.{withFactors, factorRefusal, heldBy, orAsItCame, factoredLaw}
 use Rattle.particles.proofs.PassLaws.{record-keeps}
 use Rattle.particles.proofs.JudgedLaws.{failure-keeps}

@@ -16,7 +16,7 @@ use Rattle.plasticity_rankine.specs.declared.RankineArguments.{RankineArguments
 use Rattle.plasticity_rankine.specs.declared.RankinePlasticity.{RankinePlasticity}
 use Rattle.plasticity_rankine.specs.Law.{lawOf}
 use Rattle.record.specs.Layout.{floatAt}
-use Rattle.particles.specs.Named.{byOutcome}
+use Rattle.one_record.specs.Kept.{byOutcome}
 use Rattle.particles.specs.Pass.{codeOf}
 use Rattle.rankine_surface.specs.Axes.{Each}
 use Rattle.rankine_surface.specs.Surface.{F64, ArchivedIn, Axes, logStrainsIn, softenedIn, firstTestIn, InsideIn, ReturnedIn, Demand3In, ArchivesIn}

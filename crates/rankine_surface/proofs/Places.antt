@@ -11,7 +11,7 @@ use Rattle.model.specs.declared.Model.the-variants.{Rankine}
 use Rattle.record.specs.Layout.{floats, placeF, placeSigma, placePhase, placePlasticHardening, placeDeterminant, stateAt, putRows, putBare, putShape, putPhase}
 use Rattle.record.proofs.Places.{Row64, row-f64, same, row-other, row-same}
 use Rattle.rankine_surface.specs.Axes.{Each}
-use Rattle.particles.specs.Plain.{putState}
+use Rattle.one_record.specs.RecordLaw.{putState}
 use Rattle.rankine_surface.specs.Surface.{F64}
 use Rattle.rankine_surface.specs.Record.{threeRecords}
 use Rattle.rankine_surface.proofs.Left.{Puts}

@@ -16,9 +16,9 @@ use Rattle.elasticity_corotated_linear.specs.declared.CorotatedLinearElasticity
 use Rattle.plasticity_rankine.specs.declared.RankineArguments.{RankineArguments}
 use Rattle.plasticity_rankine.specs.Rankine.{argumentsUpdate}
 use Rattle.model.specs.declared.Model.the-variants.{Rankine}
-use Rattle.particles.specs.Plain.{updatedAt, recordLaw}
+use Rattle.one_record.specs.RecordLaw.{updatedAt, recordLaw}
 use Rattle.particles.specs.Pass.{codeOf, recordAt}
-use Rattle.particles.specs.Judged.{judgeFinite, judgedAt, refusedRecord, marked, failureLaw}
+use Rattle.one_record.specs.Judged.{judgeFinite, judgedAt, refusedRecord, marked, failureLaw}
 use Rattle.particles.proofs.PassLaws.{record-keeps}
 use Rattle.particles.proofs.JudgedLaws.{failure-keeps}
 use Rattle.particles.proofs.Determinants.{Stands, unrefused, unrefused-law}

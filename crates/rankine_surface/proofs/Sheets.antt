@@ -13,7 +13,7 @@ use Rattle.model.specs.Kinds.{lawOf}
 use Rattle.model.specs.declared.Law.{Law}
 use Rattle.model.specs.declared.Law.the-variants as law
 use Rattle.model.specs.Fields.{rankineOf, byLaw, modelOf}
-use Rattle.particles.specs.Plain.{recordLaw}
+use Rattle.one_record.specs.RecordLaw.{recordLaw}
 use Rattle.particles.specs.Pass.{Worked, recordAt}
 use Rattle.sheet.specs.declared.Header.{Header}
 use Rattle.sheet.specs.Sheet.{headerOf, readOf, roomOf}

@@ -13,9 +13,9 @@ use Rattle.elasticity_corotated_linear.specs.declared.CorotatedLinearElasticity
 use Rattle.plasticity_rankine.specs.declared.RankineArguments.{RankineArguments}
 use Rattle.plasticity_rankine.specs.Law.{lawOf}
 use Rattle.model.specs.declared.Model.the-variants.{Rankine}
-use Rattle.particles.specs.Plain.{recordLaw}
+use Rattle.one_record.specs.RecordLaw.{recordLaw}
 use Rattle.particles.specs.Pass.{recordAt}
-use Rattle.particles.specs.Judged.{failureLaw}
+use Rattle.one_record.specs.Judged.{failureLaw}
 use Rattle.rankine_surface.specs.Surface.{threeAxes, AssumedBy, Archived, Archives}
 use Rattle.rankine_surface.specs.Record.{threeRecords, Premises, Found, foundOf, Demand3At, ArchivesAt, softenedAt, InPass, passFound, markedBy}
 use Rattle.rankine_surface.specs.Sheet.{argumentsIn, recordIn, InSheet, SheetPremises, sheetFound}

@@ -20,8 +20,8 @@ use Rattle.plasticity_rankine.specs.declared.RankineArguments.{RankineArguments
 use Rattle.plasticity_rankine.specs.Law.{lawOf}
 use Rattle.model.specs.declared.Model.the-variants.{Rankine}
 use Rattle.particles.specs.Pass.{Worked, codeOf, valueOf, recordOver, wellSizedOver, recordsOver, listOver}
-use Rattle.particles.specs.Plain.{recordLaw}
-use Rattle.particles.specs.Judged.{failureLaw}
+use Rattle.one_record.specs.RecordLaw.{recordLaw}
+use Rattle.one_record.specs.Judged.{failureLaw}
 use Rattle.rankine_surface.specs.Axes.{Each}
 use Rattle.rankine_surface.specs.Surface.{Accepted, RangesIn, Small, F64, demanded, BelowIn, OnSurfaceIn, ArchivedIn, numbersOf, expsOf, Axes, logStrainsIn, softenedIn, firstTestIn, projectedIn, threeAxes}
 

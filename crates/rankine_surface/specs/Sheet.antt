@@ -12,7 +12,7 @@ use Rattle.model.specs.declared.Model.the-variants.{Rankine}
 use Rattle.model.specs.declared.Law.the-variants as law
 use Rattle.model.specs.Kinds.{lawOf}
 use Rattle.model.specs.Fields.{rankineOf}
-use Rattle.particles.specs.Plain.{recordLaw}
+use Rattle.one_record.specs.RecordLaw.{recordLaw}
 use Rattle.particles.specs.Pass.{recordAt}
 use Rattle.sheet.specs.Sheet.{headerOf, recordsOf}
 use Rattle.sheet_run.specs.Run.{ranOf, ranRecords, ranAnswers}

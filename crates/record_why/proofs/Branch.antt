@@ -53,7 +53,7 @@ use Rattle.model.specs.declared.Model.the-variants.{Snow, Rankine, DruckerPrage
 use Rattle.model.specs.Model.{modelWalk, modelLast}
 use Rattle.model.specs.Kinds.{lawOf, parametersFit, modelKnown}
 use Rattle.model.specs.Fields.{byLaw, modelOf}
-use Rattle.particles.specs.Plain.{lawAt, keptBy, recordLaw}
+use Rattle.one_record.specs.RecordLaw.{lawAt, keptBy, recordLaw}
 use Rattle.record_why.specs.declared.Cause.{Cause}
 use Rattle.record_why.specs.declared.Cause.the-variants.{Told, Refused}
 use Rattle.record_why.specs.Why.{toldOf, whyOf, numberOf}

@@ -24,11 +24,11 @@ use Rattle.reason.proofs.Told.{number-told, last-told}
 use Rattle.model.specs.declared.Model.{Model}
 use Rattle.model.specs.Rows.{actsOf}
 use Rattle.model.specs.Model.{modelFinite, modelUpdate, modelWalk, modelReason, modelLast}
-use Rattle.particles.specs.Plain.{updatedAt, kept, lawAt, keptBy, recordLaw}
+use Rattle.one_record.specs.RecordLaw.{updatedAt, kept, lawAt, keptBy, recordLaw}
 use Rattle.record_why.specs.declared.Cause.{Cause}
 use Rattle.record_why.specs.declared.Cause.the-variants.{Told, Parameter, Record}
 use Rattle.model.proofs.RowLaws.{untested-none}
-use Rattle.particles.proofs.NotFinite.{last-finite, law-right}
+use Rattle.one_record.proofs.RecordLaws.{last-finite, law-right}
 use Rattle.record_why.specs.Why.{reasonWith, recordReason, toldOf, numberOf}
 
 -- ---- by the model's law

@@ -14,7 +14,7 @@ use Rattle.model.specs.declared.Model.{Model}
 use Rattle.model.specs.Model.{modelFinite, modelReason}
 use Rattle.model.specs.Kinds.{parametersFit, modelKnown}
 use Rattle.model.specs.Fields.{modelOf}
-use Rattle.particles.specs.Plain.{updatedAt, kept}
+use Rattle.one_record.specs.RecordLaw.{updatedAt, kept}
 use Rattle.record_why.specs.declared.Cause.{Cause}
 use Rattle.record_why.specs.declared.Cause.the-variants.{Told, Parameter, Record, Refused}
 

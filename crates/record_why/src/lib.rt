@@ -13,7 +13,7 @@ ghost use mathlib.Core.Bool.{true};
 ghost use lib.ListN.{length};
 ghost use Rattle.record.specs.Layout.{floats, recordFinite};
 ghost use Rattle.reason.specs.Told.{reasonNumber, outcomeNumber};
-ghost use Rattle.particles.specs.Plain.{recordLaw};
+ghost use Rattle.one_record.specs.RecordLaw.{recordLaw};
 ghost use Rattle.record_why.specs.Why.{reasonWith, recordReason, toldOf, whyOf};
 
 // The record's own steps: 11 comes before the law's, 3 of the new determinant after them.
@@ -60,8 +60,8 @@ fn record_number(m: Model, r: &[u64]) -> u8
     ensures { λ n. ⌜ n ≡ outcomeNumber (recordLaw m (now (r .entry)) .outcome) ⌝ }
 {
     let mut c = [0u64; record::FLOATS];
-    particles::copy(r, &mut c);
-    outcome_number(particles::update_record(m, &mut c))
+    one_record::copy(r, &mut c);
+    outcome_number(one_record::update_record(m, &mut c))
 }
 
 // The law's own reason; but where the pass refuses by another number, 3 of the new determinant.

@@ -35,8 +35,8 @@ use Rattle.model.specs.Model.{modelFinite}
 use Rattle.plasticity.specs.declared.Updated.{Updated}
 use Rattle.particles.specs.declared.step.Step.the-variants.{Judged}
 use Rattle.particles.specs.Pass.{Worked}
-use Rattle.particles.specs.Plain.{keptBy, lawAt, recordLaw}
-use Rattle.particles.specs.Judged.{verdictOn, judgeFinite, verdictAfter, unlessRefused, judgedAt, refusedRecord, marked, failureLaw}
+use Rattle.one_record.specs.RecordLaw.{keptBy, lawAt, recordLaw}
+use Rattle.one_record.specs.Judged.{verdictOn, judgeFinite, verdictAfter, unlessRefused, judgedAt, refusedRecord, marked, failureLaw}
 use Rattle.refusals.specs.Refusals.{SomeNotFinite, RecordNotFinite, without, parametersOf, recordFloats, recordSteps, failureOf, leftBy, stressesOf, failureSteps, failureWalk, StepRefuses}
 use Rattle.refusals.proofs.Inner.{inner-then, principal-inner}
 use Rattle.refusals.proofs.Inputs.{some-append}

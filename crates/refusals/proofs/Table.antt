@@ -26,8 +26,8 @@ use Rattle.model.specs.Model.{modelFinite}
 use Rattle.particles.specs.declared.step.Step.the-variants.{Plain, Judged}
 use Rattle.particles.specs.declared.list.Passed.the-variants as pass
 use Rattle.particles.specs.declared.failure.PassedWithFailure.the-variants as failure-pass
-use Rattle.particles.specs.Plain.{recordLaw}
-use Rattle.particles.specs.Judged.{judgeFinite, failureLaw}
+use Rattle.one_record.specs.RecordLaw.{recordLaw}
+use Rattle.one_record.specs.Judged.{judgeFinite, failureLaw}
 use Rattle.particles.specs.Fill.{fillAnswer}
 use Rattle.particles.specs.Pass.{counts, threeOf, wholeRecords, passed, passedWithFailure}
 use Rattle.factored_particles.specs.declared.step.FactoredStep.the-variants.{Factors, First}

@@ -30,8 +30,8 @@ use Rattle.model.specs.Model.{modelFinite}
 use Rattle.model.proofs.RowLaws.{parameters-finite, walked}
 use Rattle.particles.specs.declared.step.Step.the-variants.{Plain}
 use Rattle.particles.specs.Pass.{valueOf}
-use Rattle.particles.specs.Plain.{putState, updatedAt, measured, lawAt, recordLaw}
-use Rattle.particles.proofs.NotFinite.{last-finite, law-right}
+use Rattle.one_record.specs.RecordLaw.{putState, updatedAt, measured, lawAt, recordLaw}
+use Rattle.one_record.proofs.RecordLaws.{last-finite, law-right}
 use Rattle.refusals.specs.Refusals.{SomeNotFinite, RecordNotFinite, without, parametersOf, stepsOf, walkOf, recordFloats, measureWalk, recordSteps, recordWalk, Refuses, RecordNumbers, StepRefuses}
 use Rattle.refusals.proofs.Inner.{Inner, inner-then, steps-inner}
 use Rattle.refusals.proofs.Inputs.{some-append, places}

@@ -20,8 +20,8 @@ use Rattle.failure_maximum_stress.specs.declared.MaximumStressFailure.{MaximumS
 use Rattle.elasticity_corotated_linear.specs.declared.CorotatedLinearElasticity.{CorotatedLinearElasticity}
 use Rattle.model.specs.declared.Model.{Model}
 use Rattle.model.specs.Model.{modelUpdate}
-use Rattle.particles.specs.Plain.{recordLaw}
-use Rattle.particles.specs.Judged.{failureLaw}
+use Rattle.one_record.specs.RecordLaw.{recordLaw}
+use Rattle.one_record.specs.Judged.{failureLaw}
 use Rattle.refusals.specs.Refusals.{walkOf, recordWalk, failureWalk}
 
 -- 2 for 10, all else as it is

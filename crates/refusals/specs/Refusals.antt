@@ -39,8 +39,8 @@ use Rattle.particles.specs.declared.list.Passed.the-variants as pass
 use Rattle.particles.specs.declared.failure.PassedWithFailure.the-variants as failure-pass
 use Rattle.particles.specs.declared.step.Step.{Step}
 use Rattle.particles.specs.declared.step.Step.the-variants.{Plain, Judged}
-use Rattle.particles.specs.Plain.{putState, recordLaw, recordOutcome}
-use Rattle.particles.specs.Judged.{judgeFinite, failureLaw}
+use Rattle.one_record.specs.RecordLaw.{putState, recordLaw, recordOutcome}
+use Rattle.one_record.specs.Judged.{judgeFinite, failureLaw}
 use Rattle.particles.specs.Fill.{fillAnswer}
 use Rattle.particles.specs.Step.{stepLaw}
 use Rattle.particles.specs.Pass.{Worked, recordAt, passed, passAnswers, passedWithFailure}

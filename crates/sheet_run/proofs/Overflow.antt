@@ -18,9 +18,9 @@ use Rattle.model.specs.declared.Model.{Model}
 use Rattle.model.specs.Fields.{modelOf}
 use Rattle.model.specs.Kinds.{whole}
 use Rattle.particles.specs.Pass.{recordAt}
-use Rattle.particles.specs.Plain.{recordLaw, keptBy}
-use Rattle.particles.specs.Judged.{refusedRecord}
-use Rattle.particles.proofs.NotFinite.{law-not-finite}
+use Rattle.one_record.specs.RecordLaw.{recordLaw, keptBy}
+use Rattle.one_record.specs.Judged.{refusedRecord}
+use Rattle.one_record.proofs.RecordLaws.{law-not-finite}
 use Rattle.sheet.specs.declared.Header.{Header}
 use Rattle.sheet.specs.Records.{sheetFloats, completed}
 use Rattle.sheet.specs.Sheet.{headerOf, wordsIn, recordsOf}

@@ -13,7 +13,7 @@ use Rattle.plasticity.specs.declared.Updated.{Updated}
 use Rattle.record.specs.Layout.{floats, determinantRight}
 use Rattle.model.specs.declared.Model.{Model}
 use Rattle.particles.specs.Pass.{Worked, recordAt, worked, wellSized, passRecords, workedOver}
-use Rattle.particles.specs.Plain.{updatedAt, kept, recordLaw}
+use Rattle.one_record.specs.RecordLaw.{updatedAt, kept, recordLaw}
 use Rattle.particles.proofs.PassLaws.{record-keeps, worked-length}
 use Rattle.particles.proofs.Written.{kept-right}
 use Rattle.particles.proofs.Determinants.{by-law}

@@ -8,7 +8,7 @@ use Rattle.answers.specs.Refusals.{wrongLength}
 use Rattle.model.specs.Fields.{modelOf}
 use Rattle.particles.specs.declared.list.Passed.{Passed}
 use Rattle.particles.specs.declared.list.Passed.the-variants.{Done, Refused}
-use Rattle.particles.specs.Plain.{recordLaw}
+use Rattle.one_record.specs.RecordLaw.{recordLaw}
 use Rattle.particles.specs.Pass.{Worked, wellSized, passed, passRecords, passAnswers}
 use Rattle.record.specs.Layout.{floats}
 use Rattle.sheet.specs.declared.Header.{Header}

@@ -15,8 +15,8 @@ ghost use Prim.Native.Nat.{_+_, _*_, _≤_, _<_};
 ghost use lib.ListN.{length, getD, set};
 ghost use Rattle.record.specs.Layout.{floats};
 ghost use Rattle.particles.specs.Pass.{recordAt, replaced, answered, worked, answers};
-ghost use Rattle.particles.specs.Judged.{failureLaw};
-ghost use Rattle.particles.specs.Plain.{recordLaw};
+ghost use Rattle.one_record.specs.Judged.{failureLaw};
+ghost use Rattle.one_record.specs.RecordLaw.{recordLaw};
 ghost use Rattle.particles.specs.Step.{stepLaw, takenFinite, takenLaw};
 ghost use Rattle.tallies.specs.Zones.{belowIn};
 ghost use Rattle.tallies.specs.Tallies.{none, toldOf, grown, Small, byZone, recounted, talliedIn, roomIn, clearRefusal, clearTallies, moveRefusal, moveZones, moveTallies, passRefusal, recordsAfter, answersAfter, passTallies};
@@ -31,7 +31,7 @@ fn tell_record(t: Taken, xs: &mut [u64], out: &mut [u64], i: usize) -> Told
     let j = t.judge;
     let a = i * record::FLOATS;
     let b = a + record::FLOATS;
-    let d = particles::take_step(q, j, &mut xs[a..b]);
+    let d = one_record::take_step(q, j, &mut xs[a..b]);
     let o = d.outcome;
     particles::write_answer(out, i, o);
     tally::tell(o, d.failed)

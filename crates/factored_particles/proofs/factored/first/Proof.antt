@@ -7,8 +7,8 @@ use borrow.Author.Needs.{needs}
 use borrow.Author.Tests.{not-true, not-false}
 use Rattle.model.specs.Ready.{parametersReady}
 use Rattle.particles.specs.Pass.{Worked}
-use Rattle.particles.specs.Judged.{finiteBy}
-use Rattle.particles.specs.Readied.{readyLaw}
+use Rattle.one_record.specs.Judged.{finiteBy}
+use Rattle.one_record.specs.ReadyRecord.{readyLaw}
 use Rattle.numbers.proofs.Laws.{and-both}
 use Rattle.factored_particles.proofs.FactoredLaws.{inputs-refused, factors-refused, stepped, held-law}
 use Rattle.factored_particles.proofs.StillFinite.{factored-finite, untested}

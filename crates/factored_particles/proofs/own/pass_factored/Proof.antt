@@ -4,7 +4,7 @@ use Prim.Native.Nat.{_/_}
 use lib.ListN.{length}
 use Rattle.record.specs.Layout.{floats}
 use Rattle.model.specs.Model.{modelFinite}
-use Rattle.particles.specs.Plain.{recordLaw}
+use Rattle.one_record.specs.RecordLaw.{recordLaw}
 use Rattle.factored_particles.specs.Factored.{factoredLaw}
 use Rattle.particles.specs.Pass.{counts, wellSized, withoutVerdicts}
 use Rattle.particles.proofs.PassLaws.{three-passed}

@@ -6,7 +6,7 @@ use lib.ListN.{length}
 use borrow.Author.Tests.{eqb-true}
 use borrow.Author.Needs.{needs}
 use Rattle.numbers.proofs.Laws.{and-both}
-use Rattle.particles.specs.Judged.{failureLaw}
+use Rattle.one_record.specs.Judged.{failureLaw}
 use Rattle.host_passes.proofs.Calls.{failure-goes, failure-unknown, failure-unfit}
 use Rattle.host_passes.proofs.failure.pasoletu_pass_with_failure.Statement.{statement}
 use Rattle.host_passes.proofs.failure.pasoletu_pass_with_failure.Tie as tie

@@ -7,7 +7,7 @@ use borrow.Author.Tests.{eqb-true}
 use borrow.Author.Needs.{needs}
 use Rattle.numbers.proofs.Laws.{and-both}
 use Rattle.record.specs.Layout.{floats}
-use Rattle.particles.specs.Plain.{recordLaw}
+use Rattle.one_record.specs.RecordLaw.{recordLaw}
 use Rattle.host_passes.proofs.Calls.{pass-goes, pass-unknown, pass-unfit}
 use Rattle.host_passes.proofs.plain.pasoletu_pass.Statement.{statement}
 use Rattle.host_passes.proofs.plain.pasoletu_pass.Tie as tie

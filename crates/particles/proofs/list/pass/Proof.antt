@@ -3,7 +3,7 @@ use mathlib.Core.Path.{ap, _∙_}
 use Prim.Native.Nat.{_/_}
 use lib.ListN.{length}
 use Rattle.record.specs.Layout.{floats}
-use Rattle.particles.specs.Plain.{recordLaw}
+use Rattle.one_record.specs.RecordLaw.{recordLaw}
 use Rattle.particles.specs.Pass.{counts, wellSized, withoutVerdicts}
 use Rattle.particles.proofs.PassLaws.{three-passed}
 use borrow.Author.Needs.{needs}

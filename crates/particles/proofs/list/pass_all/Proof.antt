@@ -6,7 +6,7 @@ use mathlib.Core.List.{List, _++_}
 use Prim.Native.Nat.{ℕ, _≤_, _<_, _*_, _-_}
 use lib.ListN.{drop}
 use Rattle.record.specs.Layout.{floats}
-use Rattle.particles.specs.Readied.{readyLaw}
+use Rattle.one_record.specs.ReadyRecord.{readyLaw}
 use Rattle.particles.specs.Step.{takenLaw}
 use Rattle.particles.specs.Pass.{worked, answers, counts, workedOver, answersOver, countsOver}
 use Rattle.particles.proofs.ReadiedLaws.{taken-keeps}

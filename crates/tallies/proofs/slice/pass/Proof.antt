@@ -12,7 +12,7 @@ use denote.Enum.Laws as EL
 use Rattle.model.specs.declared.Model.{Model}
 use Rattle.particles.specs.declared.step.Step.{Step}
 use Rattle.particles.specs.declared.step.Step.the-variants.{Plain}
-use Rattle.particles.specs.Plain.{recordLaw}
+use Rattle.one_record.specs.RecordLaw.{recordLaw}
 use Rattle.particles.specs.Step.{stepLaw}
 use Rattle.model.proofs.Model as Mo
 use Rattle.model.proofs.Model.Laws as Mo′

@@ -15,7 +15,7 @@ use Rattle.failure_maximum_stress.specs.declared.MaximumStressFailure.{MaximumS
 use Rattle.elasticity_corotated_linear.specs.declared.CorotatedLinearElasticity.{CorotatedLinearElasticity}
 use Rattle.particles.specs.declared.step.Step.{Step}
 use Rattle.particles.specs.declared.step.Step.the-variants.{Judged}
-use Rattle.particles.specs.Judged.{failureLaw}
+use Rattle.one_record.specs.Judged.{failureLaw}
 use Rattle.particles.specs.Step.{stepLaw}
 use Rattle.model.proofs.Model as Mo
 use Rattle.model.proofs.Model.Laws as Mo′

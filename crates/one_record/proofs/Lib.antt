@@ -1,0 +1,4 @@
+pub mod JudgedLaws
+pub mod NotFinite
+pub mod ReadyRecordLaws
+pub mod RecordLaws

@@ -1,0 +1,4 @@
+pub mod Judged
+pub mod Kept
+pub mod ReadyRecord
+pub mod RecordLaw
