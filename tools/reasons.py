@@ -277,11 +277,11 @@ def titles():
 
 @functools.lru_cache
 def printed():
-    """The words of crates/why_lines/src/rows.rt: the record's own steps, and by law the lines of its sentences, steps and parameters."""
+    """The words of crates/why_lines/src/rows.rt: the record's own steps, the last of theirs, and by law the lines of its sentences, steps and parameters."""
     source = (shell.TOP / "crates" / "why_lines" / "src" / "rows.rt").read_text()
 
     def text(name):
-        words = re.search(r'fn %s\(.*?b"(.*?)",\n' % name, source, re.S)[1]
+        words = re.search(r'fn %s\(.*?b"([^"]*\\n)",\n' % name, source, re.S)[1]
         return re.sub(r"\\\n *", "", words).split("\\n")[:-1]
 
     begins = [tuple(map(int, row)) for row in re.findall(r"Row \{\s*sentences: (\d+),\s*steps: (\d+),\s*parameters: (\d+),\s*\}", source)]
@@ -292,7 +292,9 @@ def printed():
         first = begins[law][kind]
         return texts[kind][first:min([row[kind] for row in begins if row[kind] > first], default=first)]
 
-    return text("record_step"), [[part(law, kind) for kind in range(3)] for law in range(len(begins) - 1)]
+    own = int(re.search(r"OWN_STEPS: usize = (\d+);", source)[1])
+    begins.append((0, own, 0))
+    return texts[1][own:], [[part(law, kind) for kind in range(3)] for law in range(len(cases.TABLE.models))]
 
 
 def bare(lines, mark):

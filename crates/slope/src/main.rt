@@ -12,25 +12,23 @@ fn asks() -> Asked {
     asked::first(os::arg_count(), n, w)
 }
 
-fn answer(room: &[u8], n: usize, asks: Asked) -> bool {
-    match asks {
+// Answers the sheet in the first n bytes of the room.
+fn answer(room: &[u8], n: usize, asks: Asked) {
+    let told = match asks {
         Asked::Why => why_lines::print_reasons(room, n, 2),
         Asked::New => lines::write_updated(room, n),
         _ => lines::print_answer(room, n),
+    };
+    if !told {
+        os::fail(b"standard output");
     }
 }
 
 fn answer_one(asks: Asked) {
     let mut room = [0u8; lines::ROOM];
     match lines::read_whole(STDIN_FILENO, &mut room) {
-        Input::Bytes(n) => {
-            if !answer(&room, n, asks) {
-                os::fail(b"standard output");
-            }
-        }
-        Input::Failed => {
-            os::fail(b"standard input");
-        }
+        Input::Bytes(n) => answer(&room, n, asks),
+        Input::Failed => os::fail(b"standard input"),
     }
 }
 

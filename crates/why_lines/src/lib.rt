@@ -17,15 +17,8 @@ fn print_why(so_far: bool, model: u64, w: Cause) -> bool {
     let law = model::law_of(model);
     match w {
         Cause::Told(q) => words::print_reason(so_far, law, q),
-        Cause::Parameter(i) => rows::print_parameter(
-            print_number(so_far, b" refused 1 at step 0: parameter ", i as u64),
-            law,
-            i,
-        ),
-        Cause::Record(i) => texts::print_place(
-            print_number(so_far, b" refused 1 at step 0: float ", i as u64),
-            i,
-        ),
+        Cause::Parameter(i) => rows::print_parameter(so_far, law, i),
+        Cause::Record(i) => texts::print_place(so_far, i),
         Cause::Refused(n) => print_number(so_far, b" refused ", n as u64),
     }
 }

@@ -2,6 +2,7 @@
 // tools/reasons.py holds to each other.
 use crate::texts::print_line;
 use crate::texts::print_sentence;
+use crate::words::print_number;
 use model::Law;
 
 struct Row {
@@ -9,6 +10,8 @@ struct Row {
     steps: usize,
     parameters: usize,
 }
+
+const OWN_STEPS: usize = 63;
 
 // Snow makes no test; of a number that names no law nothing is printed.
 fn row_of(law: Law) -> Row {
@@ -35,7 +38,7 @@ fn row_of(law: Law) -> Row {
         },
         Law::Unknown => Row {
             sentences: 33,
-            steps: 63,
+            steps: 65,
             parameters: 21,
         },
     }
@@ -64,26 +67,7 @@ pub fn print_test(so_far: bool, law: Law, branch: usize, a: f64, b: f64) -> bool
     )
 }
 
-// The record's own two are 40 and 41.
-fn record_step(so_far: bool, k: usize) -> bool {
-    print_line(
-        so_far,
-        b": the stored determinant is that of F\n\
-            : the determinant of the new F is finite, where the law stores\n",
-        0,
-        k,
-    )
-}
-
-// Steps count from 1 in each law.
-pub fn print_step(so_far: bool, law: Law, step: usize) -> bool {
-    if 40 <= step {
-        return record_step(so_far, step - 40);
-    }
-    if step == 0 {
-        return so_far;
-    }
-    let r = row_of(law);
+fn print_step(so_far: bool, first: usize, k: usize) -> bool {
     print_line(
         so_far,
         b": each sigma: maximum with the lower bound 1 - min_epsilon\n\
@@ -148,17 +132,31 @@ pub fn print_step(so_far: bool, law: Law, step: usize) -> bool {
             : the norm of s_tr\n\
             : the squares of sigma on the surface\n\
             : their roots, in index order\n\
-            : the results: F, sigma, alpha\n",
-        r.steps,
-        step - 1,
+            : the results: F, sigma, alpha\n\
+            : the stored determinant is that of F\n\
+            : the determinant of the new F is finite, where the law stores\n",
+        first,
+        k,
     )
 }
 
-// The name of parameter i of a law.
+// Steps count from 1 in each law; the record's own two, the last of the text, are 40 and 41.
+pub fn print_refused(so_far: bool, law: Law, step: usize) -> bool {
+    if 40 <= step {
+        return print_step(so_far, OWN_STEPS, step - 40);
+    }
+    if step == 0 {
+        return so_far;
+    }
+    let r = row_of(law);
+    print_step(so_far, r.steps, step - 1)
+}
+
+// That parameter i of a law isn't finite, with its name.
 pub fn print_parameter(so_far: bool, law: Law, i: usize) -> bool {
     let r = row_of(law);
     print_line(
-        so_far,
+        print_number(so_far, b" refused 1 at step 0: parameter ", i as u64),
         b", min_epsilon\n\
             , max_epsilon\n\
             , hardening_coeff\n\

@@ -1,6 +1,7 @@
 // A line of a text, and which float of a record a place is, in the words of calls.toml (tools/reasons.py; RULES, section 7).
 use crate::words::print;
 use crate::words::print_float;
+use crate::words::print_number;
 
 // Where the line of a text that begins there ends: at its new line.
 fn end(text: &[u8], from: usize) -> usize {
@@ -50,7 +51,7 @@ pub fn print_sentence(so_far: bool, text: &[u8], first: usize, k: usize, a: f64,
     print_line(y, text, first, at + 2)
 }
 
-// The name of the float at place i of a record.
+// That the float at place i of a record isn't finite, with its name.
 pub fn print_place(so_far: bool, i: usize) -> bool {
     let k = if i < record::U {
         0
@@ -64,7 +65,7 @@ pub fn print_place(so_far: bool, i: usize) -> bool {
         i - record::PHASE + 4
     };
     print_line(
-        so_far,
+        print_number(so_far, b" refused 1 at step 0: float ", i as u64),
         b", of F\n, of U\n, of sigma\n, of V^T\n, phase\n, plastic determinant\n, plastic hardening\n, elastic hardening\n, log gain\n, alpha\n, the stored determinant\n",
         0,
         k,

@@ -85,7 +85,7 @@ fn clamped(so_far: bool, x: Bound, y: Bound, z: Bound) -> bool {
 
 fn refused(so_far: bool, law: Law, n: u8, step: u8) -> bool {
     let told = print_number(so_far, b" refused ", n as u64);
-    crate::rows::print_step(
+    crate::rows::print_refused(
         print_number(told, b" at step ", step as u64),
         law,
         step as usize,
