@@ -6,7 +6,8 @@
                                            reads samples/rankine.sheet and the sheets of crates/slope_cases and compares with what must be printed: tests, branches,
                                            steps with their words and places exactly, the numbers within 2^-30 of themselves and of 1; and the sheets
                                            (default: samples/ and those of slope_cases) with what the proved program prints with --why, where --program or
-                                           PASOLETU_SLOPE names it; and the tables of docs/STEPS.md with what is made
+                                           PASOLETU_SLOPE names it; and the tables of docs/STEPS.md with what is made; and the
+                                           sentences and parameters of crates/why_lines with those here and in calls.toml
   tools/reasons.py page                    writes the tables of docs/STEPS.md between their marks: steps in the program's words (crates/why_lines), branches
 """
 import argparse
@@ -274,19 +275,50 @@ def titles():
     return [law.title for law in cases.TABLE.models]
 
 
-def printed_steps():
-    """The words of every step as the program has them, crates/why_lines: the record's own, then a law's."""
-    text = "".join((shell.TOP / "crates" / "why_lines" / "src" / name).read_text() for name in ("steps.rt", "rows.rt"))
-    lists = [re.search(r'fn %s_step\(.*?b": ",\s*b"(.*?)",' % name, text, re.S)[1] for name in ("record", *(law.name for law in cases.TABLE.models))]
-    return [words.split("\\n")[:-1] for words in lists]
+@functools.lru_cache
+def printed():
+    """The words of crates/why_lines/src/rows.rt: the record's own steps, the last of theirs, and by law the lines of its sentences, steps and parameters."""
+    source = (shell.TOP / "crates" / "why_lines" / "src" / "rows.rt").read_text()
+
+    def text(name):
+        words = re.search(r'fn %s\(.*?b"([^"]*\\n)",\n' % name, source, re.S)[1]
+        return re.sub(r"\\\n *", "", words).split("\\n")[:-1]
+
+    begins = [tuple(map(int, row)) for row in re.findall(r"Row \{\s*sentences: (\d+),\s*steps: (\d+),\s*parameters: (\d+),\s*\}", source)]
+    texts = [text("print_test"), text("print_step"), text("print_parameter")]
+
+    def part(law, kind):
+        """From where it begins to where another law's does."""
+        first = begins[law][kind]
+        return texts[kind][first:min([row[kind] for row in begins if row[kind] > first], default=first)]
+
+    own = int(re.search(r"OWN_STEPS: usize = (\d+);", source)[1])
+    begins.append((0, own, 0))
+    return texts[1][own:], [[part(law, kind) for kind in range(3)] for law in range(len(cases.TABLE.models))]
+
+
+def bare(lines, mark):
+    """The lines without the mark that each begins with."""
+    return [line.removeprefix(mark) if line.startswith(mark) else "no mark: " + line for line in lines]
+
+
+def word_faults():
+    """What is wrong with a law's sentences and parameters in the program's source, or None: by branch those of WORDS, and the names of calls.toml."""
+    for law, (sentences, _, parameters) in zip(cases.TABLE.models, printed()[1]):
+        k = cases.TABLE.models.index(law)
+        told = {BRANCHES[test]: list(words) for test, words in WORDS.items() if test[0] == k and len(words) == 3}
+        want = [line for branch in sorted(told) for line in told[branch]]
+        yield None if sentences == want and sorted(told) == list(range(len(told))) else "crates/why_lines: the sentences of %s are %s, and should be %s" % (law.name, sentences, want)
+        want = [parameter.name for parameter in law.parameters]
+        yield None if bare(parameters, ", ") == want else "crates/why_lines: the parameters of %s are %s, and should be %s" % (law.name, parameters, want)
 
 
 @functools.lru_cache
 def steps():
     """What is done at each step of each law."""
-    record, *laws = printed_steps()
-    own = {0: "parameters and record are finite", **dict(enumerate(record, STORED_DETERMINANT))}
-    return [{**own, **dict(enumerate(law, 1))} for law in laws]
+    record, laws = printed()
+    own = {0: "parameters and record are finite", **dict(enumerate(bare(record, ": "), STORED_DETERMINANT))}
+    return [{**own, **dict(enumerate(bare(law[1], ": "), 1))} for law in laws]
 
 
 # ---- the tables of docs/STEPS.md
@@ -391,7 +423,7 @@ def check(args):
             data = s.read_bytes()
             answer = subprocess.run([*shell.words(program), "--why"], input=data, stdout=subprocess.PIPE, check=True).stdout.decode()
             counts.append(compare(data, answer, s.name))
-    faults = list(page_faults())
+    faults = [*page_faults(), *word_faults()]
     for fault in filter(None, faults):
         print(fault)
     counts.append((faults.count(None), len(faults) - faults.count(None)))

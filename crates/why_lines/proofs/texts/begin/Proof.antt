@@ -2,14 +2,14 @@
 use Prim.Native.Nat.{_≤_, _-_}
 use native.Mathlib.Omega.{arith}
 use borrow.Author.Needs.{needs}
-use Rattle.why_lines.proofs.steps.begin.Statement.{statement}
-use Rattle.why_lines.proofs.steps.begin.Tie as tie
+use Rattle.why_lines.proofs.texts.begin.Statement.{statement}
+use Rattle.why_lines.proofs.texts.begin.Tie as tie
 
 abbrev Inv-loop : tie.InvT-loop
-Inv-loop text k at₀ line₀ at line = line ≤ k
+Inv-loop text from k at₀ line₀ at line = line ≤ k
 
 abbrev μ-loop : tie.MeasureT-loop
-μ-loop text k at₀ line₀ at line = k - line
+μ-loop text from k at₀ line₀ at line = k - line
 
 pub begin-spec : {M : Type 1} → statement M
 begin-spec =

@@ -3,8 +3,8 @@ use Prim.Native.Nat.{_≤_, _-_}
 use native.Mathlib.Omega.{arith}
 use borrow.Author.Needs.{needs}
 use lib.ListN.{length}
-use Rattle.why_lines.proofs.steps.end.Statement.{statement}
-use Rattle.why_lines.proofs.steps.end.Tie as tie
+use Rattle.why_lines.proofs.texts.end.Statement.{statement}
+use Rattle.why_lines.proofs.texts.end.Tie as tie
 
 abbrev Inv-loop : tie.InvT-loop
 Inv-loop text from at₀ at = from ≤ at
