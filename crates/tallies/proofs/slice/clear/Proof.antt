@@ -128,10 +128,11 @@ module _ {M : Type 1} (𝓤 : URA M) (H : Heap 𝓤) (A : Atoms 𝓤) (W : Given
     walk : ent 𝓤 (onEntry 𝓤 H A f.signature κs qs a vals) (WpFn 𝓤 H C Λ code.function (vint w64 particles ∷ s₀ ∷ s ∷ []) Post)
     walk =
         qed W ((‵ (flft κ₀ q₀) ⊛ ‵ (flft κ₁ q₁) ⊛ ‵ ftrue) ∷ ‵ (owns (usize ∷ ShrSlice (named 0) κ₀ u64 ∷ MutSlice (named 1) κ₁ T.the-row ∷ []) a vals) ∷ []) ∵ enter ! C Λ code.function (vint w64 particles ∷ s₀ ∷ s ∷ []) _ $
+        move ! (1 ∷ []) $ fsplit ! $ drop ! $ fsplit ! $ use1 W (‵ OwnZ ⊛ ‵ OwnZ) (shr-slice-copy 𝓤 H A W (named 0) κ₀ u64 .twice x₀ (s₀ ∷ [])) $ split ! $ move ! (2 ∷ []) $ fsplit ! $ move ! (1 ∷ []) $ drop ! $ move ! (3 ∷ []) $ split ! $ move ! (1 ∷ []) $ split ! $ move ! (1 ∷ []) $ drop ! $
         allocs-all ! (λ l₀ l₁ l₂ l₃ l₄ l₅ l₆ l₇ l₈. params1 ! $
         pass1 ! (init ! 14 refl (tt, record { fits = gp })) $ pass1 ! (init ! 12 refl (tt, (tt, (record { fits = roomz .0 }, tt)))) $ pass1 ! (init ! 10 refl (tt, (tt, (record { fits = room .0 }, tt)))) $ pass0 ! $
         assigns ! (of-opd ! (load ! (from ! (fld ! refl (stop !))) (look-in ! 10 (sub ! 1 refl (whole !))))) (from ! (stop !)) (init ! 6 refl (tt, record { fits = room .0 })) $
-        move ! (19 ∷ []) $ fsplit ! $ drop ! $ fsplit ! $ use1 W (‵ OwnZ ⊛ ‵ OwnZ) (shr-slice-copy 𝓤 H A W (named 0) κ₀ u64 .twice x₀ (s₀ ∷ [])) $ split ! $ move ! (2 ∷ []) $ fsplit ! $ move ! (1 ∷ []) $ drop ! $ move ! (21 ∷ []) $ split ! $ move ! (1 ∷ []) $ split ! $ move ! (1 ∷ []) $ drop ! $
+        move ! (18 ∷ 19 ∷ 20 ∷ 21 ∷ 22 ∷ []) $
         move ! (1 ∷ 4 ∷ []) $ fjoin ! $ use1 W (raw (Plans 𝓤 H A mem run .pre to-plan)) goes-plan $
         calls-at ! fm (Plans 𝓤 H A mem run) known-plan to-plan (and-then ! (load ! (from ! (stop !)) (look ! 18 refl)) (and-then ! (load ! (from ! (stop !)) (look ! 16 refl)) (and-then ! (load ! (from ! (stop !)) (look ! 10 refl)) (no-more !)))) (λ u.
         use1 W (later (some (λ (p : Plan). ((‵ (flft κ₀ q₀) ⊛ ‵ ftrue) ⊛ ‵ (P.the-row .own p (u ∷ []))) ⊛ raw (ensured 𝓤 H A plans.ended (plans.clauses 𝓤 H A mem run) (κ₀, tt) args-plan tt p)))) (id⊢ 𝓤 _) $ await ! tt $ pick ! (λ p.

@@ -126,12 +126,13 @@ module _ {M : Type 1} (𝓤 : URA M) (H : Heap 𝓤) (A : Atoms 𝓤) (W : Given
     walk : ent 𝓤 (onEntry 𝓤 H A f.signature κs qs a vals) (WpFn 𝓤 H C Λ code.function (vint w64 particles ∷ vint w64 p ∷ vint w64 z ∷ s₀ ∷ s ∷ []) Post)
     walk =
         qed W ((‵ (flft κ₀ q₀) ⊛ ‵ (flft κ₁ q₁) ⊛ ‵ ftrue) ∷ ‵ (owns (usize ∷ usize ∷ usize ∷ MutSlice (named 0) κ₀ u64 ∷ MutSlice (named 1) κ₁ T.the-row ∷ []) a vals) ∷ []) ∵ enter ! C Λ code.function (vint w64 particles ∷ vint w64 p ∷ vint w64 z ∷ s₀ ∷ s ∷ []) _ $
+        move ! (1 ∷ []) $ fsplit ! $ drop ! $ fsplit ! $ drop ! $ fsplit ! $ drop ! $ fsplit ! $ move ! (1 ∷ []) $ fsplit ! $ move ! (1 ∷ []) $ drop ! $ move ! (2 ∷ []) $ split ! $ move ! (1 ∷ []) $ split ! $ move ! (1 ∷ []) $ drop ! $
         allocs-all ! (λ l₀ l₁ l₂ l₃ l₄ l₅ l₆ l₇ l₈ l₉ l₁₀ l₁₁ l₁₂. params1 ! $
         pass1 ! (init ! 22 refl (tt, record { fits = gp .0 })) $ pass1 ! (init ! 20 refl (tt, record { fits = gp .1 })) $ pass1 ! (init ! 18 refl (tt, record { fits = gp .2 })) $ pass1 ! (init ! 16 refl (tt, (tt, (record { fits = roomz .0 }, tt)))) $ pass1 ! (init ! 14 refl (tt, (tt, (record { fits = room .0 }, tt)))) $ pass0 ! $
         assigns ! (addr ! (from ! (fld ! refl (hop ! (look-in ! 16 (sub ! 0 refl (whole !))) (stop !))))) (from ! (stop !)) (init ! 10 refl (tt, tt)) $
         assigns ! (agg ! (and-then ! (load ! (from ! (stop !)) (look ! 10 refl)) (and-then ! (load ! (from ! (fld ! refl (stop !))) (look-in ! 16 (sub ! 1 refl (whole !)))) (no-more !)))) (from ! (stop !)) (init ! 8 refl (tt, (tt, (record { fits = roomz .0 }, tt)))) $
         assigns ! (of-opd ! (load ! (from ! (fld ! refl (stop !))) (look-in ! 14 (sub ! 1 refl (whole !))))) (from ! (stop !)) (init ! 6 refl (tt, record { fits = room .0 })) $
-        move ! (27 ∷ []) $ fsplit ! $ drop ! $ fsplit ! $ drop ! $ fsplit ! $ drop ! $ fsplit ! $ move ! (1 ∷ []) $ fsplit ! $ move ! (1 ∷ []) $ drop ! $ move ! (28 ∷ []) $ split ! $ move ! (1 ∷ []) $ split ! $ move ! (1 ∷ []) $ drop ! $
+        move ! (26 ∷ 27 ∷ 28 ∷ 29 ∷ []) $
         move ! (1 ∷ 3 ∷ []) $ fjoin ! $ use1 W (raw (Plans 𝓤 H A mem run .pre to-plan)) goes-plan $
         calls-at ! fm (Plans 𝓤 H A mem run) known-plan to-plan (and-then ! (load ! (from ! (stop !)) (look ! 25 refl)) (and-then ! (load ! (from ! (stop !)) (look ! 23 refl)) (and-then ! (load ! (from ! (stop !)) (look ! 21 refl)) (and-then ! (load ! (from ! (stop !)) (look ! 11 refl)) (and-then ! (load ! (from ! (stop !)) (look ! 9 refl)) (no-more !)))))) (λ u.
         use1 W (later (some (λ (q : Plan). ((‵ (flft κ₀ q₀) ⊛ ‵ ftrue) ⊛ ‵ (P.the-row .own q (u ∷ []))) ⊛ raw (ensured 𝓤 H A plans.ended (plans.clauses 𝓤 H A mem run) (κ₀, tt) args-plan tt q)))) (id⊢ 𝓤 _) $ await ! tt $ pick ! (λ q.
