@@ -297,14 +297,13 @@ module _ {M : Type 1} (𝓤 : URA M) (H : Heap 𝓤) (A : Atoms 𝓤) (W : Given
         rewrite ! 4 (λ (m : ℕ). ‵ (OwnT κ₃ γ₃ us m)) lu refl $
         keep ! (0 ∷ 1 ∷ 2 ∷ 3 ∷ 4 ∷ 5 ∷ 6 ∷ 7 ∷ []) $ by ! (exits r g xs₀ out₀ us refl refl lu (refused (stepLaw s) xs₀ out₀ zones ts₀ us r (res .0) (res .1 .1 (not-zero r failed)))))
 
-    -- the parameters are passed: [_25; …; .. _0; …; the tokens; what the parameters own]
+    -- the parameters are passed: [_25; …; .. _0; …; the tokens; what tallies, zones (three times), answers and records own]
     abbrev Begun : List (Item 𝓤)
-    Begun = ‵ (froom word l₂₅ 0) ∷ ‵ (fdies word l₂₅) ∷ ‵ (froom talliesTy l₂₄ 0) ∷ ‵ (fdies talliesTy l₂₄) ∷ ‵ (froom tallyTy l₂₃ 0) ∷ ‵ (fdies tallyTy l₂₃) ∷ ‵ (froom partTy l₂₂ 0) ∷ ‵ (fdies partTy l₂₂) ∷ ‵ (froom againTy l₂₁ 0) ∷ ‵ (fdies againTy l₂₁) ∷ ‵ (froom partTy l₂₀ 0) ∷ ‵ (fdies partTy l₂₀) ∷ ‵ (froom againTy l₁₉ 0) ∷ ‵ (fdies againTy l₁₉) ∷ ‵ (froom tyUnit l₁₈ 0) ∷ ‵ (fdies tyUnit l₁₈) ∷ ‵ (froom talliesTy l₁₇ 0) ∷ ‵ (fdies talliesTy l₁₇) ∷ ‵ (froom tallyTy l₁₆ 0) ∷ ‵ (fdies tallyTy l₁₆) ∷ ‵ (froom tyBool l₁₅ 0) ∷ ‵ (fdies tyBool l₁₅) ∷ ‵ (froom talliesTy l₁₄ 0) ∷ ‵ (fdies talliesTy l₁₄) ∷ ‵ (froom tallyTy l₁₃ 0) ∷ ‵ (fdies tallyTy l₁₃) ∷ ‵ (froom word l₁₂ 0) ∷ ‵ (fdies word l₁₂) ∷ ‵ (froom word l₁₁ 0) ∷ ‵ (fdies word l₁₁) ∷ ‵ (froom word l₁₀ 0) ∷ ‵ (fdies word l₁₀) ∷ ‵ (froom byte l₉ 0) ∷ ‵ (fdies byte l₉) ∷ ‵ (froom P′.mir l₈ 0) ∷ ‵ (fdies P′.mir l₈) ∷ ‵ (froom tyBool l₇ 0) ∷ ‵ (fdies tyBool l₇) ∷ ‵ (froom P′.mir l₆ 0) ∷ ‵ (fdies P′.mir l₆) ∷ ‵ (fat fullShare tsTy l₅ 0 (st′ ts₀)) ∷ ‵ (fdies tsTy l₅) ∷ ‵ (fat fullShare zonesTy l₄ 0 sz) ∷ ‵ (fdies zonesTy l₄) ∷ ‵ (fat fullShare outTy l₃ 0 (so out₀)) ∷ ‵ (fdies outTy l₃) ∷ ‵ (fat fullShare xsTy l₂ 0 (sx xs₀)) ∷ ‵ (fdies xsTy l₂) ∷ ‵ (fat fullShare S′.mir l₁ 0 (EL.val S.the-type S′.the-laws s)) ∷ ‵ (fdies S′.mir l₁) ∷ ‵ (froom byte l₀ 0) ∷ ‵ (fdies byte l₀) ∷ (‵ (flft κ₀ q₀) ⊛ ‵ (flft κ₁ q₁) ⊛ ‵ (flft κ₂ q₂) ⊛ ‵ (flft κ₃ q₃) ⊛ ‵ ftrue) ∷ ‵ (owns (S.the-row ∷ MutSlice (named 0) κ₀ u64 ∷ MutSlice (named 1) κ₁ u64 ∷ ShrSlice (named 2) κ₂ u64 ∷ MutSlice (named 3) κ₃ T.the-row ∷ []) a vals) ∷ []
+    Begun = ‵ (froom word l₂₅ 0) ∷ ‵ (fdies word l₂₅) ∷ ‵ (froom talliesTy l₂₄ 0) ∷ ‵ (fdies talliesTy l₂₄) ∷ ‵ (froom tallyTy l₂₃ 0) ∷ ‵ (fdies tallyTy l₂₃) ∷ ‵ (froom partTy l₂₂ 0) ∷ ‵ (fdies partTy l₂₂) ∷ ‵ (froom againTy l₂₁ 0) ∷ ‵ (fdies againTy l₂₁) ∷ ‵ (froom partTy l₂₀ 0) ∷ ‵ (fdies partTy l₂₀) ∷ ‵ (froom againTy l₁₉ 0) ∷ ‵ (fdies againTy l₁₉) ∷ ‵ (froom tyUnit l₁₈ 0) ∷ ‵ (fdies tyUnit l₁₈) ∷ ‵ (froom talliesTy l₁₇ 0) ∷ ‵ (fdies talliesTy l₁₇) ∷ ‵ (froom tallyTy l₁₆ 0) ∷ ‵ (fdies tallyTy l₁₆) ∷ ‵ (froom tyBool l₁₅ 0) ∷ ‵ (fdies tyBool l₁₅) ∷ ‵ (froom talliesTy l₁₄ 0) ∷ ‵ (fdies talliesTy l₁₄) ∷ ‵ (froom tallyTy l₁₃ 0) ∷ ‵ (fdies tallyTy l₁₃) ∷ ‵ (froom word l₁₂ 0) ∷ ‵ (fdies word l₁₂) ∷ ‵ (froom word l₁₁ 0) ∷ ‵ (fdies word l₁₁) ∷ ‵ (froom word l₁₀ 0) ∷ ‵ (fdies word l₁₀) ∷ ‵ (froom byte l₉ 0) ∷ ‵ (fdies byte l₉) ∷ ‵ (froom P′.mir l₈ 0) ∷ ‵ (fdies P′.mir l₈) ∷ ‵ (froom tyBool l₇ 0) ∷ ‵ (fdies tyBool l₇) ∷ ‵ (froom P′.mir l₆ 0) ∷ ‵ (fdies P′.mir l₆) ∷ ‵ (fat fullShare tsTy l₅ 0 (st′ ts₀)) ∷ ‵ (fdies tsTy l₅) ∷ ‵ (fat fullShare zonesTy l₄ 0 sz) ∷ ‵ (fdies zonesTy l₄) ∷ ‵ (fat fullShare outTy l₃ 0 (so out₀)) ∷ ‵ (fdies outTy l₃) ∷ ‵ (fat fullShare xsTy l₂ 0 (sx xs₀)) ∷ ‵ (fdies xsTy l₂) ∷ ‵ (fat fullShare S′.mir l₁ 0 (EL.val S.the-type S′.the-laws s)) ∷ ‵ (fdies S′.mir l₁) ∷ ‵ (froom byte l₀ 0) ∷ ‵ (fdies byte l₀) ∷ ‵ (flft κ₃ q₃) ∷ ‵ (flft κ₂ q₂) ∷ ‵ (flft κ₁ q₁) ∷ ‵ (flft κ₀ q₀) ∷ ‵ (OwnT κ₃ γ₃ ts₀ (length ts₀)) ∷ ‵ OwnZ ∷ ‵ OwnZ ∷ ‵ OwnZ ∷ ‵ (OwnO κ₁ γ₁ out₀ (length out₀)) ∷ ‵ (OwnX κ₀ γ₀ xs₀ (length xs₀)) ∷ []
 
     begins : Sq W Begun (runs C Λ En body.t-1 (atRet En Post))
     begins =
-        move ! (53 ∷ []) $ fsplit ! $ drop ! $ fsplit ! $ move ! (1 ∷ []) $ fsplit ! $ move ! (1 ∷ []) $ fsplit ! $ use1 W (‵ OwnZ ⊛ ‵ OwnZ) (shr-slice-copy 𝓤 H A W (named 2) κ₂ u64 .twice z′ (sz ∷ [])) $ split ! $ use1 W (‵ OwnZ ⊛ ‵ OwnZ) (shr-slice-copy 𝓤 H A W (named 2) κ₂ u64 .twice z′ (sz ∷ [])) $ split ! $
-        move ! (3 ∷ []) $ fsplit ! $ move ! (1 ∷ []) $ drop ! $ move ! (58 ∷ []) $ split ! $ move ! (1 ∷ []) $ split ! $ move ! (1 ∷ []) $ split ! $ move ! (1 ∷ []) $ split ! $ move ! (1 ∷ []) $ drop ! $
+        move ! (52 ∷ 53 ∷ 54 ∷ 55 ∷ 56 ∷ 57 ∷ 58 ∷ 59 ∷ 60 ∷ 61 ∷ []) $
         assigns ! (of-opd ! (load ! (from ! (fld ! refl (stop !))) (look-in ! 56 (sub ! 1 refl (whole !))))) (from ! (stop !)) (init ! 40 refl (tt, record { fits = roomx₀ .0 })) $
         assigns ! (of-opd ! (load ! (from ! (fld ! refl (stop !))) (look-in ! 54 (sub ! 1 refl (whole !))))) (from ! (stop !)) (init ! 38 refl (tt, record { fits = roomo₀ .0 })) $
         assigns ! (of-opd ! (load ! (from ! (fld ! refl (stop !))) (look-in ! 50 (sub ! 1 refl (whole !))))) (from ! (stop !)) (init ! 36 refl (tt, record { fits = roomt .0 })) $
@@ -356,6 +355,8 @@ module _ {M : Type 1} (𝓤 : URA M) (H : Heap 𝓤) (A : Atoms 𝓤) (W : Given
   walk 𝓣 known-look known-settle known-count known =
       qed W ((‵ (flft κ₀ q₀) ⊛ ‵ (flft κ₁ q₁) ⊛ ‵ (flft κ₂ q₂) ⊛ ‵ (flft κ₃ q₃) ⊛ ‵ ftrue) ∷ ‵ (owns (S.the-row ∷ MutSlice (named 0) κ₀ u64 ∷ MutSlice (named 1) κ₁ u64 ∷ ShrSlice (named 2) κ₂ u64 ∷ MutSlice (named 3) κ₃ T.the-row ∷ []) a vals) ∷ []) ∵
       enter ! (𝓣 .C) (𝓣 .Λ) code.function (EL.val S.the-type S′.the-laws s ∷ sx xs₀ ∷ so out₀ ∷ sz ∷ st′ ts₀ ∷ []) _ $
+      move ! (1 ∷ []) $ fsplit ! $ drop ! $ fsplit ! $ move ! (1 ∷ []) $ fsplit ! $ move ! (1 ∷ []) $ fsplit ! $ use1 W (‵ OwnZ ⊛ ‵ OwnZ) (shr-slice-copy 𝓤 H A W (named 2) κ₂ u64 .twice z′ (sz ∷ [])) $ split ! $ use1 W (‵ OwnZ ⊛ ‵ OwnZ) (shr-slice-copy 𝓤 H A W (named 2) κ₂ u64 .twice z′ (sz ∷ [])) $ split ! $
+      move ! (3 ∷ []) $ fsplit ! $ move ! (1 ∷ []) $ drop ! $ move ! (6 ∷ []) $ split ! $ move ! (1 ∷ []) $ split ! $ move ! (1 ∷ []) $ split ! $ move ! (1 ∷ []) $ split ! $ move ! (1 ∷ []) $ drop ! $
       allocs-all ! (λ l₀ l₁ l₂ l₃ l₄ l₅ l₆ l₇ l₈ l₉ l₁₀ l₁₁ l₁₂ l₁₃ l₁₄ l₁₅ l₁₆ l₁₇ l₁₈ l₁₉ l₂₀ l₂₁ l₂₂ l₂₃ l₂₄ l₂₅. params1 ! $
       pass1 ! (init ! 48 refl (EL.lawful S.the-type S′.the-laws 𝓤 H A W tt .typed s _ gs .0)) $ pass1 ! (init ! 46 refl (tt, (tt, (record { fits = roomx₀ .0 }, tt)))) $ pass1 ! (init ! 44 refl (tt, (tt, (record { fits = roomo₀ .0 }, tt)))) $ pass1 ! (init ! 42 refl (tt, (tt, (record { fits = roomz .0 }, tt)))) $ pass1 ! (init ! 40 refl (tt, (tt, (record { fits = roomt .0 }, tt)))) $ pass0 ! $
       begins 𝓣 known-look known-settle known-count known l₀ l₁ l₂ l₃ l₄ l₅ l₆ l₇ l₈ l₉ l₁₀ l₁₁ l₁₂ l₁₃ l₁₄ l₁₅ l₁₆ l₁₇ l₁₈ l₁₉ l₂₀ l₂₁ l₂₂ l₂₃ l₂₄ l₂₅)
