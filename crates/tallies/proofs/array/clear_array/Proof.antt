@@ -117,13 +117,14 @@ module _ {M : Type 1} (𝓤 : URA M) (H : Heap 𝓤) (A : Atoms 𝓤) (W : Given
     walk : ent 𝓤 (onEntry 𝓤 H A f.signature κs qs a vals) (WpFn 𝓤 H C Λ code.function (vint w64 particles ∷ s₀ ∷ mval ts ∷ vint w64 n ∷ []) Post)
     walk =
         qed W ((‵ (flft κ₀ q₀) ⊛ ‵ ftrue) ∷ ‵ (owns (usize ∷ ShrSlice (named 0) κ₀ u64 ∷ Row ∷ usize ∷ []) a vals) ∷ []) ∵ enter ! C Λ code.function (vint w64 particles ∷ s₀ ∷ mval ts ∷ vint w64 n ∷ []) _ $
+        move ! (1 ∷ []) $ fsplit ! $ let-go ! $ fsplit ! $ use1 W (‵ Own₀ ⊛ ‵ Own₀) (shr-slice-copy 𝓤 H A W (named 0) κ₀ u64 .twice x₀ (s₀ ∷ [])) $ split ! $ move ! (2 ∷ []) $ let-go ! $ move ! (2 ∷ []) $ split ! $ move ! (1 ∷ []) $ let-go ! $
         allocs-all ! (λ l₀ l₁ l₂ l₃ l₄ l₅ l₆ l₇ l₈ l₉. params1 ! $
         pass1 ! (init ! 16 refl (tt, record { fits = gparticles })) $ pass1 ! (init ! 14 refl (tt, (tt, (record { fits = room₀ .0 }, tt)))) $ pass1 ! (init ! 12 refl (array-lawful 𝓤 H A W T.the-row (LL.lawful T.the-type T′.the-laws 𝓤 H A W) 256 .typed ts _ gt .0)) $ pass1 ! (init ! 10 refl (tt, record { fits = gn })) $ pass0 ! $
         assigns ! (of-opd ! (load ! (from ! (stop !)) (look ! 12 refl))) (from ! (stop !)) (init ! 8 refl (array-lawful 𝓤 H A W T.the-row (LL.lawful T.the-type T′.the-laws 𝓤 H A W) 256 .typed ts _ gt .0)) $
         assigns ! (addr ! (from ! (stop !))) (from ! (stop !)) (init ! 4 refl (tt, tt)) $
         assigns ! (agg ! (and-then ! (load ! (from ! (stop !)) (look ! 4 refl)) (and-then ! (load ! (from ! (stop !)) (look ! 10 refl)) (no-more !)))) (from ! (stop !)) (init ! 2 refl (tt, (tt, (record { fits = gn }, tt)))) $
         rewrite ! 2 (λ (m : ℕ). ‵ (fat fullShare talliesTy l₈ 0 (sliceVal (l₅, 0) m))) (sym long) refl $
-        move ! (21 ∷ []) $ fsplit ! $ let-go ! $ fsplit ! $ use1 W (‵ Own₀ ⊛ ‵ Own₀) (shr-slice-copy 𝓤 H A W (named 0) κ₀ u64 .twice x₀ (s₀ ∷ [])) $ split ! $ move ! (2 ∷ []) $ let-go ! $ move ! (22 ∷ []) $ split ! $ move ! (1 ∷ []) $ let-go ! $
+        move ! (20 ∷ 21 ∷ 22 ∷ []) $
         owned ! Row (Is Row) (array-makes 𝓤 H A W T.the-row (LL.makes T.the-type T′.the-plain 𝓤 H A) 256) ts _ gt $ lft-new ! tt (λ ν. move ! (13 ∷ 1 ∷ []) $
         use2 W (later (some (λ (δ : GName). ‵ (OwnT l₅ ν δ) ⊛ ‵ (FrontLent (ν ∷ []) l₅ fs rs δ)))) (lends-front (ν ∷ []) l₅ fs rs 𝓤 H A W (named 1) ts (sym (take-append-drop n ts)) (front-room ts n all most)) $ await ! tt $ pick ! (λ δ. split ! $
         move ! (4 ∷ 0 ∷ []) $ fjoin ! $ move ! (2 ∷ 0 ∷ []) $ fjoin ! $ move ! (2 ∷ 0 ∷ []) $ fjoin ! $ use1 W (raw (Core 𝓤 H A mem run .pre (to l₅ ν δ))) (goes l₅ ν δ) $

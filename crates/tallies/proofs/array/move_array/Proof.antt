@@ -117,6 +117,7 @@ module _ {M : Type 1} (𝓤 : URA M) (H : Heap 𝓤) (A : Atoms 𝓤) (W : Given
     walk : ent 𝓤 (onEntry 𝓤 H A f.signature κs qs a vals) (WpFn 𝓤 H C Λ code.function (vint w64 particles ∷ vint w64 p ∷ vint w64 z ∷ s₀ ∷ mval ts ∷ vint w64 n ∷ []) Post)
     walk =
         qed W ((‵ (flft κ₀ q₀) ⊛ ‵ ftrue) ∷ ‵ (owns (usize ∷ usize ∷ usize ∷ MutSlice (named 0) κ₀ u64 ∷ Row ∷ usize ∷ []) a vals) ∷ []) ∵ enter ! C Λ code.function (vint w64 particles ∷ vint w64 p ∷ vint w64 z ∷ s₀ ∷ mval ts ∷ vint w64 n ∷ []) _ $
+        move ! (1 ∷ []) $ fsplit ! $ let-go ! $ fsplit ! $ let-go ! $ fsplit ! $ let-go ! $ fsplit ! $ move ! (1 ∷ []) $ let-go ! $ move ! (1 ∷ []) $ split ! $ move ! (1 ∷ []) $ let-go ! $
         allocs-all ! (λ l₀ l₁ l₂ l₃ l₄ l₅ l₆ l₇ l₈ l₉ l₁₀ l₁₁ l₁₂ l₁₃. params1 ! $
         pass1 ! (init ! 24 refl (tt, record { fits = gparticles })) $ pass1 ! (init ! 22 refl (tt, record { fits = gp })) $ pass1 ! (init ! 20 refl (tt, record { fits = gz })) $ pass1 ! (init ! 18 refl (tt, (tt, (record { fits = room₀ .0 }, tt)))) $ pass1 ! (init ! 16 refl (array-lawful 𝓤 H A W T.the-row (LL.lawful T.the-type T′.the-laws 𝓤 H A W) 256 .typed ts _ gt .0)) $ pass1 ! (init ! 14 refl (tt, record { fits = gn })) $ pass0 ! $
         assigns ! (of-opd ! (load ! (from ! (stop !)) (look ! 16 refl))) (from ! (stop !)) (init ! 12 refl (array-lawful 𝓤 H A W T.the-row (LL.lawful T.the-type T′.the-laws 𝓤 H A W) 256 .typed ts _ gt .0)) $
@@ -125,7 +126,7 @@ module _ {M : Type 1} (𝓤 : URA M) (H : Heap 𝓤) (A : Atoms 𝓤) (W : Given
         assigns ! (addr ! (from ! (stop !))) (from ! (stop !)) (init ! 4 refl (tt, tt)) $
         assigns ! (agg ! (and-then ! (load ! (from ! (stop !)) (look ! 4 refl)) (and-then ! (load ! (from ! (stop !)) (look ! 14 refl)) (no-more !)))) (from ! (stop !)) (init ! 2 refl (tt, (tt, (record { fits = gn }, tt)))) $
         rewrite ! 2 (λ (m : ℕ). ‵ (fat fullShare talliesTy l₁₂ 0 (sliceVal (l₇, 0) m))) (sym long) refl $
-        move ! (29 ∷ []) $ fsplit ! $ let-go ! $ fsplit ! $ let-go ! $ fsplit ! $ let-go ! $ fsplit ! $ move ! (1 ∷ []) $ let-go ! $ move ! (29 ∷ []) $ split ! $ move ! (1 ∷ []) $ let-go ! $
+        move ! (28 ∷ 29 ∷ []) $
         owned ! Row (Is Row) (array-makes 𝓤 H A W T.the-row (LL.makes T.the-type T′.the-plain 𝓤 H A) 256) ts _ gt $ lft-new ! tt (λ ν. move ! (16 ∷ 1 ∷ []) $
         use2 W (later (some (λ (δ : GName). ‵ (OwnT l₇ ν δ) ⊛ ‵ (FrontLent (ν ∷ []) l₇ fs rs δ)))) (lends-front (ν ∷ []) l₇ fs rs 𝓤 H A W (named 1) ts (sym (take-append-drop n ts)) (front-room ts n all most)) $ await ! tt $ pick ! (λ δ. split ! $
         move ! (4 ∷ 0 ∷ []) $ fjoin ! $ move ! (2 ∷ 0 ∷ []) $ fjoin ! $ move ! (2 ∷ 0 ∷ []) $ fjoin ! $ use1 W (raw (Core 𝓤 H A mem run .pre (to l₇ ν δ))) (goes l₇ ν δ) $

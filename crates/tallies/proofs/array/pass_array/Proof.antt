@@ -134,6 +134,7 @@ module _ {M : Type 1} (𝓤 : URA M) (H : Heap 𝓤) (A : Atoms 𝓤) (W : Given
     walk : ent 𝓤 (onEntry 𝓤 H A f.signature κs qs a vals) (WpFn 𝓤 H C Λ code.function (EL.val S.the-type S′.the-laws s ∷ s₀ ∷ s₁ ∷ s₂ ∷ mval ts ∷ vint w64 n ∷ []) Post)
     walk =
         qed W ((‵ (flft κ₀ q₀) ⊛ ‵ (flft κ₁ q₁) ⊛ ‵ (flft κ₂ q₂) ⊛ ‵ ftrue) ∷ ‵ (owns (S.the-row ∷ MutSlice (named 0) κ₀ u64 ∷ MutSlice (named 1) κ₁ u64 ∷ ShrSlice (named 2) κ₂ u64 ∷ Row ∷ usize ∷ []) a vals) ∷ []) ∵ enter ! C Λ code.function (EL.val S.the-type S′.the-laws s ∷ s₀ ∷ s₁ ∷ s₂ ∷ mval ts ∷ vint w64 n ∷ []) _ $
+        move ! (1 ∷ []) $ fsplit ! $ let-go ! $ fsplit ! $ move ! (1 ∷ []) $ fsplit ! $ move ! (1 ∷ []) $ fsplit ! $ use1 W (‵ Own₂ ⊛ ‵ Own₂) (shr-slice-copy 𝓤 H A W (named 2) κ₂ u64 .twice x₂ (s₂ ∷ [])) $ split ! $ move ! (2 ∷ []) $ let-go ! $ move ! (4 ∷ []) $ split ! $ move ! (1 ∷ []) $ split ! $ move ! (1 ∷ []) $ split ! $ move ! (1 ∷ []) $ let-go ! $
         allocs-all ! (λ l₀ l₁ l₂ l₃ l₄ l₅ l₆ l₇ l₈ l₉ l₁₀ l₁₁ l₁₂ l₁₃ l₁₄ l₁₅. params1 ! $
         pass1 ! (init ! 28 refl (EL.lawful S.the-type S′.the-laws 𝓤 H A W tt .typed s _ gs .0)) $ pass1 ! (init ! 26 refl (tt, (tt, (record { fits = room₀ .0 }, tt)))) $ pass1 ! (init ! 24 refl (tt, (tt, (record { fits = room₁ .0 }, tt)))) $ pass1 ! (init ! 22 refl (tt, (tt, (record { fits = room₂ .0 }, tt)))) $ pass1 ! (init ! 20 refl (array-lawful 𝓤 H A W T.the-row (LL.lawful T.the-type T′.the-laws 𝓤 H A W) 256 .typed ts _ gt .0)) $ pass1 ! (init ! 18 refl (tt, record { fits = gn })) $ pass0 ! $
         assigns ! (of-opd ! (load ! (from ! (stop !)) (look ! 20 refl))) (from ! (stop !)) (init ! 16 refl (array-lawful 𝓤 H A W T.the-row (LL.lawful T.the-type T′.the-laws 𝓤 H A W) 256 .typed ts _ gt .0)) $
@@ -144,7 +145,7 @@ module _ {M : Type 1} (𝓤 : URA M) (H : Heap 𝓤) (A : Atoms 𝓤) (W : Given
         assigns ! (addr ! (from ! (stop !))) (from ! (stop !)) (init ! 4 refl (tt, tt)) $
         assigns ! (agg ! (and-then ! (load ! (from ! (stop !)) (look ! 4 refl)) (and-then ! (load ! (from ! (stop !)) (look ! 18 refl)) (no-more !)))) (from ! (stop !)) (init ! 2 refl (tt, (tt, (record { fits = gn }, tt)))) $
         rewrite ! 2 (λ (m : ℕ). ‵ (fat fullShare talliesTy l₁₄ 0 (sliceVal (l₇, 0) m))) (sym long) refl $
-        move ! (33 ∷ []) $ fsplit ! $ let-go ! $ fsplit ! $ move ! (1 ∷ []) $ fsplit ! $ move ! (1 ∷ []) $ fsplit ! $ use1 W (‵ Own₂ ⊛ ‵ Own₂) (shr-slice-copy 𝓤 H A W (named 2) κ₂ u64 .twice x₂ (s₂ ∷ [])) $ split ! $ move ! (2 ∷ []) $ let-go ! $ move ! (36 ∷ []) $ split ! $ move ! (1 ∷ []) $ split ! $ move ! (1 ∷ []) $ split ! $ move ! (1 ∷ []) $ let-go ! $
+        move ! (32 ∷ 33 ∷ 34 ∷ 35 ∷ 36 ∷ 37 ∷ 38 ∷ []) $
         owned ! Row (Is Row) (array-makes 𝓤 H A W T.the-row (LL.makes T.the-type T′.the-plain 𝓤 H A) 256) ts _ gt $ lft-new ! tt (λ ν. move ! (25 ∷ 1 ∷ []) $
         use2 W (later (some (λ (δ : GName). ‵ (OwnT l₇ ν δ) ⊛ ‵ (FrontLent (ν ∷ []) l₇ fs rs δ)))) (lends-front (ν ∷ []) l₇ fs rs 𝓤 H A W (named 3) ts (sym (take-append-drop n ts)) (front-room ts n all most)) $ await ! tt $ pick ! (λ δ. split ! $
         move ! (6 ∷ 0 ∷ []) $ fjoin ! $ move ! (7 ∷ 0 ∷ []) $ fjoin ! $ move ! (7 ∷ 0 ∷ []) $ fjoin ! $ move ! (2 ∷ 0 ∷ []) $ fjoin ! $ move ! (2 ∷ 0 ∷ []) $ fjoin ! $ move ! (2 ∷ 0 ∷ []) $ fjoin ! $ move ! (2 ∷ 0 ∷ []) $ fjoin ! $ use1 W (raw (Core 𝓤 H A mem run .pre (to l₇ ν δ))) (goes l₇ ν δ) $

@@ -174,9 +174,10 @@ module _ {M : Type 1} (𝓤 : URA M) (H : Heap 𝓤) (A : Atoms 𝓤) (W : Given
   walk : (C : Calls 𝓤 H) (Λ : Loops 𝓤 H) → ent 𝓤 (onEntry 𝓤 H A f.signature (κ, tt) (q, tt) a vals) (WpFn 𝓤 H C Λ code.function (s ∷ vint w64 z ∷ LL.val D.the-type D′.the-laws d ∷ []) Post)
   walk C Λ =
       qed W ((‵ (flft κ q) ⊛ ‵ ftrue) ∷ ‵ (owns (MutSlice (named 0) κ T.the-row ∷ usize ∷ D.the-row ∷ []) a vals) ∷ []) ∵ enter ! C Λ code.function (s ∷ vint w64 z ∷ LL.val D.the-type D′.the-laws d ∷ []) _ $
+      move ! (1 ∷ []) $ fsplit ! $ fsplit ! $ move ! (1 ∷ []) $ fsplit ! $ move ! (4 ∷ []) $ split ! $ move ! (1 ∷ []) $ drop ! $ move ! (3 ∷ []) $ drop ! $ move ! (1 ∷ 2 ∷ 0 ∷ []) $
       allocs-all ! (λ l₀ l₁ l₂ l₃ l₄ l₅ l₆ l₇ l₈ l₉ l₁₀ l₁₁ l₁₂ l₁₃ l₁₄ l₁₅ l₁₆ l₁₇ l₁₈ l₁₉ l₂₀ l₂₁ l₂₂ l₂₃ l₂₄ l₂₅ l₂₆ l₂₇ l₂₈. params1 ! $
       pass1 ! (init ! 54 refl (tt, (tt, (record { fits = room .0 }, tt)))) $ pass1 ! (init ! 52 refl (tt, record { fits = gz })) $ pass1 ! (init ! 50 refl (LL.lawful D.the-type D′.the-laws 𝓤 H A W .typed d _ gd .0)) $ pass0 ! $
-      move ! (59 ∷ []) $ fsplit ! $ fsplit ! $ move ! (1 ∷ []) $ fsplit ! $ move ! (62 ∷ []) $ split ! $ move ! (1 ∷ []) $ drop ! $ move ! (3 ∷ []) $ drop ! $ move ! (1 ∷ 2 ∷ 0 ∷ []) $
+      move ! (58 ∷ 59 ∷ 60 ∷ 61 ∷ []) $
       opens-slice ! tt T.the-row ys b o $
       elem-out ! T.the-row (Is T.the-row) (shows 𝓤 H A T.the-row) (LL.vals T.the-type T′.the-laws) (LL.tells T.the-type T′.the-laws) fullShare ys z none b o (ok .0) (λ was.
       move ! (1 ∷ []) $ drop ! $
