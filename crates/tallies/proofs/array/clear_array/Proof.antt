@@ -7,7 +7,7 @@ use lib.ListN.{length, take, drop, take-append-drop}
 use Rattle.tallies.proofs.Bodies.{bare, has, allocs-all, frees-all}
 use Rattle.tallies.proofs.Walking.{URA, fullShare, Ty, named, erased, mut, w8, w64, tyInt, tyRef, Val, vint, SProp, ent, id⊢, Lft, Share, GName, Fml, ftrue, fsep, fat, flft, Lfts, Shares, Memory, Routine, Heap, Calls, Loops, WpFn, Tables, Atoms, sem, Fun, fact, givenOf, tables, Given, ‵, _⊛_, ⋆, some, later, _$_, _∵_, !, qed, by, move, keep, drop as let-go, use1, use2, use3, split, join, pick, rewrite, fsplit, fjoin, feqL, suffices, frame, await, done, look, init, forget, stop, from, load, addr, of-opd, and-then, no-more, assigns, land, enter, alloc1, alloc0, params1, pass1, pass0, free1, free0, agg, lft-new, lft-end, FmC, fmOf, WpFn-mono, owns, Is, shows, pointee, uint-lawful, uint-vals, uint-tells, uint-makes, array-vals, array-tells, array-lawful, array-makes, u8, u64, usize, RefT, sliceTy, sliceVal, MutSlice, ShrSlice, Room, slice-vals, shr-slice-tells, shr-slice-copy, plain, peeks, heard, nothing, owned, Contract, Triple, calls-at, onEntry, Meets, tripleOf, entered, cited, says, needs, Stays, stay-none, stay-none-slice, walkOf, goes-none, goes-none-slice, Walks, ends-at, walked, walk-meets, ensured, lasts, yes}
 use contract.Running.{tablesOf}
-use types.Kit.{raw}
+use types.Kit.{raw, group}
 use types.Run.{returns}
 use denote.Struct.Laws as LL
 use Rattle.tallies.specs.declared.tally.Tally.{Tally}
@@ -127,7 +127,7 @@ module _ {M : Type 1} (𝓤 : URA M) (H : Heap 𝓤) (A : Atoms 𝓤) (W : Given
         move ! (20 ∷ 21 ∷ 22 ∷ []) $
         owned ! Row (Is Row) (array-makes 𝓤 H A W T.the-row (LL.makes T.the-type T′.the-plain 𝓤 H A) 256) ts _ gt $ lft-new ! tt (λ ν. move ! (13 ∷ 1 ∷ []) $
         use2 W (later (some (λ (δ : GName). ‵ (OwnT l₅ ν δ) ⊛ ‵ (FrontLent (ν ∷ []) l₅ fs rs δ)))) (lends-front (ν ∷ []) l₅ fs rs 𝓤 H A W (named 1) ts (sym (take-append-drop n ts)) (front-room ts n all most)) $ await ! tt $ pick ! (λ δ. split ! $
-        move ! (4 ∷ 0 ∷ []) $ fjoin ! $ move ! (2 ∷ 0 ∷ []) $ fjoin ! $ move ! (2 ∷ 0 ∷ []) $ fjoin ! $ use1 W (raw (Core 𝓤 H A mem run .pre (to l₅ ν δ))) (goes l₅ ν δ) $
+        move ! (3 ∷ 2 ∷ 4 ∷ 0 ∷ []) $ group ! 4 $ use1 W (raw (Core 𝓤 H A mem run .pre (to l₅ ν δ))) (goes l₅ ν δ) $
         calls-at ! fm (Core 𝓤 H A mem run) known (to l₅ ν δ) (and-then ! (load ! (from ! (stop !)) (look ! 18 refl)) (and-then ! (load ! (from ! (stop !)) (look ! 16 refl)) (and-then ! (load ! (from ! (stop !)) (look ! 5 refl)) (no-more !)))) (λ v.
         use1 W (later (some (λ (c : ℕ). ((‵ (flft κ₀ q₀) ⊛ ‵ (flft (ν ∷ []) fullShare) ⊛ ‵ ftrue) ⊛ ‵ (u8 .own c (v ∷ []))) ⊛ raw (ensured 𝓤 H A core.ended (core.clauses 𝓤 H A mem run) (κ₀, (ν ∷ [], tt)) (args l₅ δ) tt c)))) (id⊢ 𝓤 _) $ await ! tt $ pick ! (λ c.
         split ! $ move ! (1 ∷ []) $ use1 W (some (λ (ws : Lasts′). ‵ (lasts core.ended (κ₀, (ν ∷ [], tt)) (args l₅ δ) ws) ⊛ raw (fact 𝓤 (Did (length fs) c (ws .1 .1 .0))))) (id⊢ 𝓤 _) $ pick ! (λ ws.

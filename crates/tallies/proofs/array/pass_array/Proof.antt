@@ -7,7 +7,7 @@ use lib.ListN.{length, take, drop, take-append-drop}
 use Rattle.tallies.proofs.Bodies.{bare, has, allocs-all, frees-all}
 use Rattle.tallies.proofs.Walking.{URA, fullShare, Ty, named, erased, mut, w8, w64, tyInt, tyRef, Val, vint, SProp, ent, id⊢, Lft, Share, GName, Fml, ftrue, fsep, fat, flft, Lfts, Shares, Memory, Routine, Heap, Calls, Loops, WpFn, Tables, Atoms, sem, Fun, fact, givenOf, tables, Given, ‵, _⊛_, ⋆, some, later, _$_, _∵_, !, qed, by, move, keep, drop as let-go, use1, use2, use3, split, join, pick, rewrite, fsplit, fjoin, feqL, suffices, frame, await, done, look, init, forget, stop, hop, fld, from, load, addr, of-opd, and-then, no-more, assigns, land, enter, alloc1, alloc0, params1, pass1, pass0, free1, free0, agg, whole, sub, look-in, lft-new, lft-end, FmC, fmOf, WpFn-mono, owns, Is, shows, pointee, uint-lawful, uint-vals, uint-tells, uint-makes, array-vals, array-tells, array-lawful, array-makes, u8, u64, usize, RefT, sliceTy, sliceVal, MutSlice, ShrSlice, Room, finally, slice-vals, mut-slice-tells, shr-slice-tells, shr-slice-copy, plain, peeks, heard, nothing, owned, Contract, Triple, calls-at, onEntry, Meets, tripleOf, entered, cited, says, needs, Stays, stay-none, stay-none-slice, gave-slice, walkOf, goes-none, goes-none-slice, goes-gave-slice, Walks, ends-at, walked, walk-meets, ensured, lasts, yes}
 use contract.Running.{tablesOf}
-use types.Kit.{raw}
+use types.Kit.{raw, group}
 use types.Run.{returns}
 use denote.Struct.Laws as LL
 use denote.Enum.Laws as EL
@@ -148,7 +148,7 @@ module _ {M : Type 1} (𝓤 : URA M) (H : Heap 𝓤) (A : Atoms 𝓤) (W : Given
         move ! (32 ∷ 33 ∷ 34 ∷ 35 ∷ 36 ∷ 37 ∷ 38 ∷ []) $
         owned ! Row (Is Row) (array-makes 𝓤 H A W T.the-row (LL.makes T.the-type T′.the-plain 𝓤 H A) 256) ts _ gt $ lft-new ! tt (λ ν. move ! (25 ∷ 1 ∷ []) $
         use2 W (later (some (λ (δ : GName). ‵ (OwnT l₇ ν δ) ⊛ ‵ (FrontLent (ν ∷ []) l₇ fs rs δ)))) (lends-front (ν ∷ []) l₇ fs rs 𝓤 H A W (named 3) ts (sym (take-append-drop n ts)) (front-room ts n all most)) $ await ! tt $ pick ! (λ δ. split ! $
-        move ! (6 ∷ 0 ∷ []) $ fjoin ! $ move ! (7 ∷ 0 ∷ []) $ fjoin ! $ move ! (7 ∷ 0 ∷ []) $ fjoin ! $ move ! (2 ∷ 0 ∷ []) $ fjoin ! $ move ! (2 ∷ 0 ∷ []) $ fjoin ! $ move ! (2 ∷ 0 ∷ []) $ fjoin ! $ move ! (2 ∷ 0 ∷ []) $ fjoin ! $ use1 W (raw (Core 𝓤 H A mem run .pre (to l₇ ν δ))) (goes l₇ ν δ) $
+        move ! (5 ∷ 4 ∷ 3 ∷ 2 ∷ 9 ∷ 8 ∷ 6 ∷ 0 ∷ []) $ group ! 8 $ use1 W (raw (Core 𝓤 H A mem run .pre (to l₇ ν δ))) (goes l₇ ν δ) $
         calls-at ! fm (Core 𝓤 H A mem run) known (to l₇ ν δ) (and-then ! (load ! (from ! (stop !)) (look ! 30 refl)) (and-then ! (load ! (from ! (stop !)) (look ! 13 refl)) (and-then ! (load ! (from ! (stop !)) (look ! 9 refl)) (and-then ! (load ! (from ! (stop !)) (look ! 24 refl)) (and-then ! (load ! (from ! (stop !)) (look ! 5 refl)) (no-more !)))))) (λ v.
         use1 W (later (some (λ (c : ℕ). ((‵ (flft κ₀ q₀) ⊛ ‵ (flft κ₁ q₁) ⊛ ‵ (flft κ₂ q₂) ⊛ ‵ (flft (ν ∷ []) fullShare) ⊛ ‵ ftrue) ⊛ ‵ (u8 .own c (v ∷ []))) ⊛ raw (ensured 𝓤 H A core.ended (core.clauses 𝓤 H A mem run) (κ₀, (κ₁, (κ₂, (ν ∷ [], tt)))) (args l₇ δ) tt c)))) (id⊢ 𝓤 _) $ await ! tt $ pick ! (λ c.
         split ! $ move ! (1 ∷ []) $ use1 W (some (λ (ws : Lasts′). ‵ (lasts core.ended (κ₀, (κ₁, (κ₂, (ν ∷ [], tt)))) (args l₇ δ) ws) ⊛ raw (fact 𝓤 (Did (length fs) c (ws .1 .0) (ws .1 .1 .0) (ws .1 .1 .1 .1 .0))))) (id⊢ 𝓤 _) $ pick ! (λ ws.

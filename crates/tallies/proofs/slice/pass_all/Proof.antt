@@ -16,7 +16,7 @@ use Rattle.tallies.proofs.Bodies.{bare, has, allocs-all, frees-all}
 use Rattle.tallies.proofs.Walking.{URA, fullShare, Ty, named, erased, mut, imm, w64, tyInt, tyBool, tyUnit, tyPtr, tyRef, Val, vunit, vint, vbool, vptr, SProp, ent, exE, snd∗, id⊢, Lft, Share, GName, Fml, ftrue, fsep, fat, froom, fdies, flft, fshr-bor, Lfts, Shares, Memory, Routine, Heap, Out, Env, afterSeq, afterBlock, Calls, Loops, Wp, atReturn, WpFn, Tables, Atoms, sem, Fun, fact, givenOf, tables, Given, Item, ‵, _⊛_, ⋆, some, later, runs, anyQ, atRet, Sq, _$_, _∵_, !, qed, by, move, keep, drop, use1, use2, use3, split, join, pick, rewrite, fsplit, fjoin, feqL, feqI, suffices, frame, await, done, look, store as put, init, forget, stop, hop, fld, from, load, lit, unit-lit, addr, of-opd, bin, and-then, no-more, assigns, assigns-last, land, first, blocks, stays, leaves-loop, enter, alloc1, alloc0, params1, pass1, pass0, free1, free0, exec, Below, again, loops, agg, whole, sub, look-in, arr-parts, lft-new, lft-end, fmOf, WpFn-mono, owns, Is, shows, shares, pointee, Nothing, nothing-lawful, uint-vals, uint-tells, uint-copy, uint-makes, u64, usize, RefT, sliceTy, sliceVal, MutSlice, ShrSlice, Room, slice-vals, mut-slice-tells, shr-slice-tells, shr-slice-copy, place-is, elem-out, elem-back, looks-slice, shuts-slice, plain, peeks, heard, nothing, owned, Contract, Triple, calls-at, onEntry, Meets, tripleOf, entered, cited, says, needs, Stays, stay-slice, stay-none, stay-none-slice, walkOf, goes-slice, goes-none, goes-none-slice, Walks, ends-at, walked, walk-meets, ensured, lasts, yes}
 use prog.Wp.{afterTurn}
 use contract.Running.{tablesOf}
-use types.Kit.{raw}
+use types.Kit.{raw, group}
 use types.Run.{returns}
 use denote.Struct.Laws as LL
 use denote.Enum.Laws as EL
@@ -302,7 +302,7 @@ module _ {M : Type 1} (𝓤 : URA M) (H : Heap 𝓤) (A : Atoms 𝓤) (W : Given
           use2 W (later (some (λ (δ : GName). ‵ (OwnX (ν ∷ []) δ (st .xs) (length (st .xs))) ⊛ ‵ (LentAgain u64 κ₀ (ν ∷ []) q₀ γ₀ b₀ o₀ δ (st .xs))))) (lends-again u64 κ₀ (ν ∷ []) q₀ γ₀ b₀ o₀ 𝓤 H A W (named 0) (named 0) (st .xs)) $ await ! tt $ pick ! (λ δ. split ! $
           lft-new ! tt (λ ν′. move ! (50 ∷ 51 ∷ []) $
           use2 W (later (some (λ (δ′ : GName). ‵ (OwnO (ν′ ∷ []) δ′ (st .out) (length (st .out))) ⊛ ‵ (LentAgain u64 κ₁ (ν′ ∷ []) q₁ γ₁ b₁ o₁ δ′ (st .out))))) (lends-again u64 κ₁ (ν′ ∷ []) q₁ γ₁ b₁ o₁ 𝓤 H A W (named 1) (named 1) (st .out)) $ await ! tt $ pick ! (λ δ′. split ! $
-          move ! (3 ∷ 0 ∷ []) $ fjoin ! $ move ! (2 ∷ 0 ∷ []) $ fjoin ! $ move ! (3 ∷ 0 ∷ []) $ fjoin ! $ use1 W (raw (Core 𝓤 H A mem run .pre (to st ν δ ν′ δ′))) (goes gk st ν δ ν′ δ′ (asks s xs₀ out₀ zones ts₀ n ready st within)) $
+          move ! (5 ∷ 2 ∷ 3 ∷ 0 ∷ []) $ group ! 4 $ use1 W (raw (Core 𝓤 H A mem run .pre (to st ν δ ν′ δ′))) (goes gk st ν δ ν′ δ′ (asks s xs₀ out₀ zones ts₀ n ready st within)) $
           calls-at ! (fmOf 𝓤 H (W .laws) 𝓣) (Core 𝓤 H A mem run) known (to st ν δ ν′ δ′) (and-then ! (load ! (from ! (stop !)) (look ! 33 refl)) (and-then ! (load ! (from ! (stop !)) (look ! 15 refl)) (and-then ! (load ! (from ! (stop !)) (look ! 11 refl)) (and-then ! (load ! (from ! (stop !)) (look ! 31 refl)) (no-more !))))) (λ u.
           use1 W (later (some (λ (d : Told). ((‵ (flft (ν ∷ []) fullShare) ⊛ ‵ (flft (ν′ ∷ []) fullShare) ⊛ ‵ ftrue) ⊛ ‵ (D.the-row .own d (u ∷ []))) ⊛ raw (ensured 𝓤 H A core.ended (core.clauses 𝓤 H A mem run) (ν ∷ [], (ν′ ∷ [], tt)) (args st δ δ′) tt d)))) (id⊢ 𝓤 _) $ await ! tt $ pick ! (λ d.
           split ! $ move ! (1 ∷ []) $ use1 W (some (λ (ws : Lasts′). ‵ (lasts core.ended (ν ∷ [], (ν′ ∷ [], tt)) (args st δ δ′) ws) ⊛ raw (fact 𝓤 (Stepped (takenLaw made) (st .i) (st .xs) (st .out) d (ws .1 .0) (ws .1 .1 .0))))) (id⊢ 𝓤 _) $ pick ! (λ ws.

@@ -11,7 +11,7 @@ use borrow.Author.Tests.{eqb-true, eq-eqb}
 use Rattle.tallies.proofs.Bodies.{bare, has, allocs-all, frees-all}
 use Rattle.tallies.proofs.Walking.{URA, fullShare, Ty, named, erased, mut, imm, w8, w64, tyInt, tyBool, tyUnit, tyRef, Val, vint, SProp, ent, emp, via, fst∗, snd∗, exE, id⊢, Lft, Share, GName, Fml, ftrue, fsep, fat, froom, fdies, flft, Lfts, Shares, Memory, Routine, Heap, Env, Calls, Loops, WpFn, Tables, Atoms, sem, Fun, fact, givenOf, tables, Given, Item, ‵, _⊛_, ⋆, some, later, runs, atRet, Sq, _$_, _∵_, !, qed, by, move, keep, drop, use1, use2, use3, split, join, pick, rewrite, fsplit, fjoin, feqL, suffices, frame, await, done, look, init, forget, stop, hop, fld, from, load, lit, addr, of-opd, bin, and-then, no-more, assigns, land, first, branches, skips, exec, returns-within, enter, alloc1, alloc0, params1, pass1, pass0, free1, free0, agg, whole, sub, look-in, lft-new, lft-end, fmOf, WpFn-mono, owns, Is, shows, pointee, Boolean, Nothing, bool-lawful, bool-makes, nothing-lawful, uint-makes, u8, u64, usize, RefT, sliceTy, sliceVal, MutSlice, ShrSlice, Room, slice-vals, mut-slice-tells, shr-slice-tells, shr-slice-copy, plain, peeks, heard, nothing, owned, Contract, Triple, calls-at, onEntry, Meets, tripleOf, entered, cited, says, Stays, stay-slice, stay-none, stay-none-slice, walkOf, goes-slice, goes-none, goes-none-slice, Walks, ends-at, walked, walk-meets, ensured, lasts, yes}
 use contract.Running.{tablesOf}
-use types.Kit.{raw}
+use types.Kit.{raw, group}
 use types.Run.{returns}
 use denote.Struct.Laws as LL
 use denote.Enum.Laws as EL
@@ -271,7 +271,7 @@ module _ {M : Type 1} (𝓤 : URA M) (H : Heap 𝓤) (A : Atoms 𝓤) (W : Given
         use2 W (later (some (λ (δ₁ : GName). ‵ (OwnO (ν₁ ∷ []) δ₁ out₀ (length out₀)) ⊛ ‵ (LentAgain u64 κ₁ (ν₁ ∷ []) q₁ γ₁ b₁ o₁ δ₁ out₀)))) (lends-again u64 κ₁ (ν₁ ∷ []) q₁ γ₁ b₁ o₁ 𝓤 H A W (named 1) (named 1) out₀) $ await ! tt $ pick ! (λ δ₁. split ! $
         lft-new ! tt (λ ν₃. move ! (59 ∷ 60 ∷ []) $
         use2 W (later (some (λ (δ₃ : GName). ‵ (OwnT (ν₃ ∷ []) δ₃ us (length us)) ⊛ ‵ (LentAgain T.the-row κ₃ (ν₃ ∷ []) q₃ γ₃ b₃ o₃ δ₃ us)))) (lends-again T.the-row κ₃ (ν₃ ∷ []) q₃ γ₃ b₃ o₃ 𝓤 H A W (named 3) (named 3) us) $ await ! tt $ pick ! (λ δ₃. split ! $
-        move ! (63 ∷ 0 ∷ []) $ fjoin ! $ move ! (3 ∷ 0 ∷ []) $ fjoin ! $ move ! (5 ∷ 0 ∷ []) $ fjoin ! $ move ! (2 ∷ 0 ∷ []) $ fjoin ! $ move ! (58 ∷ 0 ∷ []) $ fjoin ! $ move ! (3 ∷ 0 ∷ []) $ fjoin ! $ move ! (4 ∷ 0 ∷ []) $ fjoin ! $ use1 W (raw (Core 𝓤 H A mem run .pre (to us ν₀ δ₀ ν₁ δ₁ ν₃ δ₃))) (goes us ν₀ δ₀ ν₁ δ₁ ν₃ δ₃ (room-of us lu .0) (ran .ready)) $
+        move ! (8 ∷ 5 ∷ 61 ∷ 2 ∷ 6 ∷ 3 ∷ 63 ∷ 0 ∷ []) $ group ! 8 $ use1 W (raw (Core 𝓤 H A mem run .pre (to us ν₀ δ₀ ν₁ δ₁ ν₃ δ₃))) (goes us ν₀ δ₀ ν₁ δ₁ ν₃ δ₃ (room-of us lu .0) (ran .ready)) $
         calls-at ! (fmOf 𝓤 H (W .laws) 𝓣) (Core 𝓤 H A mem run) known (to us ν₀ δ₀ ν₁ δ₁ ν₃ δ₃) (and-then ! (load ! (from ! (stop !)) (look ! 52 refl)) (and-then ! (load ! (from ! (stop !)) (look ! 14 refl)) (and-then ! (load ! (from ! (stop !)) (look ! 10 refl)) (and-then ! (load ! (from ! (stop !)) (look ! 46 refl)) (and-then ! (load ! (from ! (stop !)) (look ! 6 refl)) (and-then ! (load ! (from ! (stop !)) (look ! 4 refl)) (no-more !))))))) (λ w.
         use1 W (later (some (λ (n : Unit {0}). ((‵ (flft (ν₀ ∷ []) fullShare) ⊛ ‵ (flft (ν₁ ∷ []) fullShare) ⊛ ‵ (flft κ₂ q₂) ⊛ ‵ (flft (ν₃ ∷ []) fullShare) ⊛ ‵ ftrue) ⊛ ‵ (Nothing .own n (w ∷ []))) ⊛ raw (ensured 𝓤 H A core.ended (core.clauses 𝓤 H A mem run) (ν₀ ∷ [], (ν₁ ∷ [], (κ₂, (ν₃ ∷ [], tt)))) (args us δ₀ δ₁ δ₃) tt n)))) (id⊢ 𝓤 _) $ await ! tt $ pick ! (λ n.
         split ! $ move ! (1 ∷ []) $ use1 W (some (λ (ws : Lasts′). ‵ (lasts core.ended (ν₀ ∷ [], (ν₁ ∷ [], (κ₂, (ν₃ ∷ [], tt)))) (args us δ₀ δ₁ δ₃) ws) ⊛ raw (fact 𝓤 (Passed s xs₀ zones us (ws .1 .1 .1 .1 .0) (ws .1 .0) (ws .1 .1 .0))))) (id⊢ 𝓤 _) $ pick ! (λ ws.

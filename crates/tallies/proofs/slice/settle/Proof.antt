@@ -9,7 +9,7 @@ use lib.Dec.{lit<}
 use Rattle.tallies.proofs.Bodies.{bare, has, allocs-all, frees-all}
 use Rattle.tallies.proofs.Walking.{URA, fullShare, Ty, named, erased, mut, imm, w64, tyInt, tyBool, tyRef, Val, vint, SProp, ent, emp, via, fst∗, id⊢, Lft, Share, GName, Fml, ftrue, fsep, fat, froom, fdies, flft, flent, Memory, Routine, Heap, Env, Calls, Loops, WpFn, Tables, Atoms, sem, Fun, fact, givenOf, tables, Given, Item, ‵, _⊛_, ⋆, some, later, runs, atRet, Sq, _$_, _∵_, !, qed, by, move, keep, drop, use1, use2, split, join, pick, rewrite, fsplit, fjoin, feqL, suffices, frame, await, done, look, init, forget, stop, hop, fld, from, load, lit, addr, of-opd, and-then, no-more, assigns, land, enter, alloc1, alloc0, params1, pass1, pass0, free1, free0, agg, whole, sub, look-in, lft-new, lft-end, fmOf, WpFn-mono, owns, Is, shows, pointee, Boolean, bool-lawful, uint-lawful, uint-makes, array-lawful, array-makes, u64, RefT, sliceTy, sliceVal, MutSlice, ShrSlice, Room, finally, slice-vals, mut-slice-tells, plain, peeks, heard, nothing, owned, Contract, Triple, calls-at, onEntry, Meets, tripleOf, entered, cited, says, Stays, stay-none, gave-slice, walkOf, goes-none, goes-gave-slice, Walks, ends-at, walked, walk-meets, ensured, lasts, yes}
 use contract.Running.{tablesOf}
-use types.Kit.{raw}
+use types.Kit.{raw, group}
 use types.Run.{returns}
 use denote.Struct.Laws as LL
 use Rattle.tallies.specs.declared.tally.Tally.{Tally}
@@ -144,7 +144,7 @@ module _ {M : Type 1} (𝓤 : URA M) (H : Heap 𝓤) (A : Atoms 𝓤) (W : Given
         move ! (19 ∷ []) $ fsplit ! $ move ! (1 ∷ []) $ drop ! $ move ! (19 ∷ []) $ split ! $ move ! (1 ∷ []) $ drop ! $
         owned ! Words (Is Words) (array-makes 𝓤 H A W u64 (uint-makes 𝓤 H A W w64) 256) cs _ gc $ lft-new ! tt (λ ν. move ! (12 ∷ 1 ∷ []) $
         use2 W (later (some (λ (δ : GName). ‵ (OwnC l₄ ν δ) ⊛ ‵ (flent (ν ∷ []) (Lies l₄ cs))))) (lends-counts (ν ∷ []) l₄ cs all 𝓤 H A W (named 1)) $ await ! tt $ pick ! (λ δ. split ! $
-        move ! (4 ∷ 0 ∷ []) $ fjoin ! $ move ! (2 ∷ 0 ∷ []) $ fjoin ! $ move ! (2 ∷ 0 ∷ []) $ fjoin ! $ use1 W (raw (Core 𝓤 H A mem run .pre (to l₄ ν δ))) (goes l₄ ν δ) $
+        move ! (3 ∷ 2 ∷ 4 ∷ 0 ∷ []) $ group ! 4 $ use1 W (raw (Core 𝓤 H A mem run .pre (to l₄ ν δ))) (goes l₄ ν δ) $
         calls-at ! (fmOf 𝓤 H (W .laws) 𝓣) (Core 𝓤 H A mem run) known (to l₄ ν δ) (and-then ! (load ! (from ! (stop !)) (look ! 6 refl)) (and-then ! (load ! (from ! (stop !)) (look ! 11 refl)) (and-then ! (load ! (from ! (stop !)) (look ! 2 refl)) (no-more !)))) (λ v.
         use1 W (later (some (λ (y : Bool). ((‵ (flft κ q) ⊛ ‵ (flft (ν ∷ []) fullShare) ⊛ ‵ ftrue) ⊛ ‵ (Boolean .own y (v ∷ []))) ⊛ raw (ensured 𝓤 H A core.ended (core.clauses 𝓤 H A mem run) (κ, (ν ∷ [], tt)) (args l₄ δ) tt y)))) (id⊢ 𝓤 _) $ await ! tt $ pick ! (λ y.
         split ! $ move ! (1 ∷ []) $ use1 W (some (λ (us : List Tally × (Unit {0} × (Unit {0} × Unit {0}))). ‵ (lasts core.ended (κ, (ν ∷ [], tt)) (args l₄ δ) us) ⊛ raw (fact 𝓤 (SettledBy (p .what) cs ts y (us .0))))) (id⊢ 𝓤 _) $ pick ! (λ us.
