@@ -1,5 +1,6 @@
 pub mod Again
 pub mod Answering
+pub mod Bodies
 pub mod ByZone
 pub mod Cut
 pub mod Exactly

@@ -4,9 +4,10 @@ use mathlib.Core.Path.{_≡_, refl, sym, ap, subst, _∙_}
 use Prim.Native.Nat.{ℕ, _<_, _≤_, _^_}
 use mathlib.Core.List.{[], _∷_, List, _++_}
 use lib.ListN.{length, take, drop, take-append-drop}
+use Rattle.tallies.proofs.Bodies.{bare, has, allocs-all, frees-all}
 use Rattle.tallies.proofs.Walking.{URA, fullShare, Ty, named, erased, mut, w8, w64, tyInt, tyRef, Val, vint, SProp, ent, id⊢, Lft, Share, GName, Fml, ftrue, fsep, fat, flft, Lfts, Shares, Memory, Routine, Heap, Calls, Loops, WpFn, Tables, Atoms, sem, Fun, fact, givenOf, tables, Given, ‵, _⊛_, ⋆, some, later, _$_, _∵_, !, qed, by, move, keep, drop as let-go, use1, use2, use3, split, join, pick, rewrite, fsplit, fjoin, feqL, suffices, frame, await, done, look, init, forget, stop, hop, fld, from, load, addr, of-opd, and-then, no-more, assigns, land, enter, alloc1, alloc0, params1, pass1, pass0, free1, free0, agg, whole, sub, look-in, lft-new, lft-end, FmC, fmOf, WpFn-mono, owns, Is, shows, pointee, uint-lawful, uint-vals, uint-tells, uint-makes, array-vals, array-tells, array-lawful, array-makes, u8, u64, usize, RefT, sliceTy, sliceVal, MutSlice, ShrSlice, Room, finally, slice-vals, mut-slice-tells, shr-slice-tells, shr-slice-copy, plain, peeks, heard, nothing, owned, Contract, Triple, calls-at, onEntry, Meets, tripleOf, entered, cited, says, needs, Stays, stay-none, stay-none-slice, gave-slice, walkOf, goes-none, goes-none-slice, goes-gave-slice, Walks, ends-at, walked, walk-meets, ensured, lasts, yes}
 use contract.Running.{tablesOf}
-use types.Kit.{raw}
+use types.Kit.{raw, group}
 use types.Run.{returns}
 use denote.Struct.Laws as LL
 use denote.Enum.Laws as EL
@@ -133,7 +134,8 @@ module _ {M : Type 1} (𝓤 : URA M) (H : Heap 𝓤) (A : Atoms 𝓤) (W : Given
     walk : ent 𝓤 (onEntry 𝓤 H A f.signature κs qs a vals) (WpFn 𝓤 H C Λ code.function (EL.val S.the-type S′.the-laws s ∷ s₀ ∷ s₁ ∷ s₂ ∷ mval ts ∷ vint w64 n ∷ []) Post)
     walk =
         qed W ((‵ (flft κ₀ q₀) ⊛ ‵ (flft κ₁ q₁) ⊛ ‵ (flft κ₂ q₂) ⊛ ‵ ftrue) ∷ ‵ (owns (S.the-row ∷ MutSlice (named 0) κ₀ u64 ∷ MutSlice (named 1) κ₁ u64 ∷ ShrSlice (named 2) κ₂ u64 ∷ Row ∷ usize ∷ []) a vals) ∷ []) ∵ enter ! C Λ code.function (EL.val S.the-type S′.the-laws s ∷ s₀ ∷ s₁ ∷ s₂ ∷ mval ts ∷ vint w64 n ∷ []) _ $
-        alloc1 ! (λ l₀. alloc1 ! (λ l₁. alloc1 ! (λ l₂. alloc1 ! (λ l₃. alloc1 ! (λ l₄. alloc1 ! (λ l₅. alloc1 ! (λ l₆. alloc1 ! (λ l₇. alloc1 ! (λ l₈. alloc1 ! (λ l₉. alloc1 ! (λ l₁₀. alloc1 ! (λ l₁₁. alloc1 ! (λ l₁₂. alloc1 ! (λ l₁₃. alloc1 ! (λ l₁₄. alloc1 ! (λ l₁₅. alloc0 ! $ params1 ! $
+        move ! (1 ∷ []) $ fsplit ! $ let-go ! $ fsplit ! $ move ! (1 ∷ []) $ fsplit ! $ move ! (1 ∷ []) $ fsplit ! $ use1 W (‵ Own₂ ⊛ ‵ Own₂) (shr-slice-copy 𝓤 H A W (named 2) κ₂ u64 .twice x₂ (s₂ ∷ [])) $ split ! $ move ! (2 ∷ []) $ let-go ! $ move ! (4 ∷ []) $ split ! $ move ! (1 ∷ []) $ split ! $ move ! (1 ∷ []) $ split ! $ move ! (1 ∷ []) $ let-go ! $
+        allocs-all ! (λ l₀ l₁ l₂ l₃ l₄ l₅ l₆ l₇ l₈ l₉ l₁₀ l₁₁ l₁₂ l₁₃ l₁₄ l₁₅. params1 ! $
         pass1 ! (init ! 28 refl (EL.lawful S.the-type S′.the-laws 𝓤 H A W tt .typed s _ gs .0)) $ pass1 ! (init ! 26 refl (tt, (tt, (record { fits = room₀ .0 }, tt)))) $ pass1 ! (init ! 24 refl (tt, (tt, (record { fits = room₁ .0 }, tt)))) $ pass1 ! (init ! 22 refl (tt, (tt, (record { fits = room₂ .0 }, tt)))) $ pass1 ! (init ! 20 refl (array-lawful 𝓤 H A W T.the-row (LL.lawful T.the-type T′.the-laws 𝓤 H A W) 256 .typed ts _ gt .0)) $ pass1 ! (init ! 18 refl (tt, record { fits = gn })) $ pass0 ! $
         assigns ! (of-opd ! (load ! (from ! (stop !)) (look ! 20 refl))) (from ! (stop !)) (init ! 16 refl (array-lawful 𝓤 H A W T.the-row (LL.lawful T.the-type T′.the-laws 𝓤 H A W) 256 .typed ts _ gt .0)) $
         assigns ! (addr ! (from ! (fld ! refl (hop ! (look-in ! 26 (sub ! 0 refl (whole !))) (stop !))))) (from ! (stop !)) (init ! 12 refl (tt, tt)) $
@@ -143,10 +145,10 @@ module _ {M : Type 1} (𝓤 : URA M) (H : Heap 𝓤) (A : Atoms 𝓤) (W : Given
         assigns ! (addr ! (from ! (stop !))) (from ! (stop !)) (init ! 4 refl (tt, tt)) $
         assigns ! (agg ! (and-then ! (load ! (from ! (stop !)) (look ! 4 refl)) (and-then ! (load ! (from ! (stop !)) (look ! 18 refl)) (no-more !)))) (from ! (stop !)) (init ! 2 refl (tt, (tt, (record { fits = gn }, tt)))) $
         rewrite ! 2 (λ (m : ℕ). ‵ (fat fullShare talliesTy l₁₄ 0 (sliceVal (l₇, 0) m))) (sym long) refl $
-        move ! (33 ∷ []) $ fsplit ! $ let-go ! $ fsplit ! $ move ! (1 ∷ []) $ fsplit ! $ move ! (1 ∷ []) $ fsplit ! $ use1 W (‵ Own₂ ⊛ ‵ Own₂) (shr-slice-copy 𝓤 H A W (named 2) κ₂ u64 .twice x₂ (s₂ ∷ [])) $ split ! $ move ! (2 ∷ []) $ let-go ! $ move ! (36 ∷ []) $ split ! $ move ! (1 ∷ []) $ split ! $ move ! (1 ∷ []) $ split ! $ move ! (1 ∷ []) $ let-go ! $
+        move ! (32 ∷ 33 ∷ 34 ∷ 35 ∷ 36 ∷ 37 ∷ 38 ∷ []) $
         owned ! Row (Is Row) (array-makes 𝓤 H A W T.the-row (LL.makes T.the-type T′.the-plain 𝓤 H A) 256) ts _ gt $ lft-new ! tt (λ ν. move ! (25 ∷ 1 ∷ []) $
         use2 W (later (some (λ (δ : GName). ‵ (OwnT l₇ ν δ) ⊛ ‵ (FrontLent (ν ∷ []) l₇ fs rs δ)))) (lends-front (ν ∷ []) l₇ fs rs 𝓤 H A W (named 3) ts (sym (take-append-drop n ts)) (front-room ts n all most)) $ await ! tt $ pick ! (λ δ. split ! $
-        move ! (6 ∷ 0 ∷ []) $ fjoin ! $ move ! (7 ∷ 0 ∷ []) $ fjoin ! $ move ! (7 ∷ 0 ∷ []) $ fjoin ! $ move ! (2 ∷ 0 ∷ []) $ fjoin ! $ move ! (2 ∷ 0 ∷ []) $ fjoin ! $ move ! (2 ∷ 0 ∷ []) $ fjoin ! $ move ! (2 ∷ 0 ∷ []) $ fjoin ! $ use1 W (raw (Core 𝓤 H A mem run .pre (to l₇ ν δ))) (goes l₇ ν δ) $
+        move ! (5 ∷ 4 ∷ 3 ∷ 2 ∷ 9 ∷ 8 ∷ 6 ∷ 0 ∷ []) $ group ! 8 $ use1 W (raw (Core 𝓤 H A mem run .pre (to l₇ ν δ))) (goes l₇ ν δ) $
         calls-at ! fm (Core 𝓤 H A mem run) known (to l₇ ν δ) (and-then ! (load ! (from ! (stop !)) (look ! 30 refl)) (and-then ! (load ! (from ! (stop !)) (look ! 13 refl)) (and-then ! (load ! (from ! (stop !)) (look ! 9 refl)) (and-then ! (load ! (from ! (stop !)) (look ! 24 refl)) (and-then ! (load ! (from ! (stop !)) (look ! 5 refl)) (no-more !)))))) (λ v.
         use1 W (later (some (λ (c : ℕ). ((‵ (flft κ₀ q₀) ⊛ ‵ (flft κ₁ q₁) ⊛ ‵ (flft κ₂ q₂) ⊛ ‵ (flft (ν ∷ []) fullShare) ⊛ ‵ ftrue) ⊛ ‵ (u8 .own c (v ∷ []))) ⊛ raw (ensured 𝓤 H A core.ended (core.clauses 𝓤 H A mem run) (κ₀, (κ₁, (κ₂, (ν ∷ [], tt)))) (args l₇ δ) tt c)))) (id⊢ 𝓤 _) $ await ! tt $ pick ! (λ c.
         split ! $ move ! (1 ∷ []) $ use1 W (some (λ (ws : Lasts′). ‵ (lasts core.ended (κ₀, (κ₁, (κ₂, (ν ∷ [], tt)))) (args l₇ δ) ws) ⊛ raw (fact 𝓤 (Did (length fs) c (ws .1 .0) (ws .1 .1 .0) (ws .1 .1 .1 .1 .0))))) (id⊢ 𝓤 _) $ pick ! (λ ws.
@@ -163,9 +165,8 @@ module _ {M : Type 1} (𝓤 : URA M) (H : Heap 𝓤) (A : Atoms 𝓤) (W : Given
         use1 W (later (some (λ (h : Held). (‵ ftrue ⊛ ‵ (Q.the-row .own h (v′ ∷ []))) ⊛ raw (ensured 𝓤 H A makes.ended (makes.clauses 𝓤 H A mem run) tt (c, (ws .1 .1 .1 .1 .0 ++ rs, tt)) tt h)))) (id⊢ 𝓤 _) $ await ! tt $ pick ! (λ h.
         split ! $ move ! (1 ∷ []) $ use1 W (raw (fact 𝓤 (h ≡ record { refusal = c; tallies = ws .1 .1 .1 .1 .0 ++ rs }))) (make-said 𝓤 H A W mem run c (ws .1 .1 .1 .1 .0 ++ rs) h) $ heard ! (h ≡ record { refusal = c; tallies = ws .1 .1 .1 .1 .0 ++ rs }) (λ same. split ! $ let-go ! $ peeks ! Q.the-row (Is Q.the-row) (shows 𝓤 H A Q.the-row) h (v′ ∷ []) (λ ish.
         land ! (from ! (stop !)) (init ! 37 refl (LL.lawful Q.the-type Q′.the-laws 𝓤 H A W .typed h _ ish .0)) $
-        returns ! (look ! 37 refl) $ forget ! 37 refl $ forget ! 35 refl $ forget ! 33 refl $ forget ! 31 refl $ forget ! 29 refl $ forget ! 27 refl $ forget ! 25 refl $ forget ! 1 refl $ forget ! 22 refl $ forget ! 20 refl $ forget ! 18 refl $ forget ! 16 refl $ forget ! 14 refl $ forget ! 12 refl $ forget ! 10 refl $ forget ! 8 refl $
-        move ! (37 ∷ 38 ∷ []) $ free1 ! $ move ! (35 ∷ 36 ∷ []) $ free1 ! $ move ! (33 ∷ 34 ∷ []) $ free1 ! $ move ! (31 ∷ 32 ∷ []) $ free1 ! $ move ! (29 ∷ 30 ∷ []) $ free1 ! $ move ! (27 ∷ 28 ∷ []) $ free1 ! $ move ! (25 ∷ 26 ∷ []) $ free1 ! $ move ! (1 ∷ 24 ∷ []) $ free1 ! $ move ! (21 ∷ 22 ∷ []) $ free1 ! $ move ! (19 ∷ 20 ∷ []) $ free1 ! $ move ! (17 ∷ 18 ∷ []) $ free1 ! $ move ! (15 ∷ 16 ∷ []) $ free1 ! $ move ! (13 ∷ 14 ∷ []) $ free1 ! $ move ! (11 ∷ 12 ∷ []) $ free1 ! $ move ! (9 ∷ 10 ∷ []) $ free1 ! $ move ! (7 ∷ 8 ∷ []) $ free1 ! $ free0 ! $
-        keep ! (0 ∷ 3 ∷ 2 ∷ 1 ∷ 5 ∷ 4 ∷ 6 ∷ []) $ by ! (exits h v′ (ws .1 .0) (ws .1 .1 .0) c (ws .1 .1 .1 .1 .0) e₀ e₁ same (subst (λ (m : ℕ). Did m c (ws .1 .0) (ws .1 .1 .0) (ws .1 .1 .1 .1 .0)) long did)))))))))))))))))))))))))))))))))
+        returns ! (look ! 37 refl) $ move ! (0 ∷ 2 ∷ 3 ∷ 4 ∷ 5 ∷ 6 ∷ 7 ∷ 8 ∷ 9 ∷ 10 ∷ 11 ∷ 12 ∷ 13 ∷ 14 ∷ 15 ∷ 16 ∷ 17 ∷ 18 ∷ 19 ∷ 20 ∷ 21 ∷ 22 ∷ 23 ∷ 1 ∷ []) $ frees-all W (_ ∷ _ ∷ _ ∷ _ ∷ _ ∷ _ ∷ _ ∷ []) (has _ ∷ has _ ∷ has _ ∷ has _ ∷ has _ ∷ has _ ∷ has _ ∷ has _ ∷ has _ ∷ has _ ∷ has _ ∷ has _ ∷ has _ ∷ has _ ∷ has _ ∷ has _ ∷ []) _ $
+        keep ! (0 ∷ 3 ∷ 2 ∷ 1 ∷ 5 ∷ 4 ∷ 6 ∷ []) $ by ! (exits h v′ (ws .1 .0) (ws .1 .1 .0) c (ws .1 .1 .1 .1 .0) e₀ e₁ same (subst (λ (m : ℕ). Did m c (ws .1 .0) (ws .1 .1 .0) (ws .1 .1 .1 .1 .0)) long did))))))))))))))))))
 
 module _ {M : Type 1} (𝓤 : URA M) (H : Heap 𝓤) (A : Atoms 𝓤) (W : Given 𝓤 H A) (mem : Memory → SProp 𝓤) (run : Routine → Fun 𝓤) where
   pass-array-walks : (C : Calls 𝓤 H) (Λ : Loops 𝓤 H) → FmC 𝓤 H (W .laws) C → Triple 𝓤 (C #tallies·slice·pass-by) (Core 𝓤 H A mem run) → Triple 𝓤 (C #tallies·array·answer) (Make 𝓤 H A mem run) → Walks 𝓤 H A f.ended stayed (WpFn 𝓤 H C Λ code.function) (f.clauses 𝓤 H A mem run)

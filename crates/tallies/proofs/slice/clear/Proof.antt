@@ -5,6 +5,7 @@ use Prim.Native.Nat.{ℕ, _<_, _^_}
 use mathlib.Core.Bool.{Bool}
 use mathlib.Core.List.{[], _∷_, List}
 use lib.ListN.{length}
+use Rattle.tallies.proofs.Bodies.{bare, has, allocs-all, frees-all}
 use Rattle.tallies.proofs.Walking.{URA, Ty, named, w8, w64, tyInt, Val, vint, SProp, ent, emp, via, fst∗, snd∗, exE, id⊢, Lft, Share, Fml, ftrue, fsep, fat, flft, Lfts, Shares, fullShare, Memory, Routine, Heap, Calls, Loops, WpFn, Tables, Atoms, sem, Fun, fact, givenOf, tables, Given, ‵, _⊛_, ⋆, some, later, _$_, _∵_, !, qed, by, move, keep, drop, use1, split, join, pick, rewrite, fsplit, fjoin, feqL, suffices, frame, await, done, look, init, forget, stop, hop, fld, from, load, addr, of-opd, and-then, no-more, assigns, land, enter, alloc1, alloc0, params1, pass1, pass0, free1, free0, agg, whole, sub, look-in, FmC, fmOf, WpFn-mono, owns, Is, shows, Boolean, bool-lawful, uint-vals, uint-tells, uint-makes, u8, u64, usize, RefT, sliceVal, MutSlice, ShrSlice, Room, finally, slice-vals, mut-slice-tells, shr-slice-tells, shr-slice-copy, plain, peeks, heard, nothing, owned, Contract, Triple, calls-at, onEntry, Meets, tripleOf, entered, cited, says, Stays, stay-none, stay-none-slice, gave-slice, walkOf, goes-none, goes-none-slice, goes-gave-slice, Walks, ends-at, walked, walk-meets, ensured, lasts, yes}
 use contract.Running.{tablesOf}
 use types.Kit.{raw}
@@ -127,10 +128,11 @@ module _ {M : Type 1} (𝓤 : URA M) (H : Heap 𝓤) (A : Atoms 𝓤) (W : Given
     walk : ent 𝓤 (onEntry 𝓤 H A f.signature κs qs a vals) (WpFn 𝓤 H C Λ code.function (vint w64 particles ∷ s₀ ∷ s ∷ []) Post)
     walk =
         qed W ((‵ (flft κ₀ q₀) ⊛ ‵ (flft κ₁ q₁) ⊛ ‵ ftrue) ∷ ‵ (owns (usize ∷ ShrSlice (named 0) κ₀ u64 ∷ MutSlice (named 1) κ₁ T.the-row ∷ []) a vals) ∷ []) ∵ enter ! C Λ code.function (vint w64 particles ∷ s₀ ∷ s ∷ []) _ $
-        alloc1 ! (λ l₀. alloc1 ! (λ l₁. alloc1 ! (λ l₂. alloc1 ! (λ l₃. alloc1 ! (λ l₄. alloc1 ! (λ l₅. alloc1 ! (λ l₆. alloc1 ! (λ l₇. alloc1 ! (λ l₈. alloc0 ! $ params1 ! $
+        move ! (1 ∷ []) $ fsplit ! $ drop ! $ fsplit ! $ use1 W (‵ OwnZ ⊛ ‵ OwnZ) (shr-slice-copy 𝓤 H A W (named 0) κ₀ u64 .twice x₀ (s₀ ∷ [])) $ split ! $ move ! (2 ∷ []) $ fsplit ! $ move ! (1 ∷ []) $ drop ! $ move ! (3 ∷ []) $ split ! $ move ! (1 ∷ []) $ split ! $ move ! (1 ∷ []) $ drop ! $
+        allocs-all ! (λ l₀ l₁ l₂ l₃ l₄ l₅ l₆ l₇ l₈. params1 ! $
         pass1 ! (init ! 14 refl (tt, record { fits = gp })) $ pass1 ! (init ! 12 refl (tt, (tt, (record { fits = roomz .0 }, tt)))) $ pass1 ! (init ! 10 refl (tt, (tt, (record { fits = room .0 }, tt)))) $ pass0 ! $
         assigns ! (of-opd ! (load ! (from ! (fld ! refl (stop !))) (look-in ! 10 (sub ! 1 refl (whole !))))) (from ! (stop !)) (init ! 6 refl (tt, record { fits = room .0 })) $
-        move ! (19 ∷ []) $ fsplit ! $ drop ! $ fsplit ! $ use1 W (‵ OwnZ ⊛ ‵ OwnZ) (shr-slice-copy 𝓤 H A W (named 0) κ₀ u64 .twice x₀ (s₀ ∷ [])) $ split ! $ move ! (2 ∷ []) $ fsplit ! $ move ! (1 ∷ []) $ drop ! $ move ! (21 ∷ []) $ split ! $ move ! (1 ∷ []) $ split ! $ move ! (1 ∷ []) $ drop ! $
+        move ! (18 ∷ 19 ∷ 20 ∷ 21 ∷ 22 ∷ []) $
         move ! (1 ∷ 4 ∷ []) $ fjoin ! $ use1 W (raw (Plans 𝓤 H A mem run .pre to-plan)) goes-plan $
         calls-at ! fm (Plans 𝓤 H A mem run) known-plan to-plan (and-then ! (load ! (from ! (stop !)) (look ! 18 refl)) (and-then ! (load ! (from ! (stop !)) (look ! 16 refl)) (and-then ! (load ! (from ! (stop !)) (look ! 10 refl)) (no-more !)))) (λ u.
         use1 W (later (some (λ (p : Plan). ((‵ (flft κ₀ q₀) ⊛ ‵ ftrue) ⊛ ‵ (P.the-row .own p (u ∷ []))) ⊛ raw (ensured 𝓤 H A plans.ended (plans.clauses 𝓤 H A mem run) (κ₀, tt) args-plan tt p)))) (id⊢ 𝓤 _) $ await ! tt $ pick ! (λ p.
@@ -147,9 +149,8 @@ module _ {M : Type 1} (𝓤 : URA M) (H : Heap 𝓤) (A : Atoms 𝓤) (W : Given
         move ! (1 ∷ []) $ split ! $ move ! (1 ∷ []) $ peeks ! Boolean (Is Boolean) (shows 𝓤 H A Boolean) y (v ∷ []) (λ yes′.
         land ! (from ! (stop !)) (init ! 9 refl (bool-lawful 𝓤 H A W .typed y _ yes′ .0)) $ drop ! $ move ! (0 ∷ []) $ split ! $ move ! (1 ∷ []) $ drop ! $
         assigns ! (of-opd ! (load ! (from ! (fld ! refl (stop !))) (look-in ! 12 (sub ! 0 refl (whole !))))) (from ! (stop !)) (init ! 20 refl (tt, record { fits = code-fits p (told p u is) })) $
-        returns ! (look ! 20 refl) $ forget ! 20 refl $ forget ! 18 refl $ forget ! 16 refl $ forget ! 14 refl $ forget ! 12 refl $ forget ! 10 refl $ forget ! 8 refl $ forget ! 6 refl $ forget ! 4 refl $
-        move ! (20 ∷ 21 ∷ []) $ free1 ! $ move ! (18 ∷ 19 ∷ []) $ free1 ! $ move ! (16 ∷ 17 ∷ []) $ free1 ! $ move ! (14 ∷ 15 ∷ []) $ free1 ! $ move ! (12 ∷ 13 ∷ []) $ free1 ! $ move ! (10 ∷ 11 ∷ []) $ free1 ! $ move ! (8 ∷ 9 ∷ []) $ free1 ! $ move ! (6 ∷ 7 ∷ []) $ free1 ! $ move ! (4 ∷ 5 ∷ []) $ free1 ! $ free0 ! $
-        keep ! (2 ∷ 0 ∷ 3 ∷ 1 ∷ []) $ by ! (exits p (us .0) (code-fits p (told p u is)) len (decided .0, clear-settled p particles zs ts (us .0) (decided .1) (did .1))))))))))))))))))))))
+        returns ! (look ! 20 refl) $ frees-all W (_ ∷ _ ∷ _ ∷ _ ∷ []) (has _ ∷ has _ ∷ has _ ∷ has _ ∷ has _ ∷ has _ ∷ has _ ∷ has _ ∷ has _ ∷ []) _ $
+        keep ! (2 ∷ 0 ∷ 3 ∷ 1 ∷ []) $ by ! (exits p (us .0) (code-fits p (told p u is)) len (decided .0, clear-settled p particles zs ts (us .0) (decided .1) (did .1))))))))))))))
 
 module _ {M : Type 1} (𝓤 : URA M) (H : Heap 𝓤) (A : Atoms 𝓤) (W : Given 𝓤 H A) (mem : Memory → SProp 𝓤) (run : Routine → Fun 𝓤) where
   clear-walks : (C : Calls 𝓤 H) (Λ : Loops 𝓤 H) → FmC 𝓤 H (W .laws) C → Triple 𝓤 (C #tallies·plan·to-clear) (Plans 𝓤 H A mem run) → Triple 𝓤 (C #tallies·slice·settle) (Settle 𝓤 H A mem run) → Walks 𝓤 H A f.ended stayed (WpFn 𝓤 H C Λ code.function) (f.clauses 𝓤 H A mem run)

@@ -4,9 +4,10 @@ use mathlib.Core.Path.{_≡_, refl, subst}
 use Prim.Native.Nat.{ℕ}
 use mathlib.Core.List.{[], _∷_, List}
 use lib.ListN.{length}
+use Rattle.tallies.proofs.Bodies.{bare, has, allocs-all, frees-all}
 use Rattle.tallies.proofs.Walking.{URA, named, w8, Val, SProp, ent, emp, via, fst∗, snd∗, exE, id⊢, Lft, Share, Fml, ftrue, fsep, flft, Lfts, Shares, Memory, Routine, Heap, Calls, Loops, WpFn, Tables, Atoms, sem, Fun, fact, givenOf, tables, Given, ‵, _⊛_, ⋆, some, later, _$_, _∵_, !, qed, by, move, keep, drop, use1, split, join, pick, fsplit, fjoin, feqL, suffices, frame, await, done, look, init, forget, stop, hop, fld, from, load, addr, and-then, no-more, assigns, land, enter, alloc1, alloc0, params1, pass1, pass0, free1, free0, agg, whole, sub, look-in, FmC, fmOf, WpFn-mono, owns, Is, shows, uint-lawful, u8, u64, RefT, sliceVal, MutSlice, ShrSlice, Room, finally, slice-vals, mut-slice-tells, shr-slice-tells, shr-slice-copy, plain, peeks, heard, nothing, owned, Contract, Triple, calls-at, onEntry, Meets, tripleOf, entered, cited, says, Stays, stay-none, stay-none-slice, gave-slice, walkOf, goes-none, goes-none-slice, goes-gave-slice, Walks, ends-at, walked, walk-meets, ensured, lasts, yes}
 use contract.Running.{tablesOf}
-use types.Kit.{raw}
+use types.Kit.{raw, group}
 use types.Run.{returns}
 use denote.Enum.Laws as EL
 use Rattle.model.specs.declared.Model.{Model}
@@ -135,7 +136,8 @@ module _ {M : Type 1} (𝓤 : URA M) (H : Heap 𝓤) (A : Atoms 𝓤) (W : Given
     walk : ent 𝓤 (onEntry 𝓤 H A f.signature κs qs a vals) (WpFn 𝓤 H C Λ code.function (EL.val Mo.the-type Mo′.the-laws m ∷ s₀ ∷ s₁ ∷ s₂ ∷ s₃ ∷ []) Post)
     walk =
         qed W ((‵ (flft κ₀ q₀) ⊛ ‵ (flft κ₁ q₁) ⊛ ‵ (flft κ₂ q₂) ⊛ ‵ (flft κ₃ q₃) ⊛ ‵ ftrue) ∷ ‵ (owns (Mo.the-row ∷ MutSlice (named 0) κ₀ u64 ∷ MutSlice (named 1) κ₁ u64 ∷ ShrSlice (named 2) κ₂ u64 ∷ MutSlice (named 3) κ₃ T.the-row ∷ []) a vals) ∷ []) ∵ enter ! C Λ code.function (EL.val Mo.the-type Mo′.the-laws m ∷ s₀ ∷ s₁ ∷ s₂ ∷ s₃ ∷ []) _ $
-        alloc1 ! (λ l₀. alloc1 ! (λ l₁. alloc1 ! (λ l₂. alloc1 ! (λ l₃. alloc1 ! (λ l₄. alloc1 ! (λ l₅. alloc1 ! (λ l₆. alloc1 ! (λ l₇. alloc1 ! (λ l₈. alloc1 ! (λ l₉. alloc1 ! (λ l₁₀. alloc1 ! (λ l₁₁. alloc1 ! (λ l₁₂. alloc0 ! $ params1 ! $
+        move ! (1 ∷ []) $ fsplit ! $ drop ! $ fsplit ! $ move ! (1 ∷ []) $ fsplit ! $ move ! (1 ∷ []) $ fsplit ! $ use1 W (‵ Own₂ ⊛ ‵ Own₂) (shr-slice-copy 𝓤 H A W (named 2) κ₂ u64 .twice x₂ (s₂ ∷ [])) $ split ! $ move ! (2 ∷ []) $ fsplit ! $ move ! (1 ∷ []) $ drop ! $ move ! (5 ∷ []) $ split ! $ move ! (1 ∷ []) $ split ! $ move ! (1 ∷ []) $ split ! $ move ! (1 ∷ []) $ split ! $ move ! (1 ∷ []) $ drop ! $
+        allocs-all ! (λ l₀ l₁ l₂ l₃ l₄ l₅ l₆ l₇ l₈ l₉ l₁₀ l₁₁ l₁₂. params1 ! $
         pass1 ! (init ! 22 refl (EL.lawful Mo.the-type Mo′.the-laws 𝓤 H A W tt .typed m _ gm .0)) $ pass1 ! (init ! 20 refl (tt, (tt, (record { fits = room₀ .0 }, tt)))) $ pass1 ! (init ! 18 refl (tt, (tt, (record { fits = room₁ .0 }, tt)))) $ pass1 ! (init ! 16 refl (tt, (tt, (record { fits = room₂ .0 }, tt)))) $ pass1 ! (init ! 14 refl (tt, (tt, (record { fits = room₃ .0 }, tt)))) $ pass0 ! $
         nothing ! $ use1 W (raw (Make 𝓤 H A mem run .pre to-make)) goes-make $
         calls-at ! fm (Make 𝓤 H A mem run) known-make to-make (and-then ! (load ! (from ! (stop !)) (look ! 23 refl)) (no-more !)) (λ u.
@@ -148,8 +150,8 @@ module _ {M : Type 1} (𝓤 : URA M) (H : Heap 𝓤) (A : Atoms 𝓤) (W : Given
         assigns ! (agg ! (and-then ! (load ! (from ! (stop !)) (look ! 6 refl)) (and-then ! (load ! (from ! (fld ! refl (stop !))) (look-in ! 18 (sub ! 1 refl (whole !)))) (no-more !)))) (from ! (stop !)) (init ! 4 refl (tt, (tt, (record { fits = room₁ .0 }, tt)))) $
         assigns ! (addr ! (from ! (fld ! refl (hop ! (look-in ! 14 (sub ! 0 refl (whole !))) (stop !))))) (from ! (stop !)) (init ! 2 refl (tt, tt)) $
         assigns ! (agg ! (and-then ! (load ! (from ! (stop !)) (look ! 2 refl)) (and-then ! (load ! (from ! (fld ! refl (stop !))) (look-in ! 14 (sub ! 1 refl (whole !)))) (no-more !)))) (from ! (stop !)) (init ! 0 refl (tt, (tt, (record { fits = room₃ .0 }, tt)))) $
-        move ! (27 ∷ []) $ fsplit ! $ drop ! $ fsplit ! $ move ! (1 ∷ []) $ fsplit ! $ move ! (1 ∷ []) $ fsplit ! $ use1 W (‵ Own₂ ⊛ ‵ Own₂) (shr-slice-copy 𝓤 H A W (named 2) κ₂ u64 .twice x₂ (s₂ ∷ [])) $ split ! $ move ! (2 ∷ []) $ fsplit ! $ move ! (1 ∷ []) $ drop ! $ move ! (31 ∷ []) $ split ! $ move ! (1 ∷ []) $ split ! $ move ! (1 ∷ []) $ split ! $ move ! (1 ∷ []) $ split ! $ move ! (1 ∷ []) $ drop ! $
-        move ! (5 ∷ 4 ∷ []) $ fjoin ! $ move ! (6 ∷ 0 ∷ []) $ fjoin ! $ move ! (6 ∷ 0 ∷ []) $ fjoin ! $ move ! (1 ∷ 0 ∷ []) $ fjoin ! $ move ! (1 ∷ 0 ∷ []) $ fjoin ! $ move ! (1 ∷ 0 ∷ []) $ fjoin ! $ move ! (1 ∷ 0 ∷ []) $ fjoin ! $ use1 W (raw (Core 𝓤 H A mem run .pre (to s u))) (goes s u is) $
+        move ! (26 ∷ 27 ∷ 28 ∷ 29 ∷ 30 ∷ 31 ∷ 32 ∷ 33 ∷ 34 ∷ []) $
+        move ! (3 ∷ 2 ∷ 1 ∷ 0 ∷ 8 ∷ 7 ∷ 5 ∷ 4 ∷ []) $ group ! 8 $ use1 W (raw (Core 𝓤 H A mem run .pre (to s u))) (goes s u is) $
         calls-at ! fm (Core 𝓤 H A mem run) known (to s u) (and-then ! (load ! (from ! (stop !)) (look ! 14 refl)) (and-then ! (load ! (from ! (stop !)) (look ! 10 refl)) (and-then ! (load ! (from ! (stop !)) (look ! 6 refl)) (and-then ! (load ! (from ! (stop !)) (look ! 18 refl)) (and-then ! (load ! (from ! (stop !)) (look ! 2 refl)) (no-more !)))))) (λ v.
         use1 W (later (some (λ (r : ℕ). ((‵ (flft κ₀ q₀) ⊛ ‵ (flft κ₁ q₁) ⊛ ‵ (flft κ₂ q₂) ⊛ ‵ (flft κ₃ q₃) ⊛ ‵ ftrue) ⊛ ‵ (u8 .own r (v ∷ []))) ⊛ raw (ensured 𝓤 H A core.ended (core.clauses 𝓤 H A mem run) κs (args s) tt r)))) (id⊢ 𝓤 _) $ await ! tt $ pick ! (λ r.
         split ! $ move ! (1 ∷ []) $ use1 W (some (λ (ws : Lasts′). ‵ (lasts core.ended κs (args s) ws) ⊛ raw (fact 𝓤 (PassedBy (stepLaw s) (x₀ .now) (x₁ .now) (x₂ .now) (x₃ .now) r (ws .1 .0) (ws .1 .1 .0) (ws .1 .1 .1 .1 .0))))) (id⊢ 𝓤 _) $ pick ! (λ ws.
@@ -157,9 +159,8 @@ module _ {M : Type 1} (𝓤 : URA M) (H : Heap 𝓤) (A : Atoms 𝓤) (W : Given
         fsplit ! $ drop ! $ fsplit ! $ fsplit ! $ move ! (1 ∷ []) $ feqL ! (λ lx. move ! (1 ∷ []) $ fsplit ! $ fsplit ! $ move ! (1 ∷ []) $ feqL ! (λ lo. move ! (1 ∷ []) $ fsplit ! $ drop ! $ fsplit ! $ fsplit ! $ move ! (1 ∷ []) $ feqL ! (λ lt. move ! (1 ∷ []) $ drop ! $
         move ! (3 ∷ []) $ split ! $ move ! (1 ∷ []) $ peeks ! u8 (Is u8) (shows 𝓤 H A u8) r (v ∷ []) (λ isr.
         land ! (from ! (stop !)) (init ! 30 refl (uint-lawful 𝓤 H A W w8 .typed r _ isr .0)) $
-        returns ! (look ! 30 refl) $ forget ! 30 refl $ forget ! 28 refl $ forget ! 26 refl $ forget ! 24 refl $ forget ! 22 refl $ forget ! 20 refl $ forget ! 18 refl $ forget ! 16 refl $ forget ! 14 refl $ forget ! 12 refl $ forget ! 10 refl $ forget ! 8 refl $ forget ! 6 refl $
-        move ! (30 ∷ 31 ∷ []) $ free1 ! $ move ! (28 ∷ 29 ∷ []) $ free1 ! $ move ! (26 ∷ 27 ∷ []) $ free1 ! $ move ! (24 ∷ 25 ∷ []) $ free1 ! $ move ! (22 ∷ 23 ∷ []) $ free1 ! $ move ! (20 ∷ 21 ∷ []) $ free1 ! $ move ! (18 ∷ 19 ∷ []) $ free1 ! $ move ! (16 ∷ 17 ∷ []) $ free1 ! $ move ! (14 ∷ 15 ∷ []) $ free1 ! $ move ! (12 ∷ 13 ∷ []) $ free1 ! $ move ! (10 ∷ 11 ∷ []) $ free1 ! $ move ! (8 ∷ 9 ∷ []) $ free1 ! $ move ! (6 ∷ 7 ∷ []) $ free1 ! $ free0 ! $
-        keep ! (0 ∷ 1 ∷ 4 ∷ 3 ∷ 2 ∷ 5 ∷ []) $ by ! (exits v r (ws .1 .0) (ws .1 .1 .0) (ws .1 .1 .1 .1 .0) lx lo lt (subst (λ (s : Step). PassedBy (stepLaw s) (x₀ .now) (x₁ .now) (x₂ .now) (x₃ .now) r (ws .1 .0) (ws .1 .1 .0) (ws .1 .1 .1 .1 .0)) made did)))))))))))))))))))))))))))
+        returns ! (look ! 30 refl) $ frees-all W (_ ∷ _ ∷ _ ∷ _ ∷ _ ∷ _ ∷ []) (has _ ∷ has _ ∷ has _ ∷ has _ ∷ has _ ∷ has _ ∷ has _ ∷ has _ ∷ has _ ∷ has _ ∷ has _ ∷ has _ ∷ has _ ∷ []) _ $
+        keep ! (0 ∷ 1 ∷ 4 ∷ 3 ∷ 2 ∷ 5 ∷ []) $ by ! (exits v r (ws .1 .0) (ws .1 .1 .0) (ws .1 .1 .1 .1 .0) lx lo lt (subst (λ (s : Step). PassedBy (stepLaw s) (x₀ .now) (x₁ .now) (x₂ .now) (x₃ .now) r (ws .1 .0) (ws .1 .1 .0) (ws .1 .1 .1 .1 .0)) made did)))))))))))))))
 
 module _ {M : Type 1} (𝓤 : URA M) (H : Heap 𝓤) (A : Atoms 𝓤) (W : Given 𝓤 H A) (mem : Memory → SProp 𝓤) (run : Routine → Fun 𝓤) where
   pass-walks : (C : Calls 𝓤 H) (Λ : Loops 𝓤 H) → FmC 𝓤 H (W .laws) C → Triple 𝓤 (C #tallies·plan·plain) (Make 𝓤 H A mem run) → Triple 𝓤 (C #tallies·slice·pass-by) (Core 𝓤 H A mem run) → Walks 𝓤 H A f.ended stayed (WpFn 𝓤 H C Λ code.function) (f.clauses 𝓤 H A mem run)

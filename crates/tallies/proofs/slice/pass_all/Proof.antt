@@ -12,10 +12,11 @@ use lib.ListN.{length, set}
 use lib.WfN.{Nat·lt-wfRel}
 use lib.Dec.{ltb, lit<}
 use borrow.Author.Tests.{ltb-true, ltb-false}
+use Rattle.tallies.proofs.Bodies.{bare, has, allocs-all, frees-all}
 use Rattle.tallies.proofs.Walking.{URA, fullShare, Ty, named, erased, mut, imm, w64, tyInt, tyBool, tyUnit, tyPtr, tyRef, Val, vunit, vint, vbool, vptr, SProp, ent, exE, snd∗, id⊢, Lft, Share, GName, Fml, ftrue, fsep, fat, froom, fdies, flft, fshr-bor, Lfts, Shares, Memory, Routine, Heap, Out, Env, afterSeq, afterBlock, Calls, Loops, Wp, atReturn, WpFn, Tables, Atoms, sem, Fun, fact, givenOf, tables, Given, Item, ‵, _⊛_, ⋆, some, later, runs, anyQ, atRet, Sq, _$_, _∵_, !, qed, by, move, keep, drop, use1, use2, use3, split, join, pick, rewrite, fsplit, fjoin, feqL, feqI, suffices, frame, await, done, look, store as put, init, forget, stop, hop, fld, from, load, lit, unit-lit, addr, of-opd, bin, and-then, no-more, assigns, assigns-last, land, first, blocks, stays, leaves-loop, enter, alloc1, alloc0, params1, pass1, pass0, free1, free0, exec, Below, again, loops, agg, whole, sub, look-in, arr-parts, lft-new, lft-end, fmOf, WpFn-mono, owns, Is, shows, shares, pointee, Nothing, nothing-lawful, uint-vals, uint-tells, uint-copy, uint-makes, u64, usize, RefT, sliceTy, sliceVal, MutSlice, ShrSlice, Room, slice-vals, mut-slice-tells, shr-slice-tells, shr-slice-copy, place-is, elem-out, elem-back, looks-slice, shuts-slice, plain, peeks, heard, nothing, owned, Contract, Triple, calls-at, onEntry, Meets, tripleOf, entered, cited, says, needs, Stays, stay-slice, stay-none, stay-none-slice, walkOf, goes-slice, goes-none, goes-none-slice, Walks, ends-at, walked, walk-meets, ensured, lasts, yes}
 use prog.Wp.{afterTurn}
 use contract.Running.{tablesOf}
-use types.Kit.{raw}
+use types.Kit.{raw, group}
 use types.Run.{returns}
 use denote.Struct.Laws as LL
 use denote.Enum.Laws as EL
@@ -301,7 +302,7 @@ module _ {M : Type 1} (𝓤 : URA M) (H : Heap 𝓤) (A : Atoms 𝓤) (W : Given
           use2 W (later (some (λ (δ : GName). ‵ (OwnX (ν ∷ []) δ (st .xs) (length (st .xs))) ⊛ ‵ (LentAgain u64 κ₀ (ν ∷ []) q₀ γ₀ b₀ o₀ δ (st .xs))))) (lends-again u64 κ₀ (ν ∷ []) q₀ γ₀ b₀ o₀ 𝓤 H A W (named 0) (named 0) (st .xs)) $ await ! tt $ pick ! (λ δ. split ! $
           lft-new ! tt (λ ν′. move ! (50 ∷ 51 ∷ []) $
           use2 W (later (some (λ (δ′ : GName). ‵ (OwnO (ν′ ∷ []) δ′ (st .out) (length (st .out))) ⊛ ‵ (LentAgain u64 κ₁ (ν′ ∷ []) q₁ γ₁ b₁ o₁ δ′ (st .out))))) (lends-again u64 κ₁ (ν′ ∷ []) q₁ γ₁ b₁ o₁ 𝓤 H A W (named 1) (named 1) (st .out)) $ await ! tt $ pick ! (λ δ′. split ! $
-          move ! (3 ∷ 0 ∷ []) $ fjoin ! $ move ! (2 ∷ 0 ∷ []) $ fjoin ! $ move ! (3 ∷ 0 ∷ []) $ fjoin ! $ use1 W (raw (Core 𝓤 H A mem run .pre (to st ν δ ν′ δ′))) (goes gk st ν δ ν′ δ′ (asks s xs₀ out₀ zones ts₀ n ready st within)) $
+          move ! (5 ∷ 2 ∷ 3 ∷ 0 ∷ []) $ group ! 4 $ use1 W (raw (Core 𝓤 H A mem run .pre (to st ν δ ν′ δ′))) (goes gk st ν δ ν′ δ′ (asks s xs₀ out₀ zones ts₀ n ready st within)) $
           calls-at ! (fmOf 𝓤 H (W .laws) 𝓣) (Core 𝓤 H A mem run) known (to st ν δ ν′ δ′) (and-then ! (load ! (from ! (stop !)) (look ! 33 refl)) (and-then ! (load ! (from ! (stop !)) (look ! 15 refl)) (and-then ! (load ! (from ! (stop !)) (look ! 11 refl)) (and-then ! (load ! (from ! (stop !)) (look ! 31 refl)) (no-more !))))) (λ u.
           use1 W (later (some (λ (d : Told). ((‵ (flft (ν ∷ []) fullShare) ⊛ ‵ (flft (ν′ ∷ []) fullShare) ⊛ ‵ ftrue) ⊛ ‵ (D.the-row .own d (u ∷ []))) ⊛ raw (ensured 𝓤 H A core.ended (core.clauses 𝓤 H A mem run) (ν ∷ [], (ν′ ∷ [], tt)) (args st δ δ′) tt d)))) (id⊢ 𝓤 _) $ await ! tt $ pick ! (λ d.
           split ! $ move ! (1 ∷ []) $ use1 W (some (λ (ws : Lasts′). ‵ (lasts core.ended (ν ∷ [], (ν′ ∷ [], tt)) (args st δ δ′) ws) ⊛ raw (fact 𝓤 (Stepped (takenLaw made) (st .i) (st .xs) (st .out) d (ws .1 .0) (ws .1 .1 .0))))) (id⊢ 𝓤 _) $ pick ! (λ ws.
@@ -352,8 +353,7 @@ module _ {M : Type 1} (𝓤 : URA M) (H : Heap 𝓤) (A : Atoms 𝓤) (W : Given
           rewrite ! 18 (λ (t : Bool). ‵ (fat fullShare tyBool l₁₂ 0 (vbool t))) e refl $
           leaves-loop ! (load ! (from ! (stop !)) (look ! 18 refl)) $ exec ! C Λ En body.t-4 (atRet En Post) $
           assigns ! (of-opd ! (unit-lit !)) (from ! (stop !)) (init ! 42 refl (tt, tt)) $
-          returns ! (look ! 42 refl) $ forget ! 42 refl $ forget ! 40 refl $ forget ! 38 refl $ forget ! 36 refl $ forget ! 34 refl $ forget ! 32 refl $ forget ! 30 refl $ forget ! 28 refl $ forget ! 26 refl $ forget ! 20 refl $ forget ! 18 refl $
-          move ! (42 ∷ 43 ∷ []) $ free1 ! $ move ! (40 ∷ 41 ∷ []) $ free1 ! $ move ! (38 ∷ 39 ∷ []) $ free1 ! $ move ! (36 ∷ 37 ∷ []) $ free1 ! $ move ! (34 ∷ 35 ∷ []) $ free1 ! $ move ! (32 ∷ 33 ∷ []) $ free1 ! $ move ! (30 ∷ 31 ∷ []) $ free1 ! $ move ! (28 ∷ 29 ∷ []) $ free1 ! $ move ! (26 ∷ 27 ∷ []) $ free1 ! $ move ! (24 ∷ 25 ∷ []) $ free1 ! $ move ! (22 ∷ 23 ∷ []) $ free1 ! $ move ! (20 ∷ 21 ∷ []) $ free1 ! $ move ! (18 ∷ 19 ∷ []) $ free1 ! $ move ! (16 ∷ 17 ∷ []) $ free1 ! $ move ! (14 ∷ 15 ∷ []) $ free1 ! $ move ! (12 ∷ 13 ∷ []) $ free1 ! $ move ! (10 ∷ 11 ∷ []) $ free1 ! $ move ! (8 ∷ 9 ∷ []) $ free1 ! $ move ! (6 ∷ 7 ∷ []) $ free1 ! $ move ! (4 ∷ 5 ∷ []) $ free1 ! $ move ! (2 ∷ 3 ∷ []) $ free1 ! $ free1 ! $ free0 ! $
+          returns ! (look ! 42 refl) $ frees-all W ([]) (has _ ∷ has _ ∷ has _ ∷ has _ ∷ has _ ∷ has _ ∷ has _ ∷ has _ ∷ has _ ∷ bare ∷ bare ∷ has _ ∷ has _ ∷ []) _ $
           keep ! (0 ∷ 1 ∷ 2 ∷ 3 ∷ 4 ∷ 5 ∷ 7 ∷ 8 ∷ []) $ by ! (exits st (over s xs₀ out₀ zones ts₀ n ready st (ltb-false (st .i) (length zones) e)))
 
       turn-by : (st : St) (y : Bool) → ltb (st .i) (length zones) ≡ y → Sq W (At st) (runs C Λ En body.turn-1 (anyQ (Turned st)))
@@ -389,9 +389,9 @@ module _ {M : Type 1} (𝓤 : URA M) (H : Heap 𝓤) (A : Atoms 𝓤) (W : Given
   walk 𝓣 known known-store known-ready =
       qed W ((‵ (flft κ₀ q₀) ⊛ ‵ (flft κ₁ q₁) ⊛ ‵ (flft κ₂ q₂) ⊛ ‵ (flft κ₃ q₃) ⊛ ‵ ftrue) ∷ ‵ (owns (S.the-row ∷ MutSlice (named 0) κ₀ u64 ∷ MutSlice (named 1) κ₁ u64 ∷ ShrSlice (named 2) κ₂ u64 ∷ MutSlice (named 3) κ₃ T.the-row ∷ usize ∷ []) a vals) ∷ []) ∵
       enter ! (𝓣 .C) (𝓣 .Λ) code.function (EL.val S.the-type S′.the-laws s ∷ sx xs₀ ∷ so out₀ ∷ sz ∷ sₜ ∷ vint w64 n ∷ []) _ $
-      alloc1 ! (λ l₀. alloc1 ! (λ l₁. alloc1 ! (λ l₂. alloc1 ! (λ l₃. alloc1 ! (λ l₄. alloc1 ! (λ l₅. alloc1 ! (λ l₆. alloc1 ! (λ l₇. alloc1 ! (λ l₈. alloc1 ! (λ l₉. alloc1 ! (λ l₁₀. alloc1 ! (λ l₁₁. alloc1 ! (λ l₁₂. alloc1 ! (λ l₁₃. alloc1 ! (λ l₁₄. alloc1 ! (λ l₁₅. alloc1 ! (λ l₁₆. alloc1 ! (λ l₁₇. alloc1 ! (λ l₁₈. alloc1 ! (λ l₁₉. alloc1 ! (λ l₂₀. alloc1 ! (λ l₂₁. alloc0 ! $ params1 ! $
+      allocs-all ! (λ l₀ l₁ l₂ l₃ l₄ l₅ l₆ l₇ l₈ l₉ l₁₀ l₁₁ l₁₂ l₁₃ l₁₄ l₁₅ l₁₆ l₁₇ l₁₈ l₁₉ l₂₀ l₂₁. params1 ! $
       pass1 ! (init ! 40 refl (EL.lawful S.the-type S′.the-laws 𝓤 H A W tt .typed s _ gs .0)) $ pass1 ! (init ! 38 refl (tt, (tt, (record { fits = roomx₀ .0 }, tt)))) $ pass1 ! (init ! 36 refl (tt, (tt, (record { fits = roomo₀ .0 }, tt)))) $ pass1 ! (init ! 34 refl (tt, (tt, (record { fits = roomz .0 }, tt)))) $ pass1 ! (init ! 32 refl (tt, (tt, (record { fits = roomt .0 }, tt)))) $ pass1 ! (init ! 30 refl (tt, record { fits = gn })) $ pass0 ! $
-      begins 𝓣 known known-store known-ready l₀ l₁ l₂ l₃ l₄ l₅ l₆ l₇ l₈ l₉ l₁₀ l₁₁ l₁₂ l₁₃ l₁₄ l₁₅ l₁₆ l₁₇ l₁₈ l₁₉ l₂₀ l₂₁))))))))))))))))))))))
+      begins 𝓣 known known-store known-ready l₀ l₁ l₂ l₃ l₄ l₅ l₆ l₇ l₈ l₉ l₁₀ l₁₁ l₁₂ l₁₃ l₁₄ l₁₅ l₁₆ l₁₇ l₁₈ l₁₉ l₂₀ l₂₁)
 
 module _ {M : Type 1} (𝓤 : URA M) (H : Heap 𝓤) (A : Atoms 𝓤) (W : Given 𝓤 H A) (mem : Memory → SProp 𝓤) (run : Routine → Fun 𝓤) where
   pass-all-walks : (𝓣 : Tables 𝓤 H) → Triple 𝓤 (𝓣 .C #tallies·slice·tell-record) (Core 𝓤 H A mem run) → Triple 𝓤 (𝓣 .C #tallies·slice·count-told) (Store 𝓤 H A mem run) → Triple 𝓤 (𝓣 .C #particles·ready-for) (Readies 𝓤 H A mem run) → Walks 𝓤 H A f.ended stayed (WpFn 𝓤 H (𝓣 .C) (𝓣 .Λ) code.function) (f.clauses 𝓤 H A mem run)

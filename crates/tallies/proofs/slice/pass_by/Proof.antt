@@ -8,9 +8,10 @@ use mathlib.Core.List.{[], _∷_, List}
 use lib.ListN.{length}
 use lib.Dec.{T, eqb}
 use borrow.Author.Tests.{eqb-true, eq-eqb}
+use Rattle.tallies.proofs.Bodies.{bare, has, allocs-all, frees-all}
 use Rattle.tallies.proofs.Walking.{URA, fullShare, Ty, named, erased, mut, imm, w8, w64, tyInt, tyBool, tyUnit, tyRef, Val, vint, SProp, ent, emp, via, fst∗, snd∗, exE, id⊢, Lft, Share, GName, Fml, ftrue, fsep, fat, froom, fdies, flft, Lfts, Shares, Memory, Routine, Heap, Env, Calls, Loops, WpFn, Tables, Atoms, sem, Fun, fact, givenOf, tables, Given, Item, ‵, _⊛_, ⋆, some, later, runs, atRet, Sq, _$_, _∵_, !, qed, by, move, keep, drop, use1, use2, use3, split, join, pick, rewrite, fsplit, fjoin, feqL, suffices, frame, await, done, look, init, forget, stop, hop, fld, from, load, lit, addr, of-opd, bin, and-then, no-more, assigns, land, first, branches, skips, exec, returns-within, enter, alloc1, alloc0, params1, pass1, pass0, free1, free0, agg, whole, sub, look-in, lft-new, lft-end, fmOf, WpFn-mono, owns, Is, shows, pointee, Boolean, Nothing, bool-lawful, bool-makes, nothing-lawful, uint-makes, u8, u64, usize, RefT, sliceTy, sliceVal, MutSlice, ShrSlice, Room, slice-vals, mut-slice-tells, shr-slice-tells, shr-slice-copy, plain, peeks, heard, nothing, owned, Contract, Triple, calls-at, onEntry, Meets, tripleOf, entered, cited, says, Stays, stay-slice, stay-none, stay-none-slice, walkOf, goes-slice, goes-none, goes-none-slice, Walks, ends-at, walked, walk-meets, ensured, lasts, yes}
 use contract.Running.{tablesOf}
-use types.Kit.{raw}
+use types.Kit.{raw, group}
 use types.Run.{returns}
 use denote.Struct.Laws as LL
 use denote.Enum.Laws as EL
@@ -270,7 +271,7 @@ module _ {M : Type 1} (𝓤 : URA M) (H : Heap 𝓤) (A : Atoms 𝓤) (W : Given
         use2 W (later (some (λ (δ₁ : GName). ‵ (OwnO (ν₁ ∷ []) δ₁ out₀ (length out₀)) ⊛ ‵ (LentAgain u64 κ₁ (ν₁ ∷ []) q₁ γ₁ b₁ o₁ δ₁ out₀)))) (lends-again u64 κ₁ (ν₁ ∷ []) q₁ γ₁ b₁ o₁ 𝓤 H A W (named 1) (named 1) out₀) $ await ! tt $ pick ! (λ δ₁. split ! $
         lft-new ! tt (λ ν₃. move ! (59 ∷ 60 ∷ []) $
         use2 W (later (some (λ (δ₃ : GName). ‵ (OwnT (ν₃ ∷ []) δ₃ us (length us)) ⊛ ‵ (LentAgain T.the-row κ₃ (ν₃ ∷ []) q₃ γ₃ b₃ o₃ δ₃ us)))) (lends-again T.the-row κ₃ (ν₃ ∷ []) q₃ γ₃ b₃ o₃ 𝓤 H A W (named 3) (named 3) us) $ await ! tt $ pick ! (λ δ₃. split ! $
-        move ! (63 ∷ 0 ∷ []) $ fjoin ! $ move ! (3 ∷ 0 ∷ []) $ fjoin ! $ move ! (5 ∷ 0 ∷ []) $ fjoin ! $ move ! (2 ∷ 0 ∷ []) $ fjoin ! $ move ! (58 ∷ 0 ∷ []) $ fjoin ! $ move ! (3 ∷ 0 ∷ []) $ fjoin ! $ move ! (4 ∷ 0 ∷ []) $ fjoin ! $ use1 W (raw (Core 𝓤 H A mem run .pre (to us ν₀ δ₀ ν₁ δ₁ ν₃ δ₃))) (goes us ν₀ δ₀ ν₁ δ₁ ν₃ δ₃ (room-of us lu .0) (ran .ready)) $
+        move ! (8 ∷ 5 ∷ 61 ∷ 2 ∷ 6 ∷ 3 ∷ 63 ∷ 0 ∷ []) $ group ! 8 $ use1 W (raw (Core 𝓤 H A mem run .pre (to us ν₀ δ₀ ν₁ δ₁ ν₃ δ₃))) (goes us ν₀ δ₀ ν₁ δ₁ ν₃ δ₃ (room-of us lu .0) (ran .ready)) $
         calls-at ! (fmOf 𝓤 H (W .laws) 𝓣) (Core 𝓤 H A mem run) known (to us ν₀ δ₀ ν₁ δ₁ ν₃ δ₃) (and-then ! (load ! (from ! (stop !)) (look ! 52 refl)) (and-then ! (load ! (from ! (stop !)) (look ! 14 refl)) (and-then ! (load ! (from ! (stop !)) (look ! 10 refl)) (and-then ! (load ! (from ! (stop !)) (look ! 46 refl)) (and-then ! (load ! (from ! (stop !)) (look ! 6 refl)) (and-then ! (load ! (from ! (stop !)) (look ! 4 refl)) (no-more !))))))) (λ w.
         use1 W (later (some (λ (n : Unit {0}). ((‵ (flft (ν₀ ∷ []) fullShare) ⊛ ‵ (flft (ν₁ ∷ []) fullShare) ⊛ ‵ (flft κ₂ q₂) ⊛ ‵ (flft (ν₃ ∷ []) fullShare) ⊛ ‵ ftrue) ⊛ ‵ (Nothing .own n (w ∷ []))) ⊛ raw (ensured 𝓤 H A core.ended (core.clauses 𝓤 H A mem run) (ν₀ ∷ [], (ν₁ ∷ [], (κ₂, (ν₃ ∷ [], tt)))) (args us δ₀ δ₁ δ₃) tt n)))) (id⊢ 𝓤 _) $ await ! tt $ pick ! (λ n.
         split ! $ move ! (1 ∷ []) $ use1 W (some (λ (ws : Lasts′). ‵ (lasts core.ended (ν₀ ∷ [], (ν₁ ∷ [], (κ₂, (ν₃ ∷ [], tt)))) (args us δ₀ δ₁ δ₃) ws) ⊛ raw (fact 𝓤 (Passed s xs₀ zones us (ws .1 .1 .1 .1 .0) (ws .1 .0) (ws .1 .1 .0))))) (id⊢ 𝓤 _) $ pick ! (λ ws.
@@ -286,26 +287,23 @@ module _ {M : Type 1} (𝓤 : URA M) (H : Heap 𝓤) (A : Atoms 𝓤) (W : Given
         move ! (4 ∷ []) $ lft-end ! tt $ move ! (0 ∷ 7 ∷ 6 ∷ []) $
         use3 W (later (‵ (OwnT κ₃ γ₃ (ws .1 .1 .1 .1 .0) (length us)) ⊛ ‵ (flft κ₃ q₃))) (comes-back T.the-row κ₃ (ν₃ ∷ []) q₃ γ₃ b₃ o₃ 𝓤 H A W (named 3) (named 3) us δ₃ (ws .1 .1 .1 .1 .0) (room-of us lu) lt) $ await ! tt $ split ! $
         assigns ! (of-opd ! (load ! (from ! (stop !)) (look ! 39 refl))) (from ! (stop !)) (init ! 57 refl (tt, record { fits = g })) $
-        returns-within ! Post refl (look ! 57 refl) $ forget ! 57 refl $ forget ! 55 refl $ forget ! 53 refl $ forget ! 51 refl $ forget ! 49 refl $ forget ! 47 refl $ forget ! 39 refl $ forget ! 27 refl $ forget ! 21 refl $ forget ! 19 refl $ forget ! 17 refl $ forget ! 15 refl $ forget ! 13 refl $ forget ! 11 refl $ forget ! 9 refl $ forget ! 7 refl $
-        move ! (57 ∷ 58 ∷ []) $ free1 ! $ move ! (55 ∷ 56 ∷ []) $ free1 ! $ move ! (53 ∷ 54 ∷ []) $ free1 ! $ move ! (51 ∷ 52 ∷ []) $ free1 ! $ move ! (49 ∷ 50 ∷ []) $ free1 ! $ move ! (47 ∷ 48 ∷ []) $ free1 ! $ move ! (45 ∷ 46 ∷ []) $ free1 ! $ move ! (43 ∷ 44 ∷ []) $ free1 ! $ move ! (41 ∷ 42 ∷ []) $ free1 ! $ move ! (39 ∷ 40 ∷ []) $ free1 ! $ move ! (37 ∷ 38 ∷ []) $ free1 ! $ move ! (35 ∷ 36 ∷ []) $ free1 ! $ move ! (33 ∷ 34 ∷ []) $ free1 ! $ move ! (31 ∷ 32 ∷ []) $ free1 ! $ move ! (29 ∷ 30 ∷ []) $ free1 ! $ move ! (27 ∷ 28 ∷ []) $ free1 ! $ move ! (25 ∷ 26 ∷ []) $ free1 ! $ move ! (23 ∷ 24 ∷ []) $ free1 ! $ move ! (21 ∷ 22 ∷ []) $ free1 ! $ move ! (19 ∷ 20 ∷ []) $ free1 ! $ move ! (17 ∷ 18 ∷ []) $ free1 ! $ move ! (15 ∷ 16 ∷ []) $ free1 ! $ move ! (13 ∷ 14 ∷ []) $ free1 ! $ move ! (11 ∷ 12 ∷ []) $ free1 ! $ move ! (9 ∷ 10 ∷ []) $ free1 ! $ move ! (7 ∷ 8 ∷ []) $ free1 ! $ free0 ! $
+        returns-within ! Post refl (look ! 57 refl) $ frees-all W (_ ∷ _ ∷ _ ∷ _ ∷ _ ∷ _ ∷ _ ∷ []) (has _ ∷ has _ ∷ has _ ∷ has _ ∷ has _ ∷ has _ ∷ bare ∷ bare ∷ bare ∷ has _ ∷ bare ∷ bare ∷ bare ∷ bare ∷ bare ∷ has _ ∷ bare ∷ bare ∷ has _ ∷ has _ ∷ has _ ∷ has _ ∷ has _ ∷ has _ ∷ has _ ∷ has _ ∷ []) _ $
         rewrite ! 0 (λ (m : ℕ). ‵ (OwnT κ₃ γ₃ (ws .1 .1 .1 .1 .0) m)) lu refl $
         keep ! (4 ∷ 5 ∷ 2 ∷ 3 ∷ 0 ∷ 1 ∷ 6 ∷ 7 ∷ []) $ by ! (exits r g (ws .1 .0) (ws .1 .1 .0) (ws .1 .1 .1 .1 .0) lx lo (lt ∙ lu) (went s xs₀ out₀ zones ts₀ us r (ws .1 .0) (ws .1 .1 .0) (ws .1 .1 .1 .1 .0) (res .0) ran did)))))))))))))))))
         (λ failed.
         skips ! $ exec ! C Λ En body.t-15 (atRet En Post) $
         assigns ! (of-opd ! (load ! (from ! (stop !)) (look ! 32 refl))) (from ! (stop !)) (init ! 50 refl (tt, record { fits = g })) $
-        returns ! (look ! 50 refl) $ forget ! 50 refl $ forget ! 48 refl $ forget ! 46 refl $ forget ! 44 refl $ forget ! 42 refl $ forget ! 40 refl $ forget ! 32 refl $ forget ! 20 refl $
-        move ! (50 ∷ 51 ∷ []) $ free1 ! $ move ! (48 ∷ 49 ∷ []) $ free1 ! $ move ! (46 ∷ 47 ∷ []) $ free1 ! $ move ! (44 ∷ 45 ∷ []) $ free1 ! $ move ! (42 ∷ 43 ∷ []) $ free1 ! $ move ! (40 ∷ 41 ∷ []) $ free1 ! $ move ! (38 ∷ 39 ∷ []) $ free1 ! $ move ! (36 ∷ 37 ∷ []) $ free1 ! $ move ! (34 ∷ 35 ∷ []) $ free1 ! $ move ! (32 ∷ 33 ∷ []) $ free1 ! $ move ! (30 ∷ 31 ∷ []) $ free1 ! $ move ! (28 ∷ 29 ∷ []) $ free1 ! $ move ! (26 ∷ 27 ∷ []) $ free1 ! $ move ! (24 ∷ 25 ∷ []) $ free1 ! $ move ! (22 ∷ 23 ∷ []) $ free1 ! $ move ! (20 ∷ 21 ∷ []) $ free1 ! $ move ! (18 ∷ 19 ∷ []) $ free1 ! $ move ! (16 ∷ 17 ∷ []) $ free1 ! $ move ! (14 ∷ 15 ∷ []) $ free1 ! $ move ! (12 ∷ 13 ∷ []) $ free1 ! $ move ! (10 ∷ 11 ∷ []) $ free1 ! $ move ! (8 ∷ 9 ∷ []) $ free1 ! $ move ! (6 ∷ 7 ∷ []) $ free1 ! $ move ! (4 ∷ 5 ∷ []) $ free1 ! $ move ! (2 ∷ 3 ∷ []) $ free1 ! $ free1 ! $ free0 ! $
+        returns ! (look ! 50 refl) $ frees-all W ([]) (has _ ∷ has _ ∷ has _ ∷ has _ ∷ has _ ∷ has _ ∷ bare ∷ bare ∷ bare ∷ has _ ∷ bare ∷ bare ∷ bare ∷ bare ∷ bare ∷ has _ ∷ []) _ $
         rewrite ! 4 (λ (m : ℕ). ‵ (OwnT κ₃ γ₃ us m)) lu refl $
         keep ! (0 ∷ 1 ∷ 2 ∷ 3 ∷ 4 ∷ 5 ∷ 6 ∷ 7 ∷ []) $ by ! (exits r g xs₀ out₀ us refl refl lu (refused (stepLaw s) xs₀ out₀ zones ts₀ us r (res .0) (res .1 .1 (not-zero r failed)))))
 
-    -- the parameters are passed: [_25; …; .. _0; …; the tokens; what the parameters own]
+    -- the parameters are passed: [_25; …; .. _0; …; the tokens; what tallies, zones (three times), answers and records own]
     abbrev Begun : List (Item 𝓤)
-    Begun = ‵ (froom word l₂₅ 0) ∷ ‵ (fdies word l₂₅) ∷ ‵ (froom talliesTy l₂₄ 0) ∷ ‵ (fdies talliesTy l₂₄) ∷ ‵ (froom tallyTy l₂₃ 0) ∷ ‵ (fdies tallyTy l₂₃) ∷ ‵ (froom partTy l₂₂ 0) ∷ ‵ (fdies partTy l₂₂) ∷ ‵ (froom againTy l₂₁ 0) ∷ ‵ (fdies againTy l₂₁) ∷ ‵ (froom partTy l₂₀ 0) ∷ ‵ (fdies partTy l₂₀) ∷ ‵ (froom againTy l₁₉ 0) ∷ ‵ (fdies againTy l₁₉) ∷ ‵ (froom tyUnit l₁₈ 0) ∷ ‵ (fdies tyUnit l₁₈) ∷ ‵ (froom talliesTy l₁₇ 0) ∷ ‵ (fdies talliesTy l₁₇) ∷ ‵ (froom tallyTy l₁₆ 0) ∷ ‵ (fdies tallyTy l₁₆) ∷ ‵ (froom tyBool l₁₅ 0) ∷ ‵ (fdies tyBool l₁₅) ∷ ‵ (froom talliesTy l₁₄ 0) ∷ ‵ (fdies talliesTy l₁₄) ∷ ‵ (froom tallyTy l₁₃ 0) ∷ ‵ (fdies tallyTy l₁₃) ∷ ‵ (froom word l₁₂ 0) ∷ ‵ (fdies word l₁₂) ∷ ‵ (froom word l₁₁ 0) ∷ ‵ (fdies word l₁₁) ∷ ‵ (froom word l₁₀ 0) ∷ ‵ (fdies word l₁₀) ∷ ‵ (froom byte l₉ 0) ∷ ‵ (fdies byte l₉) ∷ ‵ (froom P′.mir l₈ 0) ∷ ‵ (fdies P′.mir l₈) ∷ ‵ (froom tyBool l₇ 0) ∷ ‵ (fdies tyBool l₇) ∷ ‵ (froom P′.mir l₆ 0) ∷ ‵ (fdies P′.mir l₆) ∷ ‵ (fat fullShare tsTy l₅ 0 (st′ ts₀)) ∷ ‵ (fdies tsTy l₅) ∷ ‵ (fat fullShare zonesTy l₄ 0 sz) ∷ ‵ (fdies zonesTy l₄) ∷ ‵ (fat fullShare outTy l₃ 0 (so out₀)) ∷ ‵ (fdies outTy l₃) ∷ ‵ (fat fullShare xsTy l₂ 0 (sx xs₀)) ∷ ‵ (fdies xsTy l₂) ∷ ‵ (fat fullShare S′.mir l₁ 0 (EL.val S.the-type S′.the-laws s)) ∷ ‵ (fdies S′.mir l₁) ∷ ‵ (froom byte l₀ 0) ∷ ‵ (fdies byte l₀) ∷ (‵ (flft κ₀ q₀) ⊛ ‵ (flft κ₁ q₁) ⊛ ‵ (flft κ₂ q₂) ⊛ ‵ (flft κ₃ q₃) ⊛ ‵ ftrue) ∷ ‵ (owns (S.the-row ∷ MutSlice (named 0) κ₀ u64 ∷ MutSlice (named 1) κ₁ u64 ∷ ShrSlice (named 2) κ₂ u64 ∷ MutSlice (named 3) κ₃ T.the-row ∷ []) a vals) ∷ []
+    Begun = ‵ (froom word l₂₅ 0) ∷ ‵ (fdies word l₂₅) ∷ ‵ (froom talliesTy l₂₄ 0) ∷ ‵ (fdies talliesTy l₂₄) ∷ ‵ (froom tallyTy l₂₃ 0) ∷ ‵ (fdies tallyTy l₂₃) ∷ ‵ (froom partTy l₂₂ 0) ∷ ‵ (fdies partTy l₂₂) ∷ ‵ (froom againTy l₂₁ 0) ∷ ‵ (fdies againTy l₂₁) ∷ ‵ (froom partTy l₂₀ 0) ∷ ‵ (fdies partTy l₂₀) ∷ ‵ (froom againTy l₁₉ 0) ∷ ‵ (fdies againTy l₁₉) ∷ ‵ (froom tyUnit l₁₈ 0) ∷ ‵ (fdies tyUnit l₁₈) ∷ ‵ (froom talliesTy l₁₇ 0) ∷ ‵ (fdies talliesTy l₁₇) ∷ ‵ (froom tallyTy l₁₆ 0) ∷ ‵ (fdies tallyTy l₁₆) ∷ ‵ (froom tyBool l₁₅ 0) ∷ ‵ (fdies tyBool l₁₅) ∷ ‵ (froom talliesTy l₁₄ 0) ∷ ‵ (fdies talliesTy l₁₄) ∷ ‵ (froom tallyTy l₁₃ 0) ∷ ‵ (fdies tallyTy l₁₃) ∷ ‵ (froom word l₁₂ 0) ∷ ‵ (fdies word l₁₂) ∷ ‵ (froom word l₁₁ 0) ∷ ‵ (fdies word l₁₁) ∷ ‵ (froom word l₁₀ 0) ∷ ‵ (fdies word l₁₀) ∷ ‵ (froom byte l₉ 0) ∷ ‵ (fdies byte l₉) ∷ ‵ (froom P′.mir l₈ 0) ∷ ‵ (fdies P′.mir l₈) ∷ ‵ (froom tyBool l₇ 0) ∷ ‵ (fdies tyBool l₇) ∷ ‵ (froom P′.mir l₆ 0) ∷ ‵ (fdies P′.mir l₆) ∷ ‵ (fat fullShare tsTy l₅ 0 (st′ ts₀)) ∷ ‵ (fdies tsTy l₅) ∷ ‵ (fat fullShare zonesTy l₄ 0 sz) ∷ ‵ (fdies zonesTy l₄) ∷ ‵ (fat fullShare outTy l₃ 0 (so out₀)) ∷ ‵ (fdies outTy l₃) ∷ ‵ (fat fullShare xsTy l₂ 0 (sx xs₀)) ∷ ‵ (fdies xsTy l₂) ∷ ‵ (fat fullShare S′.mir l₁ 0 (EL.val S.the-type S′.the-laws s)) ∷ ‵ (fdies S′.mir l₁) ∷ ‵ (froom byte l₀ 0) ∷ ‵ (fdies byte l₀) ∷ ‵ (flft κ₃ q₃) ∷ ‵ (flft κ₂ q₂) ∷ ‵ (flft κ₁ q₁) ∷ ‵ (flft κ₀ q₀) ∷ ‵ (OwnT κ₃ γ₃ ts₀ (length ts₀)) ∷ ‵ OwnZ ∷ ‵ OwnZ ∷ ‵ OwnZ ∷ ‵ (OwnO κ₁ γ₁ out₀ (length out₀)) ∷ ‵ (OwnX κ₀ γ₀ xs₀ (length xs₀)) ∷ []
 
     begins : Sq W Begun (runs C Λ En body.t-1 (atRet En Post))
     begins =
-        move ! (53 ∷ []) $ fsplit ! $ drop ! $ fsplit ! $ move ! (1 ∷ []) $ fsplit ! $ move ! (1 ∷ []) $ fsplit ! $ use1 W (‵ OwnZ ⊛ ‵ OwnZ) (shr-slice-copy 𝓤 H A W (named 2) κ₂ u64 .twice z′ (sz ∷ [])) $ split ! $ use1 W (‵ OwnZ ⊛ ‵ OwnZ) (shr-slice-copy 𝓤 H A W (named 2) κ₂ u64 .twice z′ (sz ∷ [])) $ split ! $
-        move ! (3 ∷ []) $ fsplit ! $ move ! (1 ∷ []) $ drop ! $ move ! (58 ∷ []) $ split ! $ move ! (1 ∷ []) $ split ! $ move ! (1 ∷ []) $ split ! $ move ! (1 ∷ []) $ split ! $ move ! (1 ∷ []) $ drop ! $
+        move ! (52 ∷ 53 ∷ 54 ∷ 55 ∷ 56 ∷ 57 ∷ 58 ∷ 59 ∷ 60 ∷ 61 ∷ []) $
         assigns ! (of-opd ! (load ! (from ! (fld ! refl (stop !))) (look-in ! 56 (sub ! 1 refl (whole !))))) (from ! (stop !)) (init ! 40 refl (tt, record { fits = roomx₀ .0 })) $
         assigns ! (of-opd ! (load ! (from ! (fld ! refl (stop !))) (look-in ! 54 (sub ! 1 refl (whole !))))) (from ! (stop !)) (init ! 38 refl (tt, record { fits = roomo₀ .0 })) $
         assigns ! (of-opd ! (load ! (from ! (fld ! refl (stop !))) (look-in ! 50 (sub ! 1 refl (whole !))))) (from ! (stop !)) (init ! 36 refl (tt, record { fits = roomt .0 })) $
@@ -357,9 +355,11 @@ module _ {M : Type 1} (𝓤 : URA M) (H : Heap 𝓤) (A : Atoms 𝓤) (W : Given
   walk 𝓣 known-look known-settle known-count known =
       qed W ((‵ (flft κ₀ q₀) ⊛ ‵ (flft κ₁ q₁) ⊛ ‵ (flft κ₂ q₂) ⊛ ‵ (flft κ₃ q₃) ⊛ ‵ ftrue) ∷ ‵ (owns (S.the-row ∷ MutSlice (named 0) κ₀ u64 ∷ MutSlice (named 1) κ₁ u64 ∷ ShrSlice (named 2) κ₂ u64 ∷ MutSlice (named 3) κ₃ T.the-row ∷ []) a vals) ∷ []) ∵
       enter ! (𝓣 .C) (𝓣 .Λ) code.function (EL.val S.the-type S′.the-laws s ∷ sx xs₀ ∷ so out₀ ∷ sz ∷ st′ ts₀ ∷ []) _ $
-      alloc1 ! (λ l₀. alloc1 ! (λ l₁. alloc1 ! (λ l₂. alloc1 ! (λ l₃. alloc1 ! (λ l₄. alloc1 ! (λ l₅. alloc1 ! (λ l₆. alloc1 ! (λ l₇. alloc1 ! (λ l₈. alloc1 ! (λ l₉. alloc1 ! (λ l₁₀. alloc1 ! (λ l₁₁. alloc1 ! (λ l₁₂. alloc1 ! (λ l₁₃. alloc1 ! (λ l₁₄. alloc1 ! (λ l₁₅. alloc1 ! (λ l₁₆. alloc1 ! (λ l₁₇. alloc1 ! (λ l₁₈. alloc1 ! (λ l₁₉. alloc1 ! (λ l₂₀. alloc1 ! (λ l₂₁. alloc1 ! (λ l₂₂. alloc1 ! (λ l₂₃. alloc1 ! (λ l₂₄. alloc1 ! (λ l₂₅. alloc0 ! $ params1 ! $
+      move ! (1 ∷ []) $ fsplit ! $ drop ! $ fsplit ! $ move ! (1 ∷ []) $ fsplit ! $ move ! (1 ∷ []) $ fsplit ! $ use1 W (‵ OwnZ ⊛ ‵ OwnZ) (shr-slice-copy 𝓤 H A W (named 2) κ₂ u64 .twice z′ (sz ∷ [])) $ split ! $ use1 W (‵ OwnZ ⊛ ‵ OwnZ) (shr-slice-copy 𝓤 H A W (named 2) κ₂ u64 .twice z′ (sz ∷ [])) $ split ! $
+      move ! (3 ∷ []) $ fsplit ! $ move ! (1 ∷ []) $ drop ! $ move ! (6 ∷ []) $ split ! $ move ! (1 ∷ []) $ split ! $ move ! (1 ∷ []) $ split ! $ move ! (1 ∷ []) $ split ! $ move ! (1 ∷ []) $ drop ! $
+      allocs-all ! (λ l₀ l₁ l₂ l₃ l₄ l₅ l₆ l₇ l₈ l₉ l₁₀ l₁₁ l₁₂ l₁₃ l₁₄ l₁₅ l₁₆ l₁₇ l₁₈ l₁₉ l₂₀ l₂₁ l₂₂ l₂₃ l₂₄ l₂₅. params1 ! $
       pass1 ! (init ! 48 refl (EL.lawful S.the-type S′.the-laws 𝓤 H A W tt .typed s _ gs .0)) $ pass1 ! (init ! 46 refl (tt, (tt, (record { fits = roomx₀ .0 }, tt)))) $ pass1 ! (init ! 44 refl (tt, (tt, (record { fits = roomo₀ .0 }, tt)))) $ pass1 ! (init ! 42 refl (tt, (tt, (record { fits = roomz .0 }, tt)))) $ pass1 ! (init ! 40 refl (tt, (tt, (record { fits = roomt .0 }, tt)))) $ pass0 ! $
-      begins 𝓣 known-look known-settle known-count known l₀ l₁ l₂ l₃ l₄ l₅ l₆ l₇ l₈ l₉ l₁₀ l₁₁ l₁₂ l₁₃ l₁₄ l₁₅ l₁₆ l₁₇ l₁₈ l₁₉ l₂₀ l₂₁ l₂₂ l₂₃ l₂₄ l₂₅))))))))))))))))))))))))))
+      begins 𝓣 known-look known-settle known-count known l₀ l₁ l₂ l₃ l₄ l₅ l₆ l₇ l₈ l₉ l₁₀ l₁₁ l₁₂ l₁₃ l₁₄ l₁₅ l₁₆ l₁₇ l₁₈ l₁₉ l₂₀ l₂₁ l₂₂ l₂₃ l₂₄ l₂₅)
 
 module _ {M : Type 1} (𝓤 : URA M) (H : Heap 𝓤) (A : Atoms 𝓤) (W : Given 𝓤 H A) (mem : Memory → SProp 𝓤) (run : Routine → Fun 𝓤) (𝓣 : Tables 𝓤 H) (known-look : Triple 𝓤 (𝓣 .C #tallies·plan·to-pass) (Looks 𝓤 H A mem run)) (known-settle : Triple 𝓤 (𝓣 .C #tallies·slice·settle) (Settle 𝓤 H A mem run)) (known-count : Triple 𝓤 (𝓣 .C #tallies·plan·to-count) (Counts′ 𝓤 H A mem run)) (known : Triple 𝓤 (𝓣 .C #tallies·slice·pass-all) (Core 𝓤 H A mem run)) where
   pass-by-walks : Walks 𝓤 H A f.ended stayed (WpFn 𝓤 H (𝓣 .C) (𝓣 .Λ) code.function) (f.clauses 𝓤 H A mem run)

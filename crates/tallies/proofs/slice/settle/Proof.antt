@@ -6,9 +6,10 @@ use mathlib.Core.Bool.{Bool}
 use mathlib.Core.List.{[], _∷_, List, map}
 use lib.ListN.{length}
 use lib.Dec.{lit<}
+use Rattle.tallies.proofs.Bodies.{bare, has, allocs-all, frees-all}
 use Rattle.tallies.proofs.Walking.{URA, fullShare, Ty, named, erased, mut, imm, w64, tyInt, tyBool, tyRef, Val, vint, SProp, ent, emp, via, fst∗, id⊢, Lft, Share, GName, Fml, ftrue, fsep, fat, froom, fdies, flft, flent, Memory, Routine, Heap, Env, Calls, Loops, WpFn, Tables, Atoms, sem, Fun, fact, givenOf, tables, Given, Item, ‵, _⊛_, ⋆, some, later, runs, atRet, Sq, _$_, _∵_, !, qed, by, move, keep, drop, use1, use2, split, join, pick, rewrite, fsplit, fjoin, feqL, suffices, frame, await, done, look, init, forget, stop, hop, fld, from, load, lit, addr, of-opd, and-then, no-more, assigns, land, enter, alloc1, alloc0, params1, pass1, pass0, free1, free0, agg, whole, sub, look-in, lft-new, lft-end, fmOf, WpFn-mono, owns, Is, shows, pointee, Boolean, bool-lawful, uint-lawful, uint-makes, array-lawful, array-makes, u64, RefT, sliceTy, sliceVal, MutSlice, ShrSlice, Room, finally, slice-vals, mut-slice-tells, plain, peeks, heard, nothing, owned, Contract, Triple, calls-at, onEntry, Meets, tripleOf, entered, cited, says, Stays, stay-none, gave-slice, walkOf, goes-none, goes-gave-slice, Walks, ends-at, walked, walk-meets, ensured, lasts, yes}
 use contract.Running.{tablesOf}
-use types.Kit.{raw}
+use types.Kit.{raw, group}
 use types.Run.{returns}
 use denote.Struct.Laws as LL
 use Rattle.tallies.specs.declared.tally.Tally.{Tally}
@@ -143,7 +144,7 @@ module _ {M : Type 1} (𝓤 : URA M) (H : Heap 𝓤) (A : Atoms 𝓤) (W : Given
         move ! (19 ∷ []) $ fsplit ! $ move ! (1 ∷ []) $ drop ! $ move ! (19 ∷ []) $ split ! $ move ! (1 ∷ []) $ drop ! $
         owned ! Words (Is Words) (array-makes 𝓤 H A W u64 (uint-makes 𝓤 H A W w64) 256) cs _ gc $ lft-new ! tt (λ ν. move ! (12 ∷ 1 ∷ []) $
         use2 W (later (some (λ (δ : GName). ‵ (OwnC l₄ ν δ) ⊛ ‵ (flent (ν ∷ []) (Lies l₄ cs))))) (lends-counts (ν ∷ []) l₄ cs all 𝓤 H A W (named 1)) $ await ! tt $ pick ! (λ δ. split ! $
-        move ! (4 ∷ 0 ∷ []) $ fjoin ! $ move ! (2 ∷ 0 ∷ []) $ fjoin ! $ move ! (2 ∷ 0 ∷ []) $ fjoin ! $ use1 W (raw (Core 𝓤 H A mem run .pre (to l₄ ν δ))) (goes l₄ ν δ) $
+        move ! (3 ∷ 2 ∷ 4 ∷ 0 ∷ []) $ group ! 4 $ use1 W (raw (Core 𝓤 H A mem run .pre (to l₄ ν δ))) (goes l₄ ν δ) $
         calls-at ! (fmOf 𝓤 H (W .laws) 𝓣) (Core 𝓤 H A mem run) known (to l₄ ν δ) (and-then ! (load ! (from ! (stop !)) (look ! 6 refl)) (and-then ! (load ! (from ! (stop !)) (look ! 11 refl)) (and-then ! (load ! (from ! (stop !)) (look ! 2 refl)) (no-more !)))) (λ v.
         use1 W (later (some (λ (y : Bool). ((‵ (flft κ q) ⊛ ‵ (flft (ν ∷ []) fullShare) ⊛ ‵ ftrue) ⊛ ‵ (Boolean .own y (v ∷ []))) ⊛ raw (ensured 𝓤 H A core.ended (core.clauses 𝓤 H A mem run) (κ, (ν ∷ [], tt)) (args l₄ δ) tt y)))) (id⊢ 𝓤 _) $ await ! tt $ pick ! (λ y.
         split ! $ move ! (1 ∷ []) $ use1 W (some (λ (us : List Tally × (Unit {0} × (Unit {0} × Unit {0}))). ‵ (lasts core.ended (κ, (ν ∷ [], tt)) (args l₄ δ) us) ⊛ raw (fact 𝓤 (SettledBy (p .what) cs ts y (us .0))))) (id⊢ 𝓤 _) $ pick ! (λ us.
@@ -152,16 +153,15 @@ module _ {M : Type 1} (𝓤 : URA M) (H : Heap 𝓤) (A : Atoms 𝓤) (W : Given
         land ! (from ! (stop !)) (init ! 19 refl (bool-lawful 𝓤 H A W .typed y _ is .0)) $ move ! (1 ∷ []) $ split ! $ move ! (1 ∷ []) $ split ! $ move ! (1 ∷ []) $ drop ! $ move ! (0 ∷ []) $ lft-end ! tt $ move ! (0 ∷ 4 ∷ []) $
         use2 W (later (‵ (fat fullShare wordsTy l₄ 0 (words-val cs)) ⊛ ‵ (Words .own cs (words-val cs ∷ [])))) (counts-back (ν ∷ []) l₄ cs all 𝓤 H A W) $ await ! tt $ split ! $
         move ! (1 ∷ []) $ drop ! $
-        returns ! (look ! 19 refl) $ forget ! 19 refl $ forget ! 17 refl $ forget ! 15 refl $ forget ! 13 refl $ forget ! 0 refl $ forget ! 10 refl $ forget ! 8 refl $ forget ! 6 refl $ forget ! 4 refl $
-        move ! (19 ∷ 20 ∷ []) $ free1 ! $ move ! (17 ∷ 18 ∷ []) $ free1 ! $ move ! (15 ∷ 16 ∷ []) $ free1 ! $ move ! (13 ∷ 14 ∷ []) $ free1 ! $ move ! (0 ∷ 12 ∷ []) $ free1 ! $ move ! (9 ∷ 10 ∷ []) $ free1 ! $ move ! (7 ∷ 8 ∷ []) $ free1 ! $ move ! (5 ∷ 6 ∷ []) $ free1 ! $ move ! (3 ∷ 4 ∷ []) $ free1 ! $ free0 ! $
+        returns ! (look ! 19 refl) $ move ! (1 ∷ 2 ∷ 3 ∷ 4 ∷ 5 ∷ 6 ∷ 7 ∷ 8 ∷ 9 ∷ 10 ∷ 11 ∷ 0 ∷ []) $ frees-all W (_ ∷ _ ∷ _ ∷ []) (has _ ∷ has _ ∷ has _ ∷ has _ ∷ has _ ∷ has _ ∷ has _ ∷ has _ ∷ has _ ∷ []) _ $
         keep ! (1 ∷ 0 ∷ 2 ∷ []) $ by ! (exits y v (us .0) len (subst (λ (c : List ℕ). SettledBy (p .what) c ts y (us .0)) (same (p .counts)) did))))))))))
 
   walk : (𝓣 : Tables 𝓤 H) → Triple 𝓤 (𝓣 .C #tallies·slice·settle-all) (Core 𝓤 H A mem run) → ent 𝓤 (onEntry 𝓤 H A f.signature (κ, tt) (q, tt) a vals) (WpFn 𝓤 H (𝓣 .C) (𝓣 .Λ) code.function (s ∷ LL.val P.the-type P′.the-laws p ∷ []) Post)
   walk 𝓣 known =
       qed W ((‵ (flft κ q) ⊛ ‵ ftrue) ∷ ‵ (owns (MutSlice (named 0) κ T.the-row ∷ P.the-row ∷ []) a vals) ∷ []) ∵ enter ! (𝓣 .C) (𝓣 .Λ) code.function (s ∷ LL.val P.the-type P′.the-laws p ∷ []) _ $
-      alloc1 ! (λ l₀. alloc1 ! (λ l₁. alloc1 ! (λ l₂. alloc1 ! (λ l₃. alloc1 ! (λ l₄. alloc1 ! (λ l₅. alloc1 ! (λ l₆. alloc1 ! (λ l₇. alloc1 ! (λ l₈. alloc0 ! $ params1 ! $
+      allocs-all ! (λ l₀ l₁ l₂ l₃ l₄ l₅ l₆ l₇ l₈. params1 ! $
       pass1 ! (init ! 14 refl (tt, (tt, (record { fits = room .0 }, tt)))) $ pass1 ! (init ! 12 refl (LL.lawful P.the-type P′.the-laws 𝓤 H A W .typed p _ gp .0)) $ pass0 ! $
-      begins 𝓣 known l₀ l₁ l₂ l₃ l₄ l₅ l₆ l₇ l₈)))))))))
+      begins 𝓣 known l₀ l₁ l₂ l₃ l₄ l₅ l₆ l₇ l₈)
 
 module _ {M : Type 1} (𝓤 : URA M) (H : Heap 𝓤) (A : Atoms 𝓤) (W : Given 𝓤 H A) (mem : Memory → SProp 𝓤) (run : Routine → Fun 𝓤) where
   settle-walks : (𝓣 : Tables 𝓤 H) → Triple 𝓤 (𝓣 .C #tallies·slice·settle-all) (Core 𝓤 H A mem run) → Walks 𝓤 H A f.ended stayed (WpFn 𝓤 H (𝓣 .C) (𝓣 .Λ) code.function) (f.clauses 𝓤 H A mem run)

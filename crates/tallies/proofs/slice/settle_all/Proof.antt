@@ -11,6 +11,7 @@ use lib.ListN.{length, getD, set, length-set}
 use lib.WfN.{Nat·lt-wfRel}
 use lib.Dec.{ltb, lit<}
 use borrow.Author.Tests.{ltb-true, ltb-false}
+use Rattle.tallies.proofs.Bodies.{bare, has, allocs-all, frees-all}
 use Rattle.tallies.proofs.Walking.{URA, fullShare, Ty, named, mut, imm, w64, tyInt, tyBool, tyPtr, tyRef, Val, vint, vbool, vptr, SProp, ent, emp, via, fst∗, snd∗, exE, id⊢, Lft, Share, GName, Fml, ftrue, fsep, fat, froom, fdies, flft, fobs, fbor, Memory, Routine, Heap, Out, Env, afterSeq, afterBlock, Calls, Loops, Wp, atReturn, WpFn, Tables, Atoms, sem, Fun, fact, givenOf, tables, Given, Item, ‵, _⊛_, ⋆, some, later, runs, anyQ, atRet, Sq, _$_, _∵_, !, qed, by, move, keep, drop, use1, split, join, pick, rewrite, fsplit, fjoin, feqI, suffices, frame, await, done, look, look-raw, store as put, store-raw, init, forget, stop, hop, fld, from, load, lit, true-lit, of-opd, bin, and-then, no-more, assigns, assigns-last, land, first, blocks, stays, leaves-loop, enter, alloc1, alloc0, params1, pass1, pass0, free1, free0, exec, Below, again, loops, whole, sub, look-in, fmOf, WpFn-mono, owns, pureI, Is, shows, pointee, Boolean, bool-lawful, bool-makes, bool-tells, uint-makes, uint-vals, uint-tells, u64, usize, RefT, sliceTy, sliceVal, MutSlice, Room, heres, codedHoleys, at-slice, slice-vals, mut-slice-tells, ShrSlice, shr-slice-tells, shr-slice-copy, Held, place-is, elem-out, elem-put, opens-slice, closes-slice, plain, peeks, heard, nothing, owned, Contract, Triple, calls-at, onEntry, Meets, tripleOf, entered, cited, says, Stays, stay-slice, stay-none, walkOf, goes-slice, goes-none, Walks, ends-at, walked, walk-meets, stay-none-slice, goes-none-slice, ensured, lasts, yes}
 use prog.Wp.{afterTurn}
 use contract.Running.{tablesOf}
@@ -214,8 +215,7 @@ module _ {M : Type 1} (𝓤 : URA M) (H : Heap 𝓤) (A : Atoms 𝓤) (W : Given
         rewrite ! 6 (λ (t : Bool). ‵ (fat fullShare tyBool l₈ 0 (vbool t))) e refl $
         leaves-loop ! (load ! (from ! (stop !)) (look ! 6 refl)) $ exec ! C Λ En body.t-4 (atRet En Post) $
         assigns ! (of-opd ! (load ! (from ! (stop !)) (look ! 14 refl))) (from ! (stop !)) (init ! 22 refl (tt, tt)) $
-        returns ! (look ! 22 refl) $ forget ! 22 refl $ forget ! 20 refl $ forget ! 18 refl $ forget ! 16 refl $ forget ! 14 refl $ forget ! 12 refl $ forget ! 8 refl $ forget ! 6 refl $
-        move ! (22 ∷ 23 ∷ []) $ free1 ! $ move ! (20 ∷ 21 ∷ []) $ free1 ! $ move ! (18 ∷ 19 ∷ []) $ free1 ! $ move ! (16 ∷ 17 ∷ []) $ free1 ! $ move ! (14 ∷ 15 ∷ []) $ free1 ! $ move ! (12 ∷ 13 ∷ []) $ free1 ! $ move ! (10 ∷ 11 ∷ []) $ free1 ! $ move ! (8 ∷ 9 ∷ []) $ free1 ! $ move ! (6 ∷ 7 ∷ []) $ free1 ! $ move ! (4 ∷ 5 ∷ []) $ free1 ! $ move ! (2 ∷ 3 ∷ []) $ free1 ! $ free1 ! $ free0 ! $
+        returns ! (look ! 22 refl) $ frees-all W ([]) (has _ ∷ has _ ∷ has _ ∷ has _ ∷ has _ ∷ has _ ∷ bare ∷ has _ ∷ has _ ∷ []) _ $
         keep ! (0 ∷ 1 ∷ 2 ∷ 3 ∷ 4 ∷ []) $ by ! (exits (st .ok) (st .ts) (long what cs ts₀ st) (over what cs ts₀ st (ltb-false (st .i) (length ts₀) e)))
 
     turn-by : (st : St) (y : Bool) → ltb (st .i) (length ts₀) ≡ y → Sq W (At st) (runs C Λ En body.turn-1 (anyQ (Turned st)))
@@ -239,9 +239,9 @@ module _ {M : Type 1} (𝓤 : URA M) (H : Heap 𝓤) (A : Atoms 𝓤) (W : Given
   walk : (𝓣 : Tables 𝓤 H) → Triple 𝓤 (𝓣 .C #tallies·plan·room-too) (Look 𝓤 H A mem run) → Triple 𝓤 (𝓣 .C #tallies·plan·settled) (Make 𝓤 H A mem run) → ent 𝓤 (onEntry 𝓤 H A f.signature (κ, (κ₁, tt)) (q, (q₁, tt)) a vals) (WpFn 𝓤 H (𝓣 .C) (𝓣 .Λ) code.function (s ∷ vint w64 what ∷ s₁ ∷ []) Post)
   walk 𝓣 known-look known-make =
       qed W ((‵ (flft κ q) ⊛ ‵ (flft κ₁ q₁) ⊛ ‵ ftrue) ∷ ‵ (owns (MutSlice (named 0) κ T.the-row ∷ u64 ∷ ShrSlice (named 1) κ₁ u64 ∷ []) a vals) ∷ []) ∵ enter ! (𝓣 .C) (𝓣 .Λ) code.function (s ∷ vint w64 what ∷ s₁ ∷ []) _ $
-      alloc1 ! (λ l₀. alloc1 ! (λ l₁. alloc1 ! (λ l₂. alloc1 ! (λ l₃. alloc1 ! (λ l₄. alloc1 ! (λ l₅. alloc1 ! (λ l₆. alloc1 ! (λ l₇. alloc1 ! (λ l₈. alloc1 ! (λ l₉. alloc1 ! (λ l₁₀. alloc1 ! (λ l₁₁. alloc0 ! $ params1 ! $
+      allocs-all ! (λ l₀ l₁ l₂ l₃ l₄ l₅ l₆ l₇ l₈ l₉ l₁₀ l₁₁. params1 ! $
       pass1 ! (init ! 20 refl (tt, (tt, (record { fits = room .0 }, tt)))) $ pass1 ! (init ! 18 refl (tt, record { fits = gw })) $ pass1 ! (init ! 16 refl (tt, (tt, (record { fits = roomc .0 }, tt)))) $ pass0 ! $
-      begins 𝓣 known-look known-make l₀ l₁ l₂ l₃ l₄ l₅ l₆ l₇ l₈ l₉ l₁₀ l₁₁))))))))))))
+      begins 𝓣 known-look known-make l₀ l₁ l₂ l₃ l₄ l₅ l₆ l₇ l₈ l₉ l₁₀ l₁₁)
 
 module _ {M : Type 1} (𝓤 : URA M) (H : Heap 𝓤) (A : Atoms 𝓤) (W : Given 𝓤 H A) (mem : Memory → SProp 𝓤) (run : Routine → Fun 𝓤) where
   settle-all-walks : (𝓣 : Tables 𝓤 H) → Triple 𝓤 (𝓣 .C #tallies·plan·room-too) (Look 𝓤 H A mem run) → Triple 𝓤 (𝓣 .C #tallies·plan·settled) (Make 𝓤 H A mem run) → Walks 𝓤 H A f.ended stayed (WpFn 𝓤 H (𝓣 .C) (𝓣 .Λ) code.function) (f.clauses 𝓤 H A mem run)
