@@ -14,7 +14,7 @@ pub use contract.Monad.{Fun, fact}
 pub use contract.Running.{givenOf, tables}
 pub use types.Kit.{Given, ‵, _⊛_, ⋆, some, later, _$_, _∵_, !, qed, by, move, keep, drop, use1, use2, use3, split, join, pick, rewrite, fsplit, fjoin, feqL, suffices, frame, await, done, Item, runs, atRet, post, Post, Sq, feqI, anyQ, updating, now, show, fpick, fpack}
 pub use types.Part.{agg, whole, sub, look-in, store-in}
-pub use types.Run.{look, init, forget, stop, from, load, addr, of-opd, and-then, no-more, assigns, land, enter, alloc1, alloc0, params1, pass1, pass0, free1, free0, hop, fld, store, lit, unit-lit, bin, assigns-last, first, branches, skips, exec, returns-within, blocks, stays, leaves-loop, Below, again, loops, look-raw, store-raw, true-lit}
+pub use types.Run.{look, init, forget, stop, from, load, addr, of-opd, and-then, no-more, assigns, land, enter, params1, pass1, pass0, hop, fld, store, lit, unit-lit, bin, assigns-last, first, branches, skips, exec, returns-within, blocks, stays, leaves-loop, Below, again, loops, look-raw, store-raw, true-lit}
 pub use types.SemTy.{cells, Arr, SemTy}
 pub use types.Share.{arr-parts}
 pub use types.Tokens.{lft-new, lft-end}

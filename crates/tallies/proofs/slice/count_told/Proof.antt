@@ -5,8 +5,8 @@ use Prim.Native.Nat.{ℕ, _*_, _<_, _^_}
 use mathlib.Core.Bool.{Bool, true, false}
 use mathlib.Core.List.{[], _∷_, List}
 use lib.ListN.{length, getD, set, length-set}
-use Rattle.tallies.proofs.Bodies.{bare, has, allocs-all, frees-all}
-use Rattle.tallies.proofs.Walking.{URA, fullShare, Ty, named, mut, w64, tyInt, tyBool, tyUnit, tyPtr, tyRef, Val, vunit, vint, vptr, SProp, ent, Lft, Share, GName, Fml, ftrue, fsep, fat, froom, fdies, flft, fobs, fauth, fbor, fobor, Memory, Routine, Heap, Env, Calls, Loops, atReturn, WpFn, Tables, Atoms, Fun, givenOf, tables, Given, Item, ‵, _⊛_, ⋆, runs, atRet, post, Post as Ends, Sq, _$_, _∵_, !, qed, by, move, keep, drop, split, join, rewrite, fsplit, fjoin, feqI, suffices, frame, done, look, init, store, forget, stop, hop, fld, from, load, lit, unit-lit, of-opd, bin, assigns, assigns-last, first, branches, skips, exec, returns-within, enter, alloc1, alloc0, params1, pass1, pass0, free1, free0, whole, sub, look-in, store-in, WpFn-mono, owns, pureI, Is, shows, mem as in-memory, shares, pointee, cellAt, uint-vals, uint-tells, usize, RefT, sliceTy, sliceVal, MutSlice, Room, heres, codedHoleys, at-slice, slice-vals, mut-slice-tells, Held, place, place-is, others, elem-out, elem-put, opens-slice, closes-slice, plain, owned, nothing, onEntry, Meets, tripleOf, entered, says, needs, Stays, stay-slice, stay-none, walkOf, goes-slice, goes-none, Walks, ends-at, walked, walk-meets, yes}
+use Rattle.tallies.proofs.Bodies.{has, allocs-all, frees-all}
+use Rattle.tallies.proofs.Walking.{URA, fullShare, Ty, named, mut, w64, tyInt, tyBool, tyUnit, tyPtr, tyRef, Val, vunit, vint, vptr, SProp, ent, Lft, Share, GName, Fml, ftrue, fsep, fat, froom, fdies, flft, fobs, fauth, fbor, fobor, Memory, Routine, Heap, Env, Calls, Loops, atReturn, WpFn, Tables, Atoms, Fun, givenOf, tables, Given, Item, ‵, _⊛_, ⋆, runs, atRet, post, Post as Ends, Sq, _$_, _∵_, !, qed, by, move, keep, drop, split, join, rewrite, fsplit, fjoin, feqI, suffices, frame, done, look, init, store, forget, stop, hop, fld, from, load, lit, unit-lit, of-opd, bin, assigns, assigns-last, first, branches, skips, exec, returns-within, enter, params1, pass1, pass0, whole, sub, look-in, store-in, WpFn-mono, owns, pureI, Is, shows, mem as in-memory, shares, pointee, cellAt, uint-vals, uint-tells, usize, RefT, sliceTy, sliceVal, MutSlice, Room, heres, codedHoleys, at-slice, slice-vals, mut-slice-tells, Held, place, place-is, others, elem-out, elem-put, opens-slice, closes-slice, plain, owned, nothing, onEntry, Meets, tripleOf, entered, says, needs, Stays, stay-slice, stay-none, walkOf, goes-slice, goes-none, Walks, ends-at, walked, walk-meets, yes}
 use prog.Wp.{returns as returned}
 use contract.Running.{tablesOf}
 use denote.Struct.Laws as LL

@@ -13,7 +13,7 @@ use lib.WfN.{Nat·lt-wfRel}
 use lib.Dec.{ltb, lit<}
 use borrow.Author.Tests.{ltb-true, ltb-false}
 use Rattle.tallies.proofs.Bodies.{bare, has, allocs-all, frees-all}
-use Rattle.tallies.proofs.Walking.{URA, fullShare, Ty, named, erased, mut, imm, w64, tyInt, tyBool, tyUnit, tyPtr, tyRef, Val, vunit, vint, vbool, vptr, SProp, ent, exE, snd∗, id⊢, Lft, Share, GName, Fml, ftrue, fsep, fat, froom, fdies, flft, fshr-bor, Lfts, Shares, Memory, Routine, Heap, Out, Env, afterSeq, afterBlock, Calls, Loops, Wp, atReturn, WpFn, Tables, Atoms, sem, Fun, fact, givenOf, tables, Given, Item, ‵, _⊛_, ⋆, some, later, runs, anyQ, atRet, Sq, _$_, _∵_, !, qed, by, move, keep, drop, use1, use2, use3, split, join, pick, rewrite, fsplit, fjoin, feqL, feqI, suffices, frame, await, done, look, store as put, init, forget, stop, hop, fld, from, load, lit, unit-lit, addr, of-opd, bin, and-then, no-more, assigns, assigns-last, land, first, blocks, stays, leaves-loop, enter, alloc1, alloc0, params1, pass1, pass0, free1, free0, exec, Below, again, loops, agg, whole, sub, look-in, arr-parts, lft-new, lft-end, fmOf, WpFn-mono, owns, Is, shows, shares, pointee, Nothing, nothing-lawful, uint-vals, uint-tells, uint-copy, uint-makes, u64, usize, RefT, sliceTy, sliceVal, MutSlice, ShrSlice, Room, slice-vals, mut-slice-tells, shr-slice-tells, shr-slice-copy, place-is, elem-out, elem-back, looks-slice, shuts-slice, plain, peeks, heard, nothing, owned, Contract, Triple, calls-at, onEntry, Meets, tripleOf, entered, cited, says, needs, Stays, stay-slice, stay-none, stay-none-slice, walkOf, goes-slice, goes-none, goes-none-slice, Walks, ends-at, walked, walk-meets, ensured, lasts, yes}
+use Rattle.tallies.proofs.Walking.{URA, fullShare, Ty, named, erased, mut, imm, w64, tyInt, tyBool, tyUnit, tyPtr, tyRef, Val, vunit, vint, vbool, vptr, SProp, ent, exE, snd∗, id⊢, Lft, Share, GName, Fml, ftrue, fsep, fat, froom, fdies, flft, fshr-bor, Lfts, Shares, Memory, Routine, Heap, Out, Env, afterSeq, afterBlock, Calls, Loops, Wp, atReturn, WpFn, Tables, Atoms, sem, Fun, fact, givenOf, tables, Given, Item, ‵, _⊛_, ⋆, some, later, runs, anyQ, atRet, Sq, _$_, _∵_, !, qed, by, move, keep, drop, use1, use2, use3, split, join, pick, rewrite, fsplit, fjoin, feqL, feqI, suffices, frame, await, done, look, store as put, init, forget, stop, hop, fld, from, load, lit, unit-lit, addr, of-opd, bin, and-then, no-more, assigns, assigns-last, land, first, blocks, stays, leaves-loop, enter, params1, pass1, pass0, exec, Below, again, loops, agg, whole, sub, look-in, arr-parts, lft-new, lft-end, fmOf, WpFn-mono, owns, Is, shows, shares, pointee, Nothing, nothing-lawful, uint-vals, uint-tells, uint-copy, uint-makes, u64, usize, RefT, sliceTy, sliceVal, MutSlice, ShrSlice, Room, slice-vals, mut-slice-tells, shr-slice-tells, shr-slice-copy, place-is, elem-out, elem-back, looks-slice, shuts-slice, plain, peeks, heard, nothing, owned, Contract, Triple, calls-at, onEntry, Meets, tripleOf, entered, cited, says, needs, Stays, stay-slice, stay-none, stay-none-slice, walkOf, goes-slice, goes-none, goes-none-slice, Walks, ends-at, walked, walk-meets, ensured, lasts, yes}
 use prog.Wp.{afterTurn}
 use contract.Running.{tablesOf}
 use types.Kit.{raw, group}

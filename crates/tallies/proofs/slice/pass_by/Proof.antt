@@ -9,7 +9,7 @@ use lib.ListN.{length}
 use lib.Dec.{T, eqb}
 use borrow.Author.Tests.{eqb-true, eq-eqb}
 use Rattle.tallies.proofs.Bodies.{bare, has, allocs-all, frees-all}
-use Rattle.tallies.proofs.Walking.{URA, fullShare, Ty, named, erased, mut, imm, w8, w64, tyInt, tyBool, tyUnit, tyRef, Val, vint, SProp, ent, emp, via, fst∗, snd∗, exE, id⊢, Lft, Share, GName, Fml, ftrue, fsep, fat, froom, fdies, flft, Lfts, Shares, Memory, Routine, Heap, Env, Calls, Loops, WpFn, Tables, Atoms, sem, Fun, fact, givenOf, tables, Given, Item, ‵, _⊛_, ⋆, some, later, runs, atRet, Sq, _$_, _∵_, !, qed, by, move, keep, drop, use1, use2, use3, split, join, pick, rewrite, fsplit, fjoin, feqL, suffices, frame, await, done, look, init, forget, stop, hop, fld, from, load, lit, addr, of-opd, bin, and-then, no-more, assigns, land, first, branches, skips, exec, returns-within, enter, alloc1, alloc0, params1, pass1, pass0, free1, free0, agg, whole, sub, look-in, lft-new, lft-end, fmOf, WpFn-mono, owns, Is, shows, pointee, Boolean, Nothing, bool-lawful, bool-makes, nothing-lawful, uint-makes, u8, u64, usize, RefT, sliceTy, sliceVal, MutSlice, ShrSlice, Room, slice-vals, mut-slice-tells, shr-slice-tells, shr-slice-copy, plain, peeks, heard, nothing, owned, Contract, Triple, calls-at, onEntry, Meets, tripleOf, entered, cited, says, Stays, stay-slice, stay-none, stay-none-slice, walkOf, goes-slice, goes-none, goes-none-slice, Walks, ends-at, walked, walk-meets, ensured, lasts, yes}
+use Rattle.tallies.proofs.Walking.{URA, fullShare, Ty, named, erased, mut, imm, w8, w64, tyInt, tyBool, tyUnit, tyRef, Val, vint, SProp, ent, emp, via, fst∗, snd∗, exE, id⊢, Lft, Share, GName, Fml, ftrue, fsep, fat, froom, fdies, flft, Lfts, Shares, Memory, Routine, Heap, Env, Calls, Loops, WpFn, Tables, Atoms, sem, Fun, fact, givenOf, tables, Given, Item, ‵, _⊛_, ⋆, some, later, runs, atRet, Sq, _$_, _∵_, !, qed, by, move, keep, drop, use1, use2, use3, split, join, pick, rewrite, fsplit, fjoin, feqL, suffices, frame, await, done, look, init, forget, stop, hop, fld, from, load, lit, addr, of-opd, bin, and-then, no-more, assigns, land, first, branches, skips, exec, returns-within, enter, params1, pass1, pass0, agg, whole, sub, look-in, lft-new, lft-end, fmOf, WpFn-mono, owns, Is, shows, pointee, Boolean, Nothing, bool-lawful, bool-makes, nothing-lawful, uint-makes, u8, u64, usize, RefT, sliceTy, sliceVal, MutSlice, ShrSlice, Room, slice-vals, mut-slice-tells, shr-slice-tells, shr-slice-copy, plain, peeks, heard, nothing, owned, Contract, Triple, calls-at, onEntry, Meets, tripleOf, entered, cited, says, Stays, stay-slice, stay-none, stay-none-slice, walkOf, goes-slice, goes-none, goes-none-slice, Walks, ends-at, walked, walk-meets, ensured, lasts, yes}
 use contract.Running.{tablesOf}
 use types.Kit.{raw, group}
 use types.Run.{returns}

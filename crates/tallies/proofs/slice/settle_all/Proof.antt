@@ -12,7 +12,7 @@ use lib.WfN.{Nat·lt-wfRel}
 use lib.Dec.{ltb, lit<}
 use borrow.Author.Tests.{ltb-true, ltb-false}
 use Rattle.tallies.proofs.Bodies.{bare, has, allocs-all, frees-all}
-use Rattle.tallies.proofs.Walking.{URA, fullShare, Ty, named, mut, imm, w64, tyInt, tyBool, tyPtr, tyRef, Val, vint, vbool, vptr, SProp, ent, emp, via, fst∗, snd∗, exE, id⊢, Lft, Share, GName, Fml, ftrue, fsep, fat, froom, fdies, flft, fobs, fbor, Memory, Routine, Heap, Out, Env, afterSeq, afterBlock, Calls, Loops, Wp, atReturn, WpFn, Tables, Atoms, sem, Fun, fact, givenOf, tables, Given, Item, ‵, _⊛_, ⋆, some, later, runs, anyQ, atRet, Sq, _$_, _∵_, !, qed, by, move, keep, drop, use1, split, join, pick, rewrite, fsplit, fjoin, feqI, suffices, frame, await, done, look, look-raw, store as put, store-raw, init, forget, stop, hop, fld, from, load, lit, true-lit, of-opd, bin, and-then, no-more, assigns, assigns-last, land, first, blocks, stays, leaves-loop, enter, alloc1, alloc0, params1, pass1, pass0, free1, free0, exec, Below, again, loops, whole, sub, look-in, fmOf, WpFn-mono, owns, pureI, Is, shows, pointee, Boolean, bool-lawful, bool-makes, bool-tells, uint-makes, uint-vals, uint-tells, u64, usize, RefT, sliceTy, sliceVal, MutSlice, Room, heres, codedHoleys, at-slice, slice-vals, mut-slice-tells, ShrSlice, shr-slice-tells, shr-slice-copy, Held, place-is, elem-out, elem-put, opens-slice, closes-slice, plain, peeks, heard, nothing, owned, Contract, Triple, calls-at, onEntry, Meets, tripleOf, entered, cited, says, Stays, stay-slice, stay-none, walkOf, goes-slice, goes-none, Walks, ends-at, walked, walk-meets, stay-none-slice, goes-none-slice, ensured, lasts, yes}
+use Rattle.tallies.proofs.Walking.{URA, fullShare, Ty, named, mut, imm, w64, tyInt, tyBool, tyPtr, tyRef, Val, vint, vbool, vptr, SProp, ent, emp, via, fst∗, snd∗, exE, id⊢, Lft, Share, GName, Fml, ftrue, fsep, fat, froom, fdies, flft, fobs, fbor, Memory, Routine, Heap, Out, Env, afterSeq, afterBlock, Calls, Loops, Wp, atReturn, WpFn, Tables, Atoms, sem, Fun, fact, givenOf, tables, Given, Item, ‵, _⊛_, ⋆, some, later, runs, anyQ, atRet, Sq, _$_, _∵_, !, qed, by, move, keep, drop, use1, split, join, pick, rewrite, fsplit, fjoin, feqI, suffices, frame, await, done, look, look-raw, store as put, store-raw, init, forget, stop, hop, fld, from, load, lit, true-lit, of-opd, bin, and-then, no-more, assigns, assigns-last, land, first, blocks, stays, leaves-loop, enter, params1, pass1, pass0, exec, Below, again, loops, whole, sub, look-in, fmOf, WpFn-mono, owns, pureI, Is, shows, pointee, Boolean, bool-lawful, bool-makes, bool-tells, uint-makes, uint-vals, uint-tells, u64, usize, RefT, sliceTy, sliceVal, MutSlice, Room, heres, codedHoleys, at-slice, slice-vals, mut-slice-tells, ShrSlice, shr-slice-tells, shr-slice-copy, Held, place-is, elem-out, elem-put, opens-slice, closes-slice, plain, peeks, heard, nothing, owned, Contract, Triple, calls-at, onEntry, Meets, tripleOf, entered, cited, says, Stays, stay-slice, stay-none, walkOf, goes-slice, goes-none, Walks, ends-at, walked, walk-meets, stay-none-slice, goes-none-slice, ensured, lasts, yes}
 use prog.Wp.{afterTurn}
 use contract.Running.{tablesOf}
 use types.Kit.{raw}
