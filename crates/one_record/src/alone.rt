@@ -1,4 +1,4 @@
-// One record by itself (RULES, section 7).
+// Without a judge (RULES, section 7).
 use crate::judged;
 use crate::judged::Judge;
 use model::Model;
@@ -6,7 +6,7 @@ use plasticity::Outcome;
 ghost use mathlib.Core.Path.{_≡_};
 ghost use Rattle.one_record.specs.RecordLaw.{recordOutcome, recordAfter};
 
-// A list of another length is refused by 8 and keeps its bits.
+// One record by itself. A list of another length is refused by 8 and keeps its bits.
 pub fn update_record(m: Model, r: &mut [u64]) -> Outcome
     ensures { λ x. ⌜ x ≡ recordOutcome m (now (r .entry)) ⌝ }
     ensures { λ x. ⌜ now (r .exit) ≡ recordAfter m (now (r .entry)) ⌝ }

@@ -21,8 +21,7 @@ ghost use Rattle.failure_maximum_stress.specs.declared.Verdict.the-variants as 
 ghost use Rattle.model.specs.Ready.{readyFinite};
 ghost use Rattle.one_record.specs.Judged.{verdictAfter, unlessRefused, verdictBy, marked, outcomeBy, failedBy, finiteBy};
 ghost use Rattle.one_record.specs.RecordLaw.{Beside};
-ghost use Rattle.one_record.specs.ReadyRecord.{readyKeptBy};
-ghost use Rattle.one_record.specs.ReadyRecord.{readyMarked, readyLaw};
+ghost use Rattle.one_record.specs.ReadyRecord.{readyKeptBy, readyMarked, readyLaw};
 
 // Nobody, or these limits on the stress by this law.
 pub enum Judge {
