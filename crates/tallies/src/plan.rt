@@ -2,10 +2,6 @@
 use crate::ranges;
 use crate::tally;
 use crate::tally::Tally;
-use elasticity_corotated_linear::CorotatedLinearElasticity;
-use failure_maximum_stress::MaximumStressFailure;
-use model::Model;
-use particles::Step;
 ghost use mathlib.Core.Path.{_≡_};
 ghost use mathlib.Core.Bool.{true, cond, _&&_};
 ghost use Prim.Native.Nat.{_/_};
@@ -14,7 +10,6 @@ ghost use lib.ListN.{length, getD};
 ghost use Rattle.answers.specs.Refusals.{wrongLength, tallyFull};
 ghost use Rattle.record.specs.Layout.{floats};
 ghost use Rattle.particles.specs.Pass.{sized};
-ghost use Rattle.particles.specs.declared.step.Step.the-variants as Step;
 ghost use Rattle.tallies.specs.Zones.{belowIn, zonesFit, moveFits};
 ghost use Rattle.tallies.specs.Tallies.{clearRefusal, moveRefusal, moveZones, hasRoom, withParticles};
 ghost use Rattle.tallies.specs.Plans.{Counts, Planned, planned};
@@ -143,16 +138,4 @@ pub fn to_move(particles: usize, p: usize, z: usize, zones: &mut [u64], n: usize
         return decided(true, 1, answers::BAD_ZONE, &zones[..]);
     }
     decided(false, 1, answers::BAD_ZONE, &zones[..])
-}
-
-pub fn plain(m: Model) -> Step
-    ensures { λ s. ⌜ s ≡ Step.Plain m ⌝ }
-{
-    Step::Plain(m)
-}
-
-pub fn judged(m: Model, l: MaximumStressFailure, e: CorotatedLinearElasticity) -> Step
-    ensures { λ s. ⌜ s ≡ Step.Judged m l e ⌝ }
-{
-    Step::Judged(m, l, e)
 }

@@ -4,9 +4,6 @@ use crate::plan::Plan;
 use crate::tally;
 use crate::tally::Tally;
 use crate::tally::Told;
-use elasticity_corotated_linear::CorotatedLinearElasticity;
-use failure_maximum_stress::MaximumStressFailure;
-use model::Model;
 use particles::Step;
 use particles::Taken;
 ghost use mathlib.Core.Path.{_≡_};
@@ -15,8 +12,6 @@ ghost use Prim.Native.Nat.{_+_, _*_, _≤_, _<_};
 ghost use lib.ListN.{length, getD, set};
 ghost use Rattle.record.specs.Layout.{floats};
 ghost use Rattle.particles.specs.Pass.{recordAt, replaced, answered, worked, answers};
-ghost use Rattle.one_record.specs.Judged.{failureLaw};
-ghost use Rattle.one_record.specs.RecordLaw.{recordLaw};
 ghost use Rattle.particles.specs.Step.{stepLaw, takenFinite, takenLaw};
 ghost use Rattle.tallies.specs.Zones.{belowIn};
 ghost use Rattle.tallies.specs.Tallies.{none, toldOf, grown, Small, byZone, recounted, talliedIn, roomIn, clearRefusal, clearTallies, moveRefusal, moveZones, moveTallies, passRefusal, recordsAfter, answersAfter, passTallies};
@@ -104,7 +99,8 @@ pub fn clear(particles: usize, zones: &[u64], ts: &mut [Tally]) -> u8
     p.refusal
 }
 
-// A pass by any step of `particles`, each outcome in the tally of its particle's zone: 8, 12 and 13 before any record, and nothing changed then.
+// A pass by a step of `particles`, the law's or the law's and then the verdict's, each outcome in the tally of its particle's zone: 8, 12 and 13 before any
+// record, and nothing changed then.
 pub fn pass_by(s: Step, xs: &mut [u64], out: &mut [u64], zones: &[u64], ts: &mut [Tally]) -> u8
     ensures { λ r. ⌜ (r ≡ passRefusal (now (xs .entry)) (now (out .entry)) (now (zones .entry)) (length (now (ts .entry))) (now (ts .entry))) × (now (xs .exit) ≡ recordsAfter (stepLaw s) (now (xs .entry)) (now (out .entry)) (now (zones .entry)) (length (now (ts .entry))) (now (ts .entry))) × (now (out .exit) ≡ answersAfter (stepLaw s) (now (xs .entry)) (now (out .entry)) (now (zones .entry)) (length (now (ts .entry))) (now (ts .entry))) × (now (ts .exit) ≡ passTallies (stepLaw s) (now (xs .entry)) (now (out .entry)) (now (zones .entry)) (length (now (ts .entry))) (now (ts .entry))) ⌝ }
 {
@@ -133,28 +129,4 @@ pub fn move_particle(
     let q = plan::to_move(particles, p, z, zones, ts.len());
     settle(ts, q);
     q.refusal
-}
-
-// The pass by the model's law.
-pub fn pass(m: Model, xs: &mut [u64], out: &mut [u64], zones: &[u64], ts: &mut [Tally]) -> u8
-    ensures { λ r. ⌜ (r ≡ passRefusal (now (xs .entry)) (now (out .entry)) (now (zones .entry)) (length (now (ts .entry))) (now (ts .entry))) × (now (xs .exit) ≡ recordsAfter (recordLaw m) (now (xs .entry)) (now (out .entry)) (now (zones .entry)) (length (now (ts .entry))) (now (ts .entry))) × (now (out .exit) ≡ answersAfter (recordLaw m) (now (xs .entry)) (now (out .entry)) (now (zones .entry)) (length (now (ts .entry))) (now (ts .entry))) × (now (ts .exit) ≡ passTallies (recordLaw m) (now (xs .entry)) (now (out .entry)) (now (zones .entry)) (length (now (ts .entry))) (now (ts .entry))) ⌝ }
-{
-    let s = plan::plain(m);
-    pass_by(s, xs, out, zones, ts)
-}
-
-// The pass with failure, by limits and corotated law.
-pub fn pass_with_failure(
-    m: Model,
-    l: MaximumStressFailure,
-    e: CorotatedLinearElasticity,
-    xs: &mut [u64],
-    out: &mut [u64],
-    zones: &[u64],
-    ts: &mut [Tally],
-) -> u8
-    ensures { λ r. ⌜ (r ≡ passRefusal (now (xs .entry)) (now (out .entry)) (now (zones .entry)) (length (now (ts .entry))) (now (ts .entry))) × (now (xs .exit) ≡ recordsAfter (failureLaw m l e) (now (xs .entry)) (now (out .entry)) (now (zones .entry)) (length (now (ts .entry))) (now (ts .entry))) × (now (out .exit) ≡ answersAfter (failureLaw m l e) (now (xs .entry)) (now (out .entry)) (now (zones .entry)) (length (now (ts .entry))) (now (ts .entry))) × (now (ts .exit) ≡ passTallies (failureLaw m l e) (now (xs .entry)) (now (out .entry)) (now (zones .entry)) (length (now (ts .entry))) (now (ts .entry))) ⌝ }
-{
-    let s = plan::judged(m, l, e);
-    pass_by(s, xs, out, zones, ts)
 }
