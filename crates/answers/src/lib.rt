@@ -1,5 +1,7 @@
 // What a call answers: a number, two or three, or the refusal's number (RULES, section 6); and what a call asked by itself and one
 // asked inside a law make of the same answer.
+#![tactic(auto)]
+
 ghost use Rattle.std.specs.Prelude.{◌≡◌};
 ghost use Rattle.answers.specs.Answer.{answered_of, finite_answer_of, pair_of};
 ghost use Rattle.answers.specs.Range.{in_range, all_in_range, side_of, outside_of, refusal_of, first_refusal, bare, on_path};
@@ -38,7 +40,7 @@ pub const AFTER_END: u8 = 15;
 pub const TOO_LONG: u8 = 16;
 
 // A number, or the refusal's number.
-#[derive(Drop)]
+#[derive(Clone, Copy)]
 pub enum Answer {
     Value(f64),
     Refused(u8),

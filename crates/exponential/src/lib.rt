@@ -1,5 +1,7 @@
 // The exponential and the hyperbolic sine (RULES, section 3). x is k ln 2 / 128 and a rest: the exponential is 2^(k / 128) from a table,
 // times four terms of the series.
+#![tactic(auto)]
+
 mod entries;
 mod hyperbolic;
 mod three;

@@ -1,4 +1,6 @@
 // The logarithm (RULES, section 3): the exponent times log 2, and what a factor from a table and five terms of the series give.
+#![tactic(auto)]
+
 mod entries;
 mod three;
 

@@ -1,4 +1,6 @@
 // Whether sums of products of three floats are near the entries of a matrix, decided exactly in whole numbers (ticket 6).
+#![tactic(auto)]
+
 mod all;
 mod carries;
 mod entry;
@@ -18,7 +20,7 @@ pub struct Whole {
 }
 
 // A signed whole number in cells, the first of which has the weight 2^(32 place).
-#[derive(Drop)]
+#[derive(Clone, Copy)]
 pub struct Term {
     pub negative: bool,
     pub place: u64,

@@ -1,5 +1,6 @@
 // The rules that all laws share: minimum and maximum, finite and NaN tests, bits and floats, the integer power (RULES,
 // sections 3 and 4).
+#![tactic(auto)]
 mod bits;
 mod power;
 

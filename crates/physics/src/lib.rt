@@ -1,5 +1,7 @@
 // Moduli and the quadratic (physics.rs, whose functions of tensors stand in `decomposed`). Module `plain` has the text's
 // functions as they stand, on every input; the calls of the same names here refuse by RULES, section 6.
+#![tactic(auto)]
+
 mod moduli;
 mod norm;
 pub mod plain;

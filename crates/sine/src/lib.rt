@@ -1,4 +1,6 @@
 // The sine of every number from -8 to 8, within 2^-45 (RULES, section 3), by its own series: in floats from -1 to 1, else in whole numbers.
+#![tactic(auto)]
+
 ghost use Rattle.std.specs.Prelude.{◌≡◌, true, Float, ◌+◌, ◌^◌, ◌≤◌, ◌<◌};
 ghost use Rattle.answers.specs.declared.Answer.TheVariants.{Value};
 ghost use Rattle.answers.specs.Range.{in_range, bare, on_path};

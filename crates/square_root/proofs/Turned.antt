@@ -1,5 +1,5 @@
 -- A value whose sign is set and that isn't below zero is -0: turned it is 0, and its root is turned back. Assumes nothing.
-use Rattle.std.proofs.Common.{◌≡◌, ℕ, suc, ◌+◌, ◌*◌, ◌/◌, ◌%◌, ◌^◌, ◌<◌, ◌≤◌, true, false, cond, leb, ◌⊎◌, sym, refl, ap, ◌∙◌, inl, inr, true≢false, le_of_eq, lt_of_lt_of_le, lt_irrefl, eq-zero-or-pos, zero-mul, arith, le→leb, pow_pos}
+use Rattle.std.proofs.Common.{◌≡◌, ℕ, zero, suc, ◌+◌, ◌*◌, ◌/◌, ◌%◌, ◌^◌, ◌<◌, ◌≤◌, true, false, cond, leb, ◌⊎◌, sym, refl, ap, ◌∙◌, inl, inr, true≢false, le_of_eq, lt_of_lt_of_le, lt_irrefl, eq-zero-or-pos, zero-mul, arith, le→leb, pow_pos}
 use lib.Arith.{lt→nleb}
 use lib.Ieee.{Float, nan, inf, fin, neg, binary64, to_bits}
 use lib.Ieee.Bits.{is_true, is_false}
@@ -34,6 +34,7 @@ above_zero x f h z = elim (eq-zero-or-pos (mag x)) [
     none o (inr e) = absurd (lt_irrefl 0 (lt_of_lt_of_le (positive (n % 2 ^ 52) (2 ^ (n / 2 ^ 52 + 1073)) (pow_pos (n / 2 ^ 52 + 1073))) (le_of_eq (sym (normal_mag x n f refl (unsigned x f h) (omega arith) (λ e'. omega arith)) ∙ ap (λ m. m * L) o ∙ zero-mul L))))
       where
         positive : (t b : ℕ) → 0 < b → 0 < (2 ^ 52 + t) * b
+        positive t zero h = elim h [ ]
         positive t (suc b) h = omega arith
 
 twice : (x : Float) → neg (neg x) ≡ x

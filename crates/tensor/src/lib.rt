@@ -1,5 +1,7 @@
 // Matrices of three rows of three, by value, with the orders of RULES, section 4: the laws' own steps, which refuse
 // nothing. What only the elastic laws and hosts ask for stands in `decomposed`.
+#![tactic(auto)]
+
 mod answer;
 mod matrix;
 mod number;
@@ -12,7 +14,7 @@ pub use matrix::{
 pub use number::row_number;
 
 // A matrix as a field of a struct: its three rows.
-#[derive(Drop)]
+#[derive(Clone, Copy)]
 pub struct Rows {
     pub r0: [f64; 3],
     pub r1: [f64; 3],

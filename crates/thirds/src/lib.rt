@@ -1,4 +1,6 @@
 // The powers 1/3, 2/3, -1/3 and -2/3 of a number from 2^-60 to 2^60 (RULES, section 3).
+#![tactic(auto)]
+
 ghost use Rattle.std.specs.Prelude.{◌≡◌, ◌≤◌, Float};
 ghost use Rattle.exact.specs.Units.{L, mag, Fin64};
 ghost use Rattle.answers.specs.declared.Answer.TheVariants.{Value};

@@ -1,0 +1,12 @@
+-- `answers::answered_pair` answers `pair_of x y`.
+use Rattle.answers.proofs.answered_pair.Goals as goal
+
+pub returns-then-is_finite : goal.returns-then-is_finite
+returns-then-is_finite c =
+    let t0 = simp (c.is_finite-2.ensures, c.is_finite.ensures) at c.if-is_finite.true in
+    simp (c.is_finite-2.ensures, c.is_finite.ensures, t0)
+
+pub returns-else-is_finite : goal.returns-else-is_finite
+returns-else-is_finite c =
+    let t0 = simp (c.is_finite-2.ensures, c.is_finite.ensures) at c.if-is_finite.false in
+    simp (c.is_finite-2.ensures, c.is_finite.ensures, t0)

@@ -1,0 +1,12 @@
+-- `physics::moduli::bulk_modulus` answers `given (finite young && finite poisson) (answered_of (bulk_modulus_of young poisson))`.
+use Rattle.physics.proofs.moduli.bulk_modulus.Goals as goal
+
+pub returns-then-is_finite : goal.returns-then-is_finite
+returns-then-is_finite c =
+    let t0 = simp (c.is_finite-2.ensures, c.is_finite.ensures) at c.if-is_finite.true in
+    simp (c.answered.ensures, c.bulk_modulus.ensures, t0)
+
+pub returns-else-is_finite : goal.returns-else-is_finite
+returns-else-is_finite c =
+    let t0 = simp (c.is_finite-2.ensures, c.is_finite.ensures) at c.if-is_finite.false in
+    simp (t0)

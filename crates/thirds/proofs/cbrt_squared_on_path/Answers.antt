@@ -1,0 +1,12 @@
+-- The answer is the power's, asked inside a law.
+use Rattle.thirds.specs.Thirds.{cbrt_squared_of}
+use Rattle.thirds.proofs.Products.{small}
+use Rattle.thirds.proofs.Near.{plus_two}
+use Rattle.thirds.proofs.cbrt_squared_on_path.Goals as goal
+
+pub returns : goal.returns
+unfolding cbrt_squared_of
+returns c = c.power_on_path.ensures
+
+pub power_on_path-requires : goal.power_on_path-requires
+power_on_path-requires c = small plus_two
