@@ -1,6 +1,8 @@
 // What only the elastic laws and hosts ask for: DecomposedTensor (lib.rs); spin, strain rate, the deviatoric and the
 // spherical part (physics.rs, whose moduli and quadratic stand in `physics`); the inverse. Module `plain` has the text's
 // functions as they stand, on every input; the methods, and the calls of the same names here, refuse by RULES, section 6.
+#![tactic(auto)]
+
 mod decomposed;
 mod inverse;
 mod matrix;

@@ -1,5 +1,7 @@
 // Corotated linear elasticity (RULES, section 5): the stress, the principal stresses and the energies of a record's F and its factors. The
 // steps take F's determinant, which a record stores.
+#![tactic(auto)]
+
 mod energy;
 mod principal;
 mod stress;

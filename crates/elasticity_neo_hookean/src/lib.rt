@@ -1,5 +1,7 @@
 // Neo-Hookean elasticity (RULES, section 5): the stresses and the energies of a record's F. Module `plain` has `phase_coeff` as the text has
 // it, on every input. The steps take F's determinant, which a record stores.
+#![tactic(auto)]
+
 mod energy;
 pub mod plain;
 mod stress;

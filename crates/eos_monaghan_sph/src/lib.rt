@@ -1,4 +1,6 @@
 // Monaghan's equation of state for fluids: pressure, stress and step bound (eos_monaghan_sph.rs).
+#![tactic(auto)]
+
 mod pressure;
 mod stress;
 mod timestep;

@@ -1,4 +1,6 @@
 // The verdict on given principal stresses (failure_maximum_stress.rs; RULES, sections 5 and 6).
+#![tactic(auto)]
+
 ghost use Rattle.std.specs.Prelude.{◌≡◌};
 ghost use Rattle.failure_maximum_stress.specs.Failure.{limits_of, limits_finite, largest_of, smallest_of, exceeds_of, verdict_of};
 

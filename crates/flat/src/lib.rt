@@ -1,5 +1,7 @@
 // Two axes (ticket 13): matrices of two rows of two by value, with the orders of RULES, section 4; what a flat law is given and what it
 // gives back. The six scalars and the outcome are those of three axes.
+#![tactic(auto)]
+
 mod matrix;
 mod update;
 

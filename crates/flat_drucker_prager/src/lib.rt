@@ -1,4 +1,6 @@
 // Drucker-Prager on two axes (ticket 13): the axes' number is 2 in the strain, the deviatoric part and gamma; the slope is that of three axes.
+#![tactic(auto)]
+
 mod alone;
 mod choice;
 mod projection;

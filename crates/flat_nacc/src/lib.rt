@@ -1,4 +1,6 @@
 // Non-associated Cam clay on two axes (ticket 13): the axes' number is 2 in the mean and in 6 - d, and the powers are 1/x, the root and x.
+#![tactic(auto)]
+
 mod alone;
 mod arguments;
 mod branches;

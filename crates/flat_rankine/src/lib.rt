@@ -1,5 +1,7 @@
 // Rankine in two axes: log strains are returned to the tensile surface (ticket 13). Law, arguments and tests are those of three axes; what
 // both strains become is ours.
+#![tactic(auto)]
+
 mod alone;
 mod projection;
 mod sorting;

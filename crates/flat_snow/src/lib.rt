@@ -1,4 +1,6 @@
 // Snow in two axes (ticket 13; plasticity_snow.rs with DIM = 2): each of the two singular values is clamped.
+#![tactic(auto)]
+
 ghost use Rattle.std.specs.Prelude.{◌≡◌, true, ◌&&◌};
 ghost use Rattle.numbers.specs.Floats.{finite};
 ghost use Rattle.plasticity_snow.specs.Clamp.{clamped_of, parameters_finite};

@@ -1,5 +1,7 @@
 // The models (RULES, sections 5 to 7): which number names which plastic law, what parameters it has, the law from their bits,
 // and the update by it. Which law is which stands in `rows`.
+#![tactic(auto)]
+
 mod kinds;
 mod rows;
 

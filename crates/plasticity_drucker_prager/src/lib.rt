@@ -1,4 +1,6 @@
 // Drucker-Prager: log strains are returned to a cone (plasticity_drucker_prager.rs; RULES, section 5).
+#![tactic(auto)]
+
 mod alpha;
 mod choice;
 mod projection;

@@ -1,4 +1,6 @@
 // Non-associated Cam clay (plasticity_nacc.rs; RULES, section 5).
+#![tactic(auto)]
+
 mod arguments;
 mod branches;
 mod formulas;

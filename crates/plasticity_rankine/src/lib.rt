@@ -1,4 +1,6 @@
 // Rankine: log strains are returned to the tensile surface (plasticity_rankine.rs; RULES, section 5).
+#![tactic(auto)]
+
 mod arguments;
 mod projection;
 mod reasons;

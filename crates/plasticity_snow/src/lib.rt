@@ -1,4 +1,6 @@
 // Snow: each singular value is clamped (plasticity_snow.rs; RULES, section 5).
+#![tactic(auto)]
+
 mod reasons;
 
 ghost use Rattle.std.specs.Prelude.{◌≡◌, true, ◌&&◌};

@@ -1,5 +1,6 @@
 // Why a law answered as it did (ticket 8): a law's own call hands out one of these, read off the path of its walk. Tests and steps have the
 // numbers of docs/STEPS.md.
+#![tactic(auto)]
 
 // Which bound's step last changed a singular value (Snow).
 #[derive(Clone, Copy)]

@@ -1,7 +1,7 @@
 -- What was put into a record is read back from it; and the determinant of the F that stands there. Assumes nothing.
 use mathlib.Core.Path.{◌≡◌, refl, ap, ◌∙◌, sym, subst}
 use mathlib.Core.Bool.{true}
-use mathlib.Core.List.{List, [], ◌∷◌, map}
+use mathlib.Core.List.{List, [], ◌∷◌}
 use Prim.Native.Nat.{ℕ, zero, suc, ◌+◌, ◌<◌, ◌≤◌}
 use native.Mathlib.Omega.{arith}
 use lib.Dec.{T}
@@ -38,7 +38,7 @@ nan_f64 : T (fits binary64 nan)
 unfolding fits
 nan_f64 = tt
 
-pub row_f64 : (v : List Float) (us : List Val) → shadow (each Float (FloatOf binary64).own (map (λ x. x) v) us) → Row64 v
+pub row_f64 : (v : List Float) (us : List Val) → shadow (each Float (FloatOf binary64).own_val v us) → Row64 v
 row_f64 [] us p i = nan_f64
 row_f64 (x ∷ v) [] p i = absurd p
 row_f64 (x ∷ v) (u ∷ us) p zero = subst T (sym p.0.1) tt

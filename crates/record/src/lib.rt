@@ -1,4 +1,6 @@
 // A record: its floats as bits in a lent list (RULES, section 7). The layout stands here alone.
+#![tactic(auto)]
+
 mod finite;
 mod total;
 

@@ -1,4 +1,6 @@
 // The night in whole numbers: a report over up to 4,096 records, and two reports put together (RULES, section 7).
+#![tactic(auto)]
+
 mod column;
 mod whole;
 

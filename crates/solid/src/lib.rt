@@ -1,4 +1,6 @@
 // Stresses, verdicts and energies of a record by the two solid laws, with its stored determinant (RULES, sections 5 and 7).
+#![tactic(auto)]
+
 pub mod corotated_linear;
 pub mod judged;
 pub mod neo_hookean;

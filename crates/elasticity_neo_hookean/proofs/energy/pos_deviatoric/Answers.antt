@@ -1,0 +1,8 @@
+-- The deviatoric part of `pos_energy` as its formula has it.
+use Rattle.walk.proofs.Tensor.{worth_rows}
+use Rattle.decomposed.proofs.Formulas.{value_trace}
+use Rattle.elasticity_neo_hookean.proofs.energy.pos_deviatoric.Goals as goal
+
+pub returns : goal.returns
+returns c =
+    simp (c.trace.ensures, value_trace, worth_rows)

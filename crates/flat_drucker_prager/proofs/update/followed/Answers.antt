@@ -1,0 +1,17 @@
+-- `flat_drucker_prager::update::followed` answers `followed_of q.outcome p q.sigma u vt s`.
+use Rattle.flat_drucker_prager.proofs.update.followed.Goals as goal
+
+pub returns-in-Untouched : goal.returns-in-Untouched
+returns-in-Untouched c =
+    let t0 = c.in-Untouched.is in
+    simp (c.untouched.ensures, t0)
+
+pub returns-in-Stored : goal.returns-in-Stored
+returns-in-Stored c =
+    let t0 = c.in-Stored.is in
+    simp (c.moved.ensures, t0)
+
+pub returns-in-Refused : goal.returns-in-Refused
+returns-in-Refused c =
+    let t0 = c.in-Refused.is in
+    simp (c.refuse.ensures, t0)

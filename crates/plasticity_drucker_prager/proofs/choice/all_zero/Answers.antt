@@ -1,0 +1,10 @@
+-- `plasticity_drucker_prager::choice::all_zero` answers `holds (zeros d)`.
+use Rattle.std.proofs.Common.{rules}
+use lib.Ieee.{nan}
+use Rattle.tensor.proofs.Axes.{of_one}
+use Rattle.walk.specs.Walk.{holds, zeros}
+use Rattle.plasticity_drucker_prager.proofs.choice.all_zero.Goals as goal
+
+pub returns : goal.returns
+returns c =
+    of_one (λ d. holds (zeros d)) nan c.args.d (search rules)

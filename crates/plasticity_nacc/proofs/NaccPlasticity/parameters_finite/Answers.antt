@@ -1,0 +1,16 @@
+-- `plasticity_nacc::NaccPlasticity::parameters_finite` answers `parameters_finite self`.
+use Rattle.std.proofs.Common.{rules}
+use Rattle.plasticity_nacc.proofs.NaccPlasticity.parameters_finite.Goals as goal
+
+pub is_finite-requires : goal.is_finite-requires
+is_finite-requires c = search rules
+
+pub is_finite-requires-2 : goal.is_finite-requires-2
+is_finite-requires-2 c = search rules
+
+pub is_finite-requires-3 : goal.is_finite-requires-3
+is_finite-requires-3 c = search rules
+
+pub returns : goal.returns
+returns c =
+    simp (c.is_finite-3.ensures, c.is_finite-2.ensures, c.is_finite.ensures)

@@ -1,0 +1,7 @@
+-- `record::finite::read_f` meets its contract: what its calls ensure, on each path.
+use native.Mathlib.Omega.{arith}
+use Rattle.record.proofs.Parts.{state_parts}
+use Rattle.record.proofs.finite.read_f.Goals as goal
+
+pub read_mat-requires : goal.read_mat-requires
+read_mat-requires c = let h = c.requires.0 in (omega arith, (state_parts c.args.r.now c.requires.1).0)

@@ -1,0 +1,23 @@
+-- `solid::corotated_linear::elastic_energy_density` meets its contract: the call of its sigma, where nothing refuses before.
+use mathlib.Core.Path.{sym, ap, ◌∙◌}
+use Rattle.answers.specs.declared.Answer.TheVariants.{Refused}
+use Rattle.solid.proofs.Passed.{passed, unasked}
+use Rattle.solid.proofs.CorotatedStored.{energy_asked}
+use Rattle.solid.proofs.corotated_linear.elastic_energy_density.Goals as goal
+
+pub read_state-s-requires : goal.read_state-s-requires
+read_state-s-requires c =
+    let e = simp c.law_finite.ensures at c.refusal-n.ensures in
+    let k = passed _ c.args.r.now (sym e ∙ c.if-n-eq0.true) in
+    (k.long, k.fine)
+
+pub returns-then-n-eq0 : goal.returns-then-n-eq0
+returns-then-n-eq0 c =
+    let e = simp c.law_finite.ensures at c.refusal-n.ensures in
+    let t = simp c.read_state-s.ensures at c.elastic_energy_density.ensures in
+    t ∙ energy_asked c.args.law c.args.r.now (sym e ∙ c.if-n-eq0.true)
+
+pub returns-else-n-eq0 : goal.returns-else-n-eq0
+returns-else-n-eq0 c =
+    let e = simp c.law_finite.ensures at c.refusal-n.ensures in
+    ap Refused e ∙ sym (unasked _ c.args.r.now Refused _ (λ z. c.if-n-eq0.false (e ∙ z)))
