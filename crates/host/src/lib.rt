@@ -1,5 +1,7 @@
 // The calls that answer numbers, for C, Rust and Python hosts: each answers 0 or RULES' refusal number, and writes nothing where it refuses.
 // `host_passes` and `host_sheets` have the others.
+#![tactic(auto)]
+
 pub mod elasticity;
 pub mod judged;
 pub mod monaghan;

@@ -1,5 +1,7 @@
 // A host's lent lists: what the C calls read of them, the refusals of the lists themselves, and the answers written into a room
 // (RULES, sections 6 and 7).
+#![tactic(auto)]
+
 mod laws;
 mod read;
 mod refused;

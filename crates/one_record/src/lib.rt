@@ -1,4 +1,6 @@
 // One record with its model (RULES, sections 6 and 7): its law, and the verdict on what the law leaves, where there is a judge.
+#![tactic(auto)]
+
 mod alone;
 mod judged;
 mod record_law;

@@ -1,4 +1,6 @@
 // The pass over a lent list of records, the pass with failure, and determinants filled in (RULES, section 7).
+#![tactic(auto)]
+
 mod failure;
 mod fill;
 mod list;

@@ -1,6 +1,8 @@
 // A reader keeps the lent sheet and a reading place in it (RULES, section 7). Its functions are thin: each takes it
 // apart and calls the crate `sheet` on the slice and the place. A sheet is read through it: the header at the start, then each record
 // at the place that the one before it left.
+#![tactic(auto)]
+
 ghost use Rattle.std.specs.Prelude.{◌≡◌, ◌++◌, ◌+◌, ◌*◌, ◌≤◌, length, drop};
 ghost use Rattle.record.specs.Layout.{floats};
 ghost use Rattle.model.specs.Kinds.{last};

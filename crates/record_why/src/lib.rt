@@ -1,5 +1,7 @@
 // Why a record of a sheet moved, or why it didn't (ticket 8): the last test of its law with the numbers compared, or the refusal with its step and,
 // for 1, the first such float's place. Tests and steps have the numbers of docs/STEPS.md.
+#![tactic(auto)]
+
 mod listed;
 mod places;
 

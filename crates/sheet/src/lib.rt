@@ -1,5 +1,7 @@
 // A sheet of bytes, read by place (RULES, sections 6 and 7): the model and its parameters, the count, the records.
 // Numbers come in groups of seven bits, low group first; floats as 8 bytes, low byte first, and pass as bits.
+#![tactic(auto)]
+
 mod fields;
 mod groups;
 mod reading;

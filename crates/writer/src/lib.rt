@@ -1,5 +1,7 @@
 // A sheet written: its model, parameters and records, all as bits, become bytes in a lent room (RULES, section 7).
 // It refuses before it writes, and past the sheet's end the room keeps its bytes.
+#![tactic(auto)]
+
 mod bytes;
 mod refusing;
 

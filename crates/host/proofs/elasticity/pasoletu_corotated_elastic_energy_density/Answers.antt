@@ -1,0 +1,15 @@
+-- `host::elasticity::pasoletu_corotated_elastic_energy_density` meets its contract.
+use Rattle.host.specs.Calls.{corotated_elastic_energy_density}
+use Rattle.host.proofs.elasticity.pasoletu_corotated_elastic_energy_density.Goals as goal
+
+pub returns : goal.returns
+unfolding corotated_elastic_energy_density
+returns c =
+    let p = c.put.ensures in
+    let e0 = c.sized.ensures in
+    let e1 = c.flagged.ensures in
+    let e2 = c.word.ensures in
+    let e3 = c.elastic_energy_density-a.ensures in
+    let e4 = c.row.ensures in
+    let e5 = c.corotated-p.ensures in
+    rw (e0, e1, e2, e3, e4, e5) at p

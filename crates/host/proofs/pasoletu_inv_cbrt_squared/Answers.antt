@@ -1,0 +1,8 @@
+-- `host::pasoletu_inv_cbrt_squared` meets its contract.
+use Rattle.host.proofs.pasoletu_inv_cbrt_squared.Goals as goal
+
+pub returns : goal.returns
+returns c =
+    let p = c.put.ensures in
+    let e = c.inv_cbrt_squared.ensures.0 in
+    rw e at p

@@ -1,0 +1,8 @@
+-- Either branch is the definition's.
+use Rattle.host_lists.proofs.refused.sized.Goals as goal
+
+pub returns-then-ok : goal.returns-then-ok
+returns-then-ok c = simp c.if-ok.true
+
+pub returns-else-ok : goal.returns-else-ok
+returns-else-ok c = simp c.if-ok.false

@@ -1,0 +1,8 @@
+-- `particles::list::three` meets its contract: by what was passed.
+use Rattle.particles.proofs.list.three.Goals as goal
+
+pub returns-in-Done : goal.returns-in-Done
+returns-in-Done c = simp c.in-Done.is
+
+pub returns-in-Refused : goal.returns-in-Refused
+returns-in-Refused c = simp c.in-Refused.is
