@@ -1,4 +1,6 @@
 // Our own factors of a record and of a lent list of records, by themselves or before a step (RULES, section 7).
+#![tactic(auto)]
+
 mod factored;
 mod list;
 mod own;

@@ -1,4 +1,6 @@
 // Flat records (ticket 13): one record by its model's law in two axes, and the pass over a lent list of them.
+#![tactic(auto)]
+
 mod answer;
 mod flat_record;
 mod list;

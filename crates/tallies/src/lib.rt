@@ -1,5 +1,7 @@
 // Tallies by zone beside a list of particles (RULES, section 7): clearing, a pass of either kind, and moving one particle.
 // Each particle has a zone number in a list of its own.
+#![tactic(auto)]
+
 mod array;
 mod lent;
 mod plan;
