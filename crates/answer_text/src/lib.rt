@@ -1,5 +1,7 @@
 // An answer put together in a lent text (RULES, section 7), byte by byte. A text that is too short has as many of the bytes as it reaches, and the place
 // behind them is then FULL, from which nothing is written.
+#![tactic(auto)]
+
 ghost use Rattle.std.specs.Prelude.{◌++◌, ◌/◌, min, length};
 ghost use Rattle.answer_text.specs.Text.{Puts, bytes, decimal, hex, outcome, line, lines, sheet_text, refused_text, heading_text};
 

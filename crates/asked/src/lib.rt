@@ -1,4 +1,6 @@
 // What the program's arguments ask (RULES, section 7).
+#![tactic(auto)]
+
 ghost use Rattle.std.specs.Prelude.{◌≡◌};
 ghost use Rattle.asked.specs.Asked.{asked_of, is_digit, number_of, only_of};
 
