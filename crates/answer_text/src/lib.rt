@@ -55,6 +55,7 @@ fn put_stored(text: &mut [u8], at: usize, amount: u64) -> usize
     put_hex(text, next, amount)
 }
 
+#[tactic(auto, unfolding(crate::specs::Text::outcome))]
 fn put_outcome(text: &mut [u8], at: usize, code: u64, value: u64) -> usize
     ensures { Puts (outcome code value) text.old at result text.new }
 {
