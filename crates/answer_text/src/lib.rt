@@ -1,5 +1,7 @@
 // An answer put together in a lent text (RULES, section 7), byte by byte. A text that is too short has as many of the bytes as it reaches, and the place
 // behind them is then FULL, from which nothing is written.
+#![tactic(auto)]
+
 ghost use Rattle.std.specs.Prelude.{◌++◌, ◌/◌, min, length};
 ghost use Rattle.answer_text.specs.Text.{Puts, bytes, decimal, hex, outcome, line, lines, sheet_text, refused_text, heading_text};
 
@@ -53,6 +55,7 @@ fn put_stored(text: &mut [u8], at: usize, amount: u64) -> usize
     put_hex(text, next, amount)
 }
 
+#[tactic(auto, unfolding(crate::specs::Text::outcome))]
 fn put_outcome(text: &mut [u8], at: usize, code: u64, value: u64) -> usize
     ensures { Puts (outcome code value) text.old at result text.new }
 {

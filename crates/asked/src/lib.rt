@@ -13,8 +13,8 @@ pub enum Asked {
     Other,
 }
 
-// What the first argument asks, by how many words the program was started with, its own name among them, and the argument as `os::arg` gives it: its length, 0 of a
-// longer one than there is room for, and the room.
+// What the first argument asks, by how many words the program was started with, its own name among them, and the argument: its length, 0 of a longer one than
+// there is room for, and the room. Words behind it change nothing.
 pub fn first(words: usize, n: usize, w: [u8; 8]) -> Asked
     ensures { result ≡ asked_of words n w }
 {

@@ -72,7 +72,7 @@ fn accepted_in(r: &[u64; 37]) -> bool {
     held::factors_held(r)
 }
 
-pub fn run() {
+pub fn run(rt: &HostRuntime) {
     let mut seed = SEED;
     let mut sum: u64 = 0;
     let mut handed: u64 = 0;
@@ -88,9 +88,9 @@ pub fn run() {
         }
         n += 1;
     }
-    say::number(b"F drawn ", n);
-    say::bits(b", sum of their words ", sum);
-    say::number(b", factors handed back ", handed);
-    say::number(b", accepted ", accepted);
-    say::words(b"\n");
+    say::number(rt, b"F drawn ", n);
+    say::bits(rt, b", sum of their words ", sum);
+    say::number(rt, b", factors handed back ", handed);
+    say::number(rt, b", accepted ", accepted);
+    say::words(rt, b"\n");
 }

@@ -1,7 +1,10 @@
 // The edges. An entry is a byte, 0 for factors and 1 for principal values, a byte, 1 where the check's words accept it and else 0, and 30 words
 // of 8 bytes, low byte first. A byte 255 ends the list.
 use crate::{held, say};
+use lines::Input;
 use sheet::Word;
+use std::fs;
+use std::io::Read;
 
 const ENTRY: usize = 242;
 
@@ -25,7 +28,7 @@ fn decoded(entry: &[u8]) -> [u64; 30] {
 }
 
 // Whether the check says of an entry what its words say; where it is the first that differs, it is named.
-fn same(entry: &[u8; 242], n: u64, named: bool) -> bool {
+fn same(rt: &HostRuntime, entry: &[u8; 242], n: u64, named: bool) -> bool {
     let room = decoded(entry);
     let accepted = if entry[0] == 0 {
         held::factors_held(&room)
@@ -36,13 +39,21 @@ fn same(entry: &[u8; 242], n: u64, named: bool) -> bool {
     if agrees | named {
         return agrees;
     }
-    say::number(b"entry ", n);
+    say::number(rt, b"entry ", n);
     if accepted {
-        say::words(b" is accepted\n");
+        say::words(rt, b" is accepted\n");
     } else {
-        say::words(b" is refused\n");
+        say::words(rt, b" is refused\n");
     }
     agrees
+}
+
+// Fills the entry; whether the file had as many bytes.
+fn filled<F: Read>(file: &mut F, entry: &mut [u8; 242]) -> bool {
+    match lines::read_whole(file, entry) {
+        Input::Bytes(n) => n == ENTRY,
+        Input::Failed(_) => false,
+    }
 }
 
 #[derive(Drop)]
@@ -68,30 +79,32 @@ fn counted(s: Seen, accepted: bool, agrees: bool) -> Seen {
     }
 }
 
-fn told(what: &[u8], s: Seen) {
-    say::words(what);
-    say::number(b": edges ", s.asked);
-    say::number(b", to be accepted ", s.accepted);
-    say::number(b", differ ", s.differ);
-    say::words(b"\n");
+fn told(rt: &HostRuntime, what: &[u8], s: Seen) {
+    say::words(rt, what);
+    say::number(rt, b": edges ", s.asked);
+    say::number(rt, b", to be accepted ", s.accepted);
+    say::number(rt, b", differ ", s.differ);
+    say::words(rt, b"\n");
 }
 
-pub fn run() {
-    let file = os::open_read(b"list");
-    if file < 0 {
-        os::fail(b"list");
-        return;
-    }
+pub fn run(rt: &HostRuntime) {
+    let mut file = match fs::open(rt, "list") {
+        Ok(file) => file,
+        Err(error) => {
+            lines::fail(rt, "list", error);
+            return;
+        }
+    };
     let mut of_factors = nothing();
     let mut of_principals = nothing();
     let mut named = false;
     let mut n: u64 = 0;
     while n < 100000 {
         let mut entry = [0u8; ENTRY];
-        if io::read_full(file, &mut entry) < ENTRY {
+        if !filled(&mut file, &mut entry) {
             break;
         }
-        let agrees = same(&entry, n, named);
+        let agrees = same(rt, &entry, n, named);
         named = named | !agrees;
         if entry[0] == 0 {
             of_factors = counted(of_factors, entry[1] == 1, agrees);
@@ -100,7 +113,6 @@ pub fn run() {
         }
         n += 1;
     }
-    libc::close(file);
-    told(b"factors", of_factors);
-    told(b"principal values", of_principals);
+    told(rt, b"factors", of_factors);
+    told(rt, b"principal values", of_principals);
 }

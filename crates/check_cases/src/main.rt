@@ -1,14 +1,16 @@
 // The check of factors and of principal values at its edges, which the file `list` has with what the check's words say of them
 // (tools/check_cases.py makes it in exact fractions); then ticket 6's 10,000 F, drawn here: what is handed back for them, held to the
 // check, and the stresses that both solid laws give for them.
+#![tactic(auto)]
+
 mod draws;
 mod edges;
 mod held;
 mod say;
 mod stresses;
 
-fn main() {
-    edges::run();
-    draws::run();
-    stresses::run();
+fn main(rt: HostRuntime) {
+    edges::run(&rt);
+    draws::run(&rt);
+    stresses::run(&rt);
 }

@@ -1,17 +1,15 @@
-use libc::STDOUT_FILENO;
-
-pub fn words(text: &[u8]) {
-    io::write_all(STDOUT_FILENO, text);
+pub fn words(rt: &HostRuntime, text: &[u8]) {
+    let _ = rt.write_all(text);
 }
 
-pub fn number(text: &[u8], n: u64) {
-    io::write_all(STDOUT_FILENO, text);
-    io::print_decimal(STDOUT_FILENO, n);
+pub fn number(rt: &HostRuntime, text: &[u8], n: u64) {
+    let _ = rt.write_all(text);
+    let _ = rt.print(n);
 }
 
-pub fn bits(text: &[u8], n: u64) {
-    io::write_all(STDOUT_FILENO, text);
-    io::print_hex(STDOUT_FILENO, n, 16);
+pub fn bits(rt: &HostRuntime, text: &[u8], n: u64) {
+    let _ = rt.write_all(text);
+    let _ = print!(rt; "{n:016x}");
 }
 
 // One more where it is so.

@@ -87,20 +87,20 @@ fn all(corotated: bool, phase: u64) -> Seen {
     s
 }
 
-fn told(what: &[u8], s: Seen) {
-    say::words(what);
-    say::number(b": stresses asked ", s.asked);
-    say::number(b", given ", s.given);
-    say::number(b", 14 ", s.missed);
-    say::number(b", failed ", s.failed);
-    say::words(b"\n");
+fn told(rt: &HostRuntime, what: &[u8], s: Seen) {
+    say::words(rt, what);
+    say::number(rt, b": stresses asked ", s.asked);
+    say::number(rt, b", given ", s.given);
+    say::number(rt, b", 14 ", s.missed);
+    say::number(rt, b", failed ", s.failed);
+    say::words(rt, b"\n");
 }
 
-pub fn run() {
-    told(b"neo-Hookean, phase 1", all(false, ONE));
-    told(b"neo-Hookean, phase 1/2", all(false, HALF));
-    told(b"neo-Hookean, phase 0", all(false, 0));
-    told(b"corotated, phase 1", all(true, ONE));
-    told(b"corotated, phase 1/2", all(true, HALF));
-    told(b"corotated, phase 0", all(true, 0));
+pub fn run(rt: &HostRuntime) {
+    told(rt, b"neo-Hookean, phase 1", all(false, ONE));
+    told(rt, b"neo-Hookean, phase 1/2", all(false, HALF));
+    told(rt, b"neo-Hookean, phase 0", all(false, 0));
+    told(rt, b"corotated, phase 1", all(true, ONE));
+    told(rt, b"corotated, phase 1/2", all(true, HALF));
+    told(rt, b"corotated, phase 0", all(true, 0));
 }

@@ -1,9 +1,9 @@
 // Sheets one after the other on an input, each a frame: its length, 8 bytes, the lowest first, and its bytes (RULES, section 7).
 ghost use Rattle.std.specs.Prelude.{◌≤◌};
 
-use crate::{Input, ROOM, print_under, read_whole};
-use libc::STDERR_FILENO;
+use crate::{Input, ROOM, fail, print_under, read_whole};
 use sheet::Word;
+use std::io::Read;
 
 // No input has as many frames.
 pub const ALL_FRAMES: u64 = 18446744073709551615;
@@ -16,7 +16,7 @@ enum Frame {
 }
 
 // The next n bytes of the input; fewer are no frame.
-fn read_bytes(file: i32, room: &mut [u8], n: usize) -> Frame {
+fn read_bytes<F: Read>(file: &mut F, room: &mut [u8], n: usize) -> Frame {
     if room.len() < n {
         return Frame::Failed;
     }
@@ -27,7 +27,7 @@ fn read_bytes(file: i32, room: &mut [u8], n: usize) -> Frame {
             }
             Frame::Bytes(n)
         }
-        Input::Failed => Frame::Failed,
+        Input::Failed(_) => Frame::Failed,
     }
 }
 
@@ -39,7 +39,7 @@ fn length_of(head: &[u8]) -> Frame {
 }
 
 // The length that the next frame tells, which may be more than a room has. An input without a further byte ends there.
-fn read_length(file: i32) -> Frame {
+fn read_length<F: Read>(file: &mut F) -> Frame {
     let mut head = [0u8; 8];
     match read_whole(file, &mut head) {
         Input::Bytes(k) => {
@@ -51,12 +51,12 @@ fn read_length(file: i32) -> Frame {
             }
             length_of(&head)
         }
-        Input::Failed => Frame::Failed,
+        Input::Failed(_) => Frame::Failed,
     }
 }
 
 // The next frame's bytes at the start of the room.
-fn read_frame(file: i32, room: &mut [u8]) -> Frame {
+fn read_frame<F: Read>(file: &mut F, room: &mut [u8]) -> Frame {
     match read_length(file) {
         Frame::Bytes(n) => read_bytes(file, room, n),
         Frame::End => Frame::End,
@@ -64,34 +64,33 @@ fn read_frame(file: i32, room: &mut [u8]) -> Frame {
     }
 }
 
-fn print_or_fail(number: u64, room: &[u8], n: usize) -> bool {
-    if print_under(number, room, n) {
-        return true;
+fn print_or_fail(rt: &(impl Print + Eprint), number: u64, room: &[u8], n: usize) -> bool {
+    match print_under(rt, number, room, n) {
+        Ok(told) => told,
+        Err(error) => fail(rt, "standard output", error),
     }
-    os::fail(b"standard output");
-    false
 }
 
 // The answer of the next frame under its number; whether there may be a further one.
-fn answer_frame(file: i32, number: u64) -> bool {
+fn answer_frame<F: Read>(rt: &(impl Print + Eprint), file: &mut F, number: u64) -> bool {
     let mut room = [0u8; ROOM];
     match read_frame(file, &mut room) {
-        Frame::Bytes(n) => print_or_fail(number, &room, n),
+        Frame::Bytes(n) => print_or_fail(rt, number, &room, n),
         Frame::End => false,
         Frame::Failed => {
-            io::write_all(STDERR_FILENO, b"standard input: this is no whole frame\n");
+            let _ = eprintln!(rt; "standard input: this is no whole frame");
             false
         }
     }
 }
 
 // The answers of an input's frames, each under its number from 0, until it ends, something fails or there are as many as asked for; how many.
-pub fn answer_frames(file: i32, most: u64) -> u64
+pub fn answer_frames<F: Read>(rt: &(impl Print + Eprint), file: &mut F, most: u64) -> u64
     ensures { result ≤ most }
 {
     let mut number: u64 = 0;
     while number < most {
-        if !answer_frame(file, number) {
+        if !answer_frame(rt, file, number) {
             return number;
         }
         number += 1;

@@ -1,14 +1,18 @@
 // What is printed of a sheet (RULES, section 7): the count, a line a particle, and "end"; or the refusal alone. Or the sheet itself,
 // with its updated records.
+#![tactic(auto)]
+
+mod failed;
 mod frames;
 mod whole;
 
-ghost use Rattle.std.specs.Prelude.{◌≡◌, false, ◌<◌, length};
+ghost use Rattle.std.specs.Prelude.{◌≡◌, Ok, false, ◌<◌, length};
 ghost use Rattle.answer_text.specs.Text.{Puts};
 ghost use Rattle.lines.specs.Answer.{answer_text};
 
+pub use failed::fail;
 pub use frames::{ALL_FRAMES, answer_frames};
-use libc::STDOUT_FILENO;
+use std::io;
 pub use whole::{Input, read_whole};
 use writer::Written;
 
@@ -33,66 +37,67 @@ fn put_answer(s: &[u8], text: &mut [u8], at: usize) -> usize
 }
 
 // The answer of a sheet by one call, so that what a failed output holds is a start of it; whether all of it was written.
-fn print_run(s: &[u8]) -> bool {
+fn print_run(rt: &impl Print, s: &[u8]) -> io::Result<bool> {
     let mut text = [0u8; TEXT];
     let k = put_answer(s, &mut text, 0);
-    write_front(&text, k)
+    write_front(rt, &text, k)
 }
 
 // The same under a heading with a number.
-fn print_headed(number: u64, s: &[u8]) -> bool {
+fn print_headed(rt: &impl Print, number: u64, s: &[u8]) -> io::Result<bool> {
     let mut text = [0u8; TEXT];
     let at = answer_text::put_heading(&mut text, 0, number);
     let k = put_answer(s, &mut text, at);
-    write_front(&text, k)
+    write_front(rt, &text, k)
 }
 
 // Runs the sheet in the first n bytes of the room and prints it; whether all of it was written.
-pub fn print_answer(room: &[u8], n: usize) -> bool
-    ensures { length room.now < n → result ≡ false }
+pub fn print_answer(rt: &impl Print, room: &[u8], n: usize) -> io::Result<bool>
+    ensures { length room.now < n → result ≡ Ok false }
 {
     if room.len() < n {
-        return false;
+        return Ok(false);
     }
-    print_run(&room[..n])
+    print_run(rt, &room[..n])
 }
 
 // The same under a heading with a number.
-pub fn print_under(number: u64, room: &[u8], n: usize) -> bool
-    ensures { length room.now < n → result ≡ false }
+pub fn print_under(rt: &impl Print, number: u64, room: &[u8], n: usize) -> io::Result<bool>
+    ensures { length room.now < n → result ≡ Ok false }
 {
     if room.len() < n {
-        return false;
+        return Ok(false);
     }
-    print_headed(number, &room[..n])
+    print_headed(rt, number, &room[..n])
 }
 
 // The first k bytes; whether all of them were written.
-fn write_front(out: &[u8], k: usize) -> bool {
+fn write_front(rt: &impl Print, out: &[u8], k: usize) -> io::Result<bool> {
     if out.len() < k {
-        return false;
+        return Ok(false);
     }
-    io::write_all(STDOUT_FILENO, &out[..k])
+    rt.write_all(&out[..k])?;
+    Ok(true)
 }
 
 // Runs the sheet and writes it with its updated records, nothing of a refused one; whether all of it was written.
-fn write_run(s: &[u8]) -> bool {
+fn write_run(rt: &impl Print, s: &[u8]) -> io::Result<bool> {
     let mut records = [0u64; sheet::MOST_WORDS];
     let mut answers = [0u64; sheet::MOST_ANSWERS];
     let mut out = [0u8; sheet::LONGEST];
     let w = sheet_run::run_out(s, &mut records, &mut answers, &mut out);
     match w {
-        Written::Length(k) => write_front(&out, k),
-        Written::Refused(_) => true,
+        Written::Length(k) => write_front(rt, &out, k),
+        Written::Refused(_) => Ok(true),
     }
 }
 
 // The same of the sheet in the first n bytes of the room.
-pub fn write_updated(room: &[u8], n: usize) -> bool
-    ensures { length room.now < n → result ≡ false }
+pub fn write_updated(rt: &impl Print, room: &[u8], n: usize) -> io::Result<bool>
+    ensures { length room.now < n → result ≡ Ok false }
 {
     if room.len() < n {
-        return false;
+        return Ok(false);
     }
-    write_run(&room[..n])
+    write_run(rt, &room[..n])
 }

@@ -1,6 +1,6 @@
 // Answers the sheets on standard input, each a frame, as the program does with --frames: for the gate.
-use libc::STDIN_FILENO;
+#![tactic(auto)]
 
-fn main() {
-    lines::answer_frames(STDIN_FILENO, lines::ALL_FRAMES);
+fn main(rt: HostRuntime) {
+    lines::answer_frames(&rt, &mut rt.stdin(), lines::ALL_FRAMES);
 }

@@ -1,7 +1,7 @@
 // A law is a row: where its sentences, its steps and its parameters begin in the texts, in the words of docs/STEPS.md and calls.toml, which
 // tools/reasons.py holds to each other.
 use crate::texts::{print_line, print_sentence};
-use crate::words::print_number;
+use crate::words::{Told, print_number};
 use model::Law;
 
 #[derive(Drop)]
@@ -45,9 +45,10 @@ fn row_of(law: Law) -> Row {
 }
 
 // The words of the last test, by the branch that it chose: before the first number, between the two, behind the second.
-pub fn print_test(so_far: bool, law: Law, branch: usize, a: f64, b: f64) -> bool {
+pub fn print_test(rt: &impl Print, so_far: Told, law: Law, branch: usize, a: f64, b: f64) -> Told {
     let r = row_of(law);
     print_sentence(
+        rt,
         so_far,
         b": the largest stress \n is within the softened strength \n; untouched\n\
             : were the largest strain brought down to the next, the largest stress \n would be within the softened strength \n; one strain is returned\n\
@@ -67,8 +68,9 @@ pub fn print_test(so_far: bool, law: Law, branch: usize, a: f64, b: f64) -> bool
     )
 }
 
-fn print_step(so_far: bool, first: usize, k: usize) -> bool {
+fn print_step(rt: &impl Print, so_far: Told, first: usize, k: usize) -> Told {
     print_line(
+        rt,
         so_far,
         b": each sigma: maximum with the lower bound 1 - min_epsilon\n\
             : then minimum with the upper bound 1 + max_epsilon\n\
@@ -141,22 +143,23 @@ fn print_step(so_far: bool, first: usize, k: usize) -> bool {
 }
 
 // Steps count from 1 in each law; the record's own two, the last of the text, are 40 and 41.
-pub fn print_refused(so_far: bool, law: Law, step: usize) -> bool {
+pub fn print_refused(rt: &impl Print, so_far: Told, law: Law, step: usize) -> Told {
     if 40 <= step {
-        return print_step(so_far, OWN_STEPS, step - 40);
+        return print_step(rt, so_far, OWN_STEPS, step - 40);
     }
     if step == 0 {
         return so_far;
     }
     let r = row_of(law);
-    print_step(so_far, r.steps, step - 1)
+    print_step(rt, so_far, r.steps, step - 1)
 }
 
 // That parameter i of a law isn't finite, with its name.
-pub fn print_parameter(so_far: bool, law: Law, i: usize) -> bool {
+pub fn print_parameter(rt: &impl Print, so_far: Told, law: Law, i: usize) -> Told {
     let r = row_of(law);
     print_line(
-        print_number(so_far, b" refused 1 at step 0: parameter ", i as u64),
+        rt,
+        print_number(rt, so_far, b" refused 1 at step 0: parameter ", i as u64),
         b", min_epsilon\n\
             , max_epsilon\n\
             , hardening_coeff\n\

@@ -1,5 +1,5 @@
 // A line of a text, and which float of a record a place is, in the words of calls.toml (tools/reasons.py; RULES, section 7).
-use crate::words::{print, print_float, print_number};
+use crate::words::{Told, print, print_float, print_number};
 
 // Where the line of a text that begins there ends: at its new line.
 fn end(text: &[u8], from: usize) -> usize {
@@ -29,28 +29,36 @@ fn begin(text: &[u8], from: usize, k: usize) -> usize {
 }
 
 // Line k of a part of a text, by the part's first line; nothing behind the text.
-pub fn print_line(so_far: bool, text: &[u8], first: usize, k: usize) -> bool {
+pub fn print_line(rt: &impl Print, so_far: Told, text: &[u8], first: usize, k: usize) -> Told {
     let from = begin(text, begin(text, 0, first), k);
     let to = end(text, from);
     if to < from {
-        return false;
+        return Ok(false);
     }
     if text.len() < to {
-        return false;
+        return Ok(false);
     }
-    print(so_far, &text[from..to])
+    print(rt, so_far, &text[from..to])
 }
 
 // Sentence k of at most four, three lines each, with two numbers between them.
-pub fn print_sentence(so_far: bool, text: &[u8], first: usize, k: usize, a: f64, b: f64) -> bool {
+pub fn print_sentence(
+    rt: &impl Print,
+    so_far: Told,
+    text: &[u8],
+    first: usize,
+    k: usize,
+    a: f64,
+    b: f64,
+) -> Told {
     let at = 3 * (k % 4);
-    let x = print_float(print_line(so_far, text, first, at), a);
-    let y = print_float(print_line(x, text, first, at + 1), b);
-    print_line(y, text, first, at + 2)
+    let x = print_float(rt, print_line(rt, so_far, text, first, at), a);
+    let y = print_float(rt, print_line(rt, x, text, first, at + 1), b);
+    print_line(rt, y, text, first, at + 2)
 }
 
 // That the float at place i of a record isn't finite, with its name.
-pub fn print_place(so_far: bool, i: usize) -> bool {
+pub fn print_place(rt: &impl Print, so_far: Told, i: usize) -> Told {
     let k = if i < record::U {
         0
     } else if i < record::SIGMA {
@@ -63,7 +71,8 @@ pub fn print_place(so_far: bool, i: usize) -> bool {
         i - record::PHASE + 4
     };
     print_line(
-        print_number(so_far, b" refused 1 at step 0: float ", i as u64),
+        rt,
+        print_number(rt, so_far, b" refused 1 at step 0: float ", i as u64),
         b", of F\n, of U\n, of sigma\n, of V^T\n, phase\n, plastic determinant\n, plastic hardening\n, elastic hardening\n, log gain\n, alpha\n, the stored determinant\n",
         0,
         k,

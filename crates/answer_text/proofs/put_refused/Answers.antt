@@ -1,0 +1,9 @@
+-- `answer_text::put_refused` meets its contract: its three pieces.
+use Rattle.answer_text.specs.Text.{refused_text}
+use Rattle.answer_text.proofs.Puts.{puts_more}
+use Rattle.answer_text.proofs.put_refused.Goals as goal
+
+pub returns : goal.returns
+unfolding refused_text
+returns c =
+    puts_more c.well_formed.0.0 c.put_number-a.ensures c.put.ensures
