@@ -16,7 +16,7 @@ pub use rows::{
 };
 
 // The plastic laws.
-#[derive(Drop)]
+#[derive(Clone, Copy)]
 pub enum Law {
     Snow,
     Rankine,
