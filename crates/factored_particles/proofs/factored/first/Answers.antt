@@ -4,7 +4,6 @@ use mathlib.Core.Bool.{◌&&◌}
 use mathlib.Core.List.{List}
 use Prim.Native.Nat.{ℕ}
 use Rattle.std.proofs.Common.{rules}
-use borrow.Author.Tests.{not-true, not-false}
 use Rattle.model.specs.Ready.{parameters_ready}
 use Rattle.particles.specs.Pass.{Worked}
 use Rattle.one_record.specs.Judged.{finite_by}
@@ -18,7 +17,7 @@ pub returns-then-not-parameters_ready-judge_finite : goal.returns-then-not-param
 returns-then-not-parameters_ready-judge_finite c =
     let a = c.args in
     let b = parameters_ready a.q && finite_by a.j in
-    let i = not-true b (simp (c.judge_finite.ensures, c.parameters_ready.ensures) at c.if-not-parameters_ready-judge_finite.true) in
+    let i = (simp (c.judge_finite.ensures, c.parameters_ready.ensures) at c.if-not-parameters_ready-judge_finite.true) in
     let q = sym (inputs_refused a.r.now b (ready_law a.q a.j) i) in
     record { outcome = ap (λ (w : Worked). w.outcome) q; failed = ap (λ (w : Worked). w.failed) q; «record» = ap (λ (w : Worked). w.after) q }
 
@@ -27,7 +26,7 @@ returns-then-n-ne0 c =
     let a = c.args in
     let b = parameters_ready a.q && finite_by a.j in
     let f = c.factor-n.ensures in
-    let i = not-false b (simp (c.judge_finite.ensures, c.parameters_ready.ensures) at c.if-not-parameters_ready-judge_finite.false) in
+    let i = (simp (c.judge_finite.ensures, c.parameters_ready.ensures) at c.if-not-parameters_ready-judge_finite.false) in
     let q = factors_refused a.r.now b (ready_law a.q a.j) i (f.0, f.1) c.if-n-ne0.true in
     let z = sym q.0 in
     record { outcome = ap (λ (w : Worked). w.outcome) z; failed = ap (λ (w : Worked). w.failed) z; «record» = q.1 ∙ ap (λ (w : Worked). w.after) z }
@@ -43,7 +42,7 @@ returns c =
     let b = parameters_ready a.q && finite_by a.j in
     let w = ready_law a.q a.j in
     let f = c.factor-n.ensures in
-    let i = not-false b (simp (c.judge_finite.ensures, c.parameters_ready.ensures) at c.if-not-parameters_ready-judge_finite.false) in
+    let i = (simp (c.judge_finite.ensures, c.parameters_ready.ensures) at c.if-not-parameters_ready-judge_finite.false) in
     let q = stepped a.r.now b w i (f.0, f.1) c.if-n-ne0.false in
     let g = (and_both (parameters_ready a.q) (finite_by a.j) i).1 in
     let e = untested a.r.now _ (f.0, f.1) c.if-n-ne0.false a.q a.j g in
