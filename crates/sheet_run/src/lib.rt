@@ -1,4 +1,6 @@
 // A sheet from its bytes to its answers: read, then passed (RULES, section 7).
+#![tactic(auto)]
+
 mod out;
 
 ghost use Rattle.std.specs.Prelude.{true, ◌≡◌, ◌*◌, ◌≤◌, length};

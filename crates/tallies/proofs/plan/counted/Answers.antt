@@ -40,6 +40,15 @@ pub bounds-r-z : goal.bounds-r-z
 bounds-r-z c =
     below_at 256 c.args.zones.now (length c.args.zones.now) c.loop-i.i c.requires c.loop-i-test.true
 
+pub offset_bounds-r-z-in-loop-i : goal.offset_bounds-r-z-in-loop-i
+offset_bounds-r-z-in-loop-i c =
+    let b = below_at 256 c.args.zones.now (length c.args.zones.now) c.loop-i.i c.requires c.loop-i-test.true in
+    omega arith
+
+pub bounds-r-z-in-loop-i : goal.bounds-r-z-in-loop-i
+bounds-r-z-in-loop-i c =
+    below_at 256 c.args.zones.now (length c.args.zones.now) c.loop-i.i c.requires c.loop-i-test.true
+
 pub overflow_add-r : goal.overflow_add-r
 overflow_add-r c =
     let l = c.loop-i in
