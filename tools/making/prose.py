@@ -118,7 +118,7 @@ def sources(top):
     found = {}
     for folder in SOURCES:
         for here, folders, names in os.walk(top / folder, followlinks=True):
-            folders[:] = [name for name in folders if name not in ("target", "corpus", "__pycache__")]
+            folders[:] = [name for name in folders if name not in ("target", "out", "corpus", "__pycache__")]
             for path in (pathlib.Path(here, name) for name in names if name != "test_table.py"):
                 if path.suffix in TEXT and path.stat().st_size < 2000000:
                     try:
