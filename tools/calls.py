@@ -51,7 +51,7 @@ REQUIRES = [
     ("particles: write_answer", "that the two places are inside the list, and that an amount which is stored is finite"),
     ("particles: count_one", "that no count is near the end of its range, as in a pass none is: it counts records of a list"),
     ("writer: write_words", "that the room has place for the words, as bytes"),
-    ("model: model_of", "that the number is one of the eight and each flag is one, which `model::known` tells: every caller has asked it, or has read a header, which names such a model (`sheet/proofs/Known: read-known`)"),
+    ("model: model_of", "that the number is one of the eight and each flag is one, which `model::known` tells: every caller has asked it, or has read a header, which names such a model (`sheet/proofs/Known: read_known`)"),
     ("model: write_scalars", "a list of a record's length, and that what is written is finite"),
     (
         "plasticity_*: *::update_ready; model: update_ready",
@@ -234,7 +234,7 @@ def cited_sections(text):
 def definitions(text):
     """Each definition that a source names, with its place: crate/specs/File."""
     found = {}
-    for crate, place, names in re.findall(r"^ghost use Rattle\.(?!std\.)(\w+)\.(specs(?:\.\w+)+)\.\{([^}]*)\};", text, re.M):
+    for crate, place, names in re.findall(r"^ghost use Rattle\.(?!std\.)(\w+)\.(specs(?!\.declared\b)(?:\.\w+)+)\.\{([^}]*)\};", text, re.M):
         for name in names.split(","):
             found[name.strip()] = "%s/%s" % (crate, place.replace(".", "/"))
     return found
@@ -250,7 +250,8 @@ def public_path(crate, module, own, name, root):
     """How another crate names a function, or nothing where it can't."""
     if own:
         return "%s::%s::%s" % (crate, own, name)
-    if module == "lib" or re.search(r"^pub use %s::%s;" % (module, name), root, re.M):
+    used = re.findall(r"^pub use %s::(?:\{([^}]*)\}|(\w+));" % module, root, re.M)
+    if module == "lib" or name in re.findall(r"\w+", " ".join(map(" ".join, used))):
         return "%s::%s" % (crate, name)
     if re.search(r"^pub mod %s;" % module, root, re.M):
         return "%s::%s::%s" % (crate, module, name)
