@@ -27,10 +27,10 @@ MADE = (
     "docs/STEPS.md",
     "man/slope.1",
     "tools/sheet.py",
-    *(f"crates/model/proofs/rows/{function}/Proof.antt" for function in (
+    *(f"crates/model/proofs/rows/{function}/Answers.antt" for function in (
         "shape_of", "branch", "model_of", "make_ready", "parameters_ready", "reason_of", "update_ready", "write_scalars",
         "snow", "rankine", "drucker_prager", "nacc", "ready_rankine", "ready_nacc")),
-    *(f"crates/flat_particles/proofs/rows/{function}/Proof.antt" for function in ("update", "write_scalars")),
+    *(f"crates/flat_particles/proofs/rows/{function}/Answers.antt" for function in ("update", "write_scalars")),
 )
 READ = ("VERSION", "calls.toml", "tools/table", "tools/making", "crates/answers/src", "crates/model/specs", "crates/host/src", "crates/host_passes/src", "crates/host_sheets/src", "crates/host_c/src")
 
@@ -72,7 +72,7 @@ class Check(Copy):
     def test_each_stale_file_is_told(self):
         for name in MADE:
             was = (self.top / name).read_text()
-            (self.top / name).write_text(re.sub(r"1\.0\.0|37|pasoletu_exp\(|\"exp\"|[Aa] NaN arose|0 is untouched|hardening_coeff|tie\.close", "7.7.7", was))
+            (self.top / name).write_text(re.sub(r"1\.0\.0|37|pasoletu_exp\(|\"exp\"|[Aa] NaN arose|0 is untouched|hardening_coeff|goal\.returns", "7.7.7", was))
             with self.subTest(name):
                 self.told(name + " is stale")
             (self.top / name).write_text(was)
@@ -132,7 +132,7 @@ class Check(Copy):
     def test_an_argument_of_another_kind_is_told(self):
         self.edit("crates/host/src/lib.rt", "pasoletu_exp(x: f64", "pasoletu_exp(x: u64")
         self.told("crates/host: pasoletu_exp takes (u64, [] written), the table (f64, [] written)")
-        self.edit("crates/host_passes/src/updates.rt", "pasoletu_update(\n    model: u64", "pasoletu_update(\n    model: u32")
+        self.edit("crates/host_passes/src/updates.rt", "pasoletu_update(model: u64", "pasoletu_update(model: u32")
         self.told("crates/host_passes: pasoletu_update takes (u32, [], [] written, [] written), the table (u64, [], [] written, [] written)")
 
     def test_a_call_of_two_crates_is_told(self):
@@ -211,12 +211,12 @@ parameters = [{ name = "young_modulus" }, { name = "limit", default = 2.5 }, { n
                             ("man/slope.1", "alpha (NACC), growth (von Mises).\n"), ("tools/sheet.py", "MODEL is snow, rankine, drucker_prager, nacc or von_mises. "),
                             ("tools/sheet.py", "\n  von_mises       young_modulus limit (2.5) on (1);\n                  nothing may stand for the limit\nIn brackets: "),
                             ("tools/sheet.py", "its model's number is 4 to 7 or 9."), ("fuzz/calls.h", '"nacc", "von_mises"};'), ("beside/table.rs", "NO_MODEL: u64 = 10;"),
-                            ("crates/model/proofs/rows/shape_of/Proof.antt", "returns-von-mises c = rw (c .before .before .before .before .if1 .left, "),
-                            ("crates/model/proofs/rows/make_ready/Proof.antt", "c .before .ready-von-mises .ensures, c .before .before .law3 .ensures, "),
-                            ("crates/model/proofs/rows/write_scalars/Proof.antt", "returns-von-mises c = simp (c .finite-bits9 .ensures, c .before .finite-bits8 .ensures, "),
-                            ("crates/model/proofs/rows/von_mises/Proof.antt", "simp (c .word .ensures, c .before .float2 .ensures, c .before .before .float .ensures)"),
-                            ("crates/model/proofs/rows/ready_von_mises/Proof.antt", "pub ready-von-mises-spec :"),
-                            ("crates/flat_particles/proofs/rows/write_scalars/Proof.antt", "c .before .before .enum-told5 .given .1)")):
+                            ("crates/model/proofs/rows/shape_of/Answers.antt", "returns-then-number-5 c = rw (c.if-number.false, "),
+                            ("crates/model/proofs/rows/make_ready/Answers.antt", "c.ready_von_mises.ensures, c.law-in-VonMises.ensures, "),
+                            ("crates/model/proofs/rows/write_scalars/Answers.antt", "returns-in-VonMises c = simp (c.finite_bits-in-VonMises-2.ensures, c.finite_bits-in-VonMises.ensures, "),
+                            ("crates/model/proofs/rows/von_mises/Answers.antt", "simp (c.word.ensures, c.float-2.ensures, c.float.ensures)"),
+                            ("crates/model/proofs/rows/ready_von_mises/Answers.antt", "pub returns : goal.returns"),
+                            ("crates/flat_particles/proofs/rows/write_scalars/Answers.antt", "c.in-VonMises.is)")):
             self.assertIn(words, (self.top / name).read_text(), name)
         self.assertNotIn("VonMisesPlasticity", (self.top / "bindings/rust/src/table.rs").read_text())
         self.told("crates/model: the models are 4, in the table 5")

@@ -1,0 +1,5 @@
+-- `model::rows::drucker_prager` meets its contract: each place as it is read. Made by tools/table from calls.toml: edit that, not this file.
+use Rattle.model.proofs.rows.drucker_prager.Goals as goal
+
+pub returns : goal.returns
+returns c = simp (c.float-7.ensures, c.word.ensures, c.float-6.ensures, c.float-5.ensures, c.float-4.ensures, c.float-3.ensures, c.float-2.ensures, c.float.ensures)

@@ -1,0 +1,5 @@
+-- `model::rows::ready_rankine` meets its contract: by the moduli. Made by tools/table from calls.toml: edit that, not this file.
+use Rattle.model.proofs.rows.ready_rankine.Goals as goal
+
+pub returns : goal.returns
+returns c = simp (c.ready_if.ensures, c.moduli_finite.ensures)
