@@ -51,7 +51,7 @@ def files():
 
 
 def is_function_proof(path):
-    return os.path.basename(path) in ("Proof.antt", "Answers.antt", "Invariants.antt")
+    return os.path.basename(path) == "Proof.antt"
 
 
 def uncommented(text):

@@ -38,7 +38,7 @@ pub const AFTER_END: u8 = 15;
 pub const TOO_LONG: u8 = 16;
 
 // A number, or the refusal's number.
-#[derive(Drop)]
+#[derive(Clone, Copy)]
 pub enum Answer {
     Value(f64),
     Refused(u8),

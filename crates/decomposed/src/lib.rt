@@ -15,7 +15,7 @@ use tensor::Rows;
 pub use tensors::{deviatoric_part, spherical_part, spin_tensor, strain_rate};
 
 // A tensor split into a part with no trace and the trace over the number of axes.
-#[derive(Drop)]
+#[derive(Clone, Copy)]
 pub struct DecomposedTensor {
     pub deviatoric_part: Rows,
     pub spherical_part: f64,

@@ -30,8 +30,8 @@ use Rattle.walk.proofs.Power.{value_power}
 use Rattle.walk.proofs.Inner.{Inner, inner_mosts, inner_leasts}
 use Rattle.walk.specs.Tensor.{one, worth, rows, plus, times, scaled, identity_times, row_plus, determinant}
 use Rattle.walk.proofs.Tensor.{one_number, worth_rows, worth_plus, worth_scaled}
-use Rattle.walk.specs.Answers.{returned, returnedMatrix, returnedVector, matrixAs, vectorAs}
-use Rattle.walk.proofs.Answers.{returned_law, returned-matrix, returned-vector, split-number, split-matrix, split-vector, number-split, matrix-split, vector-split}
+use Rattle.walk.specs.Answers.{returned, returned_matrix, returned_vector, matrix_as, vector_as}
+use Rattle.walk.proofs.Answers.{returned_law, returned_matrix_lem, returned_vector_lem, split_number, split_matrix, split_vector, number_split, matrix_split, vector_split}
 use Rattle.elasticity_corotated_linear.specs.declared.CorotatedLinearElasticity.{CorotatedLinearElasticity}
 use Rattle.elasticity_corotated_linear.specs.Law.{parameters_of, floats, law_finite}
 use Rattle.elasticity_corotated_linear.specs.Stress as stress
@@ -165,23 +165,23 @@ module _ (p : CorotatedLinearElasticity) (phase h : Float) (f u : List (List Flo
 
   abbrev split_walk : Float → List Float → List Float → Walk (List (List Float))
   split_walk j a b =
-      split 6 (less (num j) one) (returnedMatrix 7 (stress.below (phase_coeff p phase) (dev a) (dev b) (sph j))) (returnedMatrix 7 (stress.above (phase_coeff p phase) (dev a) (dev b) (sph j)))
+      split 6 (less (num j) one) (returned_matrix 7 (stress.below (phase_coeff p phase) (dev a) (dev b) (sph j))) (returned_matrix 7 (stress.above (phase_coeff p phase) (dev a) (dev b) (sph j)))
 
   abbrev parts_walk : Float → Walk (List (List Float))
   parts_walk j =
-      works 2 (less_one s) (λ e. split 3 (unsplit phase) (returnedMatrix 7 (plus (dev e) (sph j))) (mosts 4 e zero (λ a. leasts 5 e zero (λ b. split_walk j a b))))
+      works 2 (less_one s) (λ e. split 3 (unsplit phase) (returned_matrix 7 (plus (dev e) (sph j))) (mosts 4 e zero (λ a. leasts 5 e zero (λ b. split_walk j a b))))
 
   either_answered : (b : Bool) (x y : List (List Float)) → cond b (answered x) (answered y) ≡ answered (cond b x y)
   either_answered true x y = refl
   either_answered false x y = refl
 
-  of_number : (q : every is_number s ≡ true) (j : Float) → is_number j ≡ true → matrixAs (walk_result (parts_walk j)) ≡ answered (stress_of j)
+  of_number : (q : every is_number s ≡ true) (j : Float) → is_number j ≡ true → matrix_as (walk_result (parts_walk j)) ≡ answered (stress_of j)
   of_number q j i =
       let a = stress.below (phase_coeff p phase) pos neg (sph j) in
       let b = stress.above (phase_coeff p phase) pos neg (sph j) in
-      ap matrixAs (parts_law s q 2 3 4 5 phase (λ e. returnedMatrix 7 (plus (dev e) (sph j))) (λ x y. split_walk j x y))
-      ∙ matrix-split (Ieee.eq phase tensor.one) (walk_result (returnedMatrix 7 (whole j))) (walk_result (split_walk j (positive_of strains) (negative_of strains)))
-      ∙ rw (returned-matrix 7 (whole j), split-matrix 6 7 (less (num j) one) a b (rw (i, one_number)))
+      ap matrix_as (parts_law s q 2 3 4 5 phase (λ e. returned_matrix 7 (plus (dev e) (sph j))) (λ x y. split_walk j x y))
+      ∙ matrix_split (Ieee.eq phase tensor.one) (walk_result (returned_matrix 7 (whole j))) (walk_result (split_walk j (positive_of strains) (negative_of strains)))
+      ∙ rw (returned_matrix_lem 7 (whole j), split_matrix 6 7 (less (num j) one) a b (rw (i, one_number)))
       (ap (λ m. cond (Ieee.eq phase tensor.one) (answered (worth (whole j))) m) (either_answered (Ieee.lt j tensor.one) (worth a) (worth b)) ∙ either_answered (Ieee.eq phase tensor.one) (worth (whole j)) _)
 
   -- a matrix whose first entry is no finite number
@@ -198,13 +198,13 @@ module _ (p : CorotatedLinearElasticity) (phase h : Float) (f u : List (List Flo
   unfolding plus times scaled identity_times tensor.row_add_of
   above_lost = simp (mul_right, mul_left, add_right, add_left, nan_finite)
 
-  told : every is_number s ≡ true → (j : Float) → matrixAs (cond (is_number j) (walk_result (parts_walk j)) (refused no_number)) ≡ answered (stress_of j)
+  told : every is_number s ≡ true → (j : Float) → matrix_as (cond (is_number j) (walk_result (parts_walk j)) (refused no_number)) ≡ answered (stress_of j)
   unfolding is_number
   told q nan = rw (nan_less tensor.one) (lost (Ieee.eq phase tensor.one) (worth (whole nan)) (worth (stress.above (phase_coeff p phase) pos neg (sph nan))) whole_lost above_lost)
   told q (inf t) = of_number q (inf t) refl
   told q (fin t m e) = of_number q (fin t m e) refl
 
-  pub stress_law : row_finite s ≡ true → (j : Float) → matrixAs (walk_result (stress_from p phase h f u s vt (num j))) ≡ answered (stress_of j)
+  pub stress_law : row_finite s ≡ true → (j : Float) → matrix_as (walk_result (stress_from p phase h f u s vt (num j))) ≡ answered (stress_of j)
   unfolding stress_from
   stress_law q j = told (row_numbers s q) j
 
@@ -258,23 +258,23 @@ module _ (p : CorotatedLinearElasticity) (phase h : Float) where
 
     abbrev splits_walk : Float → List Float → List Float → Walk (List Float)
     splits_walk j a b =
-        split 6 (less (num j) one) (returnedVector 7 (principal.below (phase_coeff p phase) (devs a s) (devs b s) (sphs j)))
-        (returnedVector 7 (principal.above (phase_coeff p phase) (devs a s) (devs b s) (sphs j)))
+        split 6 (less (num j) one) (returned_vector 7 (principal.below (phase_coeff p phase) (devs a s) (devs b s) (sphs j)))
+        (returned_vector 7 (principal.above (phase_coeff p phase) (devs a s) (devs b s) (sphs j)))
 
     abbrev steps_walk : Float → Walk (List Float)
     steps_walk j =
-        works 2 (less_one s) (λ e. split 3 (unsplit phase) (returnedVector 7 (row_plus (devs e s) (sphs j))) (mosts 4 e zero (λ a. leasts 5 e zero (λ b. splits_walk j a b))))
+        works 2 (less_one s) (λ e. split 3 (unsplit phase) (returned_vector 7 (row_plus (devs e s) (sphs j))) (mosts 4 e zero (λ a. leasts 5 e zero (λ b. splits_walk j a b))))
 
     either_vector : (b : Bool) (x y : List Float) → cond b (answered_vector x) (answered_vector y) ≡ answered_vector (cond b x y)
     either_vector true x y = refl
     either_vector false x y = refl
 
-    of_numbers : every is_number s ≡ true → (j : Float) → is_number j ≡ true → vectorAs (walk_result (steps_walk j)) ≡ answered_vector (stresses_of j)
+    of_numbers : every is_number s ≡ true → (j : Float) → is_number j ≡ true → vector_as (walk_result (steps_walk j)) ≡ answered_vector (stresses_of j)
     of_numbers q j i =
         let e = values (less_one s) in
-        ap vectorAs (parts_law s q 2 3 4 5 phase (λ l. returnedVector 7 (row_plus (devs l s) (sphs j))) (λ x y. splits_walk j x y))
-        ∙ vector-split (Ieee.eq phase tensor.one) (walk_result (returnedVector 7 (wholes j))) (walk_result (splits_walk j (positive_of e) (negative_of e)))
-        ∙ rw (returned-vector 7 (wholes j), split-vector 6 7 (less (num j) one) (belows j) (aboves j) (rw (i, one_number)))
+        ap vector_as (parts_law s q 2 3 4 5 phase (λ l. returned_vector 7 (row_plus (devs l s) (sphs j))) (λ x y. splits_walk j x y))
+        ∙ vector_split (Ieee.eq phase tensor.one) (walk_result (returned_vector 7 (wholes j))) (walk_result (splits_walk j (positive_of e) (negative_of e)))
+        ∙ rw (returned_vector_lem 7 (wholes j), split_vector 6 7 (less (num j) one) (belows j) (aboves j) (rw (i, one_number)))
         (ap (λ m. cond (Ieee.eq phase tensor.one) (answered_vector (values (wholes j))) m) (either_vector (Ieee.lt j tensor.one) (values (belows j)) (values (aboves j))) ∙ either_vector (Ieee.eq phase tensor.one) (values (wholes j)) _)
 
     lost_vector : (b : Bool) (x y : List Float) → row_finite x ≡ false → row_finite y ≡ false → refused_vector no_number ≡ answered_vector (cond b x y)
@@ -294,13 +294,13 @@ module _ (p : CorotatedLinearElasticity) (phase h : Float) where
   lost_stresses (x ∷ s) q =
       rw (nan_less tensor.one) (lost_vector (x ∷ s) (Ieee.eq phase tensor.one) (values (wholes (x ∷ s) nan)) (values (aboves (x ∷ s) nan)) (wholes_lost x s) (aboves_lost x s))
 
-  told_stresses : (s : List Float) (j : Float) → is_number (product_of s) ≡ is_number j → vectorAs (cond (is_number j) (walk_result (steps_walk s j)) (refused no_number)) ≡ answered_vector (stresses_of s j)
+  told_stresses : (s : List Float) (j : Float) → is_number (product_of s) ≡ is_number j → vector_as (cond (is_number j) (walk_result (steps_walk s j)) (refused no_number)) ≡ answered_vector (stresses_of s j)
   unfolding is_number
   told_stresses s nan q = lost_stresses s q
   told_stresses s (inf t) q = of_numbers s (product_numbers s q) (inf t) refl
   told_stresses s (fin t m e) q = of_numbers s (product_numbers s q) (fin t m e) refl
 
-  pub principal_law : (s : List Float) → vectorAs (walk_result (principal_walk p phase h s)) ≡ answered_vector (stresses_of s (product_of s))
+  pub principal_law : (s : List Float) → vector_as (walk_result (principal_walk p phase h s)) ≡ answered_vector (stresses_of s (product_of s))
   unfolding principal_walk
   principal_law s = rw (value_product s) (told_stresses s (product_of s) refl)
 
@@ -325,8 +325,8 @@ module _ (p : CorotatedLinearElasticity) (s : List Float) (h : Float) where
   of_finite : every is_number s ≡ true → (j : Float) → is_number j ≡ true → answer_as (walk_result (energy_walk j)) ≡ energy_of j
   of_finite q j i =
       ap answer_as (most_law s q 2 3 (λ a. work 4 (spherical_energy p h (num j)) (λ spherical. sum_walk j a spherical)))
-      ∙ number-split (is_number (sph_part j)) (walk_result (sum_walk j (positive_of (values (less_one s))) (num (sph_part j)))) (refused no_number)
-      ∙ rw (split-number 5 6 (less (num j) one) dev_part (dev_part + num (sph_part j)) (rw (i, one_number)))
+      ∙ number_split (is_number (sph_part j)) (walk_result (sum_walk j (positive_of (values (less_one s))) (num (sph_part j)))) (refused no_number)
+      ∙ rw (split_number 5 6 (less (num j) one) dev_part (dev_part + num (sph_part j)) (rw (i, one_number)))
 
   sph_nan : sph_part nan ≡ nan
   sph_nan = simp (sub_left, mul_right)

@@ -8,7 +8,7 @@ use Rattle.walk.specs.Expr.{Expr, num, ◌*◌, nums}
 use Rattle.walk.specs.Walk.{Walk, less, work, works, mosts, leasts, split, walk_result}
 use Rattle.walk.specs.Matrix.{product}
 use Rattle.walk.specs.Tensor.{one, row_plus, row_scaled}
-use Rattle.walk.specs.Answers.{returnedVector, vectorAs}
+use Rattle.walk.specs.Answers.{returned_vector, vector_as}
 use Rattle.elasticity_corotated_linear.specs.Stress.{zero, two, less_one, unsplit, phase_coeff, spherical_part}
 use Rattle.elasticity_corotated_linear.specs.declared.CorotatedLinearElasticity.{CorotatedLinearElasticity}
 
@@ -36,12 +36,12 @@ principal_walk p phase h s =
     work 1 (product s) (λ j.
     works 2 (less_one s) (λ e.
     split 3 (unsplit phase)
-    (returnedVector 7 (row_plus (dev_stresses p h e s) (spherical_stresses p h j)))
+    (returned_vector 7 (row_plus (dev_stresses p h e s) (spherical_stresses p h j)))
     (mosts 4 e zero (λ pos.
     leasts 5 e zero (λ neg.
     split 6 (less j one)
-    (returnedVector 7 (below (phase_coeff p phase) (dev_stresses p h pos s) (dev_stresses p h neg s) (spherical_stresses p h j)))
-    (returnedVector 7 (above (phase_coeff p phase) (dev_stresses p h pos s) (dev_stresses p h neg s) (spherical_stresses p h j))))))))
+    (returned_vector 7 (below (phase_coeff p phase) (dev_stresses p h pos s) (dev_stresses p h neg s) (spherical_stresses p h j)))
+    (returned_vector 7 (above (phase_coeff p phase) (dev_stresses p h pos s) (dev_stresses p h neg s) (spherical_stresses p h j))))))))
 
 abbrev pub principal_stresses : CorotatedLinearElasticity → Float → Float → List Float → VectorAnswer
-principal_stresses p phase h s = vectorAs (walk_result (principal_walk p phase h s))
+principal_stresses p phase h s = vector_as (walk_result (principal_walk p phase h s))

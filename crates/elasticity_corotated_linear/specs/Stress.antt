@@ -9,7 +9,7 @@ use Rattle.walk.specs.Walk.{Walk, Test, less, flag, inputs, work, works, mosts, 
 use Rattle.walk.specs.Matrix.{joined}
 use Rattle.walk.specs.Update.{recomposed}
 use Rattle.walk.specs.Tensor.{one, rows, turned, times, plus, scaled, identity_times, determinant}
-use Rattle.walk.specs.Answers.{returnedMatrix, matrixAs}
+use Rattle.walk.specs.Answers.{returned_matrix, matrix_as}
 use Rattle.elasticity_corotated_linear.specs.Law.{floats}
 use Rattle.elasticity_corotated_linear.specs.declared.CorotatedLinearElasticity.{CorotatedLinearElasticity}
 
@@ -49,12 +49,12 @@ stress_from p phase h f u s vt d =
     work 1 d (λ j.
     works 2 (less_one s) (λ e.
     split 3 (unsplit phase)
-    (returnedMatrix 7 (plus (dev_stress p h f u e vt) (spherical_stress p h j)))
+    (returned_matrix 7 (plus (dev_stress p h f u e vt) (spherical_stress p h j)))
     (mosts 4 e zero (λ pos.
     leasts 5 e zero (λ neg.
     split 6 (less j one)
-    (returnedMatrix 7 (below (phase_coeff p phase) (dev_stress p h f u pos vt) (dev_stress p h f u neg vt) (spherical_stress p h j)))
-    (returnedMatrix 7 (above (phase_coeff p phase) (dev_stress p h f u pos vt) (dev_stress p h f u neg vt) (spherical_stress p h j))))))))
+    (returned_matrix 7 (below (phase_coeff p phase) (dev_stress p h f u pos vt) (dev_stress p h f u neg vt) (spherical_stress p h j)))
+    (returned_matrix 7 (above (phase_coeff p phase) (dev_stress p h f u pos vt) (dev_stress p h f u neg vt) (spherical_stress p h j))))))))
 
 unfoldable pub stress_steps : CorotatedLinearElasticity → Float → Float → List (List Float) → List (List Float) → List Float → List (List Float) → Walk (List (List Float))
 stress_steps p phase h f u s vt = stress_from p phase h f u s vt (determinant f)
@@ -64,4 +64,4 @@ stress_walk p phase h f u s vt =
     inputs (floats p ((phase ∷ h ∷ []) ++ joined f ++ joined u ++ s ++ joined vt)) (stress_steps p phase h f u s vt)
 
 abbrev pub kirchhoff_stress : CorotatedLinearElasticity → Float → Float → List (List Float) → List (List Float) → List Float → List (List Float) → MatrixAnswer
-kirchhoff_stress p phase h f u s vt = matrixAs (walk_result (stress_walk p phase h f u s vt))
+kirchhoff_stress p phase h f u s vt = matrix_as (walk_result (stress_walk p phase h f u s vt))

@@ -18,7 +18,7 @@ use physics::Lame;
 pub use stress::kirchhoff;
 use tensor::{MatrixAnswer, VectorAnswer};
 
-#[derive(Drop)]
+#[derive(Clone, Copy)]
 pub struct CorotatedLinearElasticity {
     pub split_stress_on_failure: bool,
     pub cfl_coeff: f64,

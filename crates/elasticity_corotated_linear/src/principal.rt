@@ -3,7 +3,7 @@ ghost use Rattle.std.specs.Float.Ieee.{lt};
 ghost use Rattle.tensor.specs.Matrix.{one, row_add_of, row_scale_of};
 ghost use Rattle.walk.specs.Expr.{num, value, values};
 ghost use Rattle.walk.specs.Walk.{walk_result};
-ghost use Rattle.walk.specs.Answers.{vectorAs};
+ghost use Rattle.walk.specs.Answers.{vector_as};
 ghost use Rattle.elasticity_corotated_linear.specs.Principal.{stretched, dev_stresses, spherical_stresses, principal_walk};
 
 use crate::{CorotatedLinearElasticity, stress};
@@ -44,7 +44,7 @@ fn split_sum(c: f64, j: f64, pos: [f64; 3], neg: [f64; 3], sph: [f64; 3]) -> [f6
 
 // A NaN in sigma is in j, and one in j in each of the spherical stresses, which either path adds.
 pub fn stresses(p: CorotatedLinearElasticity, phase: f64, h: f64, sigma: [f64; 3]) -> VectorAnswer
-    ensures { result ≡ vectorAs (walk_result (principal_walk p phase h sigma)) }
+    ensures { result ≡ vector_as (walk_result (principal_walk p phase h sigma)) }
 {
     let j = tensor::product(sigma);
     let e = stress::less_one(sigma);

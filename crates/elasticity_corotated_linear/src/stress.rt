@@ -6,7 +6,7 @@ ghost use Rattle.tensor.specs.Finite.{row_finite};
 ghost use Rattle.walk.specs.Expr.{num, value, values};
 ghost use Rattle.walk.specs.Walk.{walk_result};
 ghost use Rattle.walk.specs.Tensor.{worth, rows};
-ghost use Rattle.walk.specs.Answers.{matrixAs};
+ghost use Rattle.walk.specs.Answers.{matrix_as};
 ghost use Rattle.elasticity_corotated_linear.specs.Stress.{less_one, phase_coeff, dev_stress, spherical_part, spherical_stress, below, above, stress_from};
 
 use crate::CorotatedLinearElasticity;
@@ -105,7 +105,7 @@ pub fn kirchhoff(
     j: f64,
 ) -> MatrixAnswer
     requires { row_finite sigma ≡ true }
-    ensures { result ≡ matrixAs (walk_result (stress_from p phase hardening f u sigma vt (num j))) }
+    ensures { result ≡ matrix_as (walk_result (stress_from p phase hardening f u sigma vt (num j))) }
 {
     let e = less_one(sigma);
     let sph = spherical_stress(p, hardening, j);

@@ -26,8 +26,8 @@ use Rattle.walk.specs.Tensor.{one, worth, rows, plus, times, determinant}
 use Rattle.walk.proofs.Tensor.{one_number}
 use Rattle.decomposed.specs.Formulas.{cofactors_over}
 use Rattle.decomposed.proofs.Formulas.{worth_cofactors, numbers_joined}
-use Rattle.walk.specs.Answers.{matrix, returnedMatrix, matrixAs}
-use Rattle.walk.proofs.Answers.{returned-matrix, split-number, split-matrix, asked-number, both, same, tested-later, asked-nan, asked-later}
+use Rattle.walk.specs.Answers.{matrix, returned_matrix, matrix_as}
+use Rattle.walk.proofs.Answers.{returned_matrix_lem, split_number, split_matrix, asked_number, both, same, tested_later, asked_nan, asked_later}
 use Rattle.elasticity_neo_hookean.specs.declared.NeoHookeanElasticity.{NeoHookeanElasticity}
 use Rattle.elasticity_neo_hookean.specs.Law.{parameters_of, law_finite, floats, coefficient, bulk, cauchy_green}
 use Rattle.elasticity_neo_hookean.specs.Stress.{shear, inverted, fpk_volumetric, fpk_from, fpk_steps, volumetric, tensile, compressed, split_walk, kirchhoff_from, kirchhoff_steps}
@@ -69,7 +69,7 @@ module _ (p : NeoHookeanElasticity) (phase h : Float) (f : List (List Float)) (j
       let K = is_number k in
       let A = asked (answer_of minus_two_thirds j) (R j) in
       ap (λ e. cond (is_number j) e (refused no_number)) (ap (λ c. cond K (cond c A (refused no_number)) (refused no_number)) (numbers_joined (cauchy_green f)) ∙ both K (mat_number b) A (refused no_number))
-      ∙ asked-later j (K && mat_number b) minus_two_thirds R
+      ∙ asked_later j (K && mat_number b) minus_two_thirds R
 
   pub pos_law : walk_result (pos_from p phase h f (num j))
       ≡ cond (is_number k && mat_number b)
@@ -85,7 +85,7 @@ module _ (p : NeoHookeanElasticity) (phase h : Float) (f : List (List Float)) (j
       let K = is_number k in
       let A = asked (answer_of minus_two_thirds j) (R j) in
       ap (λ e. cond (is_number j) e (refused no_number)) (ap (λ c. cond K (cond c A (refused no_number)) (refused no_number)) (numbers_joined (cauchy_green f)) ∙ both K (mat_number b) A (refused no_number))
-      ∙ asked-later j (K && mat_number b) minus_two_thirds R
+      ∙ asked_later j (K && mat_number b) minus_two_thirds R
 
   -- the logarithm has the power's range: a NaN in j is the power's
   pub energy_law : (m : Bool) → walk_result (energy_from m p phase h f (num j))
@@ -101,18 +101,18 @@ module _ (p : NeoHookeanElasticity) (phase h : Float) (f : List (List Float)) (j
   energy_law m =
       let R : Float → Float → Ended Float = λ x w. walk_result (matrix 4 (stretch (num w) f) (λ s.
       ask 5 ln (num x) (λ l. sum_walk m (coefficient phase) (record { j = num x; deviatoric = deviatoric_energy p h s; volumetric = volumetric_energy (num (value (kappa p h))) (power (num x) 2) l })))) in
-      ap (λ e. cond (is_number (value (kappa p h))) e (refused no_number)) (tested-later j (λ x. asked (answer_of minus_third x) (R x)) (asked-nan minus_third (R nan)))
+      ap (λ e. cond (is_number (value (kappa p h))) e (refused no_number)) (tested_later j (λ x. asked (answer_of minus_third x) (R x)) (asked_nan minus_third (R nan)))
       ∙ simp numbers_joined
 
   -- ---- once the power and the logarithm are known
   number : (f : Function) (w : Float) → answer_of f j ≡ Value w → is_number tensor.one && is_number j ≡ true
-  number g w t = rw (one_number, asked-number g j w t)
+  number g w t = rw (one_number, asked_number g j w t)
 
   number_first : (f : Function) (w : Float) → answer_of f j ≡ Value w → is_number j && is_number tensor.one ≡ true
-  number_first g w t = rw (one_number, asked-number g j w t)
+  number_first g w t = rw (one_number, asked_number g j w t)
 
   pub kirchhoff_given : {w : Float} → is_number k && mat_number b ≡ true → answer_of minus_two_thirds j ≡ Value w
-      → matrixAs (walk_result (kirchhoff_from p phase h f (num j)))
+      → matrix_as (walk_result (kirchhoff_from p phase h f (num j)))
       ≡ (let c = coefficient phase in
       let dev = shear p h (num w) b in
       let vol = volumetric (num j) (num k) in
@@ -121,7 +121,7 @@ module _ (p : NeoHookeanElasticity) (phase h : Float) (f : List (List Float)) (j
       let c = coefficient phase in
       let dev = shear p h (num w) b in
       let vol = volumetric (num j) (num k) in
-      rw (kirchhoff_law, t, u) (split-matrix 5 6 (at_most one (num j)) (tensile c dev vol) (compressed c dev vol) (number minus_two_thirds w u))
+      rw (kirchhoff_law, t, u) (split_matrix 5 6 (at_most one (num j)) (tensile c dev vol) (compressed c dev vol) (number minus_two_thirds w u))
 
   pub pos_given : {w l : Float} → is_number k && mat_number b ≡ true → answer_of minus_two_thirds j ≡ Value w → answer_of ln j ≡ Value l
       → is_number (value (volumetric_energy (num k) (num j * num j) (num l))) ≡ true
@@ -132,7 +132,7 @@ module _ (p : NeoHookeanElasticity) (phase h : Float) (f : List (List Float)) (j
   pos_given {w} {l} t u v x =
       let dev = pos_deviatoric p h (num w) b in
       let vol = num (value (volumetric_energy (num k) (num j * num j) (num l))) in
-      rw (pos_law, t, u, v, x) (split-number 7 8 (less (num j) one) (dev * coefficient phase) ((dev + vol) * num phase) (number_first ln l v))
+      rw (pos_law, t, u, v, x) (split_number 7 8 (less (num j) one) (dev * coefficient phase) ((dev + vol) * num phase) (number_first ln l v))
 
   pub energy_given : (m : Bool) {w l : Float} → is_number (value (kappa p h)) ≡ true → answer_of minus_third j ≡ Value w
       → mat_number (worth (stretch (num w) f)) ≡ true → answer_of ln j ≡ Value l
@@ -146,7 +146,7 @@ module _ (p : NeoHookeanElasticity) (phase h : Float) (f : List (List Float)) (j
       let dev = deviatoric_energy p h (worth (stretch (num w) f)) in
       let vol = volumetric_energy (num (value (kappa p h))) (power (num j) 2) (num l) in
       rw (energy_law m, t, u, v, x)
-      (split-number 6 7 (at_most one (num j)) (c * (vol + dev) + num tensor.zero) (below m c dev vol) (number ln l x)
+      (split_number 6 7 (at_most one (num j)) (c * (vol + dev) + num tensor.zero) (below m c dev vol) (number ln l x)
       ∙ ap (λ e. cond (Ieee.le tensor.one j) (answered_of (tensor.add (tensor.mul (value c) (tensor.add (value vol) (value dev))) tensor.zero)) (answered_of e)) (value_below m c dev vol))
 
 -- ---- fpk_stress
@@ -171,10 +171,10 @@ module _ (p : NeoHookeanElasticity) (f : List (List Float)) (h j : Float) where
   after x g =
       matrix 4 (cauchy_green f) (λ b.
       ask 5 minus_two_thirds (num x) (λ w.
-      returnedMatrix 6 (plus (times (shear p h w b) (rows g)) (fpk_volumetric (num x) (num (value (bulk p h))) g))))
+      returned_matrix 6 (plus (times (shear p h w b) (rows g)) (fpk_volumetric (num x) (num (value (bulk p h))) g))))
 
   abbrev powered : Float → List (List Float) → Ended (List (List Float))
-  powered x g = asked (answer_of minus_two_thirds x) (λ w. walk_result (returnedMatrix 6 (plus (times (shear p h (num w) (worth (cauchy_green f))) (rows g)) (fpk_volumetric (num x) (num (value (bulk p h))) g))))
+  powered x g = asked (answer_of minus_two_thirds x) (λ w. walk_result (returned_matrix 6 (plus (times (shear p h (num w) (worth (cauchy_green f))) (rows g)) (fpk_volumetric (num x) (num (value (bulk p h))) g))))
 
   told : (x : Float) (c : Bool) → is_number x ≡ c
       → cond (is_number x) (cond (is_number (value (bulk p h))) (walk_result (inverted 3 f (num x) (after x))) (refused no_number)) (refused no_number)
@@ -197,12 +197,12 @@ module _ (p : NeoHookeanElasticity) (f : List (List Float)) (h j : Float) where
 
   pub fpk_given : {w : Float} → is_number (value (bulk p h)) && (mat_number (inverse_transpose_of f j) && mat_number (worth (cauchy_green f))) ≡ true
       → answer_of minus_two_thirds j ≡ Value w
-      → matrixAs (walk_result (fpk_from p f h (num j)))
+      → matrix_as (walk_result (fpk_from p f h (num j)))
       ≡ (let g = inverse_transpose_of f j in
       answered (worth (plus (times (shear p h (num w) (worth (cauchy_green f))) (rows g)) (fpk_volumetric (num j) (num (value (bulk p h))) g))))
   fpk_given {w} t u =
       let g = inverse_transpose_of f j in
-      rw (fpk_law, t, u) (returned-matrix 6 (plus (times (shear p h (num w) (worth (cauchy_green f))) (rows g)) (fpk_volumetric (num j) (num (value (bulk p h))) g)))
+      rw (fpk_law, t, u) (returned_matrix_lem 6 (plus (times (shear p h (num w) (worth (cauchy_green f))) (rows g)) (fpk_volumetric (num j) (num (value (bulk p h))) g)))
 
 -- ---- the determinant worked is taken by its number alone
 pub kirchhoff_worked : (p : NeoHookeanElasticity) (phase h : Float) (f : List (List Float)) → walk_result (kirchhoff_steps p phase h f) ≡ walk_result (kirchhoff_from p phase h f (num (det_of f)))

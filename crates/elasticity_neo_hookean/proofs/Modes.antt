@@ -20,8 +20,8 @@ use Rattle.walk.specs.Exact.{path, final, first, answer, Refusal, and_then}
 use Rattle.walk.proofs.Exact.{exactly, result_then}
 use Rattle.walk.specs.Tensor.{one, determinant}
 use Rattle.walk.proofs.Tensor.{one_number}
-use Rattle.walk.specs.Answers.{refusalIn}
-use Rattle.walk.proofs.Answers.{accepted_when, split-number}
+use Rattle.walk.specs.Answers.{refusal_in}
+use Rattle.walk.proofs.Answers.{accepted_when, split_number}
 use Rattle.elasticity_neo_hookean.specs.declared.NeoHookeanElasticity.{NeoHookeanElasticity}
 use Rattle.elasticity_neo_hookean.specs.Law.{floats, coefficient}
 use Rattle.elasticity_neo_hookean.specs.Energy.{Parts, parts_from, parts_walk, below, sum_walk, energy_steps, energy_walk_in, elastic_energy_density_in, elastic_energy_density}
@@ -65,7 +65,7 @@ module _ (p : NeoHookeanElasticity) (phase h : Float) (f : List (List Float)) wh
 
   j_number : (q : Parts) → walk_result parts_run ≡ given q → is_number j ≡ true
   unfolding parts_walk parts_from determinant
-  j_number q e = whole_tells (determinant f) ∙ ((accepted_when parts_run).0 (ap refusalIn e)).1.1.0.0
+  j_number q e = whole_tells (determinant f) ∙ ((accepted_when parts_run).0 (ap refusal_in e)).1.1.0.0
 
   -- not refused before the split
   pub split_law : (q : Parts) → walk_result parts_run ≡ given q → (m : Bool)
@@ -76,7 +76,7 @@ module _ (p : NeoHookeanElasticity) (phase h : Float) (f : List (List Float)) wh
   split_law q e m =
       let dev = q.deviatoric in
       let vol = q.volumetric in
-      rw (split_alone m, e, parts_j q e) (split-number 6 7 (at_most one (num j)) (c * (vol + dev) + num tensor.zero) (below m c dev vol) (rw (one_number, j_number q e)))
+      rw (split_alone m, e, parts_j q e) (split_number 6 7 (at_most one (num j)) (c * (vol + dev) + num tensor.zero) (below m c dev vol) (rw (one_number, j_number q e)))
 
   -- every number but 3 comes in one mode exactly where it comes in the other
   alike : (x : Ended Parts) → walk_result parts_run ≡ x → (m k : Bool) (n : ℕ) → (n ≡ 3 → ⊥) → elastic_energy_density_in m p phase h f ≡ Refused n → elastic_energy_density_in k p phase h f ≡ Refused n

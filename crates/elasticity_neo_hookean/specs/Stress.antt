@@ -8,7 +8,7 @@ use Rattle.walk.specs.Expr.{Expr, num, ◌-◌, ◌*◌, ◌/◌, value}
 use Rattle.walk.specs.Walk.{Walk, minus_two_thirds, zeros, at_most, inputs, ask, work, split, walk_result}
 use Rattle.walk.specs.Tensor.{one, rows, times, plus, scaled, identity_times, determinant}
 use Rattle.decomposed.specs.Formulas.{deviatoric, cofactors_over}
-use Rattle.walk.specs.Answers.{matrix, returnedMatrix, matrixAs}
+use Rattle.walk.specs.Answers.{matrix, returned_matrix, matrix_as}
 use Rattle.elasticity_neo_hookean.specs.Law.{two, floats, coefficient, bulk, cauchy_green}
 use Rattle.elasticity_neo_hookean.specs.declared.NeoHookeanElasticity.{NeoHookeanElasticity}
 
@@ -32,7 +32,7 @@ fpk_from p f h d =
     inverted 3 f j (λ g.
     matrix 4 (cauchy_green f) (λ b.
     ask 5 minus_two_thirds j (λ w.
-    returnedMatrix 6 (plus (times (shear p h w b) (rows g)) (fpk_volumetric j k g)))))))
+    returned_matrix 6 (plus (times (shear p h w b) (rows g)) (fpk_volumetric j k g)))))))
 
 unfoldable pub fpk_steps : NeoHookeanElasticity → List (List Float) → Float → Walk (List (List Float))
 fpk_steps p f h = fpk_from p f h (determinant f)
@@ -41,7 +41,7 @@ unfoldable pub fpk_walk : NeoHookeanElasticity → List (List Float) → Float �
 fpk_walk p f h = inputs (floats p (h ∷ []) f) (fpk_steps p f h)
 
 abbrev pub fpk_stress : NeoHookeanElasticity → List (List Float) → Float → MatrixAnswer
-fpk_stress p f h = matrixAs (walk_result (fpk_walk p f h))
+fpk_stress p f h = matrix_as (walk_result (fpk_walk p f h))
 
 -- ---- kirchhoff_stress
 abbrev pub volumetric : Expr → Expr → List (List Expr)
@@ -56,7 +56,7 @@ abbrev pub compressed : Expr → List (List Expr) → List (List Expr) → List 
 compressed c dev vol = plus (scaled c dev) vol
 
 abbrev pub split_walk : Expr → Expr → List (List Expr) → List (List Expr) → Walk (List (List Float))
-split_walk c j dev vol = split 5 (at_most one j) (returnedMatrix 6 (tensile c dev vol)) (returnedMatrix 6 (compressed c dev vol))
+split_walk c j dev vol = split 5 (at_most one j) (returned_matrix 6 (tensile c dev vol)) (returned_matrix 6 (compressed c dev vol))
 
 unfoldable pub kirchhoff_from : NeoHookeanElasticity → Float → Float → List (List Float) → Expr → Walk (List (List Float))
 kirchhoff_from p phase h f d =
@@ -73,4 +73,4 @@ unfoldable pub kirchhoff_walk : NeoHookeanElasticity → Float → Float → Lis
 kirchhoff_walk p phase h f = inputs (floats p (phase ∷ h ∷ []) f) (kirchhoff_steps p phase h f)
 
 abbrev pub kirchhoff_stress : NeoHookeanElasticity → Float → Float → List (List Float) → MatrixAnswer
-kirchhoff_stress p phase h f = matrixAs (walk_result (kirchhoff_walk p phase h f))
+kirchhoff_stress p phase h f = matrix_as (walk_result (kirchhoff_walk p phase h f))

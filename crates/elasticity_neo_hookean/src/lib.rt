@@ -18,7 +18,7 @@ use physics::Lame;
 pub use stress::{fpk, kirchhoff};
 use tensor::MatrixAnswer;
 
-#[derive(Drop)]
+#[derive(Clone, Copy)]
 pub struct NeoHookeanElasticity {
     pub cfl_coeff: f64,
     pub lambda: f64,

@@ -5,7 +5,7 @@ ghost use Rattle.tensor.specs.Answer.{answered};
 ghost use Rattle.walk.specs.Expr.{num};
 ghost use Rattle.walk.specs.Walk.{walk_result};
 ghost use Rattle.walk.specs.Tensor.{worth, rows, times, plus};
-ghost use Rattle.walk.specs.Answers.{matrixAs};
+ghost use Rattle.walk.specs.Answers.{matrix_as};
 ghost use Rattle.elasticity_neo_hookean.specs.Law.{cauchy_green};
 ghost use Rattle.elasticity_neo_hookean.specs.Stress.{shear, fpk_volumetric, fpk_from, volumetric, tensile, compressed, kirchhoff_from};
 
@@ -37,7 +37,7 @@ fn fpk_volumetric(j: f64, k: f64, g: [[f64; 3]; 3]) -> [[f64; 3]; 3]
 
 // j is F's determinant. A NaN in the inverse or in F F^T comes before the power's refusal; one in j is the power's.
 pub fn fpk(p: NeoHookeanElasticity, f: [[f64; 3]; 3], hardening: f64, j: f64) -> MatrixAnswer
-    ensures { result ≡ matrixAs (walk_result (fpk_from p f hardening (num j))) }
+    ensures { result ≡ matrix_as (walk_result (fpk_from p f hardening (num j))) }
 {
     let k = p.bulk(hardening);
     let g = decomposed::inverse_transpose(f, j);
@@ -82,7 +82,7 @@ pub fn kirchhoff(
     f: [[f64; 3]; 3],
     j: f64,
 ) -> MatrixAnswer
-    ensures { result ≡ matrixAs (walk_result (kirchhoff_from p phase hardening f (num j))) }
+    ensures { result ≡ matrix_as (walk_result (kirchhoff_from p phase hardening f (num j))) }
 {
     let k = p.bulk(hardening);
     let b = cauchy_green_strain(f);

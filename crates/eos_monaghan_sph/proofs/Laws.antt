@@ -29,7 +29,7 @@ use Rattle.walk.proofs.Tensor.{worth_rows, worth_turned, worth_plus, worth_scale
 use Rattle.decomposed.specs.Formulas.{deviatoric}
 use Rattle.decomposed.proofs.Formulas.{worth_deviatoric}
 use Rattle.walk.specs.Answers.{returned}
-use Rattle.walk.proofs.Answers.{number-split}
+use Rattle.walk.proofs.Answers.{number_split}
 use Rattle.eos_monaghan_sph.specs.declared.MonaghanSphEos.{MonaghanSphEos}
 use Rattle.eos_monaghan_sph.specs.Pressure.{shared, floats, inputs_finite, density0, unbounded, pressure_steps}
 use Rattle.eos_monaghan_sph.specs.Stress.{strain_rate, viscous_part}
@@ -103,12 +103,12 @@ module _ (law : MonaghanSphEos) (mass volume density : Float) where
       let ratio = value (num density / density0 mass volume) in
       let p = value (unbounded law (num ratio)) in
       let n = neg_number law.max_neg_pressure ∙ finite_number law.max_neg_pressure (least_finite q) in
-      number-split (is_number ratio) (cond (is_number p) (walk_result (last p)) (refused no_number)) (refused no_number)
+      number_split (is_number ratio) (cond (is_number p) (walk_result (last p)) (refused no_number)) (refused no_number)
       ∙ ap (λ x. cond (is_number ratio) x (Refused no_number)) (bounded n p)
 
 -- a number to be returned
 answer_then : (n : ℕ) (a : Answer) → answer_as (asked a (λ p. walk_result (returned n (num p)))) ≡ finite_answer_of a
-answer_then n (Value p) = number-split (finite p) _ _
+answer_then n (Value p) = number_split (finite p) _ _
 answer_then n (Refused m) = refl
 
 pub returned_then : (n : ℕ) (w : Walk Float) → answer_as (walk_result (w then (λ p. returned n (num p)))) ≡ finite_answer_of (answer_as (walk_result w))

@@ -8,7 +8,7 @@ use Rattle.walk.specs.Walk.{Walk, flag, inputs, split, ◌then◌, walk_result}
 use Rattle.walk.specs.Matrix.{joined}
 use Rattle.walk.specs.Tensor.{rows, turned, plus, scaled, identity_times}
 use Rattle.decomposed.specs.Formulas.{deviatoric}
-use Rattle.walk.specs.Answers.{returnedMatrix, matrixAs}
+use Rattle.walk.specs.Answers.{returned_matrix, matrix_as}
 use Rattle.eos_monaghan_sph.specs.Pressure.{floats, pressure_steps}
 use Rattle.eos_monaghan_sph.specs.declared.MonaghanSphEos.{MonaghanSphEos}
 
@@ -27,12 +27,12 @@ viscous_part law det gradient = scaled (num constants.two * num law.viscosity * 
 unfoldable pub stress_steps : MonaghanSphEos → Float → List (List Float) → Float → Walk (List (List Float))
 stress_steps law det gradient p =
     split 4 (flag (Ieee.eq law.viscosity constants.zero))
-    (returnedMatrix 5 (pressure_part (num p) det))
-    (returnedMatrix 5 (plus (pressure_part (num p) det) (viscous_part law det gradient)))
+    (returned_matrix 5 (pressure_part (num p) det))
+    (returned_matrix 5 (plus (pressure_part (num p) det) (viscous_part law det gradient)))
 
 unfoldable pub stress_walk : MonaghanSphEos → Float → Float → Float → Float → List (List Float) → Walk (List (List Float))
 stress_walk law mass volume density det gradient =
     inputs (floats law mass volume density (det ∷ joined gradient)) (pressure_steps law mass volume density then stress_steps law det gradient)
 
 abbrev pub kirchhoff_stress_of : MonaghanSphEos → Float → Float → Float → Float → List (List Float) → MatrixAnswer
-kirchhoff_stress_of law mass volume density det gradient = matrixAs (walk_result (stress_walk law mass volume density det gradient))
+kirchhoff_stress_of law mass volume density det gradient = matrix_as (walk_result (stress_walk law mass volume density det gradient))

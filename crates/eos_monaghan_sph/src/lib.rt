@@ -3,7 +3,7 @@ mod pressure;
 mod stress;
 mod timestep;
 
-#[derive(Drop)]
+#[derive(Clone, Copy)]
 pub struct MonaghanSphEos {
     pub pressure0: f64,
     pub gamma: u32,

@@ -2,7 +2,7 @@ ghost use Rattle.std.specs.Prelude.{◌≡◌};
 ghost use Rattle.walk.specs.Expr.{num};
 ghost use Rattle.walk.specs.Walk.{walk_result, asked};
 ghost use Rattle.walk.specs.Tensor.{worth};
-ghost use Rattle.walk.specs.Answers.{matrixAs};
+ghost use Rattle.walk.specs.Answers.{matrix_as};
 ghost use Rattle.eos_monaghan_sph.specs.Stress.{pressure_part, viscous_part, stress_steps, kirchhoff_stress_of};
 
 use crate::{MonaghanSphEos, pressure};
@@ -27,7 +27,7 @@ impl MonaghanSphEos {
     }
 
     fn stress(self, det: f64, p: f64, gradient: [[f64; 3]; 3]) -> MatrixAnswer
-        ensures { result ≡ matrixAs (walk_result (stress_steps self det gradient p)) }
+        ensures { result ≡ matrix_as (walk_result (stress_steps self det gradient p)) }
     {
         if self.viscosity == 0.0 {
             tensor::answered(pressure_part(p, det))
@@ -38,7 +38,7 @@ impl MonaghanSphEos {
     }
 
     fn stress_from(self, det: f64, pressure: Answer, gradient: [[f64; 3]; 3]) -> MatrixAnswer
-        ensures { result ≡ matrixAs (asked pressure (λ p. walk_result (stress_steps self det gradient p))) }
+        ensures { result ≡ matrix_as (asked pressure (λ p. walk_result (stress_steps self det gradient p))) }
     {
         match pressure {
             Answer::Value(p) => self.stress(det, p, gradient),

@@ -10,7 +10,7 @@ use Rattle.answers.specs.Refusals.{not_finite, wrong_determinant, not_accepted}
 use Rattle.tensor.specs.Matrix.{zero}
 use Rattle.factors.specs.Sweeps.{factors_of}
 use Rattle.factors.specs.Check.{accepted_of}
-use Rattle.factors.specs.Answers.{factoredOf, refusedFactors}
+use Rattle.factors.specs.Answers.{factored_of, refused_factors}
 use Rattle.plasticity.specs.declared.Outcome.TheVariants.{Stored}
 use Rattle.record.specs.Layout.{place_f, mat_at, record_finite, determinant_right}
 use Rattle.particles.specs.Pass.{Worked}
@@ -28,14 +28,14 @@ module _ (r : List ℕ) where
   -- the number, by the three tests in their order
   abbrev numbered : Bool → Bool → Bool → ℕ
   numbered a b c =
-      cond a (cond b (cond c (record { refusal = 0; factors = factors_of f }) (refusedFactors not_accepted)).refusal wrong_determinant) not_finite
+      cond a (cond b (cond c (record { refusal = 0; factors = factors_of f }) (refused_factors not_accepted)).refusal wrong_determinant) not_finite
 
   pub one : record_finite r ≡ false → factor_refusal r ≡ not_finite
   unfolding factor_refusal
   one a = rw a refl
 
   pub one_only : factor_refusal r ≡ not_finite → record_finite r ≡ false
-  unfolding factor_refusal factoredOf
+  unfolding factor_refusal factored_of
   one_only = go (record_finite r) (determinant_right r) checked
     where
       go : (a b c : Bool) → numbered a b c ≡ not_finite → a ≡ false
@@ -49,7 +49,7 @@ module _ (r : List ℕ) where
   eleven a b = rw (a, b) refl
 
   pub eleven_only : factor_refusal r ≡ wrong_determinant → (record_finite r ≡ true) × (determinant_right r ≡ false)
-  unfolding factor_refusal factoredOf
+  unfolding factor_refusal factored_of
   eleven_only = go (record_finite r) (determinant_right r) checked
     where
       go : (a b c : Bool) → numbered a b c ≡ wrong_determinant → (a ≡ true) × (b ≡ false)
@@ -60,11 +60,11 @@ module _ (r : List ℕ) where
 
   -- "On a record that no earlier number refuses, 14 comes exactly when the factors after the last sweep miss the check"
   pub fourteen : record_finite r ≡ true → determinant_right r ≡ true → checked ≡ false → factor_refusal r ≡ not_accepted
-  unfolding factor_refusal factoredOf
+  unfolding factor_refusal factored_of
   fourteen a b c = rw (a, b, c) refl
 
   pub fourteen_only : factor_refusal r ≡ not_accepted → (record_finite r ≡ true) × (determinant_right r ≡ true) × (checked ≡ false)
-  unfolding factor_refusal factoredOf
+  unfolding factor_refusal factored_of
   fourteen_only = go (record_finite r) (determinant_right r) checked
     where
       go : (a b c : Bool) → numbered a b c ≡ not_accepted → (a ≡ true) × (b ≡ true) × (c ≡ false)
@@ -75,11 +75,11 @@ module _ (r : List ℕ) where
 
   -- and they are accepted where it is passed
   pub none : record_finite r ≡ true → determinant_right r ≡ true → checked ≡ true → factor_refusal r ≡ 0
-  unfolding factor_refusal factoredOf
+  unfolding factor_refusal factored_of
   none a b c = rw (a, b, c) refl
 
   pub none_only : factor_refusal r ≡ 0 → (record_finite r ≡ true) × (determinant_right r ≡ true) × (checked ≡ true)
-  unfolding factor_refusal factoredOf
+  unfolding factor_refusal factored_of
   none_only = go (record_finite r) (determinant_right r) checked
     where
       go : (a b c : Bool) → numbered a b c ≡ 0 → (a ≡ true) × (b ≡ true) × (c ≡ true)
@@ -90,7 +90,7 @@ module _ (r : List ℕ) where
 
   -- what is written where they are accepted: the factors after the last sweep, and nothing else
   pub written : checked ≡ true → with_factors r ≡ put_factors r (factors_of f)
-  unfolding with_factors factoredOf
+  unfolding with_factors factored_of
   written c = rw c refl
 
   -- by themselves

@@ -7,13 +7,13 @@ use Rattle.plasticity.specs.declared.Outcome.TheVariants.{Untouched, Stored, Ref
 use Rattle.record.specs.Layout.{floats, place_f, place_u, place_sigma, place_vt, mat_at, record_finite, determinant_right, put_row, put_rows}
 use Rattle.factors.specs.declared.Factors.{Factors}
 use Rattle.factors.specs.declared.FactorsAnswer.{FactorsAnswer}
-use Rattle.factors.specs.Answers.{factoredOf}
+use Rattle.factors.specs.Answers.{factored_of}
 use Rattle.particles.specs.Pass.{Worked}
 use Rattle.one_record.specs.Judged.{refused_record}
 
 -- of the F that stands in a record
 abbrev pub factors_at : List ℕ → FactorsAnswer
-factors_at r = factoredOf (mat_at r place_f)
+factors_at r = factored_of (mat_at r place_f)
 
 -- "On acceptance only U, sigma and V^T are written"
 abbrev pub put_factors : List ℕ → Factors → List ℕ

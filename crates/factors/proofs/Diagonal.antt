@@ -29,7 +29,7 @@ use Rattle.factors.specs.Turns.{size_of, tiny_of}
 use Rattle.factors.specs.Sweeps.{sweeps, entry, pair_of, next_of, sweep_by, settled_of, step_by, step_of, start_of, worked_of, signed_row_of, factors_of, identity_rows, factors_in}
 use Rattle.factors.proofs.Times.{stays}
 use Rattle.factors.specs.PrincipalValues.{mirrored_of, level_pair_of, level_step_of, levelled_of, principal_of, principal_accepted, read_of}
-use Rattle.factors.specs.Answers.{factoredOf, principalsOf}
+use Rattle.factors.specs.Answers.{factored_of, principals_of}
 use Rattle.factors.specs.Check.{not_below, accepted_of, largest_in}
 use Rattle.factors.specs.Diagonal.{Zero}
 
@@ -232,8 +232,8 @@ module _ (a b c o₁ o₂ o₃ o₄ o₅ o₆ : Float) (z₁ : Zero o₁) (z₂ 
           identity_orthogonal,
         )
 
-    pub diagonal_factored : factoredOf f ≡ record { refusal = 0; factors = own }
-    unfolding factoredOf
+    pub diagonal_factored : factored_of f ≡ record { refusal = 0; factors = own }
+    unfolding factored_of
     diagonal_factored = simp (factors_are, own_accepted)
 
 -- a diagonal stress: what stands above the diagonal is not read
@@ -264,6 +264,6 @@ module _ (a b c o₁ o₂ o₃ x₁ x₂ x₃ : Float) (z₁ : Zero o₁) (z₂ 
         identity_orthogonal,
       )
 
-  pub diagonal_principals : principalsOf t ≡ record { refusal = 0; vector = three a b c }
-  unfolding principalsOf
+  pub diagonal_principals : principals_of t ≡ record { refusal = 0; vector = three a b c }
+  unfolding principals_of
   diagonal_principals = simp (principal_are, held_accepted)

@@ -14,7 +14,7 @@ use Rattle.tensor.specs.Matrix.{three}
 use Rattle.factors.specs.Turns as turns
 use Rattle.factors.specs.Sweeps as sweeps
 use Rattle.factors.specs.Check.{largest_of, largest_in, not_below, accepted_of}
-use Rattle.factors.specs.Answers.{factoredOf}
+use Rattle.factors.specs.Answers.{factored_of}
 
 abbrev f64 : ℕ → Float
 f64 x = of_bits binary64 x
@@ -52,10 +52,10 @@ sheared = three (three unit half none) (three quarter unit eighth) (three minus_
 abbrev mirrored : List (List Float)
 mirrored = three (three none unit none) (three two none none) (three none none three_of)
 
-sheared_factored : (factoredOf sheared).refusal ≡ 0
-unfolding factoredOf accepted_of largest_of largest_in not_below near near_row near_all orthogonal_of sweeps.factors_of sweeps.signed_row_of sweeps.worked_of sweeps.start_of sweeps.least_of sweeps.step_of sweeps.settled_of sweeps.pair_of sweeps.next_of sweeps.alike_of sweeps.unlike_of sweeps.both_of sweeps.columns_of sweeps.mixed_of sweeps.turned_of sweeps.down_of sweeps.up_of turns.after_of turns.half_turn_of turns.half_angle_of turns.back_of turns.steep_of turns.doubled_of turns.quarter_of turns.tiny_of turns.size_of abs val mag L finite of_bits Ieee.add Ieee.sub Ieee.mul Ieee.div Ieee.neg Ieee.le Ieee.lt Ieee.eq
+sheared_factored : (factored_of sheared).refusal ≡ 0
+unfolding factored_of accepted_of largest_of largest_in not_below near near_row near_all orthogonal_of sweeps.factors_of sweeps.signed_row_of sweeps.worked_of sweeps.start_of sweeps.least_of sweeps.step_of sweeps.settled_of sweeps.pair_of sweeps.next_of sweeps.alike_of sweeps.unlike_of sweeps.both_of sweeps.columns_of sweeps.mixed_of sweeps.turned_of sweeps.down_of sweeps.up_of turns.after_of turns.half_turn_of turns.half_angle_of turns.back_of turns.steep_of turns.doubled_of turns.quarter_of turns.tiny_of turns.size_of abs val mag L finite of_bits Ieee.add Ieee.sub Ieee.mul Ieee.div Ieee.neg Ieee.le Ieee.lt Ieee.eq
 sheared_factored = refl
 
-mirrored_factored : (factoredOf mirrored).refusal ≡ 0
-unfolding factoredOf accepted_of largest_of largest_in not_below near near_row near_all orthogonal_of sweeps.factors_of sweeps.signed_row_of sweeps.worked_of sweeps.start_of sweeps.least_of sweeps.step_of sweeps.settled_of sweeps.pair_of sweeps.next_of sweeps.alike_of sweeps.unlike_of sweeps.both_of sweeps.columns_of sweeps.mixed_of sweeps.turned_of sweeps.down_of sweeps.up_of turns.after_of turns.half_turn_of turns.half_angle_of turns.back_of turns.steep_of turns.doubled_of turns.quarter_of turns.tiny_of turns.size_of abs val mag L finite of_bits Ieee.add Ieee.sub Ieee.mul Ieee.div Ieee.neg Ieee.le Ieee.lt Ieee.eq
+mirrored_factored : (factored_of mirrored).refusal ≡ 0
+unfolding factored_of accepted_of largest_of largest_in not_below near near_row near_all orthogonal_of sweeps.factors_of sweeps.signed_row_of sweeps.worked_of sweeps.start_of sweeps.least_of sweeps.step_of sweeps.settled_of sweeps.pair_of sweeps.next_of sweeps.alike_of sweeps.unlike_of sweeps.both_of sweeps.columns_of sweeps.mixed_of sweeps.turned_of sweeps.down_of sweeps.up_of turns.after_of turns.half_turn_of turns.half_angle_of turns.back_of turns.steep_of turns.doubled_of turns.quarter_of turns.tiny_of turns.size_of abs val mag L finite of_bits Ieee.add Ieee.sub Ieee.mul Ieee.div Ieee.neg Ieee.le Ieee.lt Ieee.eq
 mirrored_factored = refl

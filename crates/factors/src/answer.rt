@@ -1,13 +1,13 @@
 // The sweeps and the check as one: refusal 14 exactly where the check is missed.
 ghost use Rattle.std.specs.Prelude.{◌≡◌};
-ghost use Rattle.factors.specs.Answers.{refusedFactors, factoredOf, principalsOf};
+ghost use Rattle.factors.specs.Answers.{refused_factors, factored_of, principals_of};
 
 use crate::{Factors, FactorsAnswer, check, principal_values, sweep};
 use tensor::{Rows, VectorAnswer};
 
 // The refusal by the number n.
 pub fn refused_factors(n: u8) -> FactorsAnswer
-    ensures { result ≡ refusedFactors n }
+    ensures { result ≡ refused_factors n }
 {
     let z = [0.0, 0.0, 0.0];
     let zeros = Rows {
@@ -28,7 +28,7 @@ pub fn refused_factors(n: u8) -> FactorsAnswer
 
 // U, sigma and V^T of f.
 pub fn factored(f: [[f64; 3]; 3]) -> FactorsAnswer
-    ensures { result ≡ factoredOf f }
+    ensures { result ≡ factored_of f }
 {
     let x = sweep::factors_of(f);
     if check::accepted(f, x) {
@@ -43,7 +43,7 @@ pub fn factored(f: [[f64; 3]; 3]) -> FactorsAnswer
 
 // The principal values of the lower triangle of f with the diagonal.
 pub fn principals(f: [[f64; 3]; 3]) -> VectorAnswer
-    ensures { result ≡ principalsOf f }
+    ensures { result ≡ principals_of f }
 {
     let x = principal_values::principal_of(f);
     if principal_values::principal_accepted(f, x) {

@@ -13,14 +13,14 @@ pub use sweep::factors_of;
 use tensor::Rows;
 
 // A turn in the plane of two axes: the cosine and the sine of its angle.
-#[derive(Drop)]
+#[derive(Clone, Copy)]
 pub struct Turn {
     pub c: f64,
     pub s: f64,
 }
 
 // The rows of U^T so far, F turned towards a diagonal, the rows of V^T, and the size up to which an entry is left as it is.
-#[derive(Drop)]
+#[derive(Clone, Copy)]
 pub struct Work {
     pub u: Rows,
     pub m: Rows,
@@ -29,7 +29,7 @@ pub struct Work {
 }
 
 // U, sigma and V^T.
-#[derive(Drop)]
+#[derive(Clone, Copy)]
 pub struct Factors {
     pub u: Rows,
     pub sigma: [f64; 3],
@@ -37,7 +37,7 @@ pub struct Factors {
 }
 
 // Principal values and, as rows, their axes.
-#[derive(Drop)]
+#[derive(Clone, Copy)]
 pub struct Principal {
     pub values: [f64; 3],
     pub axes: Rows,

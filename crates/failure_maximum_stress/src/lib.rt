@@ -2,7 +2,7 @@
 ghost use Rattle.std.specs.Prelude.{◌≡◌};
 ghost use Rattle.failure_maximum_stress.specs.Failure.{limits_of, limits_finite, largest_of, smallest_of, exceeds_of, verdict_of};
 
-#[derive(Drop)]
+#[derive(Clone, Copy)]
 pub struct MaximumStressFailure {
     pub max_principal_stress: f64,
     pub max_shear_stress: f64,
@@ -16,7 +16,7 @@ pub enum Made {
 }
 
 // Whether a particle failed, or the refusal's number.
-#[derive(Drop)]
+#[derive(Clone, Copy)]
 pub enum Verdict {
     No,
     Yes,

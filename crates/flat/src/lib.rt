@@ -8,14 +8,14 @@ use plasticity::{Outcome, Scalars};
 pub use update::{inputs_finite, refuse, stored, untouched};
 
 // A matrix as a field of a struct: its two rows.
-#[derive(Drop)]
+#[derive(Clone, Copy)]
 pub struct Rows {
     pub r0: [f64; 2],
     pub r1: [f64; 2],
 }
 
 // What a flat record holds beside U and V^T.
-#[derive(Drop)]
+#[derive(Clone, Copy)]
 pub struct State {
     pub f: Rows,
     pub sigma: [f64; 2],
@@ -23,7 +23,7 @@ pub struct State {
 }
 
 // The state handed back, with the outcome.
-#[derive(Drop)]
+#[derive(Clone, Copy)]
 pub struct Updated {
     pub state: State,
     pub outcome: Outcome,

@@ -25,7 +25,7 @@ pub enum Law {
 }
 
 // A plastic law with its parameters as a sheet has them.
-#[derive(Drop)]
+#[derive(Clone, Copy)]
 pub enum Model {
     Snow(SnowPlasticity),
     Rankine(RankineArguments),
@@ -34,7 +34,7 @@ pub enum Model {
 }
 
 // A model made ready for many records: its parameters are tested and its moduli worked; or the number that refuses each record.
-#[derive(Drop)]
+#[derive(Clone, Copy)]
 pub enum Ready {
     Snow(SnowPlasticity),
     Rankine(RankinePlasticity),

@@ -18,7 +18,7 @@ pub struct Whole {
 }
 
 // A signed whole number in cells, the first of which has the weight 2^(32 place).
-#[derive(Drop)]
+#[derive(Clone, Copy)]
 pub struct Term {
     pub negative: bool,
     pub place: u64,

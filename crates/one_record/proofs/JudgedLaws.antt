@@ -11,8 +11,8 @@ use Rattle.tensor.specs.Matrix.{zero}
 use lib.Ieee.{Float}
 use Rattle.walk.specs.Walk.{Walk, Ended, given, refused, walk_result}
 use Rattle.walk.specs.Exact.{path}
-use Rattle.walk.specs.Answers.{vectorAs, refusalIn}
-use Rattle.walk.proofs.Answers.{refused_when, stops-positive}
+use Rattle.walk.specs.Answers.{vector_as, refusal_in}
+use Rattle.walk.proofs.Answers.{refused_when, stops_positive}
 use Rattle.failure_maximum_stress.specs.Failure.{verdict_of}
 use Rattle.plasticity.specs.declared.Outcome.{Outcome}
 use Rattle.plasticity.specs.declared.State.{State}
@@ -52,10 +52,10 @@ beside_left (Refused n) o r s w h = tt
 
 -- no walk refuses by 0, so that its refusal is handed on
 handed : (l : MaximumStressFailure) (w : Walk (List Float)) (x : Ended (List Float)) → walk_result w ≡ x
-    → cond (eqb (vectorAs x).refusal 0) (verdict_of l (vectorAs x).vector) (Refused (vectorAs x).refusal) ≡ verdict_on l x
+    → cond (eqb (vector_as x).refusal 0) (verdict_of l (vector_as x).vector) (Refused (vector_as x).refusal) ≡ verdict_on l x
 handed l w (given v) e = refl
-handed l w (refused n) e = rw (ne_eqb n 0 (λ z. let q = stops-positive (path w) n ((refused_when w n).0 (ap refusalIn e)) in omega (arith, q, z))) refl
+handed l w (refused n) e = rw (ne_eqb n 0 (λ z. let q = stops_positive (path w) n ((refused_when w n).0 (ap refusal_in e)) in omega (arith, q, z))) refl
 
 pub verdict_handed : (l : MaximumStressFailure) (w : Walk (List Float))
-    → cond (eqb (vectorAs (walk_result w)).refusal 0) (verdict_of l (vectorAs (walk_result w)).vector) (Refused (vectorAs (walk_result w)).refusal) ≡ verdict_on l (walk_result w)
+    → cond (eqb (vector_as (walk_result w)).refusal 0) (verdict_of l (vector_as (walk_result w)).vector) (Refused (vector_as (walk_result w)).refusal) ≡ verdict_on l (walk_result w)
 verdict_handed l w = handed l w (walk_result w) refl

@@ -18,7 +18,7 @@ use plasticity::{Outcome, State, Updated};
 use tensor::VectorAnswer;
 
 // Nobody, or these limits on the stress by this law.
-#[derive(Drop)]
+#[derive(Clone, Copy)]
 pub enum Judge {
     Nobody,
     By(MaximumStressFailure, CorotatedLinearElasticity),

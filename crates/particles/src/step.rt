@@ -16,7 +16,7 @@ pub enum Step {
 }
 
 // A step with its model made ready, once for all records.
-#[derive(Drop)]
+#[derive(Clone, Copy)]
 pub struct Taken {
     pub ready: Ready,
     pub judge: Judge,

@@ -11,7 +11,7 @@ use sheet::Header;
 // How far a sheet has come. `refusal`: what every further call is answered by: 0 while more may come, a fault's number, or 15 after the
 // end. `header`: what stands before the records, refused by 4 while it is unfinished. `complete`: how many records were worked. `kept`:
 // how many bytes are held.
-#[derive(Drop)]
+#[derive(Clone, Copy)]
 pub struct Arrival {
     pub refusal: u8,
     pub header: Header,

@@ -5,7 +5,7 @@ ghost use Rattle.plasticity.specs.State.{scalars_finite, state_finite, inputs_fi
 use tensor::Rows;
 
 // Untouched, stored with one amount, or refused with its number (RULES, section 7).
-#[derive(Drop)]
+#[derive(Clone, Copy)]
 pub enum Outcome {
     Untouched,
     Stored(f64),
@@ -13,7 +13,7 @@ pub enum Outcome {
 }
 
 // The six scalars of a record.
-#[derive(Drop)]
+#[derive(Clone, Copy)]
 pub struct Scalars {
     pub phase: f64,
     pub plastic_determinant: f64,
@@ -24,7 +24,7 @@ pub struct Scalars {
 }
 
 // What a record holds beside U and V^T.
-#[derive(Drop)]
+#[derive(Clone, Copy)]
 pub struct State {
     pub f: Rows,
     pub sigma: [f64; 3],
@@ -32,7 +32,7 @@ pub struct State {
 }
 
 // The state handed back, with the outcome.
-#[derive(Drop)]
+#[derive(Clone, Copy)]
 pub struct Updated {
     pub state: State,
     pub outcome: Outcome,

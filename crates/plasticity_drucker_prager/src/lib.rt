@@ -14,7 +14,7 @@ use plasticity::Outcome;
 pub use reasons::branch_number;
 pub use update::scalars_of;
 
-#[derive(Drop)]
+#[derive(Clone, Copy)]
 pub struct DruckerPragerPlasticity {
     pub h0: f64,
     pub h1: f64,

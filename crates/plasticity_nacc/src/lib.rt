@@ -16,7 +16,7 @@ use tensor::Rows;
 pub use update::scalars_of;
 
 // The law with its moduli; made by `new` or `with_m`. In this order the code reads as a whole what it copied as a whole.
-#[derive(Drop)]
+#[derive(Clone, Copy)]
 pub struct NaccPlasticity {
     mu: f64,
     kappa: f64,
@@ -27,7 +27,7 @@ pub struct NaccPlasticity {
 }
 
 // The arguments of `with_m`.
-#[derive(Drop)]
+#[derive(Clone, Copy)]
 pub struct NaccArguments {
     pub young_modulus: f64,
     pub poisson_ratio: f64,
@@ -46,7 +46,7 @@ pub enum Made {
 
 // The trial state: p0, the product of sigma, the mean of its squares, the sum of squares of the deviatoric stress, and
 // the pressure.
-#[derive(Drop)]
+#[derive(Clone, Copy)]
 pub struct Trial {
     pub p0: f64,
     pub j: f64,
@@ -63,7 +63,7 @@ pub struct Stressed {
 }
 
 // The branch taken, with the two numbers last compared; or the refusal's number and its step.
-#[derive(Drop)]
+#[derive(Clone, Copy)]
 pub enum Branch {
     // The trial pressure and p0.
     Upper(f64, f64),

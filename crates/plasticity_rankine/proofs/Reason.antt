@@ -18,7 +18,7 @@ use Rattle.walk.proofs.Exact.{exactly}
 use Rattle.walk.proofs.Reason.{final_then, last_then, Told, branch_told, Branchless, quiet, branchless_asks}
 use Rattle.walk.specs.Numbers.{Stops, Clear}
 use Rattle.walk.proofs.Numbers.{first_stops, first_clear, refused_when, accepted_when}
-use Rattle.walk.proofs.Answers.{stops-positive}
+use Rattle.walk.proofs.Answers.{stops_positive}
 use Rattle.walk.specs.Body as body
 use Rattle.walk.specs.Update.{in_three, Change, refusal_of, number_of}
 use Rattle.plasticity_rankine.specs.declared.RankineArguments.{RankineArguments}
@@ -52,7 +52,7 @@ number (some m) n e = ap some e
 
 -- no refusal has the number 0
 no_stop : (ms : List Met) → Stops 0 ms → ⊥
-no_stop ms q = let h = stops-positive ms 0 q in omega arith
+no_stop ms q = let h = stops_positive ms 0 q in omega arith
 
 nothing : (ms : List Met) (o : Option ℕ) → number_of (first ms) ≡ o → code_of o ≡ 0 → o ≡ none
 nothing ms none h e = refl

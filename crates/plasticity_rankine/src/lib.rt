@@ -9,7 +9,7 @@ mod update;
 pub use reasons::branch_number;
 
 // The law with its moduli, which come from `new`.
-#[derive(Drop)]
+#[derive(Clone, Copy)]
 pub struct RankinePlasticity {
     mu: f64,
     lambda: f64,
@@ -18,7 +18,7 @@ pub struct RankinePlasticity {
 }
 
 // The arguments of `new`.
-#[derive(Drop)]
+#[derive(Clone, Copy)]
 pub struct RankineArguments {
     pub young_modulus: f64,
     pub poisson_ratio: f64,
@@ -34,7 +34,7 @@ pub enum Made {
 }
 
 // The indexes of the lowest, the middle and the highest strain.
-#[derive(Drop)]
+#[derive(Clone, Copy)]
 pub enum Rank {
     R012,
     R021,

@@ -16,7 +16,7 @@ use answers::Answer;
 use plasticity::{Outcome, Scalars, State, Updated};
 pub use reasons::branch_number;
 
-#[derive(Drop)]
+#[derive(Clone, Copy)]
 pub struct SnowPlasticity {
     pub min_epsilon: f64,
     pub max_epsilon: f64,

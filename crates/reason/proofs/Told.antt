@@ -16,7 +16,7 @@ use Rattle.walk.specs.Exact.{Met, Refusal, path, final, first, last, answer}
 use Rattle.walk.proofs.Exact.{exactly}
 use Rattle.walk.specs.Numbers.{Stops}
 use Rattle.walk.proofs.Numbers.{first_stops}
-use Rattle.walk.proofs.Answers.{stops-positive}
+use Rattle.walk.proofs.Answers.{stops_positive}
 use Rattle.walk.proofs.Body.{refused_exactly}
 use Rattle.walk.specs.Update.{Change, updated_of, refusal_of, number_of, in_three}
 use Rattle.reason.specs.declared.Reason.{Reason}
@@ -41,7 +41,7 @@ compared_number n held (a ∷ b ∷ c ∷ l) = refl
 -- no refusal has the number 0
 none_first : (ms : List Met) (o : Option Refusal) → first ms ≡ o → code_of (number_of o) ≡ 0 → o ≡ none
 none_first ms none h e = refl
-none_first ms (some r) h e = absurd (let q : Stops 0 ms = (first_stops ms 0).0 (ap number_of h ∙ ap some e) in let z = stops-positive ms 0 q in omega arith)
+none_first ms (some r) h e = absurd (let q : Stops 0 ms = (first_stops ms 0).0 (ap number_of h ∙ ap some e) in let z = stops_positive ms 0 q in omega arith)
 
 module _ (d : Reason) (h : reason_number d ≡ 0) where
   last_number : (o : Option walk.Reason) → reason_number (last_or d o) ≡ 0

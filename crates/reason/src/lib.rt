@@ -2,14 +2,14 @@
 // numbers of docs/STEPS.md.
 
 // Which bound's step last changed a singular value (Snow).
-#[derive(Drop)]
+#[derive(Clone, Copy)]
 pub enum Bound {
     Neither,
     Lower,
     Upper,
 }
 
-#[derive(Drop)]
+#[derive(Clone, Copy)]
 pub enum Reason {
     // The last test that chose among section 5's branches: its number, whether it held, and the two numbers that it compared.
     Tested(u8, bool, f64, f64),

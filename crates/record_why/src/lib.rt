@@ -19,7 +19,7 @@ pub const STORED_DETERMINANT: u8 = 40;
 
 pub const NEW_DETERMINANT: u8 = 41;
 
-#[derive(Drop)]
+#[derive(Clone, Copy)]
 pub enum Cause {
     // By the law, or by the record's determinants.
     Told(Reason),

@@ -33,7 +33,7 @@ use Rattle.walk.specs.Matrix.{joined, values_nums}
 use Rattle.walk.proofs.Every.{all_joined, all_append}
 use Rattle.walk.specs.Tensor.{worth, rows}
 use Rattle.walk.proofs.Tensor.{worth_rows}
-use Rattle.walk.specs.Answers.{returned, returnedMatrix, refusalIn, matrixAs}
+use Rattle.walk.specs.Answers.{returned, returned_matrix, refusal_in, matrix_as}
 use Rattle.plasticity_drucker_prager.specs.declared.DruckerPragerPlasticity.{DruckerPragerPlasticity}
 use Rattle.plasticity_drucker_prager.specs.Law as drucker_prager
 use Rattle.plasticity_drucker_prager.specs.Alpha.{alpha_walk, alpha_call}
@@ -62,7 +62,7 @@ use Rattle.refusals.specs.Calls.{GivesPair, Beside, matrix_path, floats_in, pair
 use Rattle.refusals.proofs.Inner.{Inner, inner_then, alpha_inner}
 use Rattle.refusals.proofs.Numbers.{differ, nothing, told}
 use Rattle.refusals.proofs.EnergyModes.{mode_gives}
-use Rattle.refusals.proofs.Answers.{refusalE, gives, walk-gives, beside, gives-beside, ended-beside, after, tested, entered, asked, number-result, matrix-result}
+use Rattle.refusals.proofs.Answers.{refusal_e, gives, walk_gives, beside, gives_beside, ended_beside, after, tested, entered, asked, number_result, matrix_result}
 
 -- ---- the number that an answer is refused by
 abbrev refusal_p : Pair → Option ℕ
@@ -83,22 +83,22 @@ as_verdict verdict.No n q = absurd (nothing n q)
 as_verdict verdict.Yes n q = absurd (nothing n q)
 as_verdict (verdict.Refused m) n q = ap verdict.Refused (differ q)
 
-pair_result : (x y : Float) {A : Type 0} (p : Ended A) → refusalIn p ≡ none → refusal_p (pair_of x y) ≡ refusalIn (cond (finite x && finite y) p (walk.refused 3))
+pair_result : (x y : Float) {A : Type 0} (p : Ended A) → refusal_in p ≡ none → refusal_p (pair_of x y) ≡ refusal_in (cond (finite x && finite y) p (walk.refused 3))
 pair_result x y p h = tested refusal_p 3 (finite x && finite y) (pair.Values x y) (pair.Refused 3) p (sym h) refl
 
-split_in : {A : Type 0} (a b : Bool) (p : Ended A) → refusalIn (cond (a && b) p (walk.refused 3)) ≡ refusalIn (cond a (cond b p (walk.refused 3)) (walk.refused 3))
+split_in : {A : Type 0} (a b : Bool) (p : Ended A) → refusal_in (cond (a && b) p (walk.refused 3)) ≡ refusal_in (cond a (cond b p (walk.refused 3)) (walk.refused 3))
 split_in true b p = refl
 split_in false b p = refl
 
 -- ---- a result
 module _ (l : List Float) (ok : Bool) (q : all_of finite l ≡ ok) where
   number_gives : (e : Expr) → Gives (given ok (answered_of (value e))) (path (inputs l (returned 1 e)))
-  number_gives e = gives (given ok (answered_of (value e))) l (returned 1 e) tt (entered refusalE l ok q (answered_of (value e)) (answers.Refused 1) (returned 1 e) (number-result 1 e) refl)
+  number_gives e = gives (given ok (answered_of (value e))) l (returned 1 e) tt (entered refusal_e l ok q (answered_of (value e)) (answers.Refused 1) (returned 1 e) (number_result 1 e) refl)
 
-  matrix_gives : (m : List (List Expr)) → Beside (given_matrix ok (answered (worth m))).refusal (path (inputs l (returnedMatrix 1 m)))
+  matrix_gives : (m : List (List Expr)) → Beside (given_matrix ok (answered (worth m))).refusal (path (inputs l (returned_matrix 1 m)))
   matrix_gives m =
-      gives-beside (given_matrix ok (answered (worth m))).refusal l (returnedMatrix 1 m) tt
-      (entered (λ a. beside a.refusal) l ok q (answered (worth m)) (refused_matrix 1) (returnedMatrix 1 m) (matrix-result 1 m) refl)
+      gives_beside (given_matrix ok (answered (worth m))).refusal l (returned_matrix 1 m) tt
+      (entered (λ a. beside a.refusal) l ok q (answered (worth m)) (refused_matrix 1) (returned_matrix 1 m) (matrix_result 1 m) refl)
 
   pair_gives : (a b : Expr) → GivesPair (given_pair ok (pair_of (value a) (value b))) (path (pair_walk l a b))
   pair_gives a b =
@@ -111,7 +111,7 @@ module _ (l : List Float) (ok : Bool) (q : all_of finite l ≡ ok) where
   unfolding answered_vector
   vector_gives v =
       let w : Walk (List Float) = results 1 (v ∷ []) (end (values v)) in
-      gives-beside (given_vector ok (answered_vector (values v))).refusal l w tt
+      gives_beside (given_vector ok (answered_vector (values v))).refusal l w tt
       (entered (λ a. beside a.refusal) l ok q (answered_vector (values v)) (refused_vector 1) w
       (tested (λ a. beside a.refusal) 3 (row_finite (values v)) _ (refused_vector 3) (walk.given (values v)) refl refl) refl)
 
@@ -121,7 +121,7 @@ module _ (l : List Float) (ok : Bool) (q : all_of finite l ≡ ok) where
       let T : DecomposedAnswer → Option ℕ = λ a. beside a.refusal in
       let a = rows_finite t.deviatoric_part in
       let b = finite t.spherical_part in
-      gives-beside (given_tensor ok (answered_tensor t)).refusal l (after (tensor_walk l t)) tt
+      gives_beside (given_tensor ok (answered_tensor t)).refusal l (after (tensor_walk l t)) tt
       (entered T l ok q (answered_tensor t) (refused_tensor 1) (after (tensor_walk l t))
       (tested T 3 (a && b) (record { refusal = 0; tensor = t }) (refused_tensor 3) (walk.given t) refl refl
       ∙ rw (worth_rows (of_rows t.deviatoric_part)) (split_in a b (walk.given t))) refl)
@@ -139,11 +139,11 @@ floats_in_lem t =
 
 phase_gives : (phase : Float) → Gives (neo_hookean.phase_coeff phase) (path (inputs (phase ∷ []) (returned 1 (neo_hookean.coefficient phase))))
 unfolding neo_hookean.phase_coeff
-phase_gives phase = walk-gives (phase ∷ []) (returned 1 (neo_hookean.coefficient phase)) tt
+phase_gives phase = walk_gives (phase ∷ []) (returned 1 (neo_hookean.coefficient phase)) tt
 
 -- ---- of a walk that ends in a matrix
-walk_beside : (l : List Float) (w : Walk (List (List Float))) → Inner w → Beside (matrixAs (walk_result (inputs l w))).refusal (path (inputs l w))
-walk_beside l w h = ended-beside (λ x. (matrixAs x).refusal) (λ m. refl) (λ n. refl) l w h
+walk_beside : (l : List Float) (w : Walk (List (List Float))) → Inner w → Beside (matrix_as (walk_result (inputs l w))).refusal (path (inputs l w))
+walk_beside l w h = ended_beside (λ x. (matrix_as x).refusal) (λ m. refl) (λ n. refl) l w h
 
 -- ---- `solve_quadratic`, alpha, the verdict
 quadratic_gives : (a b c : Float) → GivesPair (solve_quadratic_of a b c) (path (quadratic_walk a b c))
@@ -160,9 +160,9 @@ alpha_gives : (p : DruckerPragerPlasticity) (q : Float) → Gives (answer_as (wa
 unfolding alpha_call
 alpha_gives p q =
     let g : Float → Walk Float = λ a. results 19 ((num a ∷ []) ∷ []) (end a) in
-    walk-gives (drucker_prager.parameters_of p ++ (q ∷ [])) (alpha_walk p q then g) (inner_then (alpha_walk p q) g (alpha_inner p q) (λ a. tt))
+    walk_gives (drucker_prager.parameters_of p ++ (q ∷ [])) (alpha_walk p q then g) (inner_then (alpha_walk p q) g (alpha_inner p q) (λ a. tt))
 
-judged : (over : Bool) (s : List Float) → refusal_v (cond over verdict.Yes verdict.No) ≡ refusalIn (walk.given s)
+judged : (over : Bool) (s : List Float) → refusal_v (cond over verdict.Yes verdict.No) ≡ refusal_in (walk.given s)
 judged true s = refl
 judged false s = refl
 
@@ -188,7 +188,7 @@ module _ (p : NeoHookeanElasticity) (h : Float) (f : List (List Float)) where
 
   pos_gives : (phase : Float) → Gives (neo_energy.pos_energy p phase h f) (path (neo_energy.pos_walk p phase h f))
   unfolding neo_energy.pos_walk
-  pos_gives phase = walk-gives (neo_hookean.floats p (phase ∷ h ∷ []) f) (neo_energy.pos_steps p phase h f) (neo_laws.pos_inner p phase h f)
+  pos_gives phase = walk_gives (neo_hookean.floats p (phase ∷ h ∷ []) f) (neo_energy.pos_steps p phase h f) (neo_laws.pos_inner p phase h f)
 
 -- ---- corotated
 module _ (p : CorotatedLinearElasticity) where
@@ -201,12 +201,12 @@ module _ (p : CorotatedLinearElasticity) where
 
   corotated_energy_gives : (s : List Float) (h : Float) → Gives (corotated_energy.elastic_energy_density p s h) (path (corotated_energy.energy_walk p s h))
   unfolding corotated_energy.energy_walk
-  corotated_energy_gives s h = walk-gives (corotated.floats p (s ++ (h ∷ []))) (returned 1 (corotated_energy.density p s h)) tt
+  corotated_energy_gives s h = walk_gives (corotated.floats p (s ++ (h ∷ []))) (returned 1 (corotated_energy.density p s h)) tt
 
   corotated_pos_gives : (f : List (List Float)) (s : List Float) (h : Float) → Gives (corotated_energy.pos_energy p f s h) (path (corotated_energy.pos_walk p f s h))
   unfolding corotated_energy.pos_walk
   corotated_pos_gives f s h =
-      walk-gives (corotated.floats p (joined f ++ s ++ (h ∷ []))) (corotated_energy.pos_steps p f s h) (corotated_laws.pos_inner p s h f)
+      walk_gives (corotated.floats p (joined f ++ s ++ (h ∷ []))) (corotated_energy.pos_steps p f s h) (corotated_laws.pos_inner p s h f)
 
 -- ---- Monaghan
 module _ (law : MonaghanSphEos) (mass volume density : Float) where
@@ -221,7 +221,7 @@ module _ (law : MonaghanSphEos) (mass volume density : Float) where
   unfolding monaghan.pressure_walk
   pressure_gives =
       let g : Float → Walk Float = λ p. returned 4 (num p) in
-      walk-gives (monaghan.floats law mass volume density []) (pressed then g) (inner_then pressed g pressed_inner (λ p. tt))
+      walk_gives (monaghan.floats law mass volume density []) (pressed then g) (inner_then pressed g pressed_inner (λ p. tt))
 
   stress_inner : (det : Float) (gradient : List (List Float)) (p : Float) → Inner (monaghan_stress.stress_steps law det gradient p)
   unfolding monaghan_stress.stress_steps
@@ -243,7 +243,7 @@ module _ (law : MonaghanSphEos) (mass volume density : Float) where
   unfolding monaghan_timestep.timestep_walk
   timestep_gives j velocity width =
       let g : Float → Walk Float = monaghan_timestep.timestep_steps j mass volume velocity width in
-      walk-gives (monaghan.floats law mass volume density ((j ∷ velocity) ++ (width ∷ []))) (pressed then g) (inner_then pressed g pressed_inner (timestep_inner j velocity width))
+      walk_gives (monaghan.floats law mass volume density ((j ∷ velocity) ++ (width ∷ []))) (pressed then g) (inner_then pressed g pressed_inner (timestep_inner j velocity width))
 
 -- ---- all of them
 pub calls : Calls

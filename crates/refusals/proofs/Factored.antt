@@ -15,7 +15,7 @@ use Rattle.plasticity.specs.declared.Outcome.TheVariants.{Stored, Refused}
 use Rattle.walk.specs.Walk as walk
 use Rattle.walk.specs.Walk.{inputs, end}
 use Rattle.walk.specs.Exact.{Met, path}
-use Rattle.walk.specs.Answers.{refusalIn}
+use Rattle.walk.specs.Answers.{refusal_in}
 use Rattle.record.specs.Layout.{record_finite, determinant_right}
 use Rattle.factors.specs.declared.Factors.{Factors}
 use Rattle.particles.specs.Pass.{Worked, code_of}
@@ -34,7 +34,7 @@ stored_not x n e = let z = ap code_of e in omega arith
 
 nothing_met : (r : List ℕ) (l : List Float) → all_of finite l ≡ true → Numbers (λ n. Stored tensor.zero ≡ Refused n) (path (inputs l (end r)))
 nothing_met r l f =
-    numbers l (end r) tt (λ n. (λ q. absurd (stored_not tensor.zero n q), λ q. absurd (nothing n (sym (ap (λ b. refusalIn (cond b (walk.given r) (walk.refused 1))) f) ∙ q))))
+    numbers l (end r) tt (λ n. (λ q. absurd (stored_not tensor.zero n q), λ q. absurd (nothing n (sym (ap (λ b. refusal_in (cond b (walk.given r) (walk.refused 1))) f) ∙ q))))
 
 pub factor_refuses : (r : List ℕ) → StepRefuses (factor_law r).outcome (with_factors_case steps.Factors) r
 factor_refuses r = go (record_finite r) (determinant_right r) (checked_at r) refl refl refl

@@ -19,7 +19,7 @@ use Rattle.plasticity.specs.declared.State.{State}
 use Rattle.walk.specs.Walk.{◌then◌, end, Ended, given, refused, walk_result}
 use Rattle.walk.specs.Exact.{and_then}
 use Rattle.walk.proofs.Exact.{result_then}
-use Rattle.walk.specs.Answers.{vectorAs}
+use Rattle.walk.specs.Answers.{vector_as}
 use Rattle.walk.proofs.Every.{all_append}
 use Rattle.walk.specs.Update.{Change, untouched, stored, updated_of}
 use Rattle.record.specs.Layout.{state_at, record_finite, determinant_right}
@@ -49,13 +49,13 @@ five true false c d e = refl
 five false b c d e = refl
 
 -- principal stresses that are handed out are finite
-handed : (v w : List Float) (b : Bool) → row_finite w ≡ b → vectorAs (given v) ≡ cond b (record { refusal = 0; vector = w }) (refused_vector 3) → row_finite v ≡ true
+handed : (v w : List Float) (b : Bool) → row_finite w ≡ b → vector_as (given v) ≡ cond b (record { refusal = 0; vector = w }) (refused_vector 3) → row_finite v ≡ true
 handed v w true e q = ap (λ a. row_finite a.vector) q ∙ e
 handed v w false e q = absurd (let z = ap (λ a. a.refusal) q in omega arith)
 
-stresses_finite : (x : Ended (List Float)) (w : List Float) → vectorAs x ≡ answered_vector w → (v : List Float) → x ≡ given v → row_finite v ≡ true
+stresses_finite : (x : Ended (List Float)) (w : List Float) → vector_as x ≡ answered_vector w → (v : List Float) → x ≡ given v → row_finite v ≡ true
 unfolding answered_vector
-stresses_finite x w e v q = handed v w (row_finite w) refl (sym (ap vectorAs q) ∙ e)
+stresses_finite x w e v q = handed v w (row_finite w) refl (sym (ap vector_as q) ∙ e)
 
 module _ (m : Model) (l : MaximumStressFailure) (e : CorotatedLinearElasticity) (r : List ℕ) (q : limits_finite l ≡ true) where
   abbrev s : State

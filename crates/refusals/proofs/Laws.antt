@@ -20,7 +20,7 @@ use Rattle.walk.proofs.Numbers.{as_outcome}
 use Rattle.walk.specs.Walk.{Walk, inputs, end, ◌then◌, Ended, given, refused, walk_result, answer_as}
 use Rattle.walk.specs.Exact.{path}
 use Rattle.walk.specs.Update.{in_three, floats_of, refusal_of}
-use Rattle.walk.specs.Answers.{refusalIn}
+use Rattle.walk.specs.Answers.{refusal_in}
 use Rattle.plasticity_rankine.specs.declared.Made as rankine_made_type
 use Rattle.plasticity_rankine.specs.declared.Made.TheVariants as rankine_made
 use Rattle.plasticity_rankine.specs.declared.RankineArguments.{RankineArguments}
@@ -65,7 +65,7 @@ use Rattle.refusals.specs.Laws.{moduli_walk, plain_walk, rankine_new, nacc_new, 
 use Rattle.refusals.proofs.Inner.{Inner, inner_then, steps_inner, rankine_project, rankine_inner, drucker_project, nacc_project, nacc_inner}
 use Rattle.refusals.proofs.Enums.{Coded, coded, made, made_once}
 use Rattle.refusals.proofs.Numbers.{differ, nothing, told}
-use Rattle.refusals.proofs.Answers.{after, tested, entered, walk-gives, ended-beside}
+use Rattle.refusals.proofs.Answers.{after, tested, entered, walk_gives, ended_beside}
 use Rattle.model.proofs.RowLaws.{walked}
 use Rattle.refusals.proofs.Updates.{outcome_numbers}
 
@@ -269,7 +269,7 @@ module _ (a : NaccArguments) where
       (entered nacc_number_lem l ok all_inputs (cond (nacc_law.moduli_finite q) (nacc_made.Law q) (nacc_made.Refused 3)) (nacc_made.Refused 1) w
       (tested nacc_number_lem 3 (nacc_law.moduli_finite q) (nacc_made.Law q) (nacc_made.Refused 3) (given a.m) refl refl) refl)
 
-  framed_told : (x : Ended Float) → nacc_number_lem (nacc_friction.framed_of q (answer_as x)) ≡ refusalIn x
+  framed_told : (x : Ended Float) → nacc_number_lem (nacc_friction.framed_of q (answer_as x)) ≡ refusal_in x
   unfolding nacc_friction.framed_of
   framed_told (given m) = refl
   framed_told (refused n) = refl
@@ -290,7 +290,7 @@ module _ (a : NaccArguments) where
 
 friction_gives : (d angle : Float) → Gives (nacc_friction.friction_of d angle) (path (nacc_friction.friction_call d angle))
 unfolding nacc_friction.friction_call nacc_friction.friction_walk
-friction_gives d angle = walk-gives (d ∷ angle ∷ []) (nacc_friction.friction_walk d angle) (λ s r q. tt)
+friction_gives d angle = walk_gives (d ∷ angle ∷ []) (nacc_friction.friction_walk d angle) (λ s r q. tt)
 
 -- ---- one update
 module _ (u vt : List (List Float)) (s : State) where
@@ -314,7 +314,7 @@ module _ (e : List Float) (s : Float) where
       → Beside (rankine_projection.vector_of (walk_result (inputs l (rankine_law.moduli p (rankine_projection.project_walk p e (num s) then rankine_projection.returned_walk))))).refusal
       (path (inputs l (rankine_law.moduli p (rankine_projection.project_walk p e (num s) then rankine_projection.returned_walk))))
   projects l p =
-      ended-beside (λ x. (rankine_projection.vector_of x).refusal) (λ v. refl) (λ n. refl) l (rankine_law.moduli p (rankine_projection.project_walk p e (num s) then rankine_projection.returned_walk))
+      ended_beside (λ x. (rankine_projection.vector_of x).refusal) (λ v. refl) (λ n. refl) l (rankine_law.moduli p (rankine_projection.project_walk p e (num s) then rankine_projection.returned_walk))
       (inner_then (rankine_projection.project_walk p e (num s)) rankine_projection.returned_walk (rankine_project p e (num s)) (λ x. tt))
 
   rankine_projects : (p : RankinePlasticity) → Beside (rankine_projection.project_of p e s).refusal (path (rankine_projection.project_call p e s))
@@ -331,7 +331,7 @@ drucker_way (drucker_projection.expanding x) dq = refl
 drucker_way (drucker_projection.inside x) dq = refl
 drucker_way (drucker_projection.surface x norm) dq = refl
 
-drucker_told : (x : Ended drucker_projection.Returned) → refusal_of (drucker_projection.results_of (drucker_projection.projected_of x)).outcome ≡ refusalIn x
+drucker_told : (x : Ended drucker_projection.Returned) → refusal_of (drucker_projection.results_of (drucker_projection.projected_of x)).outcome ≡ refusal_in x
 drucker_told (given q) = drucker_way q.way q.dq
 drucker_told (refused n) = refl
 
@@ -350,7 +350,7 @@ nacc_way (nacc.lower x y) alpha = refl
 nacc_way (nacc.inside x y) alpha = refl
 nacc_way (nacc.surface x y) alpha = refl
 
-nacc_told : (x : Ended nacc.Result) → refusal_of (nacc.results_of (nacc.projected_of x)).outcome ≡ refusalIn x
+nacc_told : (x : Ended nacc.Result) → refusal_of (nacc.results_of (nacc.projected_of x)).outcome ≡ refusal_in x
 nacc_told (given q) = nacc_way q.way q.shape.alpha
 nacc_told (refused n) = refl
 

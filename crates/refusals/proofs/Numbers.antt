@@ -15,7 +15,7 @@ use Rattle.walk.specs.Exact.{Met, input, path}
 use Rattle.walk.proofs.Every.{every, all_every}
 use Rattle.walk.proofs.Numbers as walk
 use Rattle.walk.specs.Numbers.{Stops, Clear}
-use Rattle.walk.specs.Answers.{refusalIn}
+use Rattle.walk.specs.Answers.{refusal_in}
 use Rattle.walk.proofs.Answers.{refused_when, accepted_when}
 use Rattle.walk.proofs.Inner.{Inner, Later, later, between, never_one}
 use Rattle.refusals.specs.Refusals.{SomeNotFinite, Numbers, RecordNumbers}
@@ -63,7 +63,7 @@ never_some : (o : Option ℕ) → ((n : ℕ) → o ≡ some n → ⊥) → o ≡
 never_some none f = refl
 never_some (some n) f = absurd (f n refl)
 
-pub numbers : {A : Type 0} {R : ℕ → Type 0} (l : List Float) (w : Walk A) → Inner w → ((n : ℕ) → R n ↔ (refusalIn (walk_result (inputs l w)) ≡ some n))
+pub numbers : {A : Type 0} {R : ℕ → Type 0} (l : List Float) (w : Walk A) → Inner w → ((n : ℕ) → R n ↔ (refusal_in (walk_result (inputs l w)) ≡ some n))
     → Numbers R (path (inputs l w))
 numbers {R = R} l w h r =
     let ms = path (inputs l w) in
@@ -81,7 +81,7 @@ numbers {R = R} l w h r =
 
     none_of : ((n : ℕ) → R n → ⊥) ↔ Clear (path (inputs l w))
     none_of = (
-      λ f. (accepted_when (inputs l w)).0 (never_some (refusalIn (walk_result (inputs l w))) (λ n e. f n ((r n).1 e))),
+      λ f. (accepted_when (inputs l w)).0 (never_some (refusal_in (walk_result (inputs l w))) (λ n e. f n ((r n).1 e))),
       λ c n q. nothing n (sym ((accepted_when (inputs l w)).1 c) ∙ (r n).0 q),
     )
 
@@ -92,7 +92,7 @@ numbers {R = R} l w h r =
 
 -- an answer x of any kind: F tells its number, and `by n` is the refusal by n
 pub told : {A X : Type 0} (F : X → Option ℕ) (by : ℕ → X) → ((n : ℕ) → F (by n) ≡ some n) → ((x : X) (n : ℕ) → F x ≡ some n → x ≡ by n)
-    → (x : X) (l : List Float) (w : Walk A) → Inner w → F x ≡ refusalIn (walk_result (inputs l w)) → Numbers (λ n. x ≡ by n) (path (inputs l w))
+    → (x : X) (l : List Float) (w : Walk A) → Inner w → F x ≡ refusal_in (walk_result (inputs l w)) → Numbers (λ n. x ≡ by n) (path (inputs l w))
 told F by on back x l w h e = numbers l w h (λ n. (λ q. sym e ∙ ap F q ∙ on n, λ q. back x n (e ∙ q)))
 
 -- the same of another way to say that the call is refused by n

@@ -20,7 +20,7 @@ use Rattle.walk.specs.Expr.{num, value}
 use Rattle.numbers.proofs.Laws.{finite_number}
 use Rattle.walk.specs.Walk as walk
 use Rattle.walk.specs.Walk.{Function, low_of, high_of, at, ask, end}
-use Rattle.walk.specs.Answers.{refusalIn}
+use Rattle.walk.specs.Answers.{refusal_in}
 use Rattle.record.specs.Layout.{floats, record_finite, determinant_right}
 use Rattle.model.specs.Model.{model_finite}
 use Rattle.particles.specs.declared.step.Step.TheVariants.{Plain, Judged}
@@ -38,12 +38,12 @@ use Rattle.refusals.proofs.Updates.{record_inputs, law_refuses, law_one, law_ele
 use Rattle.refusals.proofs.Failure.{all_inputs, failure_refuses, failure_one, failure_eleven}
 use Rattle.refusals.proofs.Factored.{factor_refuses, factored_refuses}
 use Rattle.refusals.proofs.Passes.{pass_eight, failure_eight, pass_refuses}
-use Rattle.refusals.proofs.Answers.{refusalE, gives}
+use Rattle.refusals.proofs.Answers.{refusal_e, gives}
 
 -- ---- an elementary function by itself: a finite argument is a number
 asked : (a b c : Bool) (n : ℕ) (v : Float) → (a ≡ true → b ≡ true)
-    → refusalE (cond a (cond c (Value v) (Refused n)) (Refused not_finite))
-    ≡ refusalIn (cond a (walk.asked (cond b (cond c (Value v) (Refused n)) (Refused no_number)) (λ y. walk.given y)) (walk.refused not_finite))
+    → refusal_e (cond a (cond c (Value v) (Refused n)) (Refused not_finite))
+    ≡ refusal_in (cond a (walk.asked (cond b (cond c (Value v) (Refused n)) (Refused no_number)) (λ y. walk.given y)) (walk.refused not_finite))
 asked true true true n v h = refl
 asked true true false n v h = refl
 asked true false c n v h = absurd (false≢true (h refl))

@@ -21,7 +21,7 @@ use Rattle.walk.proofs.Exact.{result_then}
 use Rattle.walk.proofs.Every.{all_append}
 use Rattle.walk.proofs.Numbers.{as_outcome}
 use Rattle.walk.specs.Update.{in_three, Change, untouched, stored, updated_of, refusal_of, floats_of}
-use Rattle.walk.specs.Answers.{refusalIn}
+use Rattle.walk.specs.Answers.{refusal_in}
 use Rattle.record.specs.Layout.{place_determinant, float_at, u_at, vt_at, state_at, record_finite, determinant_right}
 use Rattle.record.proofs.Parts as parts
 use Rattle.walk.proofs.Body.{floats_finite}
@@ -38,7 +38,7 @@ use Rattle.refusals.proofs.Inputs.{some_append, places}
 use Rattle.refusals.proofs.Numbers.{not_finite_lem, told, by_one, by_eleven, by_law}
 
 -- ---- an outcome's number
-outcome_told : (s : State) (x : Ended Change) → refusal_of (updated_of s x).outcome ≡ refusalIn x
+outcome_told : (s : State) (x : Ended Change) → refusal_of (updated_of s x).outcome ≡ refusal_in x
 outcome_told s (given untouched) = refl
 outcome_told s (given (stored new a)) = refl
 outcome_told s (refused n) = refl

@@ -20,7 +20,7 @@ use Rattle.walk.specs.Walk.{Walk, root, inputs, ask, results, end, walk_result, 
 use Rattle.walk.specs.Exact.{Met, path}
 use Rattle.walk.specs.Matrix.{joined}
 use Rattle.walk.specs.Tensor.{rows}
-use Rattle.walk.specs.Answers.{returned, returnedMatrix}
+use Rattle.walk.specs.Answers.{returned, returned_matrix}
 use Rattle.plasticity_drucker_prager.specs.declared.DruckerPragerPlasticity.{DruckerPragerPlasticity}
 use Rattle.plasticity_drucker_prager.specs.Alpha.{alpha_call}
 use Rattle.failure_maximum_stress.specs.declared.MaximumStressFailure.{MaximumStressFailure}
@@ -52,7 +52,7 @@ abbrev pub number_path : List Float → Float → List Met
 number_path l x = path (inputs l (returned 1 (num x)))
 
 abbrev pub matrix_path : List Float → List (List Float) → List Met
-matrix_path l m = path (inputs l (returnedMatrix 1 (rows m)))
+matrix_path l m = path (inputs l (returned_matrix 1 (rows m)))
 
 -- a tensor's floats
 abbrev pub floats_in : DecomposedTensor → List Float

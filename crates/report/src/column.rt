@@ -14,7 +14,7 @@ pub const MOST: u64 = 4096;
 
 // How many values are counted, the least, greatest and total of their whole numbers of 2^-30, in two's complement, how many lie
 // not within 2^20 of zero, and how many are NaN or infinite. With count 0 least, greatest and total are 0.
-#[derive(Drop)]
+#[derive(Clone, Copy)]
 pub struct Column {
     pub count: u64,
     pub least: u64,

@@ -42,7 +42,7 @@ struct Parameters {
 
 // What stands before the records: refusal 0 where it was read, and `at` the place of the first record. Beside a refusal
 // all else is 0.
-#[derive(Drop)]
+#[derive(Clone, Copy)]
 pub struct Header {
     pub refusal: u8,
     pub model: u64,

@@ -13,7 +13,7 @@ use Rattle.tensor.specs.Finite.{row_finite}
 use Rattle.walk.specs.Expr.{num}
 use Rattle.walk.specs.Walk.{refused, walk_result, answer_as}
 use Rattle.walk.specs.Matrix.{joined}
-use Rattle.walk.specs.Answers.{matrixAs}
+use Rattle.walk.specs.Answers.{matrix_as}
 use Rattle.record.specs.Layout.{place_f, place_sigma, place_phase, place_elastic_hardening, place_determinant, float_at, row_at, mat_at, u_at, vt_at, record_finite}
 use Rattle.record.proofs.Parts.{record_parts, state_parts, scalars_parts}
 use Rattle.record.proofs.Stored.{stored}
@@ -74,12 +74,12 @@ module _ (p : CorotatedLinearElasticity) (r : List ℕ) where
     pub sigma_finite : row_finite s ≡ true
     sigma_finite = (state_parts r (passed (law_finite p) r q).fine).1
 
-    pub kirchhoff_stored : matrixAs (walk_result (stress_from p phase h f u s vt (num j))) ≡ stress_at p r
+    pub kirchhoff_stored : matrix_as (walk_result (stress_from p phase h f u s vt (num j))) ≡ stress_at p r
     unfolding stress_walk
     kirchhoff_stored =
-        ap (λ x. matrixAs (walk_result (stress_from p phase h f u s vt (num x)))) (stored r (passed (law_finite p) r q).right)
-        ∙ ap matrixAs (sym (stress_worked p phase h f u s vt))
-        ∙ ap (λ b. matrixAs (cond b (walk_result (stress_steps p phase h f u s vt)) (refused not_finite))) (sym (all_finite (passed (law_finite p) r q).all))
+        ap (λ x. matrix_as (walk_result (stress_from p phase h f u s vt (num x)))) (stored r (passed (law_finite p) r q).right)
+        ∙ ap matrix_as (sym (stress_worked p phase h f u s vt))
+        ∙ ap (λ b. matrix_as (cond b (walk_result (stress_steps p phase h f u s vt)) (refused not_finite))) (sym (all_finite (passed (law_finite p) r q).all))
 
     pub pos_stored : answer_as (walk_result (pos_from p s h (num j))) ≡ pos_energy p r
     unfolding pos_walk

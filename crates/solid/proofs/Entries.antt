@@ -18,7 +18,7 @@ use Rattle.walk.specs.Expr.{Expr, num, value, values}
 use Rattle.walk.specs.Walk.{Walk, inputs, ask, works, either, branch, split, results, end, mosts, leasts, Ended, given, refused, asked, answer_of, numbers, tellable, holds, picked, walk_result}
 use Rattle.walk.specs.Tensor.{worth, rows, turned, times, plus, scaled, identity_times, determinant}
 use Rattle.decomposed.specs.Formulas.{deviatoric}
-use Rattle.walk.specs.Answers.{matrixAs}
+use Rattle.walk.specs.Answers.{matrix_as}
 use Rattle.elasticity_neo_hookean.specs.declared.NeoHookeanElasticity.{NeoHookeanElasticity}
 use Rattle.elasticity_neo_hookean.specs.Law.{coefficient, bulk, cauchy_green}
 use Rattle.elasticity_neo_hookean.specs.Stress.{kirchhoff_steps, kirchhoff_from, shear, volumetric, tensile, compressed}
@@ -81,12 +81,12 @@ given_finite (results n l w) h m e =
 given_finite (end a) h m e = ended a m h e
 
 -- zeros stand beside a refusal
-by_end : (x : Ended Matrix) → ((m : Matrix) → x ≡ given m → Diagonal m) → row_finite (diagonal (matrixAs x)) ≡ true
+by_end : (x : Ended Matrix) → ((m : Matrix) → x ≡ given m → Diagonal m) → row_finite (diagonal (matrix_as x)) ≡ true
 unfolding finite of_bits
 by_end (given m) h = h m refl
 by_end (refused n) h = refl
 
-pub diagonal_finite : (w : Walk Matrix) → Ends w → row_finite (diagonal (matrixAs (walk_result w))) ≡ true
+pub diagonal_finite : (w : Walk Matrix) → Ends w → row_finite (diagonal (matrix_as (walk_result w))) ≡ true
 diagonal_finite w h = by_end (walk_result w) (given_finite w h)
 
 -- ---- of a matrix of three rows of three

@@ -12,7 +12,7 @@ use Rattle.tensor.specs.Axes.{all_of}
 use Rattle.tensor.specs.Answer.{refused_matrix}
 use Rattle.walk.specs.Expr.{num}
 use Rattle.walk.specs.Walk.{refused, walk_result, answer_as}
-use Rattle.walk.specs.Answers.{matrixAs}
+use Rattle.walk.specs.Answers.{matrix_as}
 use Rattle.record.specs.Layout.{place_f, place_phase, place_elastic_hardening, place_determinant, float_at, mat_at, record_finite}
 use Rattle.record.proofs.Parts.{state_parts, scalars_parts}
 use Rattle.record.proofs.Stored.{stored}
@@ -54,19 +54,19 @@ module _ (p : NeoHookeanElasticity) (r : List ℕ) where
     abbrev j : Float
     j = float_at r place_determinant
 
-    pub kirchhoff_stored : matrixAs (walk_result (kirchhoff_from p phase h f (num j))) ≡ stress_at p r
+    pub kirchhoff_stored : matrix_as (walk_result (kirchhoff_from p phase h f (num j))) ≡ stress_at p r
     unfolding kirchhoff_walk
     kirchhoff_stored =
-        ap (λ x. matrixAs (walk_result (kirchhoff_from p phase h f (num x)))) (stored r (passed (law_finite p) r q).right)
-        ∙ ap matrixAs (sym (kirchhoff_worked p phase h f))
-        ∙ ap (λ b. matrixAs (cond b (walk_result (kirchhoff_steps p phase h f)) (refused not_finite))) (sym (all_finite (passed (law_finite p) r q).all))
+        ap (λ x. matrix_as (walk_result (kirchhoff_from p phase h f (num x)))) (stored r (passed (law_finite p) r q).right)
+        ∙ ap matrix_as (sym (kirchhoff_worked p phase h f))
+        ∙ ap (λ b. matrix_as (cond b (walk_result (kirchhoff_steps p phase h f)) (refused not_finite))) (sym (all_finite (passed (law_finite p) r q).all))
 
-    pub fpk_stored : matrixAs (walk_result (fpk_from p f h (num j))) ≡ fpk_stress p r
+    pub fpk_stored : matrix_as (walk_result (fpk_from p f h (num j))) ≡ fpk_stress p r
     unfolding fpk_walk
     fpk_stored =
-        ap (λ x. matrixAs (walk_result (fpk_from p f h (num x)))) (stored r (passed (law_finite p) r q).right)
-        ∙ ap matrixAs (sym (fpk_worked p f h))
-        ∙ ap (λ b. matrixAs (cond b (walk_result (fpk_steps p f h)) (refused not_finite))) (sym (fpk_finite (passed (law_finite p) r q).all))
+        ap (λ x. matrix_as (walk_result (fpk_from p f h (num x)))) (stored r (passed (law_finite p) r q).right)
+        ∙ ap matrix_as (sym (fpk_worked p f h))
+        ∙ ap (λ b. matrix_as (cond b (walk_result (fpk_steps p f h)) (refused not_finite))) (sym (fpk_finite (passed (law_finite p) r q).all))
         ∙ sym (asked (law_finite p) r refused_matrix (stress.fpk_stress p f h) q)
 
     pub energy_stored : (m : Bool) → answer_as (walk_result (energy_from m p phase h f (num j))) ≡ elastic_energy_density_in m p r

@@ -18,8 +18,8 @@ use Rattle.walk.specs.Walk.{Walk, inputs, refused, walk_result, answer_as}
 use Rattle.walk.specs.Exact.{path}
 use Rattle.walk.specs.Matrix.{joined}
 use Rattle.walk.specs.Numbers.{Stops}
-use Rattle.walk.specs.Answers.{returned, matrixAs}
-use Rattle.walk.proofs.Answers.{number_refused, matrix-refused}
+use Rattle.walk.specs.Answers.{returned, matrix_as}
+use Rattle.walk.proofs.Answers.{number_refused, matrix_refused}
 use Rattle.walk.proofs.Inner.{Inner, later, between, never_one}
 use Rattle.record.specs.Layout.{place_f, place_sigma, place_phase, place_elastic_hardening, float_at, row_at, mat_at, u_at, vt_at, record_finite}
 use Rattle.elasticity_neo_hookean.specs.declared.NeoHookeanElasticity.{NeoHookeanElasticity}
@@ -72,12 +72,12 @@ module _ (l : List Float) (k : all_of finite l ≡ true) where
   number_other : (w : Walk Float) → Inner w → (n : ℕ) → answer_as (walk_result (inputs l w)) ≡ Refused n → Other n
   number_other w h n q = other w h n (λ _. (number_refused w n).0 (ap (λ b. answer_as (cond b (walk_result w) (refused not_finite))) (sym k) ∙ q))
 
-  matrix_other : (w : Walk (List (List Float))) → Inner w → (n : ℕ) → (matrixAs (walk_result (inputs l w))).refusal ≡ n → Other n
-  matrix_other w h n q = other w h n (λ z. (matrix-refused w n).0 (z, ap (λ b. (matrixAs (cond b (walk_result w) (refused not_finite))).refusal) (sym k) ∙ q))
+  matrix_other : (w : Walk (List (List Float))) → Inner w → (n : ℕ) → (matrix_as (walk_result (inputs l w))).refusal ≡ n → Other n
+  matrix_other w h n q = other w h n (λ z. (matrix_refused w n).0 (z, ap (λ b. (matrix_as (cond b (walk_result w) (refused not_finite))).refusal) (sym k) ∙ q))
 
-  matrix_not_fourteen : (w : Walk (List (List Float))) → (n : ℕ) → (matrixAs (walk_result (inputs l w))).refusal ≡ n → n ≡ not_accepted → ⊥
+  matrix_not_fourteen : (w : Walk (List (List Float))) → (n : ℕ) → (matrix_as (walk_result (inputs l w))).refusal ≡ n → n ≡ not_accepted → ⊥
   matrix_not_fourteen w n q e =
-      not_fourteen n (between (path w) n ((matrix-refused w n).0 (omega arith, ap (λ b. (matrixAs (cond b (walk_result w) (refused not_finite))).refusal) (sym k) ∙ q))) e
+      not_fourteen n (between (path w) n ((matrix_refused w n).0 (omega arith, ap (λ b. (matrix_as (cond b (walk_result w) (refused not_finite))).refusal) (sym k) ∙ q))) e
 
 -- ---- of the calls
 module _ (r : List ℕ) where
@@ -95,14 +95,14 @@ module _ (r : List ℕ) where
 
   -- a matrix that the law works of floats l by steps w
   matrix_told : (ok : Bool) (l : List Float) (w : Walk (List (List Float))) → Inner w → (ok && record_finite r ≡ true → all_of finite l ≡ true)
-      → ToldMatrix (of_record refused_matrix ok r (matrixAs (walk_result (inputs l w)))) (matrixAs (walk_result (inputs l w))) ok r
-  matrix_told ok l w i k = all_told refused_matrix (λ a n. a.refusal ≡ n) (λ m n. Iff.rfl) (matrixAs (walk_result (inputs l w))) ok r (λ q. matrix_other l (k q) w i)
+      → ToldMatrix (of_record refused_matrix ok r (matrix_as (walk_result (inputs l w)))) (matrix_as (walk_result (inputs l w))) ok r
+  matrix_told ok l w i k = all_told refused_matrix (λ a n. a.refusal ≡ n) (λ m n. Iff.rfl) (matrix_as (walk_result (inputs l w))) ok r (λ q. matrix_other l (k q) w i)
 
   -- with the verdict
   judged_told : (ok : Bool) (l : List Float) (w : Walk (List (List Float))) → Inner w → Ends w → (ok && record_finite r ≡ true → all_of finite l ≡ true) → (b : MaximumStressFailure)
-      → ToldJudged b (of_record refused_judged (ok && limits_finite b) r (judged_of b (matrixAs (walk_result (inputs l w))))) (matrixAs (walk_result (inputs l w))) (ok && limits_finite b) r
+      → ToldJudged b (of_record refused_judged (ok && limits_finite b) r (judged_of b (matrix_as (walk_result (inputs l w))))) (matrix_as (walk_result (inputs l w))) (ok && limits_finite b) r
   judged_told ok l w i d k b =
-      all_judged b (matrixAs (walk_result (inputs l w))) (ok && limits_finite b) r
+      all_judged b (matrix_as (walk_result (inputs l w))) (ok && limits_finite b) r
       (λ q. (and_both ok (limits_finite b) (and_both (ok && limits_finite b) (record_finite r) q).0).1)
       (λ q n e. let f = k (without ok (limits_finite b) (record_finite r) q) in (matrix_other l f w i n e, matrix_not_fourteen l f w n e))
       (diagonal_finite (inputs l w) d)

@@ -20,8 +20,8 @@ use Rattle.record.specs.Layout.{floats, record_finite, determinant_right}
 use Rattle.factors.specs.declared.Principal.{Principal}
 use Rattle.factors.specs.PrincipalValues.{mirrored_of, principal_of, principal_accepted}
 use Rattle.factors.specs.Check.{near_all, orthogonal_of, largest_in}
-use Rattle.factors.specs.Answers.{principalsOf}
-use Rattle.factors.proofs.Answers.{principals-accepted, principals-refused}
+use Rattle.factors.specs.Answers.{principals_of}
+use Rattle.factors.proofs.Answers.{principals_accepted, principals_refused}
 use Rattle.factors.specs.Diagonal.{Zero}
 use Rattle.factors.proofs.Diagonal.{diagonal_principals}
 use Rattle.failure_maximum_stress.specs.Failure.{limits_finite, exceeds_of, verdict_of}
@@ -72,7 +72,7 @@ module _ (l : MaximumStressFailure) (x : MatrixAnswer) where
   abbrev Ways : Type 0
   Ways = Own ⊎ (Missed ⊎ Given)
 
-  by_values : (v : List Float) → eqb x.refusal 0 ≡ true → principalsOf (of_rows x.matrix) ≡ record { refusal = 0; vector = v }
+  by_values : (v : List Float) → eqb x.refusal 0 ≡ true → principals_of (of_rows x.matrix) ≡ record { refusal = 0; vector = v }
       → limits_finite l ≡ true → row_finite v ≡ true → judged_of l x ≡ together x (exceeds_of l v)
   unfolding judged_of
   by_values v e p f g = simp (e, p, plain_verdict l v f g, picked (exceeds_of l v) x.matrix)
@@ -80,9 +80,9 @@ module _ (l : MaximumStressFailure) (x : MatrixAnswer) where
   way : (b c : Bool) → eqb x.refusal 0 ≡ b → accepted x ≡ c → limits_finite l ≡ true → Ways
   unfolding judged_of
   way false c e a f = inl (eqb-false x.refusal 0 e, simp e)
-  way true false e a f = inr (inl (eqb-true x.refusal 0 e, a, simp (e, principals-refused (of_rows x.matrix) a)))
+  way true false e a f = inr (inl (eqb-true x.refusal 0 e, a, simp (e, principals_refused (of_rows x.matrix) a)))
   way true true e a f =
-      inr (inr (eqb-true x.refusal 0 e, a, by_values (principals x) e (principals-accepted (of_rows x.matrix) a) f (accepted_finite (of_rows x.matrix) (principal_of (of_rows x.matrix)) a)))
+      inr (inr (eqb-true x.refusal 0 e, a, by_values (principals x) e (principals_accepted (of_rows x.matrix) a) f (accepted_finite (of_rows x.matrix) (principal_of (of_rows x.matrix)) a)))
 
   ways : limits_finite l ≡ true → Ways
   ways f = way (eqb x.refusal 0) (accepted x) refl refl f
@@ -141,8 +141,8 @@ module _ (l : MaximumStressFailure) (x : MatrixAnswer) where
       three_finite false b c q = absurd (false≢true q)
 
   lower : row_finite (diagonal x) ≡ true → Zero (entry x 1 0) → Zero (entry x 2 0) → Zero (entry x 2 1)
-      → principalsOf (of_rows x.matrix) ≡ record { refusal = 0; vector = diagonal x }
-  unfolding principalsOf principal_of principal_accepted
+      → principals_of (of_rows x.matrix) ≡ record { refusal = 0; vector = diagonal x }
+  unfolding principals_of principal_of principal_accepted
   lower q z₁ z₂ z₃ =
       let d = entries q in
       diagonal_principals (entry x 0 0) (entry x 1 1) (entry x 2 2) (entry x 1 0) (entry x 2 0) (entry x 2 1) (entry x 0 1) (entry x 0 2) (entry x 1 2) z₁ z₂ z₃ d.0 d.1 d.2

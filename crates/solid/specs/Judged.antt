@@ -6,7 +6,7 @@ use Rattle.tensor.specs.Answer.{zero_rows}
 use Rattle.tensor.specs.declared.Rows.{Rows}
 use Rattle.tensor.specs.declared.MatrixAnswer.{MatrixAnswer}
 use Rattle.tensor.specs.declared.VectorAnswer.{VectorAnswer}
-use Rattle.factors.specs.Answers.{principalsOf}
+use Rattle.factors.specs.Answers.{principals_of}
 use Rattle.failure_maximum_stress.specs.Failure.{verdict_of}
 use Rattle.failure_maximum_stress.specs.declared.MaximumStressFailure.{MaximumStressFailure}
 use Rattle.failure_maximum_stress.specs.declared.Verdict.{Verdict}
@@ -27,4 +27,4 @@ on_principals l m v = cond (eqb v.refusal 0) (with_verdict m (verdict_of l v.vec
 
 -- a is the law's answer: its own refusal comes first
 unfoldable pub judged_of : MaximumStressFailure → MatrixAnswer → StressVerdict
-judged_of l a = cond (eqb a.refusal 0) (on_principals l a.matrix (principalsOf (of_rows a.matrix))) (refused_judged a.refusal)
+judged_of l a = cond (eqb a.refusal 0) (on_principals l a.matrix (principals_of (of_rows a.matrix))) (refused_judged a.refusal)

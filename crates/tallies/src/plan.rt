@@ -11,7 +11,7 @@ use crate::tally::Tally;
 use crate::{ranges, tally};
 
 // 0 leaves a tally as it is, 1 counts its particles afresh, 2 clears it besides.
-#[derive(Drop)]
+#[derive(Clone, Copy)]
 pub struct Plan {
     pub refusal: u8,
     pub what: u64,

@@ -10,7 +10,7 @@ pub const ZONES: usize = 256;
 pub const LAST: u64 = 4294967295;
 
 // Particles now; and so far: untouched, stored, refused, and failed of those not refused.
-#[derive(Drop)]
+#[derive(Clone, Copy)]
 pub struct Tally {
     pub particles: u64,
     pub untouched: u64,

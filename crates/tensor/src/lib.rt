@@ -12,7 +12,7 @@ pub use matrix::{
 pub use number::row_number;
 
 // A matrix as a field of a struct: its three rows.
-#[derive(Drop)]
+#[derive(Clone, Copy)]
 pub struct Rows {
     pub r0: [f64; 3],
     pub r1: [f64; 3],

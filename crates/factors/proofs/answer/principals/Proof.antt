@@ -1,17 +1,17 @@
 -- `factors::answer::principals` meets its contract. Assumes nothing.
-use Rattle.factors.specs.Answers.{principalsOf}
+use Rattle.factors.specs.Answers.{principals_of}
 use borrow.Author.Rules.{rules}
 use Rattle.factors.proofs.answer.principals.Statement.{statement}
 use Rattle.factors.proofs.answer.principals.Tie as tie
 
 returns : tie.Need-returns
-unfolding principalsOf
+unfolding principals_of
 returns c =
     let t0 = simp (c.before.before.principal-accepted.ensures, c.before.before.before.principal-of.ensures) at c.before.if1.true in
     simp (c.before.before.principal-accepted.ensures, c.before.before.before.principal-of.ensures, t0)
 
 returns-2 : tie.Need-returns-2
-unfolding principalsOf
+unfolding principals_of
 returns-2 c =
     let t0 = simp (c.before.before.principal-accepted.ensures, c.before.before.before.principal-of.ensures) at c.before.if1.false in
     simp (c.refused-vector.ensures, c.before.before.principal-accepted.ensures, c.before.before.before.principal-of.ensures, t0)
