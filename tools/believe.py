@@ -23,7 +23,7 @@ PAGE = TOP / "docs" / "BELIEVE.md"
 CARRIED = ("walk/specs/Axes", "walk/specs/Matrix")  # pages whose lemmas definitions carry (`Body`)
 LAWS = [name for name, _ in calls.crates(TOP) if name.startswith("plasticity_")]
 NAME = r"[^\s(){}\[\],;.«»]+"
-DECLARED = re.compile(rf"^( *)((?:(?:abbrev|unfoldable|pub) )*)(record |data )?({NAME})((?: [({{][^=]*?)?) : ")
+DECLARED = re.compile(rf"^( *)((?:(?:abbrev|unfoldable|pub) )*)(record |data )?({NAME})((?: [({{][^=]*?)?) :(?: |$)")
 USE = re.compile(rf"^ *(pub )?use (Rattle\.\S+?)(?:\.\{{([^}}]*)\}}| as ({NAME}))$", re.M)
 WORD = re.compile(r"[^\s(){}\[\],;λ«»]+")
 

@@ -32,7 +32,7 @@ MOST = {
 }
 
 WORD = r"[^\s(){}.,;«»]+"
-DECLARED = re.compile(rf"^( *)((?:abbrev |unfoldable |pub )*)(record |data )?({WORD})((?: [({{].*)?) : (.*)$")
+DECLARED = re.compile(rf"^( *)((?:abbrev |unfoldable |pub )*)(record |data )?({WORD})((?: [({{].*)?) :(?: |$)(.*)$")
 MODULE = re.compile(r"^( *)module _(.*)$")
 BOUND = re.compile(r"[({]([^(){}:]+) : |λ \(?([^.:()]+)[.:]")
 # the same thing in two axes and in three
