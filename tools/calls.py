@@ -348,7 +348,7 @@ def named_by(top, place, name, through=()):
     words = {w.split(".")[0] for w in re.findall(r"[^\s()]+", body.group() if body else "")}
     pages = {found[w] for w in words if w in found}
     for other in words - {name, *through, *found}:
-        if re.search(r"^(?:unfoldable |abbrev |pub )*%s : " % re.escape(other), text, re.M):
+        if re.search(r"^(?:unfoldable |abbrev |pub )*%s :(?: |$)" % re.escape(other), text, re.M):
             pages |= named_by(top, place, other, (name, *through))
     return pages
 

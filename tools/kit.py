@@ -8,7 +8,7 @@ import subprocess
 import sys
 
 TOP = pathlib.Path(__file__).resolve().parent.parent
-# the file that the gate makes before it runs `rt ci`: what that left is of the sources that stand here where none of them is newer
+# the file that the gate makes before it runs `rt ci` where no library stands: what that left is of the sources that stand here if none of them is newer
 BEGAN = "PASOLETU_CI_BEGAN"
 
 
