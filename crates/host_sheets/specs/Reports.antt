@@ -11,7 +11,7 @@ use Rattle.host_lists.specs.Called.{Called, called, sized_call}
 
 -- a column's six numbers, and a report's eighteen: plastic hardening, elastic hardening, plastic determinant
 abbrev pub column_words : Column → List ℕ
-column_words c = c.count ∷ c.least ∷ c.greatest ∷ c.total ∷ c.outside ∷ c.not_finite_lem ∷ []
+column_words c = c.count ∷ c.least ∷ c.greatest ∷ c.total ∷ c.outside ∷ c.not_finite ∷ []
 
 abbrev pub report_words : Report → List ℕ
 report_words r =
@@ -25,7 +25,7 @@ column_at l at =
       greatest = get_or l (at + 2) 0;
       total = get_or l (at + 3) 0;
       outside = get_or l (at + 4) 0;
-      not_finite_lem = get_or l (at + 5) 0;
+      not_finite = get_or l (at + 5) 0;
     }
 
 abbrev pub report_at : List ℕ → Report

@@ -71,7 +71,7 @@ column_read l at =
       greatest = get_or l (at + place_greatest) 0;
       total = get_or l (at + place_total) 0;
       outside = get_or l (at + place_outside) 0;
-      not_finite_lem = get_or l (at + place_not_finite) 0;
+      not_finite = get_or l (at + place_not_finite) 0;
     }
 
 abbrev pub report_read : List ℕ → Report

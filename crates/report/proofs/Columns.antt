@@ -104,7 +104,7 @@ module _ (before : ℤ → ℤ → Bool) (o : Order before) (ordered : ℕ → �
 
 -- ---- the column
 pub same_column : {c c' l l' g g' t t' o o' f f' : ℕ} → c ≡ c' → l ≡ l' → g ≡ g' → t ≡ t' → o ≡ o' → f ≡ f'
-    → ◌≡◌ {A = Column} (record { count = c; least = l; greatest = g; total = t; outside = o; not_finite_lem = f }) (record { count = c'; least = l'; greatest = g'; total = t'; outside = o'; not_finite_lem = f' })
+    → ◌≡◌ {A = Column} (record { count = c; least = l; greatest = g; total = t; outside = o; not_finite = f }) (record { count = c'; least = l'; greatest = g'; total = t'; outside = o'; not_finite = f' })
 same_column e1 e2 e3 e4 e5 e6 = rw (e1, e2, e3, e4, e5, e6) refl
 
 kind_length : (kind : Float → Bool) (xs ys : List Float) → length (those kind (xs ++ ys)) ≡ length (those kind xs) + length (those kind ys)

@@ -6,17 +6,17 @@ use Rattle.report.specs.Joined.{most, records_in, together}
 use Rattle.report.specs.declared.column.Column.{Column}
 
 abbrev pub is_small : Column → Bool
-is_small c = leb c.count most && (leb c.outside most && leb c.not_finite_lem most)
+is_small c = leb c.count most && (leb c.outside most && leb c.not_finite most)
 
-pub under : (c : Column) → is_small c ≡ true → (c.count ≤ most) × (c.outside ≤ most) × (c.not_finite_lem ≤ most)
+pub under : (c : Column) → is_small c ≡ true → (c.count ≤ most) × (c.outside ≤ most) × (c.not_finite ≤ most)
 under c h =
-    let a = and_both (leb c.count most) (leb c.outside most && leb c.not_finite_lem most) h in
-    let b = and_both (leb c.outside most) (leb c.not_finite_lem most) a.1 in
+    let a = and_both (leb c.count most) (leb c.outside most && leb c.not_finite most) h in
+    let b = and_both (leb c.outside most) (leb c.not_finite most) a.1 in
     (leb-true _ _ a.0, leb-true _ _ b.0, leb-true _ _ b.1)
 
 -- a column with a number above 4,096 fits with none
 small_of : (c : Column) → records_in c ≤ most → is_small c ≡ true
-small_of c h = rw (le-leb c.count most (omega arith), le-leb c.outside most (omega arith), le-leb c.not_finite_lem most (omega arith)) refl
+small_of c h = rw (le-leb c.count most (omega arith), le-leb c.outside most (omega arith), le-leb c.not_finite most (omega arith)) refl
 
 true_false : true ≡ false → ⊥
 true_false e = subst T e tt

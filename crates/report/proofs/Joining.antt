@@ -58,7 +58,7 @@ columns_assoc a b c =
     (both_assoc word_above word_above_order a.greatest b.greatest c.greatest a.count b.count c.count)
     (total_assoc a.total b.total c.total)
     (add_assoc a.outside b.outside c.outside)
-    (add_assoc a.not_finite_lem b.not_finite_lem c.not_finite_lem)
+    (add_assoc a.not_finite b.not_finite c.not_finite)
 
 pub records_joined : (a b : Column) → records_in (join_columns a b) ≡ records_in a + records_in b
 unfolding join_columns
@@ -158,14 +158,14 @@ unfolding column_of those word sum_of join_columns
 empty_left c q =
     same_column (zero-add c.count) (empty_first (eqb c.count 0) c.count c.least refl (λ e. (q.none e).0))
     (empty_first (eqb c.count 0) c.count c.greatest refl (λ e. (q.none e).1))
-    (let h = q.total_lt in omega arith) (zero-add c.outside) (zero-add c.not_finite_lem)
+    (let h = q.total_lt in omega arith) (zero-add c.outside) (zero-add c.not_finite)
 
 pub empty_right : (c : Column) → Proper c → join_columns c (column_of []) ≡ c
 unfolding column_of those word sum_of join_columns
 empty_right c q =
     same_column (add-zero c.count) (empty_first (eqb c.count 0) c.count c.least refl (λ e. (q.none e).0))
     (empty_first (eqb c.count 0) c.count c.greatest refl (λ e. (q.none e).1))
-    (let h = q.total_lt in omega arith) (add-zero c.outside) (add-zero c.not_finite_lem)
+    (let h = q.total_lt in omega arith) (add-zero c.outside) (add-zero c.not_finite)
 
 no_records : records_in (column_of []) ≡ 0
 unfolding column_of those

@@ -49,7 +49,7 @@ columns_comm a b u v =
     (both_comm word_above a.count b.count a.greatest b.greatest (higher_comm a.greatest b.greatest u.1 v.1))
     (ap (λ k. k % 2 ^ 64) (add_comm a.total b.total))
     (add_comm a.outside b.outside)
-    (add_comm a.not_finite_lem b.not_finite_lem)
+    (add_comm a.not_finite b.not_finite)
 
 together_comm : (a b : Column) → together a b ≡ together b a
 unfolding together

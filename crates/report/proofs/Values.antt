@@ -17,13 +17,13 @@ use Rattle.report.proofs.Patterns.{cut_le, size_cut, next_cut, zero_size, some_s
 
 -- ---- the column of one value, by its kind
 abbrev pub one_not_finite : Column
-one_not_finite = record { count = 0; least = 0; greatest = 0; total = 0; outside = 0; not_finite_lem = 1 }
+one_not_finite = record { count = 0; least = 0; greatest = 0; total = 0; outside = 0; not_finite = 1 }
 
 abbrev pub one_outside : Column
-one_outside = record { count = 0; least = 0; greatest = 0; total = 0; outside = 1; not_finite_lem = 0 }
+one_outside = record { count = 0; least = 0; greatest = 0; total = 0; outside = 1; not_finite = 0 }
 
 abbrev pub one_counted : ℕ → Column
-one_counted w = record { count = 1; least = w; greatest = w; total = w; outside = 0; not_finite_lem = 0 }
+one_counted w = record { count = 1; least = w; greatest = w; total = w; outside = 0; not_finite = 0 }
 
 module _ (x : Float) where
   pub not_finite_one : finite x ≡ false → column_of (x ∷ []) ≡ one_not_finite

@@ -55,5 +55,5 @@ column_of xs =
       greatest = word (first_of above (wholes xs));
       total = word (sum_of (wholes xs));
       outside = length (those is_outside xs);
-      not_finite_lem = length (those is_not_finite xs);
+      not_finite = length (those is_not_finite xs);
     }

@@ -30,12 +30,12 @@ join_columns a b =
       greatest = of_both word_above a.count b.count a.greatest b.greatest;
       total = (a.total + b.total) % 2 ^ 64;
       outside = a.outside + b.outside;
-      not_finite_lem = a.not_finite_lem + b.not_finite_lem;
+      not_finite = a.not_finite + b.not_finite;
     }
 
 -- how many records a column speaks of, and how many a report may
 abbrev pub records_in : Column → ℕ
-records_in c = c.count + c.outside + c.not_finite_lem
+records_in c = c.count + c.outside + c.not_finite
 
 abbrev pub most : ℕ
 most = 4096
