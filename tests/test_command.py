@@ -385,9 +385,10 @@ class Built(InFolder):
         for part in ("bin/slope", "tools/built", "tools/prove", "tools/jobs", "calls.toml", "VERSION"):
             (self.top / part).parent.mkdir(parents=True, exist_ok=True)
             shutil.copy(TOP / part, self.top / part)
-        (self.top / "crates.txt").write_text("numbers:   # a crate\nslope: numbers io # the program\nhost: numbers\nhost_passes: numbers\nhost_sheets: numbers\nother:\n")
-        for crate in ("numbers", "slope", "host", "host_passes", "host_sheets", "other"):
+        (self.top / "crates.txt").write_text("numbers:   # a crate\nslope: numbers io # the program\nhost: numbers\nhost_c staticlib: host\nother:\n")
+        for crate in ("numbers", "host", "host_c", "other"):
             script(self.top / "crates" / crate / "src" / "lib.rt", self.program("sheet refused 4"))
+        script(self.top / "crates" / "slope" / "src" / "main.rt", self.program("sheet refused 4"))
         self.sheet = self.top / "a.sheet"
         self.sheet.write_bytes(b"")
         self.environment["PATH"] = "%s:%s" % (self.folder / "kit", self.environment["PATH"])
@@ -399,21 +400,24 @@ class Built(InFolder):
     def toolchain(self, before=":"):
         script(self.folder / "kit" / "rt", """\
             #!/bin/sh
-            echo "$*" >>'%s'
+            here=$(basename "$PWD")
+            [ "$1" != all ] || here=$(sed 's/:.*//' crates.txt | tr '\\n' ' ')
+            echo "$*" $here >>'%s'
             %s
-            mkdir -p target/bin target/staticlib
-            cp crates/slope/src/lib.rt target/bin/slope
             for line in $(seq 400); do echo "note: $line"; done
-            echo 'rt: numbers proved (1 s)'
             case $1 in
-            check) [ "$2" != slope ] || echo 'rt: slope proved (2 s)' ;;
-            staticlib)
-                cp crates/$2/src/lib.rt lib.o
-                ar rcs target/staticlib/lib$2.a lib.o
-                echo "rt: target/staticlib/lib$2.a has the functions of $2"
+            all) for crate in $here; do printf '== %%s\\nlogic=proved functions=1\\n' $crate; done ;;
+            check) echo 'logic=proved functions=1' ;;
+            lib)
+                mkdir -p out
+                ar rcs out/lib$here.a src/lib.rt
+                ;;
+            run)
+                mkdir -p out
+                cp src/main.rt out/$here
+                echo known >out/$here.stamp
                 ;;
             esac
-            echo 'rt: ok, 2 crates proved'
             """ % (self.folder / "asked", before))
 
     def asked(self):
@@ -432,15 +436,15 @@ class Built(InFolder):
         return self.run_command(self.top / "tools" / "built", *words)
 
     def test_the_first_run_proves_and_shows_each_crate_once(self):
-        ran = self.ended(self.slope(), 3, "sheet refused 4\n", "[ 1/2] numbers proved (1 s)\n[ 2/2] slope proved (2 s)\n")
+        ran = self.ended(self.slope(), 3, "sheet refused 4\n", "[ 1/2] numbers proved\n[ 2/2] slope proved\n")
         self.assertIn("2 crates, about ", ran.stderr.decode())
         self.assertEqual(len(ran.stderr.decode().splitlines()), 3)
         self.assertEqual(self.slope().stderr, b"")
-        self.assertEqual(self.asked(), ["check numbers", "check slope"])
+        self.assertEqual([re.sub(r"--jobs \d+", "", line) for line in self.asked()], ["all check  numbers", "check slope", "run slope"])
 
     def test_a_changed_source_is_proved_anew(self):
         self.slope()
-        script(self.top / "crates" / "slope" / "src" / "lib.rt", self.program("sheet refused 5"))
+        script(self.top / "crates" / "slope" / "src" / "main.rt", self.program("sheet refused 5"))
         self.ended(self.slope(), 3, "sheet refused 5\n")
         (self.top / "crates" / "numbers" / "proofs").mkdir()
         (self.top / "crates" / "numbers" / "proofs" / "a.antt").write_text("")
@@ -464,7 +468,7 @@ class Built(InFolder):
                 break
         self.ended(self.slope(), 3, "sheet refused 4\n")
         self.assertEqual(reads(), 0)
-        source = self.top / "crates" / "slope" / "src" / "lib.rt"
+        source = self.top / "crates" / "slope" / "src" / "main.rt"
         times = source.stat()
         source.write_text(source.read_text().replace("refused 4", "refused 5"))
         os.utime(source, ns=(times.st_atime_ns, times.st_mtime_ns))
@@ -495,9 +499,9 @@ class Built(InFolder):
         self.slope()
         self.assertEqual(self.proofs(), 1)
 
-    def test_the_gate_may_empty_target(self):
+    def test_the_gate_may_empty_what_rt_keeps(self):
         self.slope()
-        shutil.rmtree(self.top / "target")
+        shutil.rmtree(self.top / "crates" / "slope" / "out")
         self.ended(self.slope(), 3, "sheet refused 4\n")
         self.assertEqual(self.proofs(), 1)
 
@@ -505,31 +509,28 @@ class Built(InFolder):
         for part in ("program", "archive", "library"):
             self.ended(self.built(part), 1, "", "install.sh PREFIX")
         self.slope()
-        (self.top / "crates" / "slope" / "src" / "lib.rt").write_text("changed")
+        (self.top / "crates" / "slope" / "src" / "main.rt").write_text("changed")
         self.ended(self.built("program"), 1, "", "of other sources")
         self.assertEqual(self.proofs(), 1)
 
     def test_the_archive_is_proved_once(self):
         path = self.top / ".built" / "libpasoletu.a"
-        self.ended(self.built("--prove", "archive"), 0, "%s\n" % path, "[ 4/4] host")
+        self.ended(self.built("--prove", "archive"), 0, "%s\n" % path, "[ 3/3] host_c")
         self.ended(self.built("--prove", "archive"), 0, "%s\n" % path)
         self.ended(self.built("archive"), 0, "%s\n" % path)
-        self.assertEqual((self.asked()[0], sorted(self.asked()[1:])), ("check numbers", ["staticlib host", "staticlib host_passes", "staticlib host_sheets"]))
+        self.assertEqual([re.sub(r"--jobs \d+", "", line) for line in self.asked()], ["all check  numbers host", "lib host_c"])
         objects = subprocess.run(["ar", "t", path], capture_output=True, text=True).stdout.split()
-        self.assertEqual(objects, ["host.lib.o", "host_passes.lib.o", "host_sheets.lib.o"])
+        self.assertEqual(objects, ["lib.rt"])
 
-    def test_each_crate_is_proved_after_what_it_needs_the_longest_way_first(self):
+    def test_what_is_needed_is_proved_first_many_at_a_time(self):
         (self.top / "crates.txt").write_text("low:\nnumbers: low\nlong: low io\nhigh: long\nbeside: low\nslope: numbers high beside\nother: low\n")
-        for crate, functions in (("low", 1), ("numbers", 39), ("long", 2), ("high", 28), ("beside", 1)):
-            source = self.top / "crates" / crate / "src" / "lib.rt"
-            source.parent.mkdir(parents=True, exist_ok=True)
-            source.write_text("pub fn f() {}\n" * functions)
+        for crate in ("low", "numbers", "long", "high", "beside"):
+            script(self.top / "crates" / crate / "src" / "lib.rt", "")
         self.ended(self.run_command(self.top / "tools" / "prove", "slope", RT_JOBS="1"), 0)
-        self.assertEqual(self.asked(), ["check %s" % crate for crate in ("low", "long", "numbers", "high", "beside", "slope")])
+        self.assertEqual(self.asked(), ["all check --jobs 1 low numbers long high beside", "check slope", "run slope"])
         (self.folder / "asked").unlink()
         self.ended(self.run_command(self.top / "tools" / "prove", "high", "beside", RT_JOBS="3"), 0)
-        self.assertEqual(self.asked(), ["check low", "check long", "check high beside"])
-        self.assertFalse((self.top / "target" / "lanes").exists())
+        self.assertEqual(self.asked(), ["all check --jobs 3 low long", "check high", "check beside"])
         self.ended(self.run_command(self.top / "tools" / "prove"), 2, "", "tools/prove [--archive] NAME")
         self.ended(self.run_command(self.top / "tools" / "prove", "none"), 2, "", "no crate none")
 
@@ -540,18 +541,18 @@ class Built(InFolder):
         self.ended(self.slope(), 1, "", "no Rattle toolchain")
 
     def test_a_proof_that_fails(self):
-        self.toolchain("[ $2 = numbers ] || { echo 'why it failed'; echo 'rt: slope NOT PROVED (exit 1, 1 s)'; exit 1; }")
-        self.ended(self.slope(), 1, "", "\nslope NOT PROVED (")
+        self.toolchain("[ $1 = all ] || { echo 'why it failed'; exit 1; }")
+        self.ended(self.slope(), 1, "", "\nslope NOT PROVED\n")
         self.ended(self.slope(), 1, "", "slope.log")
         self.assertEqual(self.proofs(), 2)
 
     def test_nothing_is_proved_above_a_proof_that_fails(self):
-        self.toolchain("echo 'rt: numbers NOT PROVED (exit 1, 1 s)'; exit 1")
-        self.ended(self.slope(), 1, "", "\nnumbers NOT PROVED (")
-        self.assertEqual(self.asked(), ["check numbers"])
+        self.toolchain("printf '== numbers\\nlogic=not-proved\\n'; exit 1")
+        self.ended(self.slope(), 1, "", "\nnumbers NOT PROVED\n")
+        self.assertEqual([re.sub(r"--jobs \d+", "", line) for line in self.asked()], ["all check  numbers"])
 
     def test_sources_that_change_meanwhile(self):
-        self.toolchain("echo >>crates/numbers/src/lib.rt")
+        self.toolchain("[ $1 = all ] || echo >>src/main.rt")
         self.ended(self.slope(), 1, "", "the sources changed while")
 
     def test_ready_parts(self):

@@ -23,8 +23,8 @@ PAGE = TOP / "docs" / "BELIEVE.md"
 CARRIED = ("walk/specs/Axes", "walk/specs/Matrix")  # pages whose lemmas definitions carry (`Body`)
 LAWS = [name for name, _ in calls.crates(TOP) if name.startswith("plasticity_")]
 NAME = r"[^\s(){}\[\],;.«»]+"
-DECLARED = re.compile(rf"^( *)((?:(?:abbrev|unfoldable|pub) )*)(record |data )?({NAME})((?: [({{][^=]*?)?) : ")
-USE = re.compile(rf"^ *(pub )?use (Rattle·\S+?)(?:\.\{{([^}}]*)\}}| as ({NAME}))$", re.M)
+DECLARED = re.compile(rf"^( *)((?:(?:abbrev|unfoldable|pub) )*)(record |data )?({NAME})((?: [({{][^=]*?)?) :(?: |$)")
+USE = re.compile(rf"^ *(pub )?use (Rattle\.\S+?)(?:\.\{{([^}}]*)\}}| as ({NAME}))$", re.M)
 WORD = re.compile(r"[^\s(){}\[\],;λ«»]+")
 
 
@@ -89,7 +89,7 @@ class Page:
 
 def page_of(module):
     """The file that a module's name means, below crates/; nothing for declared types and the kit's own."""
-    m = re.match(r"Rattle·(\w+?)(?:·specs|·proofs)?\.(specs|proofs)((?:\.\w+)+)$", module)
+    m = re.match(r"Rattle\.(?!std\.)(\w+)\.(specs|proofs)((?:\.\w+)+)$", module)
     if not m or m.group(3).startswith(".declared"):
         return None
     return m.group(1), m.group(2) + m.group(3).replace(".", "/")

@@ -31,8 +31,8 @@ HEAD = """# Every public call
 
 Made by `tools/calls.py` from the sources: don't edit. A call stands with the path by which another crate names it; a C call with its own name.
 The section is [RULES.md](RULES.md)'s, as the page of its definition cites it; the words of a C call are the header's first sentence, of another the source's or calls.toml's.
-The contract names definitions, and below each table stands where these are. `r` is the result, `now (x .entry)` and `now (x .exit)` a lent list before and
-after. An *inner* call is public for the project's own crates alone: it requires something, which they prove, or it is no part of what a host is given ([EXCEPTIONS.md](EXCEPTIONS.md)).
+The contract names definitions, and below each table stands where these are. `result` is the result, `x.old` and `x.new` a lent list before and after, `x.now` one
+that is only read. `host_c` exports the C calls under the same clauses. An *inner* call is public for the project's own crates alone: it requires something, which they prove, or it is no part of what a host is given ([EXCEPTIONS.md](EXCEPTIONS.md)).
 """
 
 Call = collections.namedtuple("Call", "crate path name words takes gives requires ensures definitions source")
@@ -51,7 +51,7 @@ REQUIRES = [
     ("particles: write_answer", "that the two places are inside the list, and that an amount which is stored is finite"),
     ("particles: count_one", "that no count is near the end of its range, as in a pass none is: it counts records of a list"),
     ("writer: write_words", "that the room has place for the words, as bytes"),
-    ("model: model_of", "that the number is one of the eight and each flag is one, which `model::known` tells: every caller has asked it, or has read a header, which names such a model (`sheet/proofs/Known: read-known`)"),
+    ("model: model_of", "that the number is one of the eight and each flag is one, which `model::known` tells: every caller has asked it, or has read a header, which names such a model (`sheet/proofs/Known: read_known`)"),
     ("model: write_scalars", "a list of a record's length, and that what is written is finite"),
     (
         "plasticity_*: *::update_ready; model: update_ready",
@@ -173,7 +173,7 @@ FLOATS, LISTS = r"\bf64\b", r"\[u64"
 REFUSAL = r"\bRefused\(|\brefusal: u8|^u8$"
 MADE = re.compile(r"(<!-- made by tools/calls.py: (\w+) -->\n)(.*?)(<!-- end -->)", re.S)
 HALF = re.compile(r"(?:The same|And|Its|Their|Of it|Likewise)\b")
-HEADING = re.compile(r"^( *)pub (?:extern \"C\" )?fn (\w+)((?:.|\n)*?)\n\1\{|^( *)pub fn (\w+)([^\n]*)\{$", re.M)
+HEADING = re.compile(r"^( *)pub fn (\w+)((?:.|\n)*?)\n\1\{|^( *)pub fn (\w+)([^\n]*)\{$", re.M)
 CITED = re.compile(r"`(\w+)/((?:specs|proofs)/[\w/]+|must-fail)(?:: ([^`]+))?`")
 CALLED = re.compile(r"`(\w+)::([\w:]+)`")
 
@@ -183,7 +183,7 @@ def crates(top):
     for line in (top / "crates.txt").read_text().splitlines():
         name, colon, rest = line.partition(":")
         if colon and "#" not in name:
-            yield name.strip(), rest.partition("#")[2].strip()
+            yield name.split()[0], rest.partition("#")[2].strip()
 
 
 @functools.lru_cache(maxsize=None)
@@ -208,7 +208,7 @@ def dependencies(top):
     for line in (top / "crates.txt").read_text().splitlines():
         name, colon, rest = line.partition(":")
         if colon and "#" not in name:
-            found[name.strip()] = rest.partition("#")[0].split()
+            found[name.split()[0]] = rest.partition("#")[0].split()
     return found
 
 
@@ -234,9 +234,9 @@ def cited_sections(text):
 def definitions(text):
     """Each definition that a source names, with its place: crate/specs/File."""
     found = {}
-    for crate, place, names in re.findall(r"^ghost use Rattle·(\w+)(?:·specs)?\.(specs(?:\.\w+)+)\.\{([^}]*)\};", text, re.M):
-        for name in names.split(", "):
-            found[name] = "%s/%s" % (crate, place.replace(".", "/"))
+    for crate, place, names in re.findall(r"^ghost use Rattle\.(?!std\.)(\w+)\.(specs(?!\.declared\b)(?:\.\w+)+)\.\{([^}]*)\};", text, re.M):
+        for name in names.split(","):
+            found[name.strip()] = "%s/%s" % (crate, place.replace(".", "/"))
     return found
 
 
@@ -250,7 +250,8 @@ def public_path(crate, module, own, name, root):
     """How another crate names a function, or nothing where it can't."""
     if own:
         return "%s::%s::%s" % (crate, own, name)
-    if module == "lib" or re.search(r"^pub use %s::%s;" % (module, name), root, re.M):
+    used = re.findall(r"^pub use %s::(?:\{([^}]*)\}|(\w+));" % module, root, re.M)
+    if module == "lib" or name in re.findall(r"\w+", " ".join(map(" ".join, used))):
         return "%s::%s" % (crate, name)
     if re.search(r"^pub mod %s;" % module, root, re.M):
         return "%s::%s::%s" % (crate, module, name)
@@ -297,10 +298,9 @@ def calls_of(top, crate):
             public = public_path(crate, path.stem, owner(text[:m.start()]), name, root)
             if not public:
                 continue
-            if 'extern "C"' in m.group().split("(")[0]:
+            if name.startswith("pasoletu_"):
                 public = name
-            ensures = re.findall(r"ensures(?: \w+)? \{ (?:λ \w+\. )?⌜ (.*) ⌝ \}", rest)
-            requires = re.findall(r"requires(?: \w+)? \{ ⌜ (.*) ⌝ \}", rest)
+            ensures, requires = (re.findall(r"^ *%s\*?(?: \w+)? \{ (.*) \}$" % word, rest, re.M) for word in ("ensures", "requires"))
             used = {w: named[w] for w in re.findall(r"[^\s()]+", " ".join(ensures)) if w in named}
             takes, gives = signature(rest, owner(text[:m.start()]))
             yield Call(crate, public, name, call_words(top, public, text[:m.start()]), takes, gives, requires, ensures, used, path.relative_to(top / "crates"))
@@ -341,14 +341,14 @@ def named_by(top, place, name, through=()):
     path = top / "crates" / (place + ".antt")
     text = path.read_text() if path.exists() else ""
     found = {}
-    for crate, file, names, alias in re.findall(r"^(?:pub )?use Rattle·(\w+?)(?:·specs)?\.specs((?:\.\w+)+)(?:\.\{([^}]*)\}| as (\w+))$", text, re.M):
+    for crate, file, names, alias in re.findall(r"^(?:pub )?use Rattle\.(\w+)\.specs((?:\.\w+)+)(?:\.\{([^}]*)\}| as (\w+))$", text, re.M):
         for item in names.split(",") if names else [alias]:
             found[item.strip().split(" ")[-1]] = "%s/specs%s" % (crate, file.replace(".", "/"))
     body = re.search(r"^ *(?:unfoldable |abbrev |pub )*%s(?= ).*?(?=\n\n|\Z)" % re.escape(name), text, re.M | re.S)
     words = {w.split(".")[0] for w in re.findall(r"[^\s()]+", body.group() if body else "")}
     pages = {found[w] for w in words if w in found}
     for other in words - {name, *through, *found}:
-        if re.search(r"^(?:unfoldable |abbrev |pub )*%s : " % re.escape(other), text, re.M):
+        if re.search(r"^(?:unfoldable |abbrev |pub )*%s :(?: |$)" % re.escape(other), text, re.M):
             pages |= named_by(top, place, other, (name, *through))
     return pages
 

@@ -663,7 +663,7 @@ def writings():
 
 class Arrival:
     """How far a sheet has come (RULES, section 7, "A sheet in parts"). The bytes held stand in a room of 296; those that are no longer held stay there until
-    others come in their places (parts/specs/Parts: heldWith), and what stands before the records is 0 in every place until it is complete."""
+    others come in their places (parts/specs/Parts: held_with), and what stands before the records is 0 in every place until it is complete."""
 
     def __init__(self):
         self.refusal, self.head, self.complete, self.kept, self.held = 0, [4, 0, 0, 0] + [0] * 8, 0, 0, bytearray(296)

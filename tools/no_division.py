@@ -5,7 +5,7 @@
 
 With --sources the sources alone are looked at: the gate does that, and it needs nothing built. ARCHIVE is the static library; with neither it is the one
 that `tools/built archive` has, and the sources and the run are looked at too.
-Sources (crates/square_root/src, less comments and contracts). Wrong is a `*`; a `/` or `%` but by a constant power of two; an array; a call of another
+Sources (crates/square_root/src, less comments, attributes and contracts). Wrong is a `*`; a `/` or `%` but by a constant power of two; an array; a call of another
 crate's function, but for those of `answers`, which work nothing out.
 Library. It is disassembled (objdump for x86-64, of binutils). Looked at are pasoletu_sqrt, every function of the crate `square_root` that the compiler
 kept, and all that these call. Wrong is an instruction that divides, multiplies or takes a root, a call that leads out of the library, in a loop a jump
@@ -134,8 +134,9 @@ POWER = re.compile(r"\s*(0x[0-9a-f_]+|[0-9][0-9_]*)\b", re.I)
 
 
 def code_of(text):
-    """A source less its comments, its `ghost use` lines and its contracts' clauses; what is left keeps its lines."""
+    """A source less its comments, its attributes, its `ghost use` lines and its contracts' clauses; what is left keeps its lines."""
     text = re.sub(r"//[^\n]*", "", text)
+    text = re.sub(r"^ *#!?\[[^\n]*\]$", "", text, flags=re.M)
     text = re.sub(r"^ghost use [^;]*;", "", text, flags=re.M)
     return re.sub(r"^ +(?:requires|ensures)\b[^{\n]*\{.*\}$", "", text, flags=re.M)
 

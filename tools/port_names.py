@@ -51,7 +51,7 @@ def files():
 
 
 def is_function_proof(path):
-    return os.path.basename(path) in ("Proof.antt", "Answers.antt", "Invariants.antt")
+    return os.path.basename(path) == "Proof.antt"
 
 
 def uncommented(text):
@@ -126,8 +126,10 @@ def main():
             print(n + "\t" + snake(n))
         return
     for p in texts:
+        # in these three `not_finite` is a field of the code's Column
+        fields = {"not_finite"} if re.search(r"/crates/(report|host_words|host_sheets)/", p) else set()
         if p.endswith(".antt"):
-            texts[p] = "".join(t + "_lem" if t in FIRST else t for t in TOKEN.findall(texts[p]))
+            texts[p] = "".join(t + "_lem" if t in FIRST - fields else t for t in TOKEN.findall(texts[p]))
     tell_apart(texts, everywhere)
     fallen = 0
     changed = 0

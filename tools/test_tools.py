@@ -129,19 +129,19 @@ class Twice(InFolder):
         return int(out.splitlines()[-2].split()[0])
 
     def test_a_lemma_under_other_names(self):
-        two = "pub flat-law : (p : Law) (s : State) → length (s .sigma) ≡ 2 → run inTwo p s ≡ s\nflat-law p s h = refl\n"
-        three = "module _ (q : Law) where\n  pub law : (t : State) → length (t .sigma) ≡ 3\n      → run inThree q t ≡ t\n  law t h = cc\n"
+        two = "pub flat_law : (p : Law) (s : State) → length s.sigma ≡ 2 → run in_two p s ≡ s\nflat_law p s h = refl\n"
+        three = "module _ (q : Law) where\n  pub law : (t : State) → length t.sigma ≡ 3\n      → run in_three q t ≡ t\n  law t h = cc\n"
         self.assertEqual(self.counted(two, three), 1)
         self.assertEqual(self.counted(two, three.replace("≡ t", "≡ q")), 0)
 
     def test_an_instance_is_none(self):
-        two = "abbrev pub runOf : State → State\nrunOf s = over.run inTwo s\n"
-        self.assertEqual(self.counted(two, two.replace("inTwo", "inThree")), 0)
-        self.assertEqual(self.counted(two.replace("over.run inTwo s", "s"), two.replace("over.run inTwo s", "s")), 1)
-        by_number = "abbrev pub uAt : List → List\nuAt r = uOver 2 r\n"
-        self.assertEqual(self.counted(by_number, by_number.replace("uOver 2", "uOver 3")), 0)
-        lemma = "pub law : (r : List) → uOver 2 r ≡ r\nlaw r = refl\n"
-        self.assertEqual(self.counted(lemma, lemma.replace("uOver 2", "uOver 3")), 1)
+        two = "abbrev pub run_of : State → State\nrun_of s = over.run in_two s\n"
+        self.assertEqual(self.counted(two, two.replace("in_two", "in_three")), 0)
+        self.assertEqual(self.counted(two.replace("over.run in_two s", "s"), two.replace("over.run in_two s", "s")), 1)
+        by_number = "abbrev pub u_at : List → List\nu_at r = u_over 2 r\n"
+        self.assertEqual(self.counted(by_number, by_number.replace("u_over 2", "u_over 3")), 0)
+        lemma = "pub law : (r : List) → u_over 2 r ≡ r\nlaw r = refl\n"
+        self.assertEqual(self.counted(lemma, lemma.replace("u_over 2", "u_over 3")), 1)
 
     def test_a_local_lemma_is_none(self):
         text = "pub {0} : {1}\n{0} = go\n  where\n    go : (x : ℕ) → x ≡ x\n    go x = refl\n"

@@ -7,8 +7,8 @@
 What holds over the number of axes is proved once (document 02, ticket 13): two and three axes are instances of a statement over their number. A
 crate fails where it has more equal statements than MOST says. A statement is a lemma's type or a definition with its body, under the parameters of
 the modules around it; names of bound variables, of the crates and of the numbers 2 and 3 are levelled, and so is the statement's own name. In a
-lemma the names of the axes are too (inTwo, twoAxes); a definition that names them, or hands 2 to one over n (`uOver 2`), is an instance, and equals
-none of three. Functions' proofs (Proof.antt) are left out: the code is a copy a type.
+lemma the names of the axes are too (in_two, two_axes); a definition that names them, or hands 2 to one over n (`u_over 2`), is an instance, and equals
+none of three. Functions' proofs (Answers.antt, Proof.antt) are left out: the code is a copy a type.
 """
 import argparse
 import pathlib
@@ -32,21 +32,20 @@ MOST = {
 }
 
 WORD = r"[^\s(){}.,;«»]+"
-DECLARED = re.compile(rf"^( *)((?:abbrev |unfoldable |pub )*)(record |data )?({WORD})((?: [({{].*)?) : (.*)$")
+DECLARED = re.compile(rf"^( *)((?:abbrev |unfoldable |pub )*)(record |data )?({WORD})((?: [({{].*)?) :(?: |$)(.*)$")
 MODULE = re.compile(r"^( *)module _(.*)$")
 BOUND = re.compile(r"[({]([^(){}:]+) : |λ \(?([^.:()]+)[.:]")
 # the same thing in two axes and in three
 LEVELLED = [
     (r"\bflat_(\w+)", r"\1"),
     (r"\bplasticity_(\w+)", r"\1"),
-    (r"·?\b(flat|walk|plasticity|tensor)\b", ""),
-    (r"\b(pair|three)\b", "row"),
-    (r"\bpair-", ""),
+    (r"\.?\b(flat|walk|plasticity|tensor)\b", ""),
+    (r"\b(pair|three)(?=\b|_)", "row"),
 ]
 # and in a lemma
-AXES = (r"\b(inTwo|inThree|twoAxes|threeAxes)\b", "AXES")
-# the numbers 2 and 3; in a definition not where they are handed to one over their number, as in `uOver 2`
-NUMBERS = {True: (r"(?<!Over )\b[23]\b", "n"), False: (r"\b[23]\b", "n")}
+AXES = (r"\b(in_two|in_three|two_axes|three_axes)\b", "AXES")
+# the numbers 2 and 3; in a definition not where they are handed to one over their number, as in `u_over 2`
+NUMBERS = {True: (r"(?<!over )\b[23]\b", "n"), False: (r"\b[23]\b", "n")}
 
 
 def statements(path):

@@ -1,197 +1,165 @@
-"""The proofs of those functions of crates/model and crates/flat_particles that have an arm a law, and of those that there are of each law: what they need
-goes with the laws' rows alone. The functions, and all else about a law, are written by hand: a proof that is made of a wrong row is refused."""
+"""The proofs of those functions of crates/model and crates/flat_particles that have an arm a law, and of those that there are of each law: what their goals
+need goes with the laws' rows alone. The functions, and all else about a law, are written by hand: a proof that is made of a wrong row is refused."""
 from .rows import WRITABLE
 
 HEAD = "-- `{path}` meets its contract: {how}. Made by tools/table from calls.toml: edit that, not this file.\n"
-# what `search` finds: of an arm, of a call
-ARM, CALL = "(λ c. search needs)", "(λ c κs. search needs)"
-NEEDS = "borrow.Author.Needs.{needs}"
 
 
-def nth(name, k, mark=""):
-    """The k-th of those with one name."""
-    return name if k == 1 else f"{name}{mark}{k}"
+class Names:
+    """The toolchain's names of what is called in a function: a second one of a name is told by its arm, and by its number there."""
+
+    def __init__(self):
+        self.taken = set()
+
+    def __call__(self, name, arm=None):
+        told = f"{name}-in-{arm}" if arm else f"{name}"
+        tries = [name] + ([told] if arm else []) + [f"{told}-{k}" for k in range(2, 100)]
+        found = next(t for t in tries if t not in self.taken)
+        self.taken.add(found)
+        return found
 
 
-def fact(steps, name):
-    """A fact, so many steps before the place where it is needed."""
-    return f"c{' .before' * steps} .{name}"
+def ensured(call):
+    return f"c.{call}.ensures"
 
 
-def of(steps, arm, k):
-    """That the k-th arm was taken."""
-    return fact(steps, f"{nth(arm, k)} .given .1")
-
-
-def ensured(steps, call, k=1):
-    return fact(steps, f"{nth(call, k)} .ensures")
+def taken(arm):
+    """That an arm was taken."""
+    return f"c.in-{arm}.is"
 
 
 def simp(*facts):
-    return f"simp ({', '.join(facts)})"
+    return f"simp ({', '.join(facts)})" if len(facts) > 1 else f"simp {facts[0]}"
 
 
-def need(name, k, law, body, takes="c", unfolding=""):
-    """The k-th need of a name, which is told by its law: a wrong build's refusal stays where it is when a law comes. A body of several lines begins with a
-    new one."""
-    told = f"{name}-{law}" if law else name
+def answer(goal, body, unfolding=""):
+    """A goal's answer. A body of several lines begins with a new one."""
     opened = f"unfolding {unfolding}\n" if unfolding else ""
-    space = "" if body.startswith("\n") else " "
-    return f"{told} : tie.Need-{nth(name, k, '-')}\n{opened}{told} {takes} ={space}{body}\n"
+    return f"pub {goal} : goal.{goal}\n{opened}{goal} c ={'' if body.startswith(chr(10)) else ' '}{body}\n"
 
 
-def proof(crate, function, how, uses, needs, rounds):
-    """A file: what it uses, the facts that are needed and can't be found, and all that are needed, a line an arm."""
-    place, name = f"{crate}·proofs.proofs.rows.{function}", function.replace("_", "-") + "-spec"
-    uses = [*uses, f"Rattle·{place}.Statement.{{statement}}", f"Rattle·{place}.Tie as tie"]
-    closed = "".join("\n    " + " ".join(words) for words in rounds)
-    parts = [
-        HEAD.format(path=f"{crate}::rows::{function}", how=how) + "".join(f"use {name}\n" for name in uses),
-        *needs,
-        f"pub {name} : {{M : Type 1}} → statement M\n{name} =\n    tie.close\n    (tie.spec{closed})\n",
-    ]
-    return f"crates/{crate}/proofs/rows/{function}/Proof.antt", "\n".join(parts)
+def returned(arm, *facts, unfolding=""):
+    return answer(f"returns-in-{arm}" if arm else "returns", simp(*facts), unfolding)
 
 
-def arms(laws, *others):
-    """The arms in order, by their laws' names."""
-    return [*(m.path for m in laws), *others]
-
-
-def returned(names):
-    """The line with what is returned, an arm after the other."""
-    return [f"returns-{name}" for name in names]
+def proof(crate, function, how, uses, answers):
+    """A file: what it uses, and the answers."""
+    uses = [*uses, f"Rattle.{crate}.proofs.rows.{function}.Goals as goal"]
+    parts = [HEAD.format(path=f"{crate}::rows::{function}", how=how) + "".join(f"use {name}\n" for name in uses), *answers]
+    return f"crates/{crate}/proofs/rows/{function}/Answers.antt", "\n".join(parts)
 
 
 def shape_of(laws):
-    def tests(k):
-        last = min(k, len(laws))
-        taken = [fact(0, f"if{k} .taken")] if k == last else []
-        return [fact(last - j, f"if{j} .left") for j in range(1, k)] + taken
+    def number(k):
+        return "number" if k == 1 else f"number-{k}"
 
-    names = arms(laws, "unknown")
-    needs = [need("returns", k, name, f"rw ({', '.join(tests(k))})", unfolding="lawOf kindsOf") for k, name in enumerate(names, 1)]
-    return proof("model", "shape_of", "by the number", ["Rattle·model·specs.specs.Kinds.{lawOf, kindsOf}"], needs, [returned(names)])
+    last = len(laws)
+    tests = [f"c.if-{number(k)}.false" for k in range(1, last + 1)]
+    facts = [[*tests[: k - 1], f"c.if-{number(k)}.true"] for k in range(1, last + 1)] + [tests]
+    goals = [f"returns-then-{number(k)}" for k in range(1, last + 1)] + [f"returns-else-{number(last)}"]
+    answers = [answer(goal, "rw " + (f"({', '.join(told)})" if len(told) > 1 else told[0]), "law_of kinds_of") for goal, told in zip(goals, facts)]
+    return proof("model", "shape_of", "by the number", ["Rattle.model.specs.Kinds.{law_of, kinds_of}"], answers)
 
 
 def branch(laws):
-    names = arms(laws, "unknown")
-    needs = [need("returns", k, m.path, simp(ensured(0, "branch-number", k), of(1, "enum-told", k))) for k, m in enumerate(laws, 1)]
-    needs.append(need("returns", len(names), "unknown", simp(of(0, "enum-told", len(names)))))
-    return proof("model", "branch", "by the law", [NEEDS], needs, [*([ARM, CALL] for _ in laws), [ARM], returned(names)])
+    names = Names()
+    answers = [returned(m.variant, ensured(names("branch_number", m.variant)), taken(m.variant)) for m in laws]
+    return proof("model", "branch", "by the law", [], [*answers, returned("Unknown", taken("Unknown"))])
 
 
 def reader(m):
     """Of one law: each place as it is read, the last first."""
-    read, floats = [], 0
-    for p in m.parameters:
-        floats += not p.flag
-        read.append("word" if p.flag else nth("float", floats))
-    facts = [ensured(k, name) for k, name in enumerate(reversed(read))]
-    return proof("model", m.name, "each place as it is read", [NEEDS], [need("returns", 1, "", simp(*facts))], [[CALL] * len(read), ["returns"]])
+    names = Names()
+    read = [names("word" if p.flag else "float") for p in m.parameters]
+    return proof("model", m.name, "each place as it is read", [], [returned("", *map(ensured, reversed(read)))])
 
 
 def model_of(laws):
     """The law of no number reads as the first."""
-    def arm(k, name, call):
-        told = f"\n    let t = rw ({ensured(3, 'shape-of')}) at ({of(1, 'enum-told', k)}) in\n    "
-        return need("returns", k, name, told + simp(ensured(0, call), "t"), unfolding="modelOf")
+    names = Names()
 
-    names, calls = arms(laws, "unknown"), [*arms(laws), nth(laws[0].path, 2)]
-    needs = [arm(k, *pair) for k, pair in enumerate(zip(names, calls), 1)]
-    uses = ["Rattle·model·specs.specs.Fields.{modelOf}", NEEDS]
-    return proof("model", "model_of", "by the law", uses, needs, [[CALL], *([ARM, CALL] for _ in names), returned(names)])
+    def arm(variant, call):
+        told = f"\n    let t = rw c.shape_of-k.ensures at {taken(variant)} in\n    "
+        return answer(f"returns-in-{variant}", told + simp(ensured(names(call, variant)), "t"), "model_of")
+
+    answers = [*(arm(m.variant, m.name) for m in laws), arm("Unknown", laws[0].name)]
+    return proof("model", "model_of", "by the law", ["Rattle.model.specs.Fields.{model_of}"], answers)
 
 
 def ready(m):
     """Of a law with moduli."""
-    needs = [need("returns", 1, "", simp(ensured(0, "ready-if"), ensured(1, "moduli-finite")))]
-    return proof("model", "ready_" + m.name, "by the moduli", [NEEDS], needs, [[CALL, CALL], ["returns"]])
+    return proof("model", "ready_" + m.name, "by the moduli", [], [returned("", ensured("ready_if"), ensured("moduli_finite"))])
 
 
 def make_ready(laws):
     """Moduli are worked and tested between the parameters' test and the answer."""
-    needs, rounds, moduli = [], [], 0
-    for k, m in enumerate(laws, 1):
-        moduli += m.moduli
-        between = [ensured(1, "ready-" + m.path), ensured(2, "law", moduli)] if m.moduli else []
-        last = 1 + len(between)
-        facts = [ensured(0, "ready-if", k), *between, ensured(last, "parameters-finite", k), of(last + 2, "m", k)]
-        needs.append(need("returns", k, m.path, simp(*facts), unfolding="readyOf"))
-        rounds.append([ARM] + [CALL] * (last + 1))
-    return proof("model", "make_ready", "by the model", ["Rattle·model·specs.specs.Ready.{readyOf}", NEEDS], needs, [*rounds, returned(arms(laws))])
+    names, answers = Names(), []
+    for m in laws:
+        between = [f"ready_{m.name}", "law"] if m.moduli else []
+        calls = [ensured(names(call, m.variant)) for call in ("ready_if", *between, "parameters_finite")]
+        answers.append(returned(m.variant, *calls, taken(m.variant), unfolding="ready_of"))
+    return proof("model", "make_ready", "by the model", ["Rattle.model.specs.Ready.{ready_of}"], answers)
 
 
 def parameters_ready(laws):
-    names = arms(laws, "refused")
-    needs = [need("returns", k, m.path, simp(of(0, "enum-told", k))) for k, m in enumerate(laws, 1)]
-    needs.append(need("returns", len(names), "refused", simp(of(1, "q", 1))))
-    return proof("model", "parameters_ready", "by the law, or by the refusal", [NEEDS], needs, [[ARM] * len(names), returned(names)])
+    arms = [*(m.variant for m in laws), "Refused"]
+    return proof("model", "parameters_ready", "by the law, or by the refusal", [], [returned(arm, taken(arm)) for arm in arms])
+
+
+def by_model(laws, call, unfolding=""):
+    names = Names()
+    return [returned(m.variant, ensured(names(call, m.variant)), taken(m.variant), unfolding=unfolding) for m in laws]
 
 
 def reason_of(laws):
-    needs = [need("returns", k, m.path, simp(ensured(0, "reason", k), of(2, "m", k)), unfolding="reasonOf reasonFrom") for k, m in enumerate(laws, 1)]
-    uses = [NEEDS, "Rattle·reason.specs.Reason.{reasonFrom, reasonOf}"]
-    return proof("model", "reason_of", "by the model", uses, needs, [*([ARM, CALL] for _ in laws), returned(arms(laws))])
+    return proof("model", "reason_of", "by the model", ["Rattle.reason.specs.Reason.{reason_from, reason_of}"], by_model(laws, "reason", "reason_of reason_from"))
 
 
 def update_ready(laws):
     """What is known of a model made ready is what its law requires: of one with moduli, of these too."""
-    def required(k, m):
-        told = f"\n    let p = {fact(3, 'pre')} in\n    let t = simp ({of(1, 'q', k)}) at (p .0) in\n    "
-        law = f"\n    let law = {fact(1, nth('q', k) + ' .given .0 .0')} in"
-        split = f"let b = and-both ({m.path}.parametersFinite law) ({m.path}.moduliFinite law) t in\n    (simp (b .0, p .1), b .1)"
-        return need("update-ready-requires", k, m.path, law + told + split if m.moduli else told + "simp (t, p .1)", takes="c κs")
+    names = Names()
 
-    names = arms(laws, "refused")
-    calls = [("update-ready", k) for k, _ in enumerate(laws, 1)] + [("refuse", 1)]
-    needs = [required(k, m) for k, m in enumerate(laws, 1)]
-    needs += [need("returns", k, name, simp(ensured(0, *call), of(2, "q", k))) for k, (name, call) in enumerate(zip(names, calls), 1)]
-    rounds = [[ARM, f"update-ready-requires-{m.path}"] for m in laws]
-    uses = [NEEDS, "Rattle·numbers.proofs.Laws.{and-both}", *(f"Rattle·plasticity_{m.name}.specs.Law as {m.path}" for m in laws if m.moduli)]
-    return proof("model", "update_ready", "by the law", uses, needs, [*rounds, [ARM, CALL], returned(names)])
+    def required(m):
+        told = f"\n    let p = c.requires in\n    let t = simp {taken(m.variant)} at p.0 in\n    "
+        law = f"\n    let law = c.in-{m.variant}.p in"
+        split = f"let b = and_both ({m.name}.parameters_finite law) ({m.name}.moduli_finite law) t in\n    (simp (b.0, p.1), b.1)"
+        return answer(names("update_ready-requires", m.variant), law + told + split if m.moduli else told + "simp (t, p.1)")
+
+    answers = [*map(required, laws), *by_model(laws, "update_ready"), returned("Refused", ensured("refuse"), taken("Refused"))]
+    uses = ["Rattle.numbers.proofs.Laws.{and_both}", *(f"Rattle.plasticity_{m.name}.specs.Law as {m.name}" for m in laws if m.moduli)]
+    return proof("model", "update_ready", "by the law", uses, answers)
 
 
-def written(laws):
-    """Of each law the numbers of the writes in its arm."""
-    done = 0
-    for m in laws:
-        yield list(range(done + 1, done + len(m.written) + 1))
-        done += len(m.written)
+def written(laws, call):
+    """Of each law what it calls for each scalar that it writes."""
+    names = Names()
+    return [[names(call, m.variant) for _ in m.written] for m in laws]
 
 
-def wrote(k, name, numbers, call):
+def wrote(m, calls):
     """What an arm wrote, the last first."""
-    return need("returns", k, name, simp(*(ensured(j, call, n) for j, n in enumerate(reversed(numbers))), of(len(numbers), "enum-told", k)))
+    return returned(m.variant, *map(ensured, reversed(calls)), taken(m.variant))
 
 
 def write_scalars(laws):
     """What is given is finite; a model that is refused writes nothing."""
-    needs, rounds = [], []
-    for k, (m, numbers) in enumerate(zip(laws, written(laws)), 1):
-        told = [f"{m.path}-{WRITABLE[scalar]}" for scalar in m.written]
-        for j, (n, scalar) in enumerate(zip(numbers, m.written)):
-            body = f"let s = c{' .before' * (3 + j)} in scalars-parts (s .args .s .scalars) (s .pre .1) .{WRITABLE[scalar]}"
-            needs.append(need("finite-bits-requires", n, told[j], body, takes="c κs"))
-        needs.append(wrote(k, m.path, numbers, "finite-bits"))
-        rounds.append([ARM, *(word for name in told for word in (f"finite-bits-requires-{name}", ARM))])
-    needs.append(wrote(len(laws) + 1, "refused", [], "finite-bits"))
-    rounds += [[ARM], *([ARM, name] for name in returned(arms(laws))), ["returns-refused"]]
-    uses = [NEEDS, "Rattle·plasticity.proofs.Parts.{scalars-parts}"]
-    return proof("model", "write_scalars", "what each arm writes, and what it is given is finite", uses, needs, rounds)
+    names, answers = Names(), []
+    for m, calls in zip(laws, written(laws, "finite_bits")):
+        for scalar in m.written:
+            answers.append(answer(names("finite_bits-requires", m.variant), f"(scalars_parts c.args.s.scalars c.requires.1).{WRITABLE[scalar]}"))
+        answers.append(wrote(m, calls))
+    answers.append(returned("Refused", taken("Refused")))
+    uses = ["Rattle.plasticity.proofs.Parts.{scalars_parts}"]
+    return proof("model", "write_scalars", "what each arm writes, and what it is given is finite", uses, answers)
 
 
 def flat_update(laws):
-    needs = [need("returns", k, m.path, simp(ensured(0, "update-particle", k), of(2, "m", k)), unfolding="walkOf") for k, m in enumerate(laws, 1)]
-    uses = [NEEDS, "Rattle·flat_particles·specs.specs.Law.{walkOf}"]
-    return proof("flat_particles", "update", "by the model", uses, needs, [*([ARM, CALL] for _ in laws), returned(arms(laws))])
+    return proof("flat_particles", "update", "by the model", ["Rattle.flat_particles.specs.Law.{walk_of}"], by_model(laws, "update_particle", "walk_of"))
 
 
 def flat_write_scalars(laws):
-    numbers = list(written(laws))
-    needs = [wrote(k, m.path, n, "bits-of") for k, (m, n) in enumerate(zip(laws, numbers), 1)]
-    rounds = [[ARM] + [CALL, ARM] * len(n) for n in numbers] + [[ARM, name] for name in returned(arms(laws))]
-    return proof("flat_particles", "write_scalars", "what each arm writes", [NEEDS], needs, rounds)
+    answers = [wrote(m, calls) for m, calls in zip(laws, written(laws, "bits_of"))]
+    return proof("flat_particles", "write_scalars", "what each arm writes", [], answers)
 
 
 ARMS = (shape_of, branch, model_of, make_ready, parameters_ready, reason_of, update_ready, write_scalars, flat_update, flat_write_scalars)

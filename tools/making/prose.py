@@ -11,6 +11,8 @@ import re
 import struct
 
 MADE_PAGES = ("docs/BELIEVE.md", "docs/CALLS.md", "docs/SPEED.md", "docs/TOOLS.md")
+# What was moved and renamed on the way to today's Rattle: it names what is gone, at whatever length.
+PORT = "docs/PORT.md"
 # Pages of which only the length is held here.
 BESIDE = ("beside/README.md", "beside/factors/README.md", "bindings/README.md", "bindings/python/README.md", "bindings/rust/README.md", "fuzz/README.md", "man/slope.1")
 # Notes of their day, and what a user of an older version sees: they name what is gone.
@@ -44,7 +46,7 @@ TOLD = re.compile(r"\b(?:[a-z][a-z0-9]*(?:_[a-z0-9]+)+|[A-Z][A-Z0-9]*(?:_[A-Z0-9
 def pages(top):
     """The pages of the repository by name, but for those that are made whole."""
     named = ["README.md", "CONTRIBUTING.md", "CHANGELOG.md"] + sorted("docs/" + p.name for p in (top / "docs").glob("*.md"))
-    return {name: (top / name).read_text() for name in named if name not in MADE_PAGES and (top / name).exists()}
+    return {name: (top / name).read_text() for name in named if name not in (*MADE_PAGES, PORT) and (top / name).exists()}
 
 
 def kept(top):
@@ -118,7 +120,7 @@ def sources(top):
     found = {}
     for folder in SOURCES:
         for here, folders, names in os.walk(top / folder, followlinks=True):
-            folders[:] = [name for name in folders if name not in ("target", "corpus", "__pycache__")]
+            folders[:] = [name for name in folders if name not in ("target", "out", "corpus", "__pycache__")]
             for path in (pathlib.Path(here, name) for name in names if name != "test_table.py"):
                 if path.suffix in TEXT and path.stat().st_size < 2000000:
                     try:

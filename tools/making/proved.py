@@ -1,15 +1,16 @@
 """Holds the proved crates to the table: crates/answers' refusals, crates/model's parameters, flags, scalars and moduli, the calls of crates/host,
-crates/host_passes and crates/host_sheets. They are written by hand, since their contracts are; here they are only read."""
+crates/host_passes and crates/host_sheets and their exports in crates/host_c. They are written by hand, since their contracts are; here they are only read."""
 import collections
 import re
 
 HOSTS = ("host", "host_passes", "host_sheets")
 KINDS = {"f64": "f64", "u8": "u8", "u32": "u32", "u64": "u64", "&[u8]": "u8[]", "&[u64]": "[]", "&mut [u8]": "u8[] written", "&mut [u64]": "[] written"}
 REFUSAL = re.compile(r"pub const (\w+): u8 = (\d+);")
-ROW = re.compile(r"^rowOf (\w+) =\s+record \{\s+kinds = ((?:(?:true|false) ∷ )+)\[\];\s+written = ((?:\d+ ∷ )*)\[\];", re.M)
+ROW = re.compile(r"^row_of (\w+) =\s+record \{\s+kinds = ((?:(?:true|false) ∷ )+)\[\];\s+written = ((?:\d+ ∷ )*)\[\];", re.M)
 NUMBERS_OF = re.compile(r"^    \(?cond \(either (\d+) (\d+) number\) (\w+)$", re.M)
-READY_OF = re.compile(r"^lawReady \(models\.(\w+) \w\) = (ready\.)?", re.M)
-EXTERN = re.compile(r'pub extern "C" fn pasoletu_(\w+)\((.*?)\)\s*->\s*u8', re.S)
+READY_OF = re.compile(r"^law_ready \(models\.(\w+) \w\) = (ready\.)?", re.M)
+CALL = re.compile(r"pub fn pasoletu_(\w+)\((.*?)\)\s*->\s*u8(.*?)\n\{\n", re.S)
+EXPORT = re.compile(r'#\[unsafe\(no_mangle\)\]\npub extern "C" fn pasoletu_(\w+)\((.*?)\)\s*->\s*u8(.*?)\n\{\n(.*?)\n\}\n', re.S)
 
 
 def spelled(a):
@@ -47,28 +48,49 @@ def models(top, table):
         yield f"crates/model: {name}", None if found == wanted else f"has moduli to be worked: {found}, in the table {wanted}"
 
 
+def kinds(arguments):
+    types = [part.split(":", 1)[1].strip() for part in arguments.split(",") if ":" in part]
+    return [KINDS.get(t, t) for t in types]
+
+
+def sources(top, *crates):
+    return [file for crate in crates for file in sorted((top / "crates" / crate / "src").glob("*.rt"))]
+
+
 def host_calls(top):
-    """Each call that a crate of the hosts' archive exports, with its crate and its arguments."""
-    for file in (file for crate in HOSTS for file in sorted((top / "crates" / crate / "src").glob("*.rt"))):
-        for name, arguments in EXTERN.findall(file.read_text()):
-            types = [part.split(":", 1)[1].strip() for part in arguments.split(",") if ":" in part]
-            yield name, file.parts[-3], [KINDS.get(t, t) for t in types]
+    """Each call of a crate of the hosts, with its crate, its arguments, and its clauses."""
+    for file in sources(top, *HOSTS):
+        for name, arguments, clauses in CALL.findall(file.read_text()):
+            yield name, file.parts[-3], kinds(arguments), clauses.split()
+
+
+def exports(top):
+    """Each call that the archive exports, with its arguments and clauses, and the crate whose call of that name it makes, of the same arguments; else None."""
+    for file in sources(top, "host_c"):
+        for name, arguments, clauses, body in EXPORT.findall(file.read_text()):
+            given = r",\s*".join(part.split(":", 1)[0].strip() for part in arguments.split(",") if ":" in part)
+            called = re.fullmatch(rf"\s*(\w+)::(?:\w+::)?pasoletu_{name}\(\s*{given},?\s*\)\s*", body)
+            yield name, called and called[1], kinds(arguments), clauses.split()
 
 
 def host(top, table):
-    """Each call of the table stands in one of the three crates, once."""
+    """Each call of the table stands in one of the three crates, once, and the archive's crate exports it as it is."""
     there = collections.defaultdict(list)
-    for name, crate, takes in host_calls(top):
-        there[name].append((f"crates/{crate}", takes))
+    for name, crate, takes, clauses in host_calls(top):
+        there[name].append((f"crates/{crate}", takes, clauses))
+    out = collections.defaultdict(list)
+    for name, crate, takes, clauses in exports(top):
+        out[name].append((f"crates/{crate}", takes, clauses))
     for c in table.calls:
-        wanted, found = [spelled(a) for a in c.arguments], there.pop(c.name, [("crates/host*", None)])
-        crate, takes = found[0]
+        wanted, found = [spelled(a) for a in c.arguments], there.pop(c.name, [("crates/host*", None, None)])
+        crate, takes, _ = found[0]
         if takes is None or len(found) > 1:
             wrong = "has no such call" if takes is None else f"stands in {found[1][0]} too"
         else:
             wrong = None if takes == wanted else f"takes ({', '.join(takes)}), the table ({', '.join(wanted)})"
         yield f"{crate}: pasoletu_{c.name}", wrong
-    for name, found in sorted(there.items()):
+        yield f"crates/host_c: pasoletu_{c.name}", None if out.pop(c.name, []) == found else f"is not exported as {crate} has it"
+    for name, found in [*sorted(there.items()), *sorted(out.items())]:
         yield f"{found[0][0]}: pasoletu_{name}", "is not in calls.toml: add its row"
 
 

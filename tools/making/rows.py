@@ -119,9 +119,9 @@ class Model:
         return next((k for k, p in enumerate(self.parameters) if p.flag), None)
 
     @property
-    def path(self):
-        """Its name as proofs spell it."""
-        return self.name.replace("_", "-")
+    def variant(self):
+        """Its name as the crates' enums have it."""
+        return self.name.title().replace("_", "")
 
     @property
     def moduli(self):

@@ -7,8 +7,7 @@ ghost use Rattle.host.specs.Calls.{neo_hookean_fpk_stress, neo_hookean_elastic_e
 
 use elasticity_neo_hookean::NeoHookeanElasticity;
 
-#[unsafe(no_mangle)]
-pub extern "C" fn pasoletu_neo_hookean_fpk_stress(
+pub fn pasoletu_neo_hookean_fpk_stress(
     law: &[u64],
     hardening: f64,
     f: &[u64],
@@ -24,8 +23,7 @@ pub extern "C" fn pasoletu_neo_hookean_fpk_stress(
     )
 }
 
-#[unsafe(no_mangle)]
-pub extern "C" fn pasoletu_neo_hookean_elastic_energy_density(
+pub fn pasoletu_neo_hookean_elastic_energy_density(
     law: &[u64],
     phase: f64,
     hardening: f64,
@@ -46,8 +44,7 @@ pub extern "C" fn pasoletu_neo_hookean_elastic_energy_density(
 }
 
 // `one_split` is a flag, told by its bits.
-#[unsafe(no_mangle)]
-pub extern "C" fn pasoletu_neo_hookean_elastic_energy_density_in(
+pub fn pasoletu_neo_hookean_elastic_energy_density_in(
     law: &[u64],
     one_split: f64,
     phase: f64,
@@ -64,8 +61,7 @@ pub extern "C" fn pasoletu_neo_hookean_elastic_energy_density_in(
     host_lists::put(host_lists::sized(ok, host_lists::flagged(w, a)), out)
 }
 
-#[unsafe(no_mangle)]
-pub extern "C" fn pasoletu_neo_hookean_pos_energy(
+pub fn pasoletu_neo_hookean_pos_energy(
     law: &[u64],
     phase: f64,
     hardening: f64,
@@ -82,15 +78,13 @@ pub extern "C" fn pasoletu_neo_hookean_pos_energy(
     )
 }
 
-#[unsafe(no_mangle)]
-pub extern "C" fn pasoletu_phase_coeff(phase: f64, out: &mut [u64]) -> u8
+pub fn pasoletu_phase_coeff(phase: f64, out: &mut [u64]) -> u8
     ensures { called result (out.new ∷ []) ≡ number_in (phase_coeff phase) out.old }
 {
     host_lists::put(NeoHookeanElasticity::phase_coeff(phase), out)
 }
 
-#[unsafe(no_mangle)]
-pub extern "C" fn pasoletu_corotated_elastic_energy_density(
+pub fn pasoletu_corotated_elastic_energy_density(
     law: &[u64],
     hardening: f64,
     sigma: &[u64],
@@ -107,8 +101,7 @@ pub extern "C" fn pasoletu_corotated_elastic_energy_density(
     )
 }
 
-#[unsafe(no_mangle)]
-pub extern "C" fn pasoletu_corotated_pos_energy(
+pub fn pasoletu_corotated_pos_energy(
     law: &[u64],
     hardening: f64,
     f: &[u64],

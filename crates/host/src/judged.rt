@@ -4,8 +4,7 @@ ghost use Rattle.host_lists.specs.Called.{called};
 ghost use Rattle.host_lists.specs.Out.{judged_in};
 ghost use Rattle.host.specs.Judged.{neo_hookean_stress_and_verdict, corotated_stress_and_verdict};
 
-#[unsafe(no_mangle)]
-pub extern "C" fn pasoletu_neo_hookean_stress_and_verdict(
+pub fn pasoletu_neo_hookean_stress_and_verdict(
     law: &[u64],
     limits: &[u64],
     r: &[u64],
@@ -20,8 +19,7 @@ pub extern "C" fn pasoletu_neo_hookean_stress_and_verdict(
     host_lists::put_judged(host_lists::sized_judged(ok, a), stress, verdict)
 }
 
-#[unsafe(no_mangle)]
-pub extern "C" fn pasoletu_corotated_stress_and_verdict(
+pub fn pasoletu_corotated_stress_and_verdict(
     law: &[u64],
     limits: &[u64],
     r: &[u64],

@@ -22,64 +22,55 @@ ghost use Rattle.host_lists.specs.Out.{number_in};
 
 use host_lists::put;
 
-#[unsafe(no_mangle)]
-pub extern "C" fn pasoletu_exp(x: f64, out: &mut [u64]) -> u8
+pub fn pasoletu_exp(x: f64, out: &mut [u64]) -> u8
     ensures { called result (out.new ∷ []) ≡ number_in (bare x (exp_ranged x)) out.old }
 {
     put(exponential::exp(x), out)
 }
 
-#[unsafe(no_mangle)]
-pub extern "C" fn pasoletu_sinh(x: f64, out: &mut [u64]) -> u8
+pub fn pasoletu_sinh(x: f64, out: &mut [u64]) -> u8
     ensures { called result (out.new ∷ []) ≡ number_in (bare x (sinh_ranged x)) out.old }
 {
     put(exponential::sinh(x), out)
 }
 
-#[unsafe(no_mangle)]
-pub extern "C" fn pasoletu_ln(x: f64, out: &mut [u64]) -> u8
+pub fn pasoletu_ln(x: f64, out: &mut [u64]) -> u8
     ensures { called result (out.new ∷ []) ≡ number_in (bare x (ln_ranged x)) out.old }
 {
     put(logarithm::ln(x), out)
 }
 
-#[unsafe(no_mangle)]
-pub extern "C" fn pasoletu_sin(x: f64, out: &mut [u64]) -> u8
+pub fn pasoletu_sin(x: f64, out: &mut [u64]) -> u8
     ensures { called result (out.new ∷ []) ≡ number_in (bare x (sin_ranged x)) out.old }
 {
     put(sine::sin(x), out)
 }
 
-#[unsafe(no_mangle)]
-pub extern "C" fn pasoletu_sqrt(x: f64, out: &mut [u64]) -> u8
+pub fn pasoletu_sqrt(x: f64, out: &mut [u64]) -> u8
     ensures { called result (out.new ∷ []) ≡ number_in (bare x (sqrt_ranged x)) out.old }
 {
     put(square_root::sqrt(x), out)
 }
 
-#[unsafe(no_mangle)]
-pub extern "C" fn pasoletu_cbrt(x: f64, out: &mut [u64]) -> u8
+pub fn pasoletu_cbrt(x: f64, out: &mut [u64]) -> u8
     ensures { called result (out.new ∷ []) ≡ number_in (bare x (cbrt_ranged x)) out.old }
 {
     put(thirds::cbrt(x), out)
 }
 
-#[unsafe(no_mangle)]
-pub extern "C" fn pasoletu_inv_cbrt(x: f64, out: &mut [u64]) -> u8
+pub fn pasoletu_inv_cbrt(x: f64, out: &mut [u64]) -> u8
     ensures { called result (out.new ∷ []) ≡ number_in (bare x (inv_cbrt_ranged x)) out.old }
 {
     put(thirds::inv_cbrt(x), out)
 }
 
-#[unsafe(no_mangle)]
-pub extern "C" fn pasoletu_cbrt_squared(x: f64, out: &mut [u64]) -> u8
+pub fn pasoletu_cbrt_squared(x: f64, out: &mut [u64]) -> u8
     ensures { called result (out.new ∷ []) ≡ number_in (bare x (cbrt_squared_ranged x)) out.old }
 {
     put(thirds::cbrt_squared(x), out)
 }
 
-#[unsafe(no_mangle)]
-pub extern "C" fn pasoletu_inv_cbrt_squared(x: f64, out: &mut [u64]) -> u8
+pub fn pasoletu_inv_cbrt_squared(x: f64, out: &mut [u64]) -> u8
     ensures { called result (out.new ∷ []) ≡ number_in (bare x (inv_cbrt_squared_ranged x)) out.old }
 {
     put(thirds::inv_cbrt_squared(x), out)

@@ -18,8 +18,7 @@ fn eos(pressure0: f64, gamma: u32, viscosity: f64, max_neg_pressure: f64) -> Mon
     }
 }
 
-#[unsafe(no_mangle)]
-pub extern "C" fn pasoletu_monaghan_pressure(
+pub fn pasoletu_monaghan_pressure(
     pressure0: f64,
     gamma: u32,
     viscosity: f64,
@@ -35,8 +34,7 @@ pub extern "C" fn pasoletu_monaghan_pressure(
     host_lists::put(law.pressure(mass, volume, density), out)
 }
 
-#[unsafe(no_mangle)]
-pub extern "C" fn pasoletu_monaghan_kirchhoff_stress(
+pub fn pasoletu_monaghan_kirchhoff_stress(
     pressure0: f64,
     gamma: u32,
     viscosity: f64,
@@ -56,8 +54,7 @@ pub extern "C" fn pasoletu_monaghan_kirchhoff_stress(
     host_lists::put_matrix(host_lists::sized_matrix(ok, a), out)
 }
 
-#[unsafe(no_mangle)]
-pub extern "C" fn pasoletu_monaghan_timestep_bound(
+pub fn pasoletu_monaghan_timestep_bound(
     pressure0: f64,
     gamma: u32,
     viscosity: f64,

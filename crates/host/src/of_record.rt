@@ -4,12 +4,7 @@ ghost use Rattle.host_lists.specs.Called.{called};
 ghost use Rattle.host_lists.specs.Out.{number_in, matrix_in};
 ghost use Rattle.host.specs.OfRecord.{record_neo_hookean_fpk_stress, record_neo_hookean_elastic_energy_density, record_neo_hookean_elastic_energy_density_in, record_neo_hookean_pos_energy, record_corotated_elastic_energy_density, record_corotated_pos_energy};
 
-#[unsafe(no_mangle)]
-pub extern "C" fn pasoletu_record_neo_hookean_fpk_stress(
-    law: &[u64],
-    r: &[u64],
-    out: &mut [u64],
-) -> u8
+pub fn pasoletu_record_neo_hookean_fpk_stress(law: &[u64], r: &[u64], out: &mut [u64]) -> u8
     ensures { called result (out.new ∷ []) ≡ matrix_in (record_neo_hookean_fpk_stress law.now r.now) out.old }
 {
     let ok = (law.len() == 3) & (r.len() == record::FLOATS);
@@ -20,8 +15,7 @@ pub extern "C" fn pasoletu_record_neo_hookean_fpk_stress(
     )
 }
 
-#[unsafe(no_mangle)]
-pub extern "C" fn pasoletu_record_neo_hookean_elastic_energy_density(
+pub fn pasoletu_record_neo_hookean_elastic_energy_density(
     law: &[u64],
     r: &[u64],
     out: &mut [u64],
@@ -37,8 +31,7 @@ pub extern "C" fn pasoletu_record_neo_hookean_elastic_energy_density(
 }
 
 // `one_split` is a flag, told by its bits.
-#[unsafe(no_mangle)]
-pub extern "C" fn pasoletu_record_neo_hookean_elastic_energy_density_in(
+pub fn pasoletu_record_neo_hookean_elastic_energy_density_in(
     law: &[u64],
     one_split: f64,
     r: &[u64],
@@ -53,12 +46,7 @@ pub extern "C" fn pasoletu_record_neo_hookean_elastic_energy_density_in(
     host_lists::put(host_lists::sized(ok, host_lists::flagged(w, a)), out)
 }
 
-#[unsafe(no_mangle)]
-pub extern "C" fn pasoletu_record_neo_hookean_pos_energy(
-    law: &[u64],
-    r: &[u64],
-    out: &mut [u64],
-) -> u8
+pub fn pasoletu_record_neo_hookean_pos_energy(law: &[u64], r: &[u64], out: &mut [u64]) -> u8
     ensures { called result (out.new ∷ []) ≡ number_in (record_neo_hookean_pos_energy law.now r.now) out.old }
 {
     let ok = (law.len() == 3) & (r.len() == record::FLOATS);
@@ -69,8 +57,7 @@ pub extern "C" fn pasoletu_record_neo_hookean_pos_energy(
     )
 }
 
-#[unsafe(no_mangle)]
-pub extern "C" fn pasoletu_record_corotated_elastic_energy_density(
+pub fn pasoletu_record_corotated_elastic_energy_density(
     law: &[u64],
     r: &[u64],
     out: &mut [u64],
@@ -85,12 +72,7 @@ pub extern "C" fn pasoletu_record_corotated_elastic_energy_density(
     )
 }
 
-#[unsafe(no_mangle)]
-pub extern "C" fn pasoletu_record_corotated_pos_energy(
-    law: &[u64],
-    r: &[u64],
-    out: &mut [u64],
-) -> u8
+pub fn pasoletu_record_corotated_pos_energy(law: &[u64], r: &[u64], out: &mut [u64]) -> u8
     ensures { called result (out.new ∷ []) ≡ number_in (record_corotated_pos_energy law.now r.now) out.old }
 {
     let ok = (law.len() == 4) & (r.len() == record::FLOATS);

@@ -7,8 +7,7 @@ ghost use Rattle.host.specs.Calls.{snow_of, snow_clamp, vector_of, rankine_proje
 use plasticity_snow::SnowPlasticity;
 use tensor::VectorAnswer;
 
-#[unsafe(no_mangle)]
-pub extern "C" fn pasoletu_snow_clamp(
+pub fn pasoletu_snow_clamp(
     min_epsilon: f64,
     max_epsilon: f64,
     hardening_coeff: f64,
@@ -37,13 +36,7 @@ fn vector(v: [f64; 3]) -> VectorAnswer
     }
 }
 
-#[unsafe(no_mangle)]
-pub extern "C" fn pasoletu_rankine_project(
-    arguments: &[u64],
-    s: f64,
-    strains: &[u64],
-    out: &mut [u64],
-) -> u8
+pub fn pasoletu_rankine_project(arguments: &[u64], s: f64, strains: &[u64], out: &mut [u64]) -> u8
     ensures { called result (out.new ∷ []) ≡ vector_in (rankine_project arguments.now s strains.now) out.old }
 {
     let ok = (arguments.len() == 4) & (strains.len() == 3);
@@ -54,8 +47,7 @@ pub extern "C" fn pasoletu_rankine_project(
     )
 }
 
-#[unsafe(no_mangle)]
-pub extern "C" fn pasoletu_drucker_prager_alpha(fields: &[u64], q: f64, out: &mut [u64]) -> u8
+pub fn pasoletu_drucker_prager_alpha(fields: &[u64], q: f64, out: &mut [u64]) -> u8
     ensures { called result (out.new ∷ []) ≡ number_in (drucker_prager_alpha fields.now q) out.old }
 {
     let ok = fields.len() == 8;
@@ -66,8 +58,7 @@ pub extern "C" fn pasoletu_drucker_prager_alpha(fields: &[u64], q: f64, out: &mu
     )
 }
 
-#[unsafe(no_mangle)]
-pub extern "C" fn pasoletu_decomposed_times(
+pub fn pasoletu_decomposed_times(
     spherical: f64,
     deviatoric: &[u64],
     v: &[u64],

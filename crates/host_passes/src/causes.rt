@@ -19,8 +19,7 @@ fn put_cause(model: u64, w: Cause, room: &mut [u64]) -> u8
     0
 }
 
-#[unsafe(no_mangle)]
-pub extern "C" fn pasoletu_why(model: u64, parameters: &[u64], r: &[u64], reason: &mut [u64]) -> u8
+pub fn pasoletu_why(model: u64, parameters: &[u64], r: &[u64], reason: &mut [u64]) -> u8
     ensures { called result (reason.new ∷ []) ≡ why_by model parameters.now r.now reason.old }
 {
     if reason.len() != 11 {

@@ -3,8 +3,7 @@ ghost use Rattle.std.specs.Prelude.{◌≡◌, [], ◌∷◌};
 ghost use Rattle.host_lists.specs.Called.{called};
 ghost use Rattle.host_passes.specs.Determinants.{fill_by};
 
-#[unsafe(no_mangle)]
-pub extern "C" fn pasoletu_fill_determinants(records: &mut [u64]) -> u8
+pub fn pasoletu_fill_determinants(records: &mut [u64]) -> u8
     ensures { called result (records.new ∷ []) ≡ fill_by records.old }
 {
     particles::fill_determinants(records)

@@ -18,19 +18,13 @@ fn code(o: Outcome) -> u8
     }
 }
 
-#[unsafe(no_mangle)]
-pub extern "C" fn pasoletu_factor(r: &mut [u64]) -> u8
+pub fn pasoletu_factor(r: &mut [u64]) -> u8
     ensures { called result (r.new ∷ []) ≡ factor_by r.old }
 {
     code(factored_particles::factor_record(r))
 }
 
-#[unsafe(no_mangle)]
-pub extern "C" fn pasoletu_factor_list(
-    records: &mut [u64],
-    answers: &mut [u64],
-    counts: &mut [u64],
-) -> u8
+pub fn pasoletu_factor_list(records: &mut [u64], answers: &mut [u64], counts: &mut [u64]) -> u8
     ensures { called result (records.new ∷ answers.new ∷ counts.new ∷ []) ≡ factors_by records.old answers.old counts.old }
 {
     if particles::well_sized(records.len(), answers.len()) & (counts.len() == 3) {

@@ -6,8 +6,7 @@ ghost use Rattle.host_passes.specs.Passes.{failure_by, factored_failure};
 
 use crate::counts::put_failure_counts;
 
-#[unsafe(no_mangle)]
-pub extern "C" fn pasoletu_pass_with_failure(
+pub fn pasoletu_pass_with_failure(
     model: u64,
     parameters: &[u64],
     limits: &[u64],
@@ -39,8 +38,7 @@ pub extern "C" fn pasoletu_pass_with_failure(
     answers::LENGTH
 }
 
-#[unsafe(no_mangle)]
-pub extern "C" fn pasoletu_pass_factored_with_failure(
+pub fn pasoletu_pass_factored_with_failure(
     model: u64,
     parameters: &[u64],
     limits: &[u64],

@@ -19,8 +19,7 @@ fn friction_in(axes: u64, angle: f64) -> Answer
     }
 }
 
-#[unsafe(no_mangle)]
-pub extern "C" fn pasoletu_nacc_friction(axes: u64, friction_angle: f64, out: &mut [u64]) -> u8
+pub fn pasoletu_nacc_friction(axes: u64, friction_angle: f64, out: &mut [u64]) -> u8
     ensures { called result (out.new ∷ []) ≡ number_in (nacc_friction axes friction_angle) out.old }
 {
     host_lists::put(friction_in(axes, friction_angle), out)

@@ -9,8 +9,7 @@ ghost use Rattle.host_passes.specs.Passes.{pass_by, factored_plain};
 
 use crate::counts::put_counts;
 
-#[unsafe(no_mangle)]
-pub extern "C" fn pasoletu_pass(
+pub fn pasoletu_pass(
     model: u64,
     parameters: &[u64],
     records: &mut [u64],
@@ -32,8 +31,7 @@ pub extern "C" fn pasoletu_pass(
     answers::LENGTH
 }
 
-#[unsafe(no_mangle)]
-pub extern "C" fn pasoletu_pass_factored(
+pub fn pasoletu_pass_factored(
     model: u64,
     parameters: &[u64],
     records: &mut [u64],
@@ -59,8 +57,7 @@ pub extern "C" fn pasoletu_pass_factored(
     answers::LENGTH
 }
 
-#[unsafe(no_mangle)]
-pub extern "C" fn pasoletu_flat_pass(
+pub fn pasoletu_flat_pass(
     model: u64,
     parameters: &[u64],
     records: &mut [u64],

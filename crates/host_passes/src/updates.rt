@@ -29,13 +29,7 @@ fn put_outcome(o: Outcome, answer: &mut [u64]) -> u8
     }
 }
 
-#[unsafe(no_mangle)]
-pub extern "C" fn pasoletu_update(
-    model: u64,
-    parameters: &[u64],
-    r: &mut [u64],
-    answer: &mut [u64],
-) -> u8
+pub fn pasoletu_update(model: u64, parameters: &[u64], r: &mut [u64], answer: &mut [u64]) -> u8
     ensures { called result (r.new ∷ answer.new ∷ []) ≡ update_by floats record_law model parameters.now r.old answer.old }
 {
     if model::fit(model, parameters) & (r.len() == record::FLOATS) & (answer.len() == 2) {
@@ -48,13 +42,7 @@ pub extern "C" fn pasoletu_update(
     answers::LENGTH
 }
 
-#[unsafe(no_mangle)]
-pub extern "C" fn pasoletu_flat_update(
-    model: u64,
-    parameters: &[u64],
-    r: &mut [u64],
-    answer: &mut [u64],
-) -> u8
+pub fn pasoletu_flat_update(model: u64, parameters: &[u64], r: &mut [u64], answer: &mut [u64]) -> u8
     ensures { called result (r.new ∷ answer.new ∷ []) ≡ update_by flat.floats flat_law model parameters.now r.old answer.old }
 {
     if model::fit(model, parameters) & (r.len() == flat_particles::FLOATS) & (answer.len() == 2) {

@@ -3,15 +3,13 @@ ghost use Rattle.std.specs.Prelude.{◌≡◌, [], ◌∷◌};
 ghost use Rattle.host_lists.specs.Called.{called};
 ghost use Rattle.host_passes.specs.Zones.{clear_by, move_by, zones_pass, failure_zones_pass};
 
-#[unsafe(no_mangle)]
-pub extern "C" fn pasoletu_clear_tallies(particles: u64, zones: &[u64], tallies: &mut [u64]) -> u8
+pub fn pasoletu_clear_tallies(particles: u64, zones: &[u64], tallies: &mut [u64]) -> u8
     ensures { called result (tallies.new ∷ []) ≡ clear_by particles zones.now tallies.old }
 {
     tallies::clear_words(particles as usize, zones, tallies)
 }
 
-#[unsafe(no_mangle)]
-pub extern "C" fn pasoletu_move_particle(
+pub fn pasoletu_move_particle(
     particles: u64,
     particle: u64,
     zone: u64,
@@ -29,8 +27,7 @@ pub extern "C" fn pasoletu_move_particle(
     )
 }
 
-#[unsafe(no_mangle)]
-pub extern "C" fn pasoletu_pass_by_zone(
+pub fn pasoletu_pass_by_zone(
     model: u64,
     parameters: &[u64],
     zones: &[u64],
@@ -58,8 +55,7 @@ pub extern "C" fn pasoletu_pass_by_zone(
     answers::LENGTH
 }
 
-#[unsafe(no_mangle)]
-pub extern "C" fn pasoletu_pass_with_failure_by_zone(
+pub fn pasoletu_pass_with_failure_by_zone(
     model: u64,
     parameters: &[u64],
     limits: &[u64],

@@ -3,15 +3,13 @@ ghost use Rattle.std.specs.Prelude.{◌≡◌, [], ◌∷◌};
 ghost use Rattle.host_lists.specs.Called.{called};
 ghost use Rattle.host_sheets.specs.Parts.{begin_by, part_by, end_by};
 
-#[unsafe(no_mangle)]
-pub extern "C" fn pasoletu_begin_parts(state: &mut [u64]) -> u8
+pub fn pasoletu_begin_parts(state: &mut [u64]) -> u8
     ensures { called result (state.new ∷ []) ≡ begin_by state.old }
 {
     parts_words::begin(state)
 }
 
-#[unsafe(no_mangle)]
-pub extern "C" fn pasoletu_part(
+pub fn pasoletu_part(
     bytes: &[u8],
     state: &mut [u64],
     records: &mut [u64],
@@ -23,8 +21,7 @@ pub extern "C" fn pasoletu_part(
     parts_words::part(bytes, state, records, answers, progress)
 }
 
-#[unsafe(no_mangle)]
-pub extern "C" fn pasoletu_end_parts(
+pub fn pasoletu_end_parts(
     records: &[u64],
     answers: &[u64],
     state: &mut [u64],

@@ -69,8 +69,7 @@ fn put_reported(r: Reported, room: &mut [u64]) -> u8
     }
 }
 
-#[unsafe(no_mangle)]
-pub extern "C" fn pasoletu_report(records: &[u64], report: &mut [u64]) -> u8
+pub fn pasoletu_report(records: &[u64], report: &mut [u64]) -> u8
     ensures { called result (report.new ∷ []) ≡ report_by records.now report.old }
 {
     if report.len() != 18 {
@@ -80,8 +79,7 @@ pub extern "C" fn pasoletu_report(records: &[u64], report: &mut [u64]) -> u8
     put_reported(r, report)
 }
 
-#[unsafe(no_mangle)]
-pub extern "C" fn pasoletu_join_reports(first: &[u64], second: &[u64], joined: &mut [u64]) -> u8
+pub fn pasoletu_join_reports(first: &[u64], second: &[u64], joined: &mut [u64]) -> u8
     ensures { called result (joined.new ∷ []) ≡ join_by first.now second.now joined.old }
 {
     if (first.len() == 18) & (second.len() == 18) & (joined.len() == 18) {

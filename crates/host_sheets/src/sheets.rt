@@ -70,8 +70,7 @@ fn put_written(w: Written, written: &mut [u64]) -> u8
     }
 }
 
-#[unsafe(no_mangle)]
-pub extern "C" fn pasoletu_read_sheet(bytes: &[u8], header: &mut [u64], records: &mut [u64]) -> u8
+pub fn pasoletu_read_sheet(bytes: &[u8], header: &mut [u64], records: &mut [u64]) -> u8
     ensures { called result (header.new ∷ records.new ∷ []) ≡ read_by bytes.now header.old records.old }
 {
     if header.len() != 11 {
@@ -81,8 +80,7 @@ pub extern "C" fn pasoletu_read_sheet(bytes: &[u8], header: &mut [u64], records:
     put_header(h, header)
 }
 
-#[unsafe(no_mangle)]
-pub extern "C" fn pasoletu_run_sheet(
+pub fn pasoletu_run_sheet(
     bytes: &[u8],
     records: &mut [u64],
     answers: &mut [u64],
@@ -97,8 +95,7 @@ pub extern "C" fn pasoletu_run_sheet(
     put_ran(ran, counts)
 }
 
-#[unsafe(no_mangle)]
-pub extern "C" fn pasoletu_write_sheet(
+pub fn pasoletu_write_sheet(
     model: u64,
     parameters: &[u64],
     records: &[u64],

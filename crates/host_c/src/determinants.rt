@@ -1,0 +1,11 @@
+// The determinants of a host's records, for one that writes F or kept the floats before it.
+ghost use Rattle.std.specs.Prelude.{◌≡◌, [], ◌∷◌};
+ghost use Rattle.host_lists.specs.Called.{called};
+ghost use Rattle.host_passes.specs.Determinants.{fill_by};
+
+#[unsafe(no_mangle)]
+pub extern "C" fn pasoletu_fill_determinants(records: &mut [u64]) -> u8
+    ensures { called result (records.new ∷ []) ≡ fill_by records.old }
+{
+    host_passes::pasoletu_fill_determinants(records)
+}
