@@ -1,1 +1,2 @@
 // No code: the statement stands in specs/, its proof in proofs/.
+#![tactic(auto)]

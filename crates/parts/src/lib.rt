@@ -1,5 +1,7 @@
 // A sheet that comes in parts, cut anywhere (RULES, section 7): a record is read and worked when its last byte comes. Between calls at
 // most one unfinished record is held, and the bytes before the records in the same room.
+#![tactic(auto)]
+
 ghost use Rattle.std.specs.Prelude.{◌≡◌, true, ◌&&◌, ◌*◌, ◌<◌, eqb, length, take};
 ghost use Rattle.record.specs.Layout.{floats};
 ghost use Rattle.sheet.specs.Sheet.{most, preamble_of, as_header};

@@ -1,28 +1,47 @@
-use Rattle.std.proofs.Common.{rules, ◌≡◌, true, ◌+◌, ◌*◌, ◌≤◌, ◌<◌, length, get_or, set, ℕ, ◌-◌, ◌/◌, ◌%◌, Bool, false, nat_eq, nat_lt, List, [], ◌∷◌, ◌++◌, bit_and, bit_or, Fits, w8, w32, w64, Bor, MutBor}
-use Rattle.record.specs.Layout.{floats}
-use Rattle.particles.specs.Pass.{record_at, replaced, answered, worked, answers}
-use Rattle.particles.specs.Step.{step_law, taken_finite, taken_law}
-use Rattle.tallies.specs.Zones.{below_in}
-use Rattle.tallies.specs.Tallies.{none, told_of, grown, Small, by_zone, recounted, tallied_in, room_in, clear_refusal, clear_tallies, move_refusal, move_zones, move_tallies, pass_refusal, records_after, answers_after, pass_tallies}
-use Rattle.tallies.specs.Plans.{planned, room_by}
+-- `tallies::slice::pass_all` meets its contract: record by record; the first i are worked, answered and counted.
+use Prim.Native.Nat.{zero-le}
+use Rattle.particles.specs.Step.{step_law}
+use Rattle.tallies.proofs.Passing.{State, as_the_step, none_counted, none_worked, none_answered, asks, asks_too, next, over}
 use Rattle.tallies.proofs.slice.pass_all.Goals as goal
 
--- src/slice.rt:56:5
 pub loop-i-init : goal.loop-i-init
-loop-i-init c = ?
+loop-i-init c =
+    let a = c.args in
+    let law = step_law a.s in
+    (zero-le, none_counted law a.xs.now a.zones.now a.ts.now, none_worked law a.xs.now, none_answered law a.xs.now a.out.now)
 
--- src/slice.rt:58:13
 pub tell_record-d-requires : goal.tell_record-d-requires
-tell_record-d-requires c = ?
+tell_record-d-requires c =
+    let a = c.args in
+    let l = c.loop-i in
+    let v = l.invariant in
+    let st : State a.s a.xs.now a.out.now a.zones.now a.ts.now = record { i = l.i; xs = l.xs; out = l.out; ts = l.ts; upto = v.0; counted = v.1; records = v.2; answered_so = v.3 } in
+    let q = asks a.s a.xs.now a.out.now a.zones.now a.ts.now a.n c.requires st c.loop-i-test.true in
+    (q.0, q.1, rw c.ready_for-t.ensures q.2)
 
--- src/slice.rt:59:9
 pub count_told-requires : goal.count_told-requires
-count_told-requires c = ?
+count_told-requires c =
+    let a = c.args in
+    let l = c.loop-i in
+    let v = l.invariant in
+    let st : State a.s a.xs.now a.out.now a.zones.now a.ts.now = record { i = l.i; xs = l.xs; out = l.out; ts = l.ts; upto = v.0; counted = v.1; records = v.2; answered_so = v.3 } in
+    asks_too a.s a.xs.now a.out.now a.zones.now a.ts.now a.n c.requires st c.loop-i-test.true
 
--- src/slice.rt:56:5
 pub loop-i-preserved : goal.loop-i-preserved
-loop-i-preserved c = ?
+loop-i-preserved c =
+    let a = c.args in
+    let l = c.loop-i in
+    let v = l.invariant in
+    let r = c.tell_record-d in
+    let st : State a.s a.xs.now a.out.now a.zones.now a.ts.now = record { i = l.i; xs = l.xs; out = l.out; ts = l.ts; upto = v.0; counted = v.1; records = v.2; answered_so = v.3 } in
+    let e = as_the_step a.s l.i l.xs l.out r.result r.new.xs r.new.out (rw c.ready_for-t.ensures at r.ensures) in
+    let n = next a.s a.xs.now a.out.now a.zones.now a.ts.now a.n c.requires st c.loop-i-test.true r.result r.new.xs r.new.out c.count_told.new.ts e c.count_told.ensures in
+    (n.upto, n.counted, n.records, n.answered_so)
 
--- src/slice.rt:50:1
 pub returns : goal.returns
-returns c = ?
+returns c =
+    let a = c.args in
+    let l = c.loop-i in
+    let v = l.invariant in
+    let st : State a.s a.xs.now a.out.now a.zones.now a.ts.now = record { i = l.i; xs = l.xs; out = l.out; ts = l.ts; upto = v.0; counted = v.1; records = v.2; answered_so = v.3 } in
+    over a.s a.xs.now a.out.now a.zones.now a.ts.now a.n c.requires st c.loop-i-test.false

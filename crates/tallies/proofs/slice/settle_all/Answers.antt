@@ -1,20 +1,25 @@
-use Rattle.std.proofs.Common.{rules, ◌≡◌, true, ◌+◌, ◌*◌, ◌≤◌, ◌<◌, length, get_or, set, ℕ, ◌-◌, ◌/◌, ◌%◌, Bool, false, nat_eq, nat_lt, List, [], ◌∷◌, ◌++◌, bit_and, bit_or, Fits, w8, w32, w64, Bor, MutBor}
-use Rattle.record.specs.Layout.{floats}
-use Rattle.particles.specs.Pass.{record_at, replaced, answered, worked, answers}
-use Rattle.particles.specs.Step.{step_law, taken_finite, taken_law}
-use Rattle.tallies.specs.Zones.{below_in}
-use Rattle.tallies.specs.Tallies.{none, told_of, grown, Small, by_zone, recounted, tallied_in, room_in, clear_refusal, clear_tallies, move_refusal, move_zones, move_tallies, pass_refusal, records_after, answers_after, pass_tallies}
-use Rattle.tallies.specs.Plans.{planned, room_by}
+-- `tallies::slice::settle_all` meets its contract: tally by tally; those below z are settled.
+use Prim.Native.Nat.{zero-le}
+use native.Mathlib.Omega.{arith}
+use Rattle.tallies.proofs.Settling.{Settling, none_settled, none_looked, next, over}
 use Rattle.tallies.proofs.slice.settle_all.Goals as goal
 
--- src/slice.rt:70:5
 pub loop-z-init : goal.loop-z-init
-loop-z-init c = ?
+loop-z-init c = let a = c.args in (zero-le, none_settled a.what a.counts.now a.ts.now, none_looked a.counts.now a.ts.now)
 
--- src/slice.rt:70:5
 pub loop-z-preserved : goal.loop-z-preserved
-loop-z-preserved c = ?
+loop-z-preserved c =
+    let a = c.args in
+    let l = c.loop-z in
+    let v = l.invariant in
+    let st : Settling a.what a.counts.now a.ts.now = record { i = l.z; ts = l.ts; ok = l.ok; upto = v.0; so_far = v.1; room = v.2 } in
+    let n = next a.what a.counts.now a.ts.now st (omega (arith, c.loop-z-test.true, l.auto.ts)) c.room_too-ok.result c.settled.result (c.room_too-ok.ensures, c.settled.ensures) in
+    (n.upto, n.so_far, n.room)
 
--- src/slice.rt:65:1
 pub returns : goal.returns
-returns c = ?
+returns c =
+    let a = c.args in
+    let l = c.loop-z in
+    let v = l.invariant in
+    let st : Settling a.what a.counts.now a.ts.now = record { i = l.z; ts = l.ts; ok = l.ok; upto = v.0; so_far = v.1; room = v.2 } in
+    over a.what a.counts.now a.ts.now st (omega (arith, c.loop-z-test.false, l.auto.ts))

@@ -1,15 +1,14 @@
-use Rattle.std.proofs.Common.{length, ◌-◌, ◌≡◌, true, ◌+◌, ◌*◌, ◌≤◌, ◌<◌, get_or, set, ℕ}
-use Rattle.record.specs.Layout.{floats}
-use Rattle.particles.specs.Pass.{record_at, replaced, answered, worked, answers}
-use Rattle.particles.specs.Step.{step_law, taken_finite, taken_law}
-use Rattle.tallies.specs.Zones.{below_in}
-use Rattle.tallies.specs.Tallies.{none, told_of, grown, Small, by_zone, recounted, tallied_in, room_in, clear_refusal, clear_tallies, move_refusal, move_zones, move_tallies, pass_refusal, records_after, answers_after, pass_tallies}
-use Rattle.tallies.specs.Plans.{planned, room_by}
+-- `tallies::slice::settle_all` meets its contract: tally by tally; those below z are settled.
+use mathlib.Core.Path.{◌≡◌}
+use Prim.Native.Nat.{◌≤◌, ◌-◌}
+use lib.ListN.{length}
+use Rattle.tallies.specs.Tallies.{by_zone}
+use Rattle.tallies.specs.Plans.{room_by}
+use Rattle.tallies.proofs.Settling.{settled_below}
 use Rattle.tallies.proofs.slice.settle_all.Given as goal
 
 abbrev pub invariant-loop-z : goal.invariant-loop-z
-invariant-loop-z l = ?
+invariant-loop-z l = (l.z ≤ length l.initial.ts) × (l.ts ≡ by_zone (settled_below l.what l.counts l.z) 0 l.initial.ts) × (l.ok ≡ room_by l.counts l.initial.ts l.z)
 
--- proposed from the loop's first test
 abbrev pub decreases-loop-z : goal.decreases-loop-z
 decreases-loop-z l = length l.initial.ts - l.z
