@@ -1,4 +1,6 @@
 // A sheet in parts for hosts (RULES, section 7): how far it has come stands in a lent list of words, and any words answer for some state.
+#![tactic(auto)]
+
 ghost use Rattle.std.specs.Prelude.{◌≡◌, ◌&&◌, ◌*◌, eqb, length, take, drop};
 ghost use Rattle.record.specs.Layout.{floats};
 ghost use Rattle.model.specs.Kinds.{places};

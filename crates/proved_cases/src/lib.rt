@@ -1,1 +1,2 @@
 // No code: RULES, section 8, as one statement in specs/.
+#![tactic(auto)]

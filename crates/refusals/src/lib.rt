@@ -1,1 +1,2 @@
 // No code: the statements stand in specs/, their proofs in proofs/.
+#![tactic(auto)]

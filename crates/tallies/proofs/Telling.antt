@@ -1,27 +1,12 @@
 -- What the step by value tells, field by field: the tally that each arm makes is the one that grew. Assumes nothing.
-use mathlib.Core.Path.{◌≡◌, refl}
-use mathlib.Core.Bool.{Bool, true, false, not}
-use Prim.Native.Nat.{ℕ, ◌+◌, ◌<◌, ◌^◌}
-use native.Mathlib.Omega.{arith}
-use lib.Dec.{T, eqb}
+use mathlib.Core.Path.{◌≡◌}
+use mathlib.Core.Bool.{Bool, true, false}
+use Prim.Native.Nat.{ℕ, ◌+◌}
+use lib.Dec.{eqb}
 use Rattle.particles.specs.Pass.{counted_if}
 use Rattle.tallies.specs.declared.tally.Tally.{Tally}
 use Rattle.tallies.specs.declared.tally.Told.{Told}
 use Rattle.tallies.specs.Tallies.{grown}
-
-pub wide : (n : ℕ) → n < 2 ^ 63 → n < 2 ^ 64
-wide n h = omega arith
-
-pub more : (n : ℕ) → n < 2 ^ 63 → n + 1 < 2 ^ 64
-more n h = omega arith
-
-pub is_true : (b : Bool) → T b → b ≡ true
-is_true true h = refl
-is_true false h = absurd h
-
-pub is_false : (b : Bool) → T (not b) → b ≡ false
-is_false true h = absurd h
-is_false false h = refl
 
 abbrev pub counts : ℕ → Bool → ℕ
 counts n f = counted_if n f

@@ -1,14 +1,12 @@
 -- `tallies::slice::pass_all` meets its contract: record by record; the first i are worked, answered and counted.
-use Prim.Native.Nat.{zero-le}
-use Rattle.particles.specs.Step.{step_law}
-use Rattle.tallies.proofs.Passing.{State, as_the_step, none_counted, none_worked, none_answered, asks, asks_too, next, over}
+use Rattle.tallies.proofs.Passing.{State, as_the_step, start, asks, asks_too, next, over}
 use Rattle.tallies.proofs.slice.pass_all.Goals as goal
 
 pub loop-i-init : goal.loop-i-init
 loop-i-init c =
     let a = c.args in
-    let law = step_law a.s in
-    (zero-le, none_counted law a.xs.now a.zones.now a.ts.now, none_worked law a.xs.now, none_answered law a.xs.now a.out.now)
+    let b = start a.s a.xs.now a.out.now a.zones.now a.ts.now in
+    (b.upto, b.counted, b.records, b.answered_so)
 
 pub tell_record-d-requires : goal.tell_record-d-requires
 tell_record-d-requires c =

@@ -1,11 +1,10 @@
 -- `tallies::slice::settle_all` meets its contract: tally by tally; those below z are settled.
-use Prim.Native.Nat.{zero-le}
 use native.Mathlib.Omega.{arith}
-use Rattle.tallies.proofs.Settling.{Settling, none_settled, none_looked, next, over}
+use Rattle.tallies.proofs.Settling.{Settling, begun, next, over}
 use Rattle.tallies.proofs.slice.settle_all.Goals as goal
 
 pub loop-z-init : goal.loop-z-init
-loop-z-init c = let a = c.args in (zero-le, none_settled a.what a.counts.now a.ts.now, none_looked a.counts.now a.ts.now)
+loop-z-init c = let a = c.args in let b = begun a.what a.counts.now a.ts.now in (b.upto, b.so_far, b.room)
 
 pub loop-z-preserved : goal.loop-z-preserved
 loop-z-preserved c =
