@@ -1,5 +1,7 @@
 // A host's sheets, whole and in parts, and its reports, on its own lists: 8 for a room of another length, and nothing written then
 // (RULES, sections 6 and 7).
+#![tactic(auto)]
+
 mod in_parts;
 mod reports;
 mod sheets;
