@@ -1,6 +1,6 @@
 -- `tallies::words::write_tallies` meets its contract: tally by tally.
 use mathlib.Core.Path.{◌≡◌, refl, ◌∙◌}
-use Prim.Native.Nat.{◌-◌, zero-le}
+use Prim.Native.Nat.{zero-le}
 use native.Mathlib.Numerals.{add-one-le}
 use native.Mathlib.Omega.{arith}
 use Rattle.particles.proofs.PassLaws.{all_done}
