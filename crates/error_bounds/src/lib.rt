@@ -1,1 +1,2 @@
 // No code: the lemmas stand in specs/.
+#![tactic(auto)]

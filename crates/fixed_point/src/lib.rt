@@ -1,5 +1,6 @@
 // Numbers as whole multiples of a power of two in a u64: what the elementary functions work in (RULES, section 3).
 #![tactic(auto)]
+
 mod float;
 
 ghost use Rattle.std.specs.Prelude.{◌≡◌, ◌*◌, ◌/◌, ◌^◌, ◌<◌};

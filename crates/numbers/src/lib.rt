@@ -1,6 +1,7 @@
 // The rules that all laws share: minimum and maximum, finite and NaN tests, bits and floats, the integer power (RULES,
 // sections 3 and 4).
 #![tactic(auto)]
+
 mod bits;
 mod power;
 
