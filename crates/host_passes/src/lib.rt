@@ -1,5 +1,7 @@
 // A host's updates, passes and reasons, on its own lists: 8 for a length, 6 for a number or a flag that isn't known, and nothing written then; else
 // what the law makes of them (RULES, sections 6 and 7).
+#![tactic(auto)]
+
 mod causes;
 mod counts;
 mod determinants;
