@@ -1,1 +1,2 @@
 // No code: what a host reads stands in specs/, that it is what was told in proofs/.
+#![tactic(auto)]
