@@ -3,6 +3,7 @@ ghost use Rattle.std.specs.Prelude.{◌≡◌, [], ◌∷◌};
 ghost use Rattle.record.specs.Layout.{floats};
 ghost use Rattle.one_record.specs.RecordLaw.{record_law};
 ghost use Rattle.flat_particles.specs.Law.{flat_law};
+ghost use Rattle.flat_particles.specs.Layout as flat;
 ghost use Rattle.host_lists.specs.Called.{called};
 ghost use Rattle.host_passes.specs.Passes.{pass_by, factored_plain};
 
