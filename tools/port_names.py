@@ -179,6 +179,7 @@ def main():
                     f.write(made)
     if mode != "--dry":
         changed += clauses()
+        changed += operators()
     print(f"{changed} files, {fallen} names that may fall together")
 
 
@@ -230,6 +231,57 @@ def clauses():
         made = "".join(out)
         if p.endswith(".rt"):
             made = re.sub(r"ensures\* \{ λ (\w+)\. ⌜ (.*) ⌝ \}$", lambda m: "ensures { " + re.sub(r"\b" + m.group(1) + r"\b(?!\.)(?<!\.)", "result", m.group(2)) + " }", made, flags=re.M)
+        if made != text:
+            changed += 1
+            with open(p, "w", encoding="utf-8") as f:
+                f.write(made)
+    return changed
+
+
+EXPR = "Rattle.walk.specs.Expr"
+OPS = "+-*/"
+
+
+def operators():
+    """The operators of the walk's expressions get names of their own: `a + b` of `Expr` is `a +ᵉ b`, as the library's float orders end in `ᶠ`."""
+    changed = 0
+    for p in files():
+        with open(p, encoding="utf-8") as f:
+            text = f.read()
+        its = set()
+        for items in re.findall(r"use " + re.escape(EXPR) + r"\.\{([^}]*)\}", text):
+            its |= {o for o in OPS if f"◌{o}◌" in re.split(r"[,\s]+", items)}
+        if p.endswith("crates/walk/specs/Expr.antt"):
+            its = set(OPS)
+        aliases = set(re.findall(r"use " + re.escape(EXPR) + r" as (\w+)", text))
+        if not its and not aliases:
+            continue
+        lines = []
+        is_code = p.endswith(".rt")
+        use = ""
+        for line in text.split("\n"):
+            ghost = re.match(r"\s*(?:pub )?(?:ghost use|requires|ensures)\b", line)
+            if is_code and not ghost or line.lstrip().startswith(("--", "//")):
+                lines.append(line)
+                continue
+            if re.match(r"\s*(?:pub )?(?:ghost )?use ", line) or use:
+                use += line
+                if use.split("use ", 1)[1].startswith(EXPR + ".{"):
+                    for o in its:
+                        line = line.replace(f"◌{o}◌", f"◌{o}ᵉ◌")
+                if "{" not in use or "}" in use:
+                    use = ""
+                lines.append(line)
+                continue
+            for o in its:
+                e = re.escape(o)
+                line = re.sub(r"(?<![\w.])◌" + e + "◌", f"◌{o}ᵉ◌", line)
+                line = re.sub(r"(?<=\s)" + e + r"(?=\s|$)", o + "ᵉ", line)
+            for a in aliases:
+                for o in OPS:
+                    line = line.replace(f"{a}.◌{o}◌", f"{a}.◌{o}ᵉ◌")
+            lines.append(line)
+        made = "\n".join(lines)
         if made != text:
             changed += 1
             with open(p, "w", encoding="utf-8") as f:

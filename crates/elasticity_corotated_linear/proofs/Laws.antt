@@ -16,7 +16,7 @@ use Rattle.tensor.specs.Matrix as tensor
 use Rattle.tensor.specs.Matrix.{add, sub, mul, det_of, sum_of, product_of}
 use Rattle.tensor.specs.Answer.{answered, answered_vector, refused_matrix, refused_vector}
 use Rattle.tensor.specs.Finite.{row_finite, mat_finite}
-use Rattle.walk.specs.Expr.{Expr, num, ◌+◌, ◌*◌, value, values}
+use Rattle.walk.specs.Expr.{Expr, num, ◌+ᵉ◌, ◌*ᵉ◌, value, values}
 use Rattle.walk.proofs.Expr.{whole_tells, add_left, add_right, sub_left, mul_left, mul_right}
 use Rattle.walk.specs.Walk.{Walk, less, work, works, mosts, leasts, split, Ended, refused, walk_result, answer_as}
 use Rattle.walk.proofs.Number.{sub_number}
@@ -221,7 +221,7 @@ module _ (p : CorotatedLinearElasticity) (phase h : Float) (f u : List (List Flo
 -- ---- the principal stresses
 -- a product that is a number has numbers alone
 times_numbers : (x y : Float) → is_number (mul x y) ≡ true → is_number x && is_number y ≡ true
-times_numbers x y h = and_left (is_number x && is_number y) (is_number (mul x y)) (sym (whole_tells (num x * num y)) ∙ h)
+times_numbers x y h = and_left (is_number x && is_number y) (is_number (mul x y)) (sym (whole_tells (num x *ᵉ num y)) ∙ h)
 
 folded : (x : Float) (l : List Float) → is_number (foldl mul x l) ≡ true → is_number x && every is_number l ≡ true
 folded x [] h = rw h
@@ -313,7 +313,7 @@ module _ (p : CorotatedLinearElasticity) (s : List Float) (h : Float) where
   sph_part j = value (spherical_energy p h (num j))
 
   abbrev sum_walk : Float → List Float → Expr → Walk Float
-  sum_walk j a spherical = split 5 (less (num j) one) (returned 6 (pos_dev_part p h a)) (returned 6 (pos_dev_part p h a + spherical))
+  sum_walk j a spherical = split 5 (less (num j) one) (returned 6 (pos_dev_part p h a)) (returned 6 (pos_dev_part p h a +ᵉ spherical))
 
   abbrev energy_walk : Float → Walk Float
   energy_walk j = works 2 (less_one s) (λ e. mosts 3 e zero (λ a. work 4 (spherical_energy p h (num j)) (λ spherical. sum_walk j a spherical)))
@@ -326,7 +326,7 @@ module _ (p : CorotatedLinearElasticity) (s : List Float) (h : Float) where
   of_finite q j i =
       ap answer_as (most_law s q 2 3 (λ a. work 4 (spherical_energy p h (num j)) (λ spherical. sum_walk j a spherical)))
       ∙ number_split (is_number (sph_part j)) (walk_result (sum_walk j (positive_of (values (less_one s))) (num (sph_part j)))) (refused no_number)
-      ∙ rw (split_number 5 6 (less (num j) one) dev_part (dev_part + num (sph_part j)) (rw (i, one_number)))
+      ∙ rw (split_number 5 6 (less (num j) one) dev_part (dev_part +ᵉ num (sph_part j)) (rw (i, one_number)))
 
   sph_nan : sph_part nan ≡ nan
   sph_nan = simp (sub_left, mul_right)

@@ -1,7 +1,7 @@
 -- The corotated law's energies (RULES, section 5: "Energy takes the product of sigma, `pos_energy` the determinant of F").
 use Rattle.std.specs.Prelude.{List, [], ◌∷◌, ◌++◌, map, Float}
 use Rattle.answers.specs.declared.Answer.{Answer}
-use Rattle.walk.specs.Expr.{Expr, num, ◌+◌, ◌-◌, ◌*◌, ◌/◌}
+use Rattle.walk.specs.Expr.{Expr, num, ◌+ᵉ◌, ◌-ᵉ◌, ◌*ᵉ◌, ◌/ᵉ◌}
 use Rattle.walk.specs.Walk.{Walk, less, inputs, work, works, mosts, split, walk_result, answer_as}
 use Rattle.walk.specs.Matrix.{joined, total, product, dot}
 use Rattle.walk.specs.Tensor.{one, determinant}
@@ -19,9 +19,9 @@ squares e = total (map (λ x. power x 2) e)
 
 abbrev pub density : CorotatedLinearElasticity → List Float → Float → Expr
 density p s h =
-    let hardened_mu = num p.mu * num h in
-    let hardened_lambda = num p.lambda * num h in
-    hardened_mu * squares (less_one s) + hardened_lambda / two * power (product s - one) 2
+    let hardened_mu = num p.mu *ᵉ num h in
+    let hardened_lambda = num p.lambda *ᵉ num h in
+    hardened_mu *ᵉ squares (less_one s) +ᵉ hardened_lambda /ᵉ two *ᵉ power (product s -ᵉ one) 2
 
 unfoldable pub energy_walk : CorotatedLinearElasticity → List Float → Float → Walk Float
 energy_walk p s h = inputs (floats p (s ++ (h ∷ []))) (returned 1 (density p s h))
@@ -31,10 +31,10 @@ elastic_energy_density p s h = answer_as (walk_result (energy_walk p s h))
 
 -- ---- pos_energy: e is the positive part of sigma - 1
 abbrev pub pos_dev_part : CorotatedLinearElasticity → Float → List Float → Expr
-pos_dev_part p h e = num p.mu * num h * dot e e
+pos_dev_part p h e = num p.mu *ᵉ num h *ᵉ dot e e
 
 abbrev pub spherical_energy : CorotatedLinearElasticity → Float → Expr → Expr
-spherical_energy p h j = num p.lambda * num h / two * (j - one) * (j - one)
+spherical_energy p h j = num p.lambda *ᵉ num h /ᵉ two *ᵉ (j -ᵉ one) *ᵉ (j -ᵉ one)
 
 -- below j = 1 the spherical part is worked and not used: its NaN is met all the same
 unfoldable pub pos_from : CorotatedLinearElasticity → List Float → Float → Expr → Walk Float
@@ -45,7 +45,7 @@ pos_from p s h d =
     work 4 (spherical_energy p h j) (λ spherical.
     split 5 (less j one)
     (returned 6 (pos_dev_part p h pos))
-    (returned 6 (pos_dev_part p h pos + spherical))))))
+    (returned 6 (pos_dev_part p h pos +ᵉ spherical))))))
 
 unfoldable pub pos_steps : CorotatedLinearElasticity → List (List Float) → List Float → Float → Walk Float
 pos_steps p f s h = pos_from p s h (determinant f)

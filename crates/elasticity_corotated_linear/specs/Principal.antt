@@ -4,7 +4,7 @@ use Rattle.std.specs.Prelude.{List, Float}
 use Rattle.tensor.specs.Axes.{pairwise}
 use Rattle.tensor.specs.Matrix.{three}
 use Rattle.tensor.specs.declared.VectorAnswer.{VectorAnswer}
-use Rattle.walk.specs.Expr.{Expr, num, ◌*◌, nums}
+use Rattle.walk.specs.Expr.{Expr, num, ◌*ᵉ◌, nums}
 use Rattle.walk.specs.Walk.{Walk, less, work, works, mosts, leasts, split, walk_result}
 use Rattle.walk.specs.Matrix.{product}
 use Rattle.walk.specs.Tensor.{one, row_plus, row_scaled}
@@ -14,7 +14,7 @@ use Rattle.elasticity_corotated_linear.specs.declared.CorotatedLinearElasticity.
 
 -- 2mu h e sigma, where e stands for sigma - 1 or a part of it
 abbrev pub stretched : CorotatedLinearElasticity → Float → Expr → Expr → Expr
-stretched p h e s = two * num p.mu * num h * e * s
+stretched p h e s = two *ᵉ num p.mu *ᵉ num h *ᵉ e *ᵉ s
 
 abbrev pub dev_stresses : CorotatedLinearElasticity → Float → List Float → List Float → List Expr
 dev_stresses p h e s = pairwise (stretched p h) (nums e) (nums s)

@@ -3,7 +3,7 @@ use Rattle.std.specs.Prelude.{cond, ◌&&◌, List, [], ◌∷◌, ◌++◌, map
 use Rattle.std.specs.Float.Ieee as Ieee
 use Rattle.tensor.specs.Matrix as tensor
 use Rattle.tensor.specs.declared.MatrixAnswer.{MatrixAnswer}
-use Rattle.walk.specs.Expr.{Expr, num, ◌-◌, ◌*◌}
+use Rattle.walk.specs.Expr.{Expr, num, ◌-ᵉ◌, ◌*ᵉ◌}
 pub use Rattle.walk.specs.Constants.{zero, two}
 use Rattle.walk.specs.Walk.{Walk, Test, less, flag, inputs, work, works, mosts, leasts, split, walk_result}
 use Rattle.walk.specs.Matrix.{joined}
@@ -17,7 +17,7 @@ use Rattle.elasticity_corotated_linear.specs.declared.CorotatedLinearElasticity.
 
 -- ---- of the stress, the principal stresses and the energies
 abbrev pub less_one : List Float → List Expr
-less_one s = map (λ x. num x - one) s
+less_one s = map (λ x. num x -ᵉ one) s
 
 -- phase is an input, no number that a step works
 abbrev pub unsplit : Float → Test
@@ -28,11 +28,11 @@ abbrev pub phase_coeff : CorotatedLinearElasticity → Float → Expr
 phase_coeff p phase = num (cond (p.split_stress_on_failure && Ieee.eq phase tensor.zero) tensor.zero tensor.one)
 
 abbrev pub spherical_part : CorotatedLinearElasticity → Float → Expr → Expr
-spherical_part p h j = num p.lambda * num h * (j - one) * j
+spherical_part p h j = num p.lambda *ᵉ num h *ᵉ (j -ᵉ one) *ᵉ j
 
 -- ---- kirchhoff_stress
 abbrev pub dev_stress : CorotatedLinearElasticity → Float → List (List Float) → List (List Float) → List Float → List (List Float) → List (List Expr)
-dev_stress p h f u e vt = times (scaled (two * num p.mu * num h) (recomposed u e vt)) (turned (rows f))
+dev_stress p h f u e vt = times (scaled (two *ᵉ num p.mu *ᵉ num h) (recomposed u e vt)) (turned (rows f))
 
 abbrev pub spherical_stress : CorotatedLinearElasticity → Float → Expr → List (List Expr)
 spherical_stress p h j = identity_times (spherical_part p h j)

@@ -16,7 +16,7 @@ use Rattle.tensor.specs.Answer.{answered}
 use Rattle.tensor.specs.Finite.{mat_finite}
 use Rattle.decomposed.specs.Number.{mat_number}
 use Rattle.decomposed.specs.Inverse.{inverse_transpose_of, mat_over_of, cofactors_of}
-use Rattle.walk.specs.Expr.{Expr, num, ◌+◌, ◌*◌, value}
+use Rattle.walk.specs.Expr.{Expr, num, ◌+ᵉ◌, ◌*ᵉ◌, value}
 use Rattle.walk.specs.Walk.{Walk, Function, minus_third, minus_two_thirds, ln, less, at_most, answer_of, asked, ask, Ended, refused, walk_result, answer_as}
 use Rattle.walk.specs.Power.{power}
 use Rattle.walk.proofs.Inner.{Inner}
@@ -74,13 +74,13 @@ module _ (p : NeoHookeanElasticity) (phase h : Float) (f : List (List Float)) (j
   pub pos_law : walk_result (pos_from p phase h f (num j))
       ≡ cond (is_number k && mat_number b)
       (asked (answer_of minus_two_thirds j) (λ w. asked (answer_of ln j) (λ l.
-      let vol = value (volumetric_energy (num k) (num j * num j) (num l)) in
+      let vol = value (volumetric_energy (num k) (num j *ᵉ num j) (num l)) in
       cond (is_number vol) (walk_result (pos_sum phase (num j) (pos_deviatoric p h (num w) b) (num vol))) (refused no_number))))
       (refused no_number)
   unfolding pos_from
   pos_law =
       let R : Float → Float → Ended Float = λ x w. asked (answer_of ln x) (λ l.
-      let vol = value (volumetric_energy (num k) (num x * num x) (num l)) in
+      let vol = value (volumetric_energy (num k) (num x *ᵉ num x) (num l)) in
       cond (is_number vol) (walk_result (pos_sum phase (num x) (pos_deviatoric p h (num w) b) (num vol))) (refused no_number)) in
       let K = is_number k in
       let A = asked (answer_of minus_two_thirds j) (R j) in
@@ -124,15 +124,15 @@ module _ (p : NeoHookeanElasticity) (phase h : Float) (f : List (List Float)) (j
       rw (kirchhoff_law, t, u) (split_matrix 5 6 (at_most one (num j)) (tensile c dev vol) (compressed c dev vol) (number minus_two_thirds w u))
 
   pub pos_given : {w l : Float} → is_number k && mat_number b ≡ true → answer_of minus_two_thirds j ≡ Value w → answer_of ln j ≡ Value l
-      → is_number (value (volumetric_energy (num k) (num j * num j) (num l))) ≡ true
+      → is_number (value (volumetric_energy (num k) (num j *ᵉ num j) (num l))) ≡ true
       → answer_as (walk_result (pos_from p phase h f (num j)))
       ≡ (let dev = value (pos_deviatoric p h (num w) b) in
-      let vol = value (volumetric_energy (num k) (num j * num j) (num l)) in
+      let vol = value (volumetric_energy (num k) (num j *ᵉ num j) (num l)) in
       cond (Ieee.lt j tensor.one) (answered_of (tensor.mul dev (value (coefficient phase)))) (answered_of (tensor.mul (tensor.add dev vol) phase)))
   pos_given {w} {l} t u v x =
       let dev = pos_deviatoric p h (num w) b in
-      let vol = num (value (volumetric_energy (num k) (num j * num j) (num l))) in
-      rw (pos_law, t, u, v, x) (split_number 7 8 (less (num j) one) (dev * coefficient phase) ((dev + vol) * num phase) (number_first ln l v))
+      let vol = num (value (volumetric_energy (num k) (num j *ᵉ num j) (num l))) in
+      rw (pos_law, t, u, v, x) (split_number 7 8 (less (num j) one) (dev *ᵉ coefficient phase) ((dev +ᵉ vol) *ᵉ num phase) (number_first ln l v))
 
   pub energy_given : (m : Bool) {w l : Float} → is_number (value (kappa p h)) ≡ true → answer_of minus_third j ≡ Value w
       → mat_number (worth (stretch (num w) f)) ≡ true → answer_of ln j ≡ Value l
@@ -146,7 +146,7 @@ module _ (p : NeoHookeanElasticity) (phase h : Float) (f : List (List Float)) (j
       let dev = deviatoric_energy p h (worth (stretch (num w) f)) in
       let vol = volumetric_energy (num (value (kappa p h))) (power (num j) 2) (num l) in
       rw (energy_law m, t, u, v, x)
-      (split_number 6 7 (at_most one (num j)) (c * (vol + dev) + num tensor.zero) (below m c dev vol) (number ln l x)
+      (split_number 6 7 (at_most one (num j)) (c *ᵉ (vol +ᵉ dev) +ᵉ num tensor.zero) (below m c dev vol) (number ln l x)
       ∙ ap (λ e. cond (Ieee.le tensor.one j) (answered_of (tensor.add (tensor.mul (value c) (tensor.add (value vol) (value dev))) tensor.zero)) (answered_of e)) (value_below m c dev vol))
 
 -- ---- fpk_stress

@@ -13,7 +13,7 @@ use Rattle.answers.specs.declared.Answer.TheVariants.{Value, Refused}
 use Rattle.numbers.specs.Floats.{finite, is_number}
 use Rattle.tensor.specs.Matrix as tensor
 use Rattle.tensor.specs.Matrix.{det_of}
-use Rattle.walk.specs.Expr.{Expr, num, ◌+◌, ◌*◌, value}
+use Rattle.walk.specs.Expr.{Expr, num, ◌+ᵉ◌, ◌*ᵉ◌, value}
 use Rattle.walk.proofs.Expr.{whole_tells}
 use Rattle.walk.specs.Walk.{Walk, at_most, inputs, Ended, given, refused, walk_result, answer_as}
 use Rattle.walk.specs.Exact.{path, final, first, answer, Refusal, and_then}
@@ -76,7 +76,7 @@ module _ (p : NeoHookeanElasticity) (phase h : Float) (f : List (List Float)) wh
   split_law q e m =
       let dev = q.deviatoric in
       let vol = q.volumetric in
-      rw (split_alone m, e, parts_j q e) (split_number 6 7 (at_most one (num j)) (c * (vol + dev) + num tensor.zero) (below m c dev vol) (rw (one_number, j_number q e)))
+      rw (split_alone m, e, parts_j q e) (split_number 6 7 (at_most one (num j)) (c *ᵉ (vol +ᵉ dev) +ᵉ num tensor.zero) (below m c dev vol) (rw (one_number, j_number q e)))
 
   -- every number but 3 comes in one mode exactly where it comes in the other
   alike : (x : Ended Parts) → walk_result parts_run ≡ x → (m k : Bool) (n : ℕ) → (n ≡ 3 → ⊥) → elastic_energy_density_in m p phase h f ≡ Refused n → elastic_energy_density_in k p phase h f ≡ Refused n

@@ -3,7 +3,7 @@
 use Rattle.std.specs.Prelude.{Bool, false, cond, List, [], ◌∷◌, Float}
 use Rattle.answers.specs.declared.Answer.{Answer}
 use Rattle.tensor.specs.Matrix as tensor
-use Rattle.walk.specs.Expr.{Expr, num, ◌+◌, ◌-◌, ◌*◌, ◌/◌}
+use Rattle.walk.specs.Expr.{Expr, num, ◌+ᵉ◌, ◌-ᵉ◌, ◌*ᵉ◌, ◌/ᵉ◌}
 use Rattle.walk.specs.Walk.{Walk, ln, minus_third, minus_two_thirds, less, at_most, inputs, ask, work, split, end, ◌then◌, walk_result, answer_as}
 use Rattle.walk.specs.Tensor.{one, rows, turned, times, scaled, determinant}
 use Rattle.decomposed.specs.Formulas.{trace}
@@ -16,18 +16,18 @@ use Rattle.elasticity_neo_hookean.specs.declared.NeoHookeanElasticity.{NeoHookea
 
 -- both energies: q is the square of j
 abbrev pub volumetric_energy : Expr → Expr → Expr → Expr
-volumetric_energy k q l = k / two * ((q - one) / two - l)
+volumetric_energy k q l = k /ᵉ two *ᵉ ((q -ᵉ one) /ᵉ two -ᵉ l)
 
 -- ---- elastic_energy_density: here 2/3 multiplies mu h
 abbrev pub kappa : NeoHookeanElasticity → Float → Expr
-kappa p h = two / dim * (num p.mu * num h) + num p.lambda * num h
+kappa p h = two /ᵉ dim *ᵉ (num p.mu *ᵉ num h) +ᵉ num p.lambda *ᵉ num h
 
 -- A^T A, where A is F times w, the power -1/3 of j
 abbrev pub stretch : Expr → List (List Float) → List (List Expr)
 stretch w f = times (turned (scaled w (rows f))) (scaled w (rows f))
 
 abbrev pub deviatoric_energy : NeoHookeanElasticity → Float → List (List Float) → Expr
-deviatoric_energy p h s = num p.mu * num h / two * (trace (rows s) - dim)
+deviatoric_energy p h s = num p.mu *ᵉ num h /ᵉ two *ᵉ (trace (rows s) -ᵉ dim)
 
 -- j and the two parts: all that the split takes, the same in both modes
 pub record Parts : Type 0 where
@@ -49,14 +49,14 @@ parts_walk p h f = parts_from p h f (determinant f)
 
 -- below j = 1 the tensile part is the volumetric one, with one split for stress and energy the deviatoric one; c is the phase's coefficient
 abbrev pub below : Bool → Expr → Expr → Expr → Expr
-below one_split c dev vol = cond one_split (c * dev + vol) (c * vol + dev)
+below one_split c dev vol = cond one_split (c *ᵉ dev +ᵉ vol) (c *ᵉ vol +ᵉ dev)
 
 -- from j = 1 up both parts are tensile, and 0 is added
 abbrev pub sum_walk : Bool → Expr → Parts → Walk Float
 sum_walk one_split c q =
     let dev = q.deviatoric in
     let vol = q.volumetric in
-    split 6 (at_most one q.j) (returned 7 (c * (vol + dev) + num tensor.zero)) (returned 7 (below one_split c dev vol))
+    split 6 (at_most one q.j) (returned 7 (c *ᵉ (vol +ᵉ dev) +ᵉ num tensor.zero)) (returned 7 (below one_split c dev vol))
 
 unfoldable pub energy_from : Bool → NeoHookeanElasticity → Float → Float → List (List Float) → Expr → Walk Float
 energy_from one_split p phase h f d = parts_from p h f d then sum_walk one_split (coefficient phase)
@@ -79,10 +79,10 @@ elastic_energy_density p phase h f = answer_as (walk_result (energy_walk p phase
 
 -- ---- pos_energy: here h multiplies mu; b is F F^T, w the power -2/3 of j
 abbrev pub pos_deviatoric : NeoHookeanElasticity → Float → Expr → List (List Float) → Expr
-pos_deviatoric p h w b = num h * num p.mu / two * (trace (rows b) * w - dim)
+pos_deviatoric p h w b = num h *ᵉ num p.mu /ᵉ two *ᵉ (trace (rows b) *ᵉ w -ᵉ dim)
 
 abbrev pub pos_sum : Float → Expr → Expr → Expr → Walk Float
-pos_sum phase j dev vol = split 7 (less j one) (returned 8 (dev * coefficient phase)) (returned 8 ((dev + vol) * num phase))
+pos_sum phase j dev vol = split 7 (less j one) (returned 8 (dev *ᵉ coefficient phase)) (returned 8 ((dev +ᵉ vol) *ᵉ num phase))
 
 -- below j = 1 the volumetric part is worked and not used: its NaN is met all the same
 unfoldable pub pos_from : NeoHookeanElasticity → Float → Float → List (List Float) → Expr → Walk Float
@@ -92,7 +92,7 @@ pos_from p phase h f d =
     matrix 3 (cauchy_green f) (λ b.
     ask 4 minus_two_thirds j (λ w.
     ask 5 ln j (λ l.
-    work 6 (volumetric_energy k (j * j) l) (λ vol.
+    work 6 (volumetric_energy k (j *ᵉ j) l) (λ vol.
     pos_sum phase j (pos_deviatoric p h w b) vol))))))
 
 unfoldable pub pos_steps : NeoHookeanElasticity → Float → Float → List (List Float) → Walk Float

@@ -8,7 +8,7 @@ use Rattle.answers.specs.declared.Answer.{Answer}
 use Rattle.physics.specs.Physics.{lame_of}
 use Rattle.physics.specs.declared.Lame.{Lame}
 use Rattle.tensor.specs.Axes.{all_of}
-use Rattle.walk.specs.Expr.{Expr, num, ◌+◌, ◌-◌, ◌*◌, ◌/◌, value}
+use Rattle.walk.specs.Expr.{Expr, num, ◌+ᵉ◌, ◌-ᵉ◌, ◌*ᵉ◌, ◌/ᵉ◌, value}
 pub use Rattle.walk.specs.Constants.{two}
 use Rattle.walk.specs.Walk.{Walk, inputs, walk_result, answer_as}
 use Rattle.walk.specs.Matrix.{joined}
@@ -49,7 +49,7 @@ new_of young poisson = cond (finite young && finite poisson) (from_lame (lame_of
 abbrev pub coefficient : Float → Expr
 coefficient phase =
     let r = num (of_bits binary64 0x3f50_624d_d2f1_a9fc) in
-    (one - r) * num phase * num phase + r
+    (one -ᵉ r) *ᵉ num phase *ᵉ num phase +ᵉ r
 
 unfoldable pub phase_coeff : Float → Answer
 phase_coeff phase = answer_as (walk_result (inputs (phase ∷ []) (returned 1 (coefficient phase))))
@@ -57,7 +57,7 @@ phase_coeff phase = answer_as (walk_result (inputs (phase ∷ []) (returned 1 (c
 -- ---- of both stresses and `pos_energy`; h is the elastic hardening
 -- k = 2/3 mu h + lambda h
 abbrev pub bulk : NeoHookeanElasticity → Float → Expr
-bulk p h = two / dim * num p.mu * num h + num p.lambda * num h
+bulk p h = two /ᵉ dim *ᵉ num p.mu *ᵉ num h +ᵉ num p.lambda *ᵉ num h
 
 -- F F^T
 abbrev pub cauchy_green : List (List Float) → List (List Expr)

@@ -4,7 +4,7 @@ use Rattle.tensor.specs.Matrix as tensor
 use Rattle.tensor.specs.Matrix.{three, identity_times_of}
 use Rattle.tensor.specs.Answer.{zero_row}
 use Rattle.tensor.specs.declared.MatrixAnswer.{MatrixAnswer}
-use Rattle.walk.specs.Expr.{Expr, num, ◌-◌, ◌*◌, ◌/◌, value}
+use Rattle.walk.specs.Expr.{Expr, num, ◌-ᵉ◌, ◌*ᵉ◌, ◌/ᵉ◌, value}
 use Rattle.walk.specs.Walk.{Walk, minus_two_thirds, zeros, at_most, inputs, ask, work, split, walk_result}
 use Rattle.walk.specs.Tensor.{one, rows, times, plus, scaled, identity_times, determinant}
 use Rattle.decomposed.specs.Formulas.{deviatoric, cofactors_over}
@@ -16,14 +16,14 @@ use Rattle.elasticity_neo_hookean.specs.declared.NeoHookeanElasticity.{NeoHookea
 
 -- both stresses: mu h j^(-2/3) times the deviatoric part of F F^T
 abbrev pub shear : NeoHookeanElasticity → Float → Expr → List (List Float) → List (List Expr)
-shear p h w b = scaled (num p.mu * num h * w) (deviatoric (rows b))
+shear p h w b = scaled (num p.mu *ᵉ num h *ᵉ w) (deviatoric (rows b))
 
 -- ---- fpk_stress: g is the inverse of F^T, at j = 0 the identity
 abbrev pub inverted : {A : Type 0} → ℕ → List (List Float) → Expr → (List (List Float) → Walk A) → Walk A
 inverted n f j k = split n (zeros (value j ∷ [])) (k (identity_times_of tensor.one)) (matrix n (cofactors_over f j) k)
 
 abbrev pub fpk_volumetric : Expr → Expr → List (List Float) → List (List Expr)
-fpk_volumetric j k g = scaled (j * k / two * (j - one / j)) (rows g)
+fpk_volumetric j k g = scaled (j *ᵉ k /ᵉ two *ᵉ (j -ᵉ one /ᵉ j)) (rows g)
 
 unfoldable pub fpk_from : NeoHookeanElasticity → List (List Float) → Float → Expr → Walk (List (List Float))
 fpk_from p f h d =
@@ -45,7 +45,7 @@ fpk_stress p f h = matrix_as (walk_result (fpk_walk p f h))
 
 -- ---- kirchhoff_stress
 abbrev pub volumetric : Expr → Expr → List (List Expr)
-volumetric j k = identity_times (k / two * (j * j - one))
+volumetric j k = identity_times (k /ᵉ two *ᵉ (j *ᵉ j -ᵉ one))
 
 -- from j = 1 up all is tensile, and zeros are added
 abbrev pub tensile : Expr → List (List Expr) → List (List Expr) → List (List Expr)

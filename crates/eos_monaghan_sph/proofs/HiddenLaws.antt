@@ -24,7 +24,7 @@ use Rattle.square_root.proofs.InRange.{in_range_lem, rooted}
 use Rattle.tensor.specs.Axes.{pairwise}
 use Rattle.tensor.specs.Matrix.{add, mul, div, one, sum_of, dot_of}
 use Rattle.tensor.specs.Finite.{row_finite}
-use Rattle.walk.specs.Expr.{Expr, num, ◌/◌, value}
+use Rattle.walk.specs.Expr.{Expr, num, ◌/ᵉ◌, value}
 use Rattle.walk.proofs.Expr.{zero_number}
 use Rattle.walk.specs.Walk.{root, answer_of, Walk, ask, least, asked, walk_result, answer_as}
 use Rattle.walk.proofs.Steps.{most_answers, least_answers}
@@ -181,11 +181,11 @@ module _ (velocity : List Float) (width : Float) where
   abbrev pub speeds : Float
   speeds = value (c_square (num (max_of (dot_of velocity velocity) one)))
 
-  pub cfl_law : row_finite velocity ≡ true → (k : Expr → Walk Float) → walk_result (cfl velocity width k) ≡ asked (answer_of root speeds) (λ c. walk_result (k (num width / num c)))
+  pub cfl_law : row_finite velocity ≡ true → (k : Expr → Walk Float) → walk_result (cfl velocity width k) ≡ asked (answer_of root speeds) (λ c. walk_result (k (num width /ᵉ num c)))
   cfl_law q k =
-      most_answers 7 (dot velocity velocity) tensor.one (λ square. ask 8 root (c_square square) (λ c. k (num width / c)))
+      most_answers 7 (dot velocity velocity) tensor.one (λ square. ask 8 root (c_square square) (λ c. k (num width /ᵉ c)))
       (ap is_number (value_dot velocity velocity) ∙ squares_number velocity q) one_number
-      ∙ ap (λ d. asked (answer_of root (value (c_square (num (max_of d one))))) (λ c. walk_result (k (num width / num c)))) (value_dot velocity velocity)
+      ∙ ap (λ d. asked (answer_of root (value (c_square (num (max_of d one))))) (λ c. walk_result (k (num width /ᵉ num c)))) (value_dot velocity velocity)
 
   pub step_number : finite width ≡ true → (c : Float) → answer_of root speeds ≡ Value c → is_number (div width c) ≡ true
   step_number q c h =
@@ -197,6 +197,6 @@ module _ (velocity : List Float) (width : Float) where
       (root_above speeds (div-fits binary64 m density_fluctuation) r.0 (over_tenth m (above_of_le one m one_positive l) l)))
 
   pub smaller_law : finite width ≡ true → (single c : Float) → is_number single ≡ true → answer_of root speeds ≡ Value c
-      → answer_as (walk_result (least 9 (num single) (num width / num c) (λ dt. returned 10 dt))) ≡ answered_of (min_of single (div width c))
+      → answer_as (walk_result (least 9 (num single) (num width /ᵉ num c) (λ dt. returned 10 dt))) ≡ answered_of (min_of single (div width c))
   smaller_law q single c s h =
-      ap answer_as (least_answers 9 (num single) (num width / num c) (λ dt. returned 10 dt) s (step_number q c h)) ∙ returned_law 10 (num (min_of single (div width c)))
+      ap answer_as (least_answers 9 (num single) (num width /ᵉ num c) (λ dt. returned 10 dt) s (step_number q c h)) ∙ returned_law 10 (num (min_of single (div width c)))

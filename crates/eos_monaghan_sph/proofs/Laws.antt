@@ -16,7 +16,7 @@ use Rattle.tensor.specs.Matrix.{mul, mat_scale_of}
 use Rattle.tensor.specs.Finite.{row_finite, mat_finite}
 use Rattle.decomposed.specs.Decomposed.{deviatoric_of}
 use Rattle.decomposed.specs.Rates.{strain_rate_of}
-use Rattle.walk.specs.Expr.{num, neg, ◌*◌, ◌/◌, value}
+use Rattle.walk.specs.Expr.{num, neg, ◌*ᵉ◌, ◌/ᵉ◌, value}
 use Rattle.walk.specs.Walk.{Walk, most, end, ◌then◌, refused, walk_result, answer_as, asked}
 use Rattle.walk.proofs.Number.{neg_number}
 use Rattle.numbers.proofs.Laws.{finite_number}
@@ -95,12 +95,12 @@ module _ (law : MonaghanSphEos) (mass volume density : Float) where
 
   pub pressure_law : inputs_finite law mass volume density ≡ true
       → answer_as (walk_result (pressure_steps law mass volume density))
-      ≡ (let ratio = value (num density / density0 mass volume) in
+      ≡ (let ratio = value (num density /ᵉ density0 mass volume) in
       let p = value (unbounded law (num ratio)) in
       cond (is_number ratio) (cond (is_number p) (Value (max_of p bound)) (Refused no_number)) (Refused no_number))
   unfolding pressure_steps
   pressure_law q =
-      let ratio = value (num density / density0 mass volume) in
+      let ratio = value (num density /ᵉ density0 mass volume) in
       let p = value (unbounded law (num ratio)) in
       let n = neg_number law.max_neg_pressure ∙ finite_number law.max_neg_pressure (least_finite q) in
       number_split (is_number ratio) (cond (is_number p) (walk_result (last p)) (refused no_number)) (refused no_number)
@@ -122,5 +122,5 @@ strain_law gradient = simp (worth_scaled, worth_plus, worth_turned, worth_rows)
 pub viscous_law : (law : MonaghanSphEos) (det : Float) (gradient : List (List Float))
     → worth (viscous_part law det gradient) ≡ mat_scale_of (mul (mul two law.viscosity) det) (deviatoric_of (strain_rate_of gradient))
 viscous_law law det gradient =
-    worth_scaled (num two * num law.viscosity * num det) (deviatoric (strain_rate gradient))
+    worth_scaled (num two *ᵉ num law.viscosity *ᵉ num det) (deviatoric (strain_rate gradient))
     ∙ ap (mat_scale_of (mul (mul two law.viscosity) det)) (worth_deviatoric (strain_rate gradient) ∙ ap deviatoric_of (strain_law gradient))

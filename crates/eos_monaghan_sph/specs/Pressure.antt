@@ -5,7 +5,7 @@ use Rattle.numbers.specs.Floats.{finite}
 use Rattle.answers.specs.declared.Answer.{Answer}
 use Rattle.tensor.specs.Axes.{all_of}
 use Rattle.tensor.specs.Matrix as tensor
-use Rattle.walk.specs.Expr.{Expr, num, neg, ◌-◌, ◌*◌, ◌/◌, value}
+use Rattle.walk.specs.Expr.{Expr, num, neg, ◌-ᵉ◌, ◌*ᵉ◌, ◌/ᵉ◌, value}
 use Rattle.walk.specs.Walk.{Walk, inputs, work, most, end, ◌then◌, walk_result, answer_as}
 use Rattle.walk.specs.Tensor.{one}
 use Rattle.walk.specs.Power.{power}
@@ -32,15 +32,15 @@ abbrev pub inputs_finite : MonaghanSphEos → Float → Float → Float → Bool
 inputs_finite law mass volume density = all_of finite (shared law mass volume density)
 
 abbrev pub density0 : Float → Float → Expr
-density0 mass volume = num mass / num volume
+density0 mass volume = num mass /ᵉ num volume
 
 abbrev pub unbounded : MonaghanSphEos → Expr → Expr
-unbounded law ratio = num law.pressure0 * (power ratio law.gamma - one)
+unbounded law ratio = num law.pressure0 *ᵉ (power ratio law.gamma -ᵉ one)
 
 -- the power 0 would turn a NaN of the ratio into 1, and the maximum would hide one of the product; an infinity is left to the caller
 unfoldable pub pressure_steps : MonaghanSphEos → Float → Float → Float → Walk Float
 pressure_steps law mass volume density =
-    work 1 (num density / density0 mass volume) (λ ratio.
+    work 1 (num density /ᵉ density0 mass volume) (λ ratio.
     work 2 (unbounded law ratio) (λ p.
     most 3 p (neg (num law.max_neg_pressure)) (λ bounded. end (value bounded))))
 

@@ -3,7 +3,7 @@ use Rattle.std.specs.Prelude.{List, ◌∷◌, Float}
 use Rattle.std.specs.Float.Ieee as Ieee
 use Rattle.numbers.specs.Constants as constants
 use Rattle.tensor.specs.declared.MatrixAnswer.{MatrixAnswer}
-use Rattle.walk.specs.Expr.{Expr, num, neg, ◌*◌}
+use Rattle.walk.specs.Expr.{Expr, num, neg, ◌*ᵉ◌}
 use Rattle.walk.specs.Walk.{Walk, flag, inputs, split, ◌then◌, walk_result}
 use Rattle.walk.specs.Matrix.{joined}
 use Rattle.walk.specs.Tensor.{rows, turned, plus, scaled, identity_times}
@@ -14,14 +14,14 @@ use Rattle.eos_monaghan_sph.specs.declared.MonaghanSphEos.{MonaghanSphEos}
 
 -- minus the pressure times the determinant, on the diagonal
 abbrev pub pressure_part : Expr → Float → List (List Expr)
-pressure_part p det = identity_times (neg p * num det)
+pressure_part p det = identity_times (neg p *ᵉ num det)
 
 abbrev pub strain_rate : List (List Float) → List (List Expr)
 strain_rate gradient = scaled (num constants.half) (plus (rows gradient) (turned (rows gradient)))
 
 -- twice the viscosity times the determinant, times the deviatoric part of the strain rate
 abbrev pub viscous_part : MonaghanSphEos → Float → List (List Float) → List (List Expr)
-viscous_part law det gradient = scaled (num constants.two * num law.viscosity * num det) (deviatoric (strain_rate gradient))
+viscous_part law det gradient = scaled (num constants.two *ᵉ num law.viscosity *ᵉ num det) (deviatoric (strain_rate gradient))
 
 -- without viscosity, an input, the gradient is not looked at
 unfoldable pub stress_steps : MonaghanSphEos → Float → List (List Float) → Float → Walk (List (List Float))

@@ -4,7 +4,7 @@ use Rattle.std.specs.Prelude.{Bool, true, false, List, [], ◌∷◌, ℕ, get_o
 use Rattle.std.specs.Float.{nan}
 use Rattle.std.specs.Float.Ieee.{le}
 use Rattle.tensor.specs.Matrix.{zero}
-use Rattle.walk.specs.Expr.{Expr, num, ◌+◌, ◌*◌, ◌/◌, value, values, nums}
+use Rattle.walk.specs.Expr.{Expr, num, ◌+ᵉ◌, ◌*ᵉ◌, ◌/ᵉ◌, value, values, nums}
 use Rattle.walk.specs.Walk.{Walk, at_most, branch, end, Ended, given, refused, walk_result}
 use Rattle.walk.specs.Matrix.{sum}
 use Rattle.plasticity_rankine.specs.declared.RankinePlasticity.{RankinePlasticity}

@@ -17,7 +17,7 @@ use Rattle.plasticity.specs.declared.Outcome.TheVariants.{Stored}
 use Rattle.plasticity.specs.declared.Scalars.{Scalars}
 use Rattle.plasticity.specs.declared.State.{State}
 use Rattle.plasticity.proofs.Parts.{state_parts, Scalars_finite, scalars_parts}
-use Rattle.walk.specs.Expr.{Expr, num, ◌+◌, value, values, nums}
+use Rattle.walk.specs.Expr.{Expr, num, ◌+ᵉ◌, value, values, nums}
 use Rattle.walk.specs.Matrix.{product, value_entry, values_nums}
 use Rattle.walk.specs.Walk.{Walk, exp, ln, ◌then◌, Ended, given, refused, walk_result}
 use Rattle.walk.specs.Update.{in_three, Change, untouched, stored, updated_of, recomposed}
@@ -135,7 +135,7 @@ module _ (u vt : List (List Float)) (s : State) (q : state_finite s ≡ true) wh
   rankine_ends p = λ t. ends_asks Finite 2 ln s.sigma (λ e. rankine.strained_walk p e u vt s) (λ e. rankine_strained p e)
 
   -- ---- Drucker-Prager: the amount is a term of the hardening
-  drucker_store : (sigma : List Float) (d h gain : Expr) (x dq : Float) → h ≡ num x + num dq → Ends Finite (drucker_prager.store_walk u sigma vt d h gain dq s)
+  drucker_store : (sigma : List Float) (d h gain : Expr) (x dq : Float) → h ≡ num x +ᵉ num dq → Ends Finite (drucker_prager.store_walk u sigma vt d h gain dq s)
   unfolding body.store_walk
   drucker_store sigma d h gain x dq e =
       λ t. let r = results_parts u sigma vt (d ∷ h ∷ gain ∷ []) t in
@@ -149,7 +149,7 @@ module _ (u vt : List (List Float)) (s : State) (q : state_finite s ≡ true) wh
   unfolding drucker_over.moved_walk
   drucker_moved p sigma dq =
       let x = s.scalars.plastic_hardening in
-      ends_then (λ (m : drucker_prager.Measures). m.hardening ≡ num x + num dq) Finite
+      ends_then (λ (m : drucker_prager.Measures). m.hardening ≡ num x +ᵉ num dq) Finite
       (λ m. drucker_prager.store_walk u sigma vt m.determinant m.hardening m.gain dq s)
       (λ m e. drucker_store sigma m.determinant m.hardening m.gain x dq e)
       (drucker_prager.measure_walk p (product s.sigma) (product sigma) dq s.scalars)

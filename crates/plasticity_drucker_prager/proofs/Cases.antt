@@ -13,7 +13,7 @@ use Rattle.exact.specs.Units.{mag, L}
 use Rattle.tensor.specs.Matrix.{mul, div, zero, one, three, sum_of, product_of, dot_of, scaled_row_of, rows_of}
 use Rattle.plasticity.specs.declared.Outcome.TheVariants.{Stored}
 use Rattle.plasticity.specs.declared.State.{State}
-use Rattle.walk.specs.Expr.{num, value, ◌/◌}
+use Rattle.walk.specs.Expr.{num, value, ◌/ᵉ◌}
 use Rattle.walk.specs.Walk.{root, answer_of, walk_result, answer_as, given}
 use Rattle.reason.specs.Traced.{reached, traced, untraced}
 use Rattle.reason.proofs.Laws.{result_traced}
@@ -34,7 +34,7 @@ abbrev degree : Float
 degree = div (of_bits binary64 0x4009_21fb_5444_2d18) (of_bits binary64 0x4066_8000_0000_0000)
 
 -- the root of 2/3, which the slope takes
-pub slope_root : answer_of root (value (two / num constants.three)) ≡ Value (of_bits binary64 0x3fea_20bd_700c_2c3e)
+pub slope_root : answer_of root (value (two /ᵉ num constants.three)) ≡ Value (of_bits binary64 0x3fea_20bd_700c_2c3e)
 unfolding sqrt_of floor_root root_in mag L is_number of_bits round size Ieee.div Ieee.le Ieee.lt Ieee.eq
 slope_root = refl
 

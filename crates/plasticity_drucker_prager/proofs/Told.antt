@@ -11,7 +11,7 @@ use Rattle.exact.specs.RootOf.{sqrt_of}
 use Rattle.tensor.specs.Matrix.{zero, product_of, recompose_of}
 use Rattle.plasticity.specs.State.{inputs_finite}
 use Rattle.plasticity.specs.declared.State.{State}
-use Rattle.walk.specs.Expr.{Expr, num, ◌+◌, ◌/◌, value, values}
+use Rattle.walk.specs.Expr.{Expr, num, ◌+ᵉ◌, ◌/ᵉ◌, value, values}
 use Rattle.walk.specs.Matrix.{sum, product, dot}
 use Rattle.walk.specs.Walk.{Walk, Function, at, exp, ln, zeros, less, at_most, holds, asks, branch, end, ◌then◌}
 use Rattle.walk.specs.Exact.{path, final, last}
@@ -81,7 +81,7 @@ project_same p [] gain alpha h = absurd (omega arith)
 project_same p (x ∷ []) gain alpha h = absurd (omega arith)
 project_same p (x ∷ y ∷ []) gain alpha h = absurd (omega arith)
 project_same p (x ∷ y ∷ z ∷ []) gain alpha h =
-    let entry : Float → Float = λ v. value (num (at ln v) + num gain / dim) in
+    let entry : Float → Float = λ v. value (num (at ln v) +ᵉ num gain /ᵉ dim) in
     strained_same p (x ∷ y ∷ z ∷ []) alpha (entry x) (entry y) (entry z)
 project_same p (x ∷ y ∷ z ∷ w ∷ l) gain alpha h = absurd (omega arith)
 

@@ -2,7 +2,7 @@
 use Rattle.std.specs.Prelude.{[], ◌∷◌, ◌++◌, Float}
 use Rattle.numbers.specs.Constants as constants
 use Rattle.answers.specs.declared.Answer.{Answer}
-use Rattle.walk.specs.Expr.{Expr, num, neg, ◌+◌, ◌-◌, ◌*◌, ◌/◌, value}
+use Rattle.walk.specs.Expr.{Expr, num, neg, ◌+ᵉ◌, ◌-ᵉ◌, ◌*ᵉ◌, ◌/ᵉ◌, value}
 pub use Rattle.walk.specs.Constants.{two}
 use Rattle.walk.specs.Walk.{Walk, exp, sin, root, inputs, ask, work, results, end, ◌then◌, walk_result, answer_as}
 use Rattle.plasticity_drucker_prager.specs.declared.DruckerPragerPlasticity.{DruckerPragerPlasticity}
@@ -21,10 +21,10 @@ dim = num law.dim
 unfoldable pub alpha_walk : DruckerPragerPlasticity → Float → Walk Float
 alpha_walk p hardening =
     let q = num hardening in
-    ask 2 exp (neg (num p.h2) * q) (λ e.
-    ask 3 sin (num p.h0 + (num p.h1 * q - num p.h3) * e) (λ s.
-    ask 4 root (two / three) (λ r.
-    work 5 (r * (two * s) / (three - s)) (λ a.
+    ask 2 exp (neg (num p.h2) *ᵉ q) (λ e.
+    ask 3 sin (num p.h0 +ᵉ (num p.h1 *ᵉ q -ᵉ num p.h3) *ᵉ e) (λ s.
+    ask 4 root (two /ᵉ three) (λ r.
+    work 5 (r *ᵉ (two *ᵉ s) /ᵉ (three -ᵉ s)) (λ a.
     end (value a)))))
 
 -- as a call by itself

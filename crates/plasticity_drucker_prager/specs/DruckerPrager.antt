@@ -3,7 +3,7 @@ use Rattle.std.specs.Prelude.{List, Float}
 use Rattle.plasticity.specs.declared.Scalars.{Scalars}
 use Rattle.plasticity.specs.declared.State.{State}
 use Rattle.plasticity.specs.declared.Updated.{Updated}
-use Rattle.walk.specs.Expr.{Expr, num, ◌+◌, ◌*◌, value}
+use Rattle.walk.specs.Expr.{Expr, num, ◌+ᵉ◌, ◌*ᵉ◌, value}
 use Rattle.walk.specs.Walk.{Walk, less, picked}
 use Rattle.walk.specs.Update as update
 use Rattle.walk.specs.Update.{in_three, Change}
@@ -36,7 +36,7 @@ abbrev pub drucker_walk : DruckerPragerPlasticity → List (List Float) → List
 drucker_walk p u vt s = over.drucker_walk in_three dim p u vt s
 
 abbrev pub corrected_of : DruckerPragerPlasticity → Float → Float → Float → Float
-corrected_of p prev grown diff = picked (less zero (num diff)) (num grown) (num prev + num diff * num p.volume_correction)
+corrected_of p prev grown diff = picked (less zero (num diff)) (num grown) (num prev +ᵉ num diff *ᵉ num p.volume_correction)
 
 -- ---- as the code hands it on: a refused call hands the state back as it came
 abbrev pub measured_as : Traced Measures → Measured

@@ -6,7 +6,7 @@ use Rattle.tensor.specs.Matrix as tensor
 use Rattle.plasticity.specs.declared.Outcome.{Outcome}
 use Rattle.plasticity.specs.declared.Outcome.TheVariants as outcome
 use Rattle.plasticity.specs.declared.Scalars.{Scalars}
-use Rattle.walk.specs.Expr.{Expr, num, ◌+◌, ◌-◌, ◌*◌, ◌/◌, value}
+use Rattle.walk.specs.Expr.{Expr, num, ◌+ᵉ◌, ◌-ᵉ◌, ◌*ᵉ◌, ◌/ᵉ◌, value}
 use Rattle.walk.specs.Walk.{Walk, ln, less, flag, inputs, ask, work, either, branch, end, ◌then◌, walk_result}
 use Rattle.walk.specs.Matrix.{product}
 use Rattle.walk.specs.Body as body
@@ -45,12 +45,12 @@ pub record Measures : Type 0 where
 -- stands; otherwise previous + diff * correction."
 abbrev pub measure_walk : DruckerPragerPlasticity → Expr → Expr → Float → Scalars → Walk Measures
 measure_walk p prev grown dq s =
-    work 16 (grown - prev) (λ diff.
-    either 16 (less zero diff) grown (prev + diff * num p.volume_correction) (λ new.
-    work 16 (num s.plastic_determinant * (prev / new)) (λ d.
+    work 16 (grown -ᵉ prev) (λ diff.
+    either 16 (less zero diff) grown (prev +ᵉ diff *ᵉ num p.volume_correction) (λ new.
+    work 16 (num s.plastic_determinant *ᵉ (prev /ᵉ new)) (λ d.
     ask 17 ln prev (λ x.
     ask 18 ln new (λ y.
-    end (record { determinant = d; hardening = num s.plastic_hardening + num dq; gain = num s.log_gain + (x - y) }))))))
+    end (record { determinant = d; hardening = num s.plastic_hardening +ᵉ num dq; gain = num s.log_gain +ᵉ (x -ᵉ y) }))))))
 
 -- "If only active when failed and phase isn't 0.0: untouched."
 abbrev pub stays_of : DruckerPragerPlasticity → Float → Bool

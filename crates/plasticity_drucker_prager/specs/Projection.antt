@@ -5,7 +5,7 @@ use Rattle.tensor.specs.Matrix as tensor
 use Rattle.tensor.specs.Answer.{zero_row}
 use Rattle.plasticity.specs.declared.Outcome.{Outcome}
 use Rattle.plasticity.specs.declared.Outcome.TheVariants as outcome
-use Rattle.walk.specs.Expr.{Expr, num, ◌+◌, ◌-◌, ◌*◌, ◌/◌, value, nums}
+use Rattle.walk.specs.Expr.{Expr, num, ◌+ᵉ◌, ◌-ᵉ◌, ◌*ᵉ◌, ◌/ᵉ◌, value, nums}
 pub use Rattle.walk.specs.Constants.{zero}
 use Rattle.walk.specs.Walk.{Walk, exp, ln, root, less, at_most, zeros, inputs, ask, asks, work, works, branch, results, end, ◌then◌, Ended}
 use Rattle.walk.specs.Matrix.{sum, dot}
@@ -42,7 +42,7 @@ pub record Returned : Type 0 where
 
 -- an entry of the strain less gamma times that of the deviatoric part over its norm
 abbrev pub back : List Float → List Float → Expr → Expr → List Expr
-back (x ∷ e) (y ∷ d) g norm = num x - g * (num y / norm) ∷ back e d g norm
+back (x ∷ e) (y ∷ d) g norm = num x -ᵉ g *ᵉ (num y /ᵉ norm) ∷ back e d g norm
 back (x ∷ e) [] g norm = []
 back [] d g norm = []
 
@@ -68,17 +68,17 @@ module _ (dim : Expr) where
   -- ---- the formulas
   -- "Strain is log sigma + gain/3."
   abbrev pub strain : List Float → Float → List Expr
-  strain logs gain = map (λ x. num x + num gain / dim) logs
+  strain logs gain = map (λ x. num x +ᵉ num gain /ᵉ dim) logs
 
   abbrev pub deviatoric : List Float → Expr → List Expr
-  deviatoric e trace = map (λ x. num x - trace / dim) e
+  deviatoric e trace = map (λ x. num x -ᵉ trace /ᵉ dim) e
 
   -- norm + (3 lambda + 2 mu) / (2 mu) trace alpha
   abbrev pub gamma : DruckerPragerPlasticity → Expr → Expr → Float → Expr
   gamma p norm trace alpha =
       let lambda = num p.lambda in
       let mu = num p.mu in
-      norm + (dim * lambda + two * mu) / (two * mu) * trace * num alpha
+      norm +ᵉ (dim *ᵉ lambda +ᵉ two *ᵉ mu) /ᵉ (two *ᵉ mu) *ᵉ trace *ᵉ num alpha
 
   -- "gamma <= 0: untouched."
   unfoldable pub yield_walk : DruckerPragerPlasticity → List Float → List Float → List Float → Expr → Float → Walk Returned

@@ -1,7 +1,7 @@
 -- How many axes there are, and the powers of plasticity_nacc.rs in their number d (RULES, section 3; document 02, ticket 13).
 use Rattle.std.specs.Prelude.{List, [], ◌∷◌, ℕ, Float}
 use Rattle.tensor.specs.Matrix.{three}
-use Rattle.walk.specs.Expr.{Expr, num, ◌/◌, value}
+use Rattle.walk.specs.Expr.{Expr, num, ◌/ᵉ◌, value}
 use Rattle.walk.specs.Constants.{one, two}
 use Rattle.walk.specs.Walk.{Walk, root, third, two_thirds, minus_two_thirds, itself, ask}
 use Rattle.plasticity_nacc.specs.Law as law
@@ -24,7 +24,7 @@ alike three_axes e = three e e e
 -- range for powers": on two axes that range is asked of x itself
 -- -2/d
 abbrev pub inverse : {A : Type 0} → Axes → ℕ → Expr → (Expr → Walk A) → Walk A
-inverse two_axes n x k = ask n itself x (λ w. k (num (value (one / w))))
+inverse two_axes n x k = ask n itself x (λ w. k (num (value (one /ᵉ w))))
 inverse three_axes n x k = ask n minus_two_thirds x k
 
 -- 1/d

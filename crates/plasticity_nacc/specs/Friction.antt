@@ -5,7 +5,7 @@ use Rattle.std.specs.Float.Ieee.{of_bits}
 use Rattle.numbers.specs.Constants as constants
 use Rattle.answers.specs.declared.Answer.{Answer}
 use Rattle.answers.specs.declared.Answer.TheVariants as answers
-use Rattle.walk.specs.Expr.{Expr, num, ◌-◌, ◌*◌, ◌/◌}
+use Rattle.walk.specs.Expr.{Expr, num, ◌-ᵉ◌, ◌*ᵉ◌, ◌/ᵉ◌}
 use Rattle.walk.specs.Constants.{two}
 use Rattle.walk.specs.Walk.{Walk, sin, root, inputs, ask, walk_result, answer_as}
 use Rattle.walk.specs.Answers.{returned}
@@ -24,9 +24,9 @@ six = num (of_bits binary64 0x4018_0000_0000_0000)
 unfoldable pub friction_walk : Float → Float → Walk Float
 friction_walk d angle =
     ask 2 sin (num angle) (λ s.
-    ask 3 root (two / three) (λ r.
-    ask 4 root (two / (six - num d)) (λ q.
-    returned 5 (r * two * s / (three - s) * num d / q))))
+    ask 3 root (two /ᵉ three) (λ r.
+    ask 4 root (two /ᵉ (six -ᵉ num d)) (λ q.
+    returned 5 (r *ᵉ two *ᵉ s /ᵉ (three -ᵉ s) *ᵉ num d /ᵉ q))))
 
 -- as steps of `new`
 abbrev pub friction_steps : Float → Float → Answer

@@ -8,7 +8,7 @@ use Rattle.tensor.specs.Answer.{zero_row, zero_rows}
 use Rattle.tensor.specs.declared.Rows.{Rows}
 use Rattle.plasticity.specs.declared.Outcome.{Outcome}
 use Rattle.plasticity.specs.declared.Outcome.TheVariants as outcome
-use Rattle.walk.specs.Expr.{Expr, num, neg, ◌+◌, ◌-◌, ◌*◌, ◌/◌, value, values, nums}
+use Rattle.walk.specs.Expr.{Expr, num, neg, ◌+ᵉ◌, ◌-ᵉ◌, ◌*ᵉ◌, ◌/ᵉ◌, value, values, nums}
 use Rattle.walk.specs.Walk.{Walk, Test, ln, root, sinh, less, flag, inputs, ask, asks, work, works, most, size, branch, split, when, results, end, ◌then◌, Ended}
 use Rattle.walk.specs.Matrix.{product, joined}
 use Rattle.walk.specs.Update.{recomposed}
@@ -51,7 +51,7 @@ pub record Landed : Type 0 where
 
 -- ---- a tip, whose volume is x: the root for each axis, then alpha raised by the logarithm of j / x where hardening is enabled
 unfoldable pub raise_walk : NaccPlasticity → Expr → Float → Float → Walk Float
-raise_walk p x j alpha = split 12 (flag p.hardening_enabled) (ask 12 ln (num j / x) (λ l. end (value (num alpha + l)))) (end alpha)
+raise_walk p x j alpha = split 12 (flag p.hardening_enabled) (ask 12 ln (num j /ᵉ x) (λ l. end (value (num alpha +ᵉ l)))) (end alpha)
 
 unfoldable pub tip_walk : Axes → NaccPlasticity → Expr → Float → Float → Walk Shape
 tip_walk axes p x j alpha =
@@ -64,7 +64,7 @@ grow_walk p x j alpha =
     work 22 (of.volume_square p x) (λ v.
     size 22 v (λ v.
     ask 22 root v (λ x.
-    split 23 (less small x) (ask 23 ln (num j / x) (λ l. end (value (num alpha + l)))) (end alpha))))
+    split 23 (less small x) (ask 23 ln (num j /ᵉ x) (λ l. end (value (num alpha +ᵉ l)))) (end alpha))))
 
 -- along the direction (d0, d1) from the centre c: both crossings, and the one on the trial state's side
 unfoldable pub cross_walk : NaccPlasticity → Trial → Expr → Float → Float → Float → Walk Float
@@ -72,10 +72,10 @@ cross_walk p t c d0 d1 alpha =
     let a = of.quadratic p (num d0) (num d1) in
     let b = of.linear p c (num t.p0) (num d0) in
     ask 19 root (of.discriminant a b (of.constant p c (num t.p0))) (λ r.
-    works 20 (of.crossing c (neg b + r) a (num d0) ∷ of.crossing c (neg b - r) a (num d0) ∷ []) (λ l.
+    works 20 (of.crossing c (neg b +ᵉ r) a (num d0) ∷ of.crossing c (neg b -ᵉ r) a (num d0) ∷ []) (λ l.
     let p1 = num (get_or l 0 nan) in
     let p2 = num (get_or l 1 nan) in
-    split 21 (less zero ((num t.p - c) * (p1 - c))) (grow_walk p p1 t.j alpha) (grow_walk p p2 t.j alpha)))
+    split 21 (less zero ((num t.p -ᵉ c) *ᵉ (p1 -ᵉ c))) (grow_walk p p1 t.j alpha) (grow_walk p p2 t.j alpha)))
 
 -- the direction of (p_c - p_tr, 0 - q_tr), with q_tr = root((6 - d)/2) |s_tr|
 unfoldable pub harden_walk : Expr → NaccPlasticity → Trial → Float → Walk Float
@@ -83,15 +83,15 @@ harden_walk d p t alpha =
     work 14 (of.centre p (num t.p0)) (λ c.
     ask 15 root (of.half d) (λ a.
     ask 16 root (num t.squares) (λ b.
-    let x = c - num t.p in
-    let y = zero - a * b in
-    ask 17 root (x * x + y * y) (λ n.
-    works 18 (x / n ∷ y / n ∷ []) (λ l. cross_walk p t c (get_or l 0 nan) (get_or l 1 nan) alpha)))))
+    let x = c -ᵉ num t.p in
+    let y = zero -ᵉ a *ᵉ b in
+    ask 17 root (x *ᵉ x +ᵉ y *ᵉ y) (λ n.
+    works 18 (x /ᵉ n ∷ y /ᵉ n ∷ []) (λ l. cross_walk p t c (get_or l 0 nan) (get_or l 1 nan) alpha)))))
 
 -- "the four-condition hardening step first": none of these tests is a branch of section 5
 abbrev pub conditions : NaccPlasticity → Trial → List Test
 conditions p t =
-    flag p.hardening_enabled ∷ less small (num t.p0) ∷ less (num t.p) (num t.p0 - small) ∷ less (of.low p (num t.p0) + small) (num t.p) ∷ []
+    flag p.hardening_enabled ∷ less small (num t.p0) ∷ less (num t.p) (num t.p0 -ᵉ small) ∷ less (of.low p (num t.p0) +ᵉ small) (num t.p) ∷ []
 
 unfoldable pub hardened_walk : Expr → NaccPlasticity → Trial → Float → Walk Float
 hardened_walk d p t alpha = when 13 (conditions p t) (harden_walk d p t alpha) (end alpha)
@@ -139,7 +139,7 @@ branch_walk axes p t s sigma alpha =
 unfoldable pub press_walk : Axes → NaccPlasticity → Expr → List Float → Float → Walk Landed
 press_walk axes p m sigma alpha =
     let d = dim_of axes in
-    ask 3 sinh (num p.hardening_factor * m) (λ x.
+    ask 3 sinh (num p.hardening_factor *ᵉ m) (λ x.
     work 4 (of.p0 p x) (λ p0.
     inverse axes 5 (product sigma) (λ w.
     works 6 (of.squares d p w sigma ∷ of.pressure p (product sigma) ∷ []) (λ l.

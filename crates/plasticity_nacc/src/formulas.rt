@@ -1,6 +1,6 @@
 // The formulas of one number each (RULES, section 5), over however many axes.
 ghost use Rattle.std.specs.Prelude.{◌≡◌};
-ghost use Rattle.walk.specs.Expr.{num, neg, ◌*◌, value};
+ghost use Rattle.walk.specs.Expr.{num, neg, ◌*ᵉ◌, value};
 ghost use Rattle.reason.specs.Traced.{traced, number_as};
 ghost use Rattle.numbers.specs.Floats.{max_of};
 ghost use Rattle.tensor.specs.Matrix.{zero};
@@ -14,7 +14,7 @@ use reason::Number;
 impl NaccPlasticity {
     // What the hyperbolic sine is asked.
     pub fn argument(self, alpha: f64) -> f64
-        ensures { result ≡ value (num self.hardening_factor * num (max_of (value (neg (num alpha))) zero)) }
+        ensures { result ≡ value (num self.hardening_factor *ᵉ num (max_of (value (neg (num alpha))) zero)) }
     {
         self.hardening_factor * numbers::max(-alpha, 0.0)
     }

@@ -17,7 +17,7 @@ use Rattle.plasticity.specs.declared.Outcome.TheVariants.{Stored}
 use Rattle.plasticity.specs.declared.Scalars.{Scalars}
 use Rattle.plasticity.specs.declared.State.{State}
 use Rattle.plasticity.specs.declared.Updated.{Updated}
-use Rattle.walk.specs.Expr.{Expr, num, ◌-◌, value, values, nums}
+use Rattle.walk.specs.Expr.{Expr, num, ◌-ᵉ◌, value, values, nums}
 use Rattle.walk.specs.Walk.{Test, Walk, ◌then◌, Ended, given, refused, asked, answer_of, by_answer, read, unnoted, walk_result}
 use Rattle.walk.proofs.Number.{sub_number, finite_sub}
 use Rattle.numbers.proofs.Laws.{finite_number}
@@ -163,12 +163,12 @@ returned_law p e s =
     handed_law vector_of w ∙ ap (handed_of vector_of) (result_traced w) ∙ by_branch_lem (traced w)
 
 -- ---- strains that moved
-values_change : (a b : List Expr) → values (pairwise ◌-◌ a b) ≡ pairwise sub (values a) (values b)
+values_change : (a b : List Expr) → values (pairwise ◌-ᵉ◌ a b) ≡ pairwise sub (values a) (values b)
 values_change [] b = refl
 values_change (x ∷ a) [] = refl
 values_change (x ∷ a) (y ∷ b) = ap (λ t. sub (value x) (value y) ∷ t) (values_change a b)
 
-pub change_law : (old : List Float) (new : List Expr) → values (pairwise ◌-◌ (nums old) new) ≡ row_sub_of old (values new)
+pub change_law : (old : List Float) (new : List Expr) → values (pairwise ◌-ᵉ◌ (nums old) new) ≡ row_sub_of old (values new)
 unfolding row_sub_of
 change_law old new = values_change (nums old) new ∙ ap (λ l. pairwise sub l (values new)) (values_nums old)
 
@@ -177,7 +177,7 @@ module _ {B N A : Type 0} (stop : ℕ → ℕ → B) (note : N → ℕ → Test 
   changes_read : (old : List Float) (new : List Expr) (k : Expr → Walk A)
       → read answer_of stop note ends r (changes old new k) ≡ by_answer (λ m. stop m 7) (norm_of (row_sub_of old (values new))) (λ norm. read answer_of stop note ends r (k (num norm)))
   changes_read old new k =
-      let change = pairwise ◌-◌ (nums old) new in
+      let change = pairwise ◌-ᵉ◌ (nums old) new in
       rw (value_dots change change, change_law old new)
 
   same : (b : Bool) (x y z : B) → (b ≡ true → x ≡ y) → cond b x z ≡ cond b y z

@@ -5,7 +5,7 @@ use Rattle.std.specs.Prelude.{List, [], ◌∷◌, ◌++◌, Float}
 use Rattle.tensor.specs.Axes.{pairwise}
 use Rattle.tensor.specs.Matrix as tensor
 use Rattle.plasticity.specs.declared.Scalars.{Scalars}
-use Rattle.walk.specs.Expr.{Expr, num, ◌+◌, ◌-◌, ◌*◌, value, values, nums}
+use Rattle.walk.specs.Expr.{Expr, num, ◌+ᵉ◌, ◌-ᵉ◌, ◌*ᵉ◌, value, values, nums}
 use Rattle.walk.specs.Walk.{Walk, exp, ln, root, inputs, ask, asks, work, least, end, ◌then◌, walk_result}
 use Rattle.walk.specs.Matrix.{dots}
 use Rattle.walk.specs.Body as body
@@ -30,12 +30,12 @@ hardened_of h x =
 -- "Hardening grows by rate times the norm of the change, then is capped at the strength."
 abbrev pub grows : {A : Type 0} → RankinePlasticity → Float → Expr → (Expr → Walk A) → Walk A
 grows p hardening norm k =
-    work 8 (num hardening + num p.softening_rate * norm) (λ grown.
+    work 8 (num hardening +ᵉ num p.softening_rate *ᵉ norm) (λ grown.
     least 8 grown (num p.tensile_strength) k)
 
 abbrev pub changes : {A : Type 0} → List Float → List Expr → (Expr → Walk A) → Walk A
 changes old new k =
-    let change = pairwise ◌-◌ (nums old) new in
+    let change = pairwise ◌-ᵉ◌ (nums old) new in
     ask 7 root (dots change change) k
 
 -- w where no strain moved, else v
@@ -47,7 +47,7 @@ by_way (all_move x y) w v = v
 
 -- s = strength - (hardening - 1): the hardening starts from 1
 abbrev pub soft_strength : RankinePlasticity → Float → Expr
-soft_strength p h = num p.tensile_strength - (num h - num tensor.one)
+soft_strength p h = num p.tensile_strength -ᵉ (num h -ᵉ num tensor.one)
 
 module _ {S R : Type 0} (b : Body S R) where
   -- stored with the plastic hardening as the amount, where all results are finite

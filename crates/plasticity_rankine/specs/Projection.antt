@@ -6,7 +6,7 @@ pub use Rattle.numbers.specs.Constants.{two}
 use Rattle.tensor.specs.Matrix.{three}
 use Rattle.tensor.specs.Answer.{zero_row, refused_vector}
 use Rattle.tensor.specs.declared.VectorAnswer.{VectorAnswer}
-use Rattle.walk.specs.Expr.{Expr, num, ◌+◌, ◌-◌, ◌*◌, ◌/◌, value, values, nums}
+use Rattle.walk.specs.Expr.{Expr, num, ◌+ᵉ◌, ◌-ᵉ◌, ◌*ᵉ◌, ◌/ᵉ◌, value, values, nums}
 use Rattle.walk.specs.Walk.{Walk, at_most, inputs, branch, results, end, ◌then◌, Ended, given, refused, walk_result}
 use Rattle.walk.specs.Matrix.{sum}
 use Rattle.plasticity_rankine.specs.declared.RankineArguments.{RankineArguments}
@@ -22,27 +22,27 @@ thrice = constants.three
 -- ---- the formulas: c <= b <= a are the strains, S their sum in index order, s the softened strength
 -- the left sides of the three tests
 abbrev pub first_side : RankinePlasticity → Expr → Expr → Expr
-first_side p S a = num p.lambda * S + num two * num p.mu * a
+first_side p S a = num p.lambda *ᵉ S +ᵉ num two *ᵉ num p.mu *ᵉ a
 
 abbrev pub second_side : RankinePlasticity → Expr → Expr → Expr → Expr
-second_side p S a b = (num two * num p.mu + num p.lambda) * b + num p.lambda * (S - a)
+second_side p S a b = (num two *ᵉ num p.mu +ᵉ num p.lambda) *ᵉ b +ᵉ num p.lambda *ᵉ (S -ᵉ a)
 
 abbrev pub third_side : RankinePlasticity → Expr → Expr
-third_side p c = (num two * num p.mu + num thrice * num p.lambda) * c
+third_side p c = (num two *ᵉ num p.mu +ᵉ num thrice *ᵉ num p.lambda) *ᵉ c
 
 -- what a becomes, what a and b become, what all become
 abbrev pub back_one : RankinePlasticity → Expr → Expr → Expr → Expr
-back_one p s S a = (s - num p.lambda * (S - a)) / (num two * num p.mu + num p.lambda)
+back_one p s S a = (s -ᵉ num p.lambda *ᵉ (S -ᵉ a)) /ᵉ (num two *ᵉ num p.mu +ᵉ num p.lambda)
 
 abbrev pub back_two : RankinePlasticity → Expr → Expr → Expr → Expr → Expr
-back_two p s S a b = (s - num p.lambda * (S - a - b)) / (num two * num p.mu + num two * num p.lambda)
+back_two p s S a b = (s -ᵉ num p.lambda *ᵉ (S -ᵉ a -ᵉ b)) /ᵉ (num two *ᵉ num p.mu +ᵉ num two *ᵉ num p.lambda)
 
 abbrev pub back_all : RankinePlasticity → Expr → Expr
-back_all p s = s / (num two * num p.mu + num thrice * num p.lambda)
+back_all p s = s /ᵉ (num two *ᵉ num p.mu +ᵉ num thrice *ᵉ num p.lambda)
 
 -- on two axes what both become (ticket 13: "else divides by 2mu + 2lambda")
 abbrev pub back_both : RankinePlasticity → Expr → Expr
-back_both p s = s / (num two * num p.mu + num two * num p.lambda)
+back_both p s = s /ᵉ (num two *ᵉ num p.mu +ᵉ num two *ᵉ num p.lambda)
 
 -- ---- where it ends: how many strains move, with the two numbers last compared, and the strains after it in index order. A NaN in these is
 -- in what is asked next

@@ -7,7 +7,7 @@ use lib.Ieee.{Float, of_bits}
 use Rattle.numbers.specs.Floats.{finite, is_number, max_of}
 use Rattle.tensor.specs.Axes.{all_of}
 use Rattle.tensor.specs.Matrix.{add, sub}
-use Rattle.walk.specs.Expr.{Expr, num, ◌+◌, ◌-◌, value}
+use Rattle.walk.specs.Expr.{Expr, num, ◌+ᵉ◌, ◌-ᵉ◌, value}
 use Rattle.walk.specs.Walk.{Test, Walk, least, given, refused, answer_of, read, unnoted, walk_result}
 use Rattle.walk.proofs.Number.{max_number, add_number, sub_number}
 use Rattle.numbers.proofs.Laws.{finite_number}
@@ -31,8 +31,8 @@ module _ {B N A : Type 0} (stop : ℕ → ℕ → B) (note : N → ℕ → Test 
       → read answer_of stop note ends r (clamps p l k) ≡ read answer_of stop note ends r (k (clamped_of p l))
   clamps_read [] k h = refl
   clamps_read (x ∷ l) k h =
-      let bottom = num one - num p.min_epsilon in
-      let top = num one + num p.max_epsilon in
+      let bottom = num one -ᵉ num p.min_epsilon in
+      let top = num one +ᵉ num p.max_epsilon in
       let rest : Expr → Walk A = λ z. clamps p l (λ vs. k (value z ∷ vs)) in
       let y = max_of x (sub one p.min_epsilon) in
       let number = finite_number x (and_left (finite x) (every finite l) h) in

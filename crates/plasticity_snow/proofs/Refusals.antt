@@ -12,7 +12,7 @@ use Rattle.exponential.specs.Worked.{exp_of}
 use Rattle.tensor.specs.Axes.{all_of}
 use Rattle.tensor.specs.Matrix.{sub, mul, div, product_of}
 use Rattle.plasticity.specs.declared.Outcome.TheVariants.{Refused}
-use Rattle.walk.specs.Expr.{Expr, num, ◌-◌, ◌*◌, value, nums}
+use Rattle.walk.specs.Expr.{Expr, num, ◌-ᵉ◌, ◌*ᵉ◌, value, nums}
 use Rattle.walk.proofs.Matrix.{value_product}
 use Rattle.walk.specs.Walk.{Walk, exp, inputs, Ended, refused, walk_result}
 use Rattle.walk.specs.Exact.{Met, input, argument, result_of, path}
@@ -36,7 +36,7 @@ module _ {S R : Type 0} (b : Body S R) (p : SnowPlasticity) (u vt : List (List F
   worked = determinant (b.scalars s).plastic_determinant (b.sigma s) new
 
   abbrev pub exponent : Expr
-  exponent = num p.hardening_coeff * (num one - worked)
+  exponent = num p.hardening_coeff *ᵉ (num one -ᵉ worked)
 
   -- the clamp's steps meet no NaN and stand in no refusal
   abbrev pub snow_path : List Met

@@ -2,7 +2,7 @@
 -- the clamp, 3 the exponential, 4 the results.
 use Rattle.std.specs.Prelude.{List, [], ◌∷◌, ◌++◌, Float}
 use Rattle.plasticity.specs.declared.Scalars.{Scalars}
-use Rattle.walk.specs.Expr.{Expr, num, ◌+◌, ◌-◌, ◌*◌, ◌/◌, value}
+use Rattle.walk.specs.Expr.{Expr, num, ◌+ᵉ◌, ◌-ᵉ◌, ◌*ᵉ◌, ◌/ᵉ◌, value}
 use Rattle.walk.specs.Walk.{Walk, exp, inputs, ask, most, least, walk_result}
 use Rattle.walk.specs.Matrix.{product}
 use Rattle.walk.specs.Body.{Body, Change, updated_of, floats_of, store_walk}
@@ -13,13 +13,13 @@ use Rattle.plasticity_snow.specs.Clamp.{one, parameters_of}
 abbrev pub clamps : {A : Type 0} → SnowPlasticity → List Float → (List Float → Walk A) → Walk A
 clamps p [] k = k []
 clamps p (x ∷ l) k =
-    most 1 (num x) (num one - num p.min_epsilon) (λ y.
-    least 2 y (num one + num p.max_epsilon) (λ z.
+    most 1 (num x) (num one -ᵉ num p.min_epsilon) (λ y.
+    least 2 y (num one +ᵉ num p.max_epsilon) (λ z.
     clamps p l (λ vs. k (value z ∷ vs))))
 
 -- the plastic determinant is multiplied by old product over new product
 abbrev pub determinant : Float → List Float → List Float → Expr
-determinant d old new = num d * (product old / product new)
+determinant d old new = num d *ᵉ (product old /ᵉ product new)
 
 -- the plastic determinant and the elastic hardening are new
 abbrev pub scalars_of : Float → Float → Scalars → Scalars
@@ -38,7 +38,7 @@ module _ {S R : Type 0} (b : Body S R) (p : SnowPlasticity) where
   unfoldable pub harden_walk : List Float → List (List Float) → List (List Float) → S → Walk (Change S)
   harden_walk new u vt s =
       let d = determinant (b.scalars s).plastic_determinant (b.sigma s) new in
-      ask 3 exp (num p.hardening_coeff * (num one - d)) (λ h.
+      ask 3 exp (num p.hardening_coeff *ᵉ (num one -ᵉ d)) (λ h.
       store_walk b 4 u new vt (d ∷ h ∷ []) (scalars_of (value d) (value h) (b.scalars s)) (value h))
 
   unfoldable pub run_walk : List (List Float) → List (List Float) → S → Walk (Change S)

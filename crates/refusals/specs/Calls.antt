@@ -15,7 +15,7 @@ use Rattle.physics.specs.Quadratic.{solve_quadratic_of}
 use Rattle.decomposed.specs.Decomposed.{spherical_of, deviatoric_of, decompose_of, recomposed_of, sum_of, times_of, tensor_finite, answered_tensor, given_tensor}
 use Rattle.decomposed.specs.declared.DecomposedTensor.{DecomposedTensor}
 use Rattle.decomposed.specs.Rates.{spin_tensor_of, strain_rate_of}
-use Rattle.walk.specs.Expr.{Expr, num, nums, neg, ◌+◌, ◌-◌, ◌*◌, ◌/◌, value, values}
+use Rattle.walk.specs.Expr.{Expr, num, nums, neg, ◌+ᵉ◌, ◌-ᵉ◌, ◌*ᵉ◌, ◌/ᵉ◌, value, values}
 use Rattle.walk.specs.Walk.{Walk, root, inputs, ask, results, end, walk_result, answer_as}
 use Rattle.walk.specs.Exact.{Met, path}
 use Rattle.walk.specs.Matrix.{joined}
@@ -70,8 +70,8 @@ tensor_walk l t = inputs l (results 1 (rows (of_rows t.deviatoric_part)) (result
 -- ---- `solve_quadratic`
 abbrev pub quadratic_walk : Float → Float → Float → Walk Float
 quadratic_walk a b c =
-    inputs (a ∷ b ∷ c ∷ []) (ask 1 root (num b * num b - num four * num a * num c) (λ s.
-    results 2 (((neg (num b) + s) / (num two * num a) ∷ (neg (num b) - s) / (num two * num a) ∷ []) ∷ []) (end (value s))))
+    inputs (a ∷ b ∷ c ∷ []) (ask 1 root (num b *ᵉ num b -ᵉ num four *ᵉ num a *ᵉ num c) (λ s.
+    results 2 (((neg (num b) +ᵉ s) /ᵉ (num two *ᵉ num a) ∷ (neg (num b) -ᵉ s) /ᵉ (num two *ᵉ num a) ∷ []) ∷ []) (end (value s))))
 
 -- ---- the verdict: after its inputs there is nothing to refuse
 abbrev pub verdict_walk : MaximumStressFailure → List Float → Walk (List Float)

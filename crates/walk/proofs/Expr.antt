@@ -5,7 +5,7 @@ use lib.Ieee as Ieee
 use lib.Ieee.{Float, nan, inf, fin, of_bits}
 use Rattle.numbers.specs.Floats.{is_number}
 use Rattle.tensor.specs.Matrix.{add, sub, mul, div, zero}
-use Rattle.walk.specs.Expr.{Expr, num, neg, ◌+◌, ◌-◌, ◌*◌, ◌/◌, value, clean}
+use Rattle.walk.specs.Expr.{Expr, num, neg, ◌+ᵉ◌, ◌-ᵉ◌, ◌*ᵉ◌, ◌/ᵉ◌, value, clean}
 
 -- ---- an operation hands on a NaN, so the whole tells of every part
 neg_number : (x : Float) → is_number (Ieee.neg x) ≡ is_number x && is_number (Ieee.neg x)
@@ -69,10 +69,10 @@ div_right (fin s m e) = refl
 pub whole_tells : (e : Expr) → is_number (value e) ≡ clean e
 whole_tells (num x) = refl
 whole_tells (neg a) = rw (← whole_tells a) (neg_number (value a))
-whole_tells (a + b) = rw (← whole_tells a, ← whole_tells b) (hands_on add add_left add_right (value a) (value b))
-whole_tells (a - b) = rw (← whole_tells a, ← whole_tells b) (hands_on sub sub_left sub_right (value a) (value b))
-whole_tells (a * b) = rw (← whole_tells a, ← whole_tells b) (hands_on mul mul_left mul_right (value a) (value b))
-whole_tells (a / b) = rw (← whole_tells a, ← whole_tells b) (hands_on div div_left div_right (value a) (value b))
+whole_tells (a +ᵉ b) = rw (← whole_tells a, ← whole_tells b) (hands_on add add_left add_right (value a) (value b))
+whole_tells (a -ᵉ b) = rw (← whole_tells a, ← whole_tells b) (hands_on sub sub_left sub_right (value a) (value b))
+whole_tells (a *ᵉ b) = rw (← whole_tells a, ← whole_tells b) (hands_on mul mul_left mul_right (value a) (value b))
+whole_tells (a /ᵉ b) = rw (← whole_tells a, ← whole_tells b) (hands_on div div_left div_right (value a) (value b))
 
 pub zero_number : is_number zero ≡ true
 unfolding is_number of_bits

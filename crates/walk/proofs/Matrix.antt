@@ -3,12 +3,12 @@ use mathlib.Core.List.{List, [], ◌∷◌, foldl}
 use mathlib.Core.Path.{◌≡◌, refl, ap, ◌∙◌}
 use lib.Ieee.{Float}
 use Rattle.tensor.specs.Matrix.{mul, sum_of, product_of, dot_of}
-use Rattle.walk.specs.Expr.{Expr, num, ◌*◌, value, values, nums}
+use Rattle.walk.specs.Expr.{Expr, num, ◌*ᵉ◌, value, values, nums}
 use Rattle.walk.specs.Matrix.{sum, product, dot, values_nums, value_total, value_dots}
 
-multiplied : (x : Expr) (l : List Expr) → value (foldl ◌*◌ x l) ≡ foldl mul (value x) (values l)
+multiplied : (x : Expr) (l : List Expr) → value (foldl ◌*ᵉ◌ x l) ≡ foldl mul (value x) (values l)
 multiplied x [] = refl
-multiplied x (y ∷ l) = multiplied (x * y) l
+multiplied x (y ∷ l) = multiplied (x *ᵉ y) l
 
 pub value_sum : (e : List Float) → value (sum e) ≡ sum_of e
 unfolding sum

@@ -19,8 +19,8 @@ unfolding halved halvings
 value_halved zero z r b e = refl
 value_halved (suc k) true r b e = refl
 value_halved (suc k) false r b e =
-    value_halved k (eqb (e / 2) 0) (cond (eqb (e % 2) 1) (expr.◌*◌ r b) r) (expr.◌*◌ b b) (e / 2)
-    ∙ ap (λ x. halvings k (eqb (e / 2) 0) x (value (expr.◌*◌ b b)) (e / 2)) (value_picked (eqb (e % 2) 1) (expr.◌*◌ r b) r)
+    value_halved k (eqb (e / 2) 0) (cond (eqb (e % 2) 1) (expr.◌*ᵉ◌ r b) r) (expr.◌*ᵉ◌ b b) (e / 2)
+    ∙ ap (λ x. halvings k (eqb (e / 2) 0) x (value (expr.◌*ᵉ◌ b b)) (e / 2)) (value_picked (eqb (e % 2) 1) (expr.◌*ᵉ◌ r b) r)
 
 pub value_power : (b : Expr) (g : ℕ) → value (power b g) ≡ powi_of (value b) g
 unfolding power powi_of
@@ -28,4 +28,4 @@ value_power b g =
     let one = num tensor.one in
     let m = magnitude_of g in
     let r = halved 32 (eqb m 0) one b m in
-    value_picked (ltb g (2 ^ 31)) r (expr.◌/◌ one r) ∙ rw (value_halved 32 (eqb m 0) one b m)
+    value_picked (ltb g (2 ^ 31)) r (expr.◌/ᵉ◌ one r) ∙ rw (value_halved 32 (eqb m 0) one b m)

@@ -5,7 +5,7 @@ use Rattle.tensor.specs.Axes.{pairwise}
 use Rattle.tensor.specs.Matrix as tensor
 use Rattle.tensor.specs.Matrix.{three}
 pub use Rattle.walk.specs.Constants.{one}
-use Rattle.walk.specs.Expr.{Expr, num, ◌+◌, ◌-◌, ◌*◌, values, nums}
+use Rattle.walk.specs.Expr.{Expr, num, ◌+ᵉ◌, ◌-ᵉ◌, ◌*ᵉ◌, values, nums}
 use Rattle.walk.specs.Matrix.{dots}
 
 -- what a matrix is worth, and a matrix of numbers
@@ -36,13 +36,13 @@ unfoldable pub times : List (List Expr) → List (List Expr) → List (List Expr
 times a b = by_columns a (turned b)
 
 abbrev pub row_plus : List Expr → List Expr → List Expr
-row_plus a b = pairwise ◌+◌ a b
+row_plus a b = pairwise ◌+ᵉ◌ a b
 
 unfoldable pub plus : List (List Expr) → List (List Expr) → List (List Expr)
 plus a b = three (row_plus (get_or a 0 []) (get_or b 0 [])) (row_plus (get_or a 1 []) (get_or b 1 [])) (row_plus (get_or a 2 []) (get_or b 2 []))
 
 abbrev pub row_scaled : Expr → List Expr → List Expr
-row_scaled k a = map (λ x. k * x) a
+row_scaled k a = map (λ x. k *ᵉ x) a
 
 unfoldable pub scaled : Expr → List (List Expr) → List (List Expr)
 scaled k a = three (row_scaled k (get_or a 0 [])) (row_scaled k (get_or a 1 [])) (row_scaled k (get_or a 2 []))
@@ -50,11 +50,11 @@ scaled k a = three (row_scaled k (get_or a 0 [])) (row_scaled k (get_or a 1 []))
 -- off the diagonal stands k times 0
 unfoldable pub identity_times : Expr → List (List Expr)
 identity_times k =
-    let o = k * num tensor.zero in
-    three (three (k * one) o o) (three o (k * one) o) (three o o (k * one))
+    let o = k *ᵉ num tensor.zero in
+    three (three (k *ᵉ one) o o) (three o (k *ᵉ one) o) (three o o (k *ᵉ one))
 
 -- along the first row
 unfoldable pub determinant : List (List Float) → Expr
 determinant m =
     let x : ℕ → ℕ → Expr = λ i j. num (tensor.at m i j) in
-    x 0 0 * (x 1 1 * x 2 2 - x 2 1 * x 1 2) - x 0 1 * (x 1 0 * x 2 2 - x 2 0 * x 1 2) + x 0 2 * (x 1 0 * x 2 1 - x 2 0 * x 1 1)
+    x 0 0 *ᵉ (x 1 1 *ᵉ x 2 2 -ᵉ x 2 1 *ᵉ x 1 2) -ᵉ x 0 1 *ᵉ (x 1 0 *ᵉ x 2 2 -ᵉ x 2 0 *ᵉ x 1 2) +ᵉ x 0 2 *ᵉ (x 1 0 *ᵉ x 2 1 -ᵉ x 2 0 *ᵉ x 1 1)

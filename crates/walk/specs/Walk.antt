@@ -16,7 +16,7 @@ use Rattle.square_root.specs.Sqrt as square_root_lem
 use Rattle.thirds.specs.Thirds as thirds
 use Rattle.tensor.specs.Axes.{all_of}
 use Rattle.tensor.specs.Matrix.{zero}
-use Rattle.walk.specs.Expr.{Expr, num, ◌-◌, value, values, nums}
+use Rattle.walk.specs.Expr.{Expr, num, ◌-ᵉ◌, value, values, nums}
 
 -- ---- section 3's functions
 pub data Function : Type 0 where
@@ -121,7 +121,7 @@ least n a b k = either n (less a b) a b k
 
 -- the size: of a negative number or a zero, 0 - e
 abbrev pub size : {A : Type 0} → ℕ → Expr → (Expr → Walk A) → Walk A
-size n e k = either n (at_most e (num zero)) (num zero - e) e k
+size n e k = either n (at_most e (num zero)) (num zero -ᵉ e) e k
 
 -- where all tests hold w, else v: a later test is made only where the earlier ones hold
 abbrev pub when : {A : Type 0} → ℕ → List Test → Walk A → Walk A → Walk A
