@@ -1,4 +1,4 @@
-// What failed is said on standard error.
+// What failed is said on standard error (RULES, section 7).
 ghost use Rattle.std.specs.Prelude.{◌≡◌, false};
 
 use std::io::{Cursor, Error, Write};
