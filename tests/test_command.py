@@ -407,7 +407,11 @@ class Built(InFolder):
             for line in $(seq 400); do echo "note: $line"; done
             case $1 in
             all) for crate in $here; do printf '== %%s\\nlogic=proved functions=1\\n' $crate; done ;;
-            check) echo 'logic=proved functions=1' ;;
+            check)
+                mkdir -p out/rlib/lang/src
+                echo made >out/rlib/lang/src/lib.rt
+                echo 'logic=proved functions=1'
+                ;;
             lib)
                 mkdir -p out
                 ar rcs out/lib$here.a src/lib.rt
