@@ -11,6 +11,7 @@ use lib.Dec.{eqb}
 use borrow.Author.Tests.{eqb-true, eqb-false}
 use lib.ListN.{length}
 use lib.Ieee.{Float}
+use Rattle.plasticity.specs.declared.Outcome.{Outcome}
 use Rattle.plasticity.specs.declared.Outcome.TheVariants as outcome
 use Rattle.plasticity.specs.declared.State.{State}
 use Rattle.record.specs.Layout.{floats, u_at, vt_at, state_at}
@@ -18,6 +19,7 @@ use Rattle.walk.specs.Expr.{Expr, values}
 use Rattle.walk.specs.Walk.{Walk, exp, given}
 use Rattle.walk.specs.Exact.{final}
 use Rattle.walk.specs.Update.{Change, untouched, stored, updated_of}
+use Rattle.reason.specs.declared.Reason.{Reason}
 use Rattle.reason.specs.Reason.{compared_as, last_or, last_as}
 use Rattle.walk.specs.Body as body
 use Rattle.walk.specs.Update.{in_three}

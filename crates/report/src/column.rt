@@ -168,12 +168,8 @@ pub fn at_place(l: &[u64], place: usize, n: usize) -> Column
     ensures { result ≡ column_of (values place l.now n) }
 {
     let mut c = empty();
-    let mut i = 0;
-    while i < n {
-        let v = of_value(record::word(l, i * record::FLOATS + place));
-        let t = join(c, v);
-        c = t;
-        i += 1;
+    for i in 0..n {
+        c = join(c, of_value(record::word(l, i * record::FLOATS + place)));
     }
     c
 }
