@@ -25,10 +25,8 @@ fn all(xs: &mut [u64], n: usize)
     requires { length xs.old ≡ n * floats }
     ensures { xs.new ≡ worked fill_law xs.old n }
 {
-    let mut i = 0;
-    while i < n {
+    for i in 0..n {
         one(xs, i);
-        i += 1;
     }
 }
 

@@ -127,12 +127,9 @@ fn pass_all(t: Taken, xs: &mut [u64], out: &mut [u64], n: usize) -> FailureCount
     };
     let q = t.ready;
     let j = t.judge;
-    let mut i = 0;
-    while i < n {
+    for i in 0..n {
         let d = one_ready(q, j, xs, out, i);
-        let o = d.outcome;
-        c = count_one(c, o, d.failed);
-        i += 1;
+        c = count_one(c, d.outcome, d.failed);
     }
     c
 }
