@@ -50,12 +50,9 @@ fn pass_all(t: FactoredTaken, xs: &mut [u64], out: &mut [u64], n: usize) -> Fail
     let alone = t.alone;
     let q = t.ready;
     let j = t.judge;
-    let mut i = 0;
-    while i < n {
+    for i in 0..n {
         let d = one_factored(alone, q, j, xs, out, i);
-        let o = d.outcome;
-        c = particles::count_one(c, o, d.failed);
-        i += 1;
+        c = particles::count_one(c, d.outcome, d.failed);
     }
     c
 }

@@ -36,11 +36,8 @@ fn pass_all(m: Model, xs: &mut [u64], out: &mut [u64], n: usize) -> Counts
         stored: 0,
         refused: 0,
     };
-    let mut i = 0;
-    while i < n {
-        let o = one(m, xs, out, i);
-        c = answer::count_one(c, o);
-        i += 1;
+    for i in 0..n {
+        c = answer::count_one(c, one(m, xs, out, i));
     }
     c
 }

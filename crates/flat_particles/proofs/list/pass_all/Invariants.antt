@@ -1,7 +1,7 @@
 -- `flat_particles::list::pass_all` meets its contract: what its calls ensure, on each path.
 use mathlib.Core.Path.{◌≡◌}
 use mathlib.Core.List.{◌++◌}
-use Prim.Native.Nat.{◌≤◌, ◌*◌, ◌-◌}
+use Prim.Native.Nat.{◌*◌}
 use lib.ListN.{drop}
 use Rattle.flat_particles.specs.Layout.{floats}
 use Rattle.flat_particles.specs.Law.{flat_law}
@@ -10,7 +10,4 @@ use Rattle.flat_particles.proofs.list.pass_all.Given as goal
 
 abbrev pub invariant-loop-i : goal.invariant-loop-i
 invariant-loop-i l =
-    (l.i ≤ l.n) × (l.c ≡ three_of (counts_over floats (flat_law l.m) l.initial.xs l.i)) × (l.xs ≡ worked_over floats (flat_law l.m) l.initial.xs l.i ++ drop (l.i * floats) l.initial.xs) × (l.out ≡ answers_over floats (flat_law l.m) l.initial.xs l.i ++ drop (l.i * 2) l.initial.out)
-
-abbrev pub decreases-loop-i : goal.decreases-loop-i
-decreases-loop-i l = l.n - l.i
+    (l.c ≡ three_of (counts_over floats (flat_law l.m) l.initial.xs l.i)) × (l.xs ≡ worked_over floats (flat_law l.m) l.initial.xs l.i ++ drop (l.i * floats) l.initial.xs) × (l.out ≡ answers_over floats (flat_law l.m) l.initial.xs l.i ++ drop (l.i * 2) l.initial.out)
