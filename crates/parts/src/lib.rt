@@ -211,11 +211,8 @@ fn take(a: Arrival, bytes: &[u8], records: &mut [u64], answers: &mut [u64]) -> A
     ensures answers_after { answers.new ≡ (after (works a records.old answers.old) bytes.now).answers }
 {
     let mut q = a;
-    let mut i = 0;
-    while i < bytes.len() {
-        let t = byte(q, bytes[i], records, answers);
-        q = t;
-        i += 1;
+    for b in bytes {
+        q = byte(q, *b, records, answers);
     }
     q
 }

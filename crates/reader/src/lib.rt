@@ -74,18 +74,16 @@ fn moved(p: Place, at: usize) -> usize
 }
 
 // So many records that are there, from a place on, into the front of the room; each is read where the one before it ended.
+#[tactic(auto, unfolding(sheet::specs::Records::each))]
 fn records(s: &[u8], model: u64, at: usize, count: usize, room: &mut [u64])
     requires { (model ≤ last) × (at + count * sheet_floats model * 8 ≤ length s.now) × (count * floats ≤ length room.old) }
     ensures { room.new ≡ list_words model count (words_of (count * sheet_floats model) (drop at s.now)) ++ drop (count * floats) room.old }
 {
     let mut next = at;
-    let mut i = 0;
-    while i < count {
+    for i in 0..count {
         let a = i * record::FLOATS;
-        let b = a + record::FLOATS;
-        let p = record_from(s, next, model, &mut room[a..b]);
+        let p = record_from(s, next, model, &mut room[a..a + record::FLOATS]);
         next = moved(p, next);
-        i += 1;
     }
 }
 

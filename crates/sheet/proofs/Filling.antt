@@ -6,7 +6,7 @@ use Prim.Native.Nat.{ℕ, zero, suc, ◌+◌, ◌*◌, ◌-◌, ◌≤◌, ◌<�
 use native.Mathlib.Omega.{arith}
 use native.Mathlib.Nat.{mul-le-mul_right, suc-add, zero-add}
 use native.Mathlib.Numerals.{add-one}
-use lib.ListN.{length, get_or, take, drop, set, length-append, length-drop, drop_of_length-le}
+use lib.ListN.{length, get_or, take, drop, set, drop_of_length-le}
 use lib.Seq.{drop-cons, drop-drop, set_at, take_at, drop_at}
 use Rattle.record.specs.Layout.{floats, bare, place_determinant, determinant_at}
 use Rattle.model.specs.Kinds.{whole}
@@ -71,11 +71,6 @@ module _ (model count at : ℕ) (s room₀ : List ℕ) (there : at + count * she
       let n = words_length (count * sheet_floats model) (drop at s) in
       let p = mul-le-mul_right (sheet_floats model) h in
       each_length (completed model) (sheet_floats model) floats (completed_length model) words i (rw n p)
-
-  pub room_length : (i : ℕ) (room : List ℕ) → i ≤ count → Stand i room → length room ≡ length room₀
-  room_length i room h e =
-      let n = front_length i h in
-      ap length e ∙ simp (length-append, length-drop) (omega arith)
 
   -- record i of the sheet's floats
   part : (i : ℕ) → i < count → take (sheet_floats model) (drop (i * sheet_floats model) words) ≡ words_of (sheet_floats model) (drop (at + i * (sheet_floats model * 8)) s)

@@ -1,13 +1,13 @@
 -- What one more float adds to the words read, and one more parameter to those read.
 use mathlib.Core.Path.{◌≡◌, refl, sym, ap, ◌∙◌}
-use mathlib.Core.Bool.{Bool, true, false, cond}
+use mathlib.Core.Bool.{Bool, false}
 use mathlib.Core.List.{List, [], ◌∷◌, ◌++◌, append_assoc, append-nil}
-use Prim.Native.Nat.{ℕ, zero, suc, ◌+◌, ◌*◌, ◌-◌, ◌≤◌, ◌<◌}
+use Prim.Native.Nat.{ℕ, zero, suc, ◌+◌, ◌*◌, ◌<◌}
 use native.Mathlib.Omega.{arith}
 use native.Mathlib.Numerals.{add-one}
-use lib.ListN.{length, get_or, take, drop, set, replicate, length-append, length-drop, length-take, take-append-drop}
-use lib.Seq.{drop-cons, drop-drop, set_at, drop-length, take-suc-set, drop-set-lt}
-use lib.Dec.{eqb}
+use lib.ListN.{length, get_or, take, drop, set, replicate}
+use lib.Seq.{drop-cons, drop-drop, drop-length, take-length, take-suc-set}
+use Rattle.std.proofs.lemmas.List.{drop-replicate}
 use Rattle.sheet.specs.Sheet.{word_of, words_of, parameter_at, Fields, Got, Stopped, before, and_then, parameters_at, padded, as_parameters}
 use Rattle.sheet.specs.declared.Word.{Word}
 use Rattle.sheet.specs.declared.Word.TheVariants.{Read as Word_as_Read, Refused as Word_as_Refused}
@@ -24,16 +24,10 @@ words_suc (suc n) l =
     let e : suc n * 8 ≡ 8 + n * 8 = omega arith in
     rw (e, ← drop-drop (n * 8) 8 l) (ap (λ (t : List ℕ). word_of (take 8 l) ∷ t) (words_suc n (drop 8 l)))
 
--- the next place of the room is written
-pub fill_step : (s : List ℕ) (at : ℕ) (room₀ room : List ℕ) (i w : ℕ) → i < length room₀ → room ≡ words_of i (drop at s) ++ drop i room₀
-    → w ≡ word_of (take 8 (drop (at + i * 8) s)) → set room i w ≡ words_of (i + 1) (drop at s) ++ drop (i + 1) room₀
-fill_step s at room₀ room i w h e f =
-    let m = words_length i (drop at s) in
-    let d = drop-cons room₀ i 0 h in
-    rw (e, d, set_at (words_of i (drop at s)) (get_or room₀ i 0) (drop (suc i) room₀) w i m, add-one i, words_suc i (drop at s), append_assoc, drop-drop (i * 8) at s, ← f)
-
-pub fill_length : (l room₀ room : List ℕ) (i : ℕ) → i ≤ length room₀ → room ≡ words_of i l ++ drop i room₀ → length room ≡ length room₀
-fill_length l room₀ room i h e = ap length e ∙ simp (length-append, words_length, length-drop) (omega arith)
+-- the next place of a list is written
+pub words_more : (s : List ℕ) (at i w : ℕ) (xs : List ℕ) → i < length xs → take i xs ≡ words_of i (drop at s) → w ≡ word_of (take 8 (drop (at + i * 8) s))
+    → take (i + 1) (set xs i w) ≡ words_of (i + 1) (drop at s)
+words_more s at i w xs h e f = rw (add-one i, take-suc-set xs i w h, e, words_suc i (drop at s), drop-drop (i * 8) at s, ← f)
 
 -- the parameters read before those of a reading
 abbrev pub prefixed : List ℕ → Fields → Fields
@@ -64,18 +58,8 @@ module _ (K : List Bool) (s : List ℕ) (next i : ℕ) (h : i < length K) where
     parameter_refused n r =
         sym (ap as_parameters (e ∙ ap (prefixed (take i bits)) (one_more ∙ ap (λ (x : Word). and_then x (λ to. parameters_at (drop (i + 1) K) s to)) (sym r))))
 
--- the places past the last are still 0
-pub rest_zero : (bits : List ℕ) (i w : ℕ) → i < 8 → drop i bits ≡ replicate (8 - i) 0 → drop (i + 1) (set bits i w) ≡ replicate (8 - (i + 1)) 0
-rest_zero bits i w h e =
-    let k : 8 - i ≡ suc (8 - (i + 1)) = omega arith in
-    drop-set-lt (i + 1) bits i w (omega arith) ∙ sym (drop-drop 1 i bits) ∙ ap (drop 1) (e ∙ ap (λ (m : ℕ). replicate m 0) k)
-
-pub all_read : (K : List Bool) (s : List ℕ) (at next i : ℕ) (bits : List ℕ) → i ≡ length K → i ≤ 8 → length bits ≡ 8 → drop i bits ≡ replicate (8 - i) 0
-    → parameters_at K s at ≡ prefixed (take i bits) (parameters_at (drop i K) s next) → record { refusal = 0; bits = bits; at = next } ≡ as_parameters (parameters_at K s at)
+-- all are read, and the places past the last are still 0
+pub all_read : (K : List Bool) (s : List ℕ) (at next i n : ℕ) (bits : List ℕ) → n ≡ length K → i ≡ length K → length bits ≡ length K
+    → parameters_at K s at ≡ prefixed (take i bits) (parameters_at (drop i K) s next) → record { refusal = 0; bits = bits ++ drop n (replicate 8 0); at = next } ≡ as_parameters (parameters_at K s at)
 unfolding parameters_at
-all_read K s at next i bits k h l z e =
-    let d : drop i K ≡ [] = ap (λ (j : ℕ). drop j K) k ∙ drop-length K in
-    let m : length (take i bits) ≡ i = simp length-take (omega arith) in
-    let p : padded (take i bits ++ []) ≡ bits =
-    ap padded (append-nil (take i bits)) ∙ ap (λ (j : ℕ). take i bits ++ replicate (8 - j) 0) m ∙ ap (λ (t : List ℕ). take i bits ++ t) (sym z) ∙ take-append-drop i bits in
-    sym (ap as_parameters (e ∙ ap (λ (t : List Bool). prefixed (take i bits) (parameters_at t s next)) d) ∙ ap (λ (b : List ℕ). record { refusal = 0; bits = b; at = next }) p)
+all_read K s at next i n bits m k l e = rw (e, m, k, drop-length K, ← l, take-length bits, append-nil bits, drop-replicate {X = ℕ} (length bits) 8 0)

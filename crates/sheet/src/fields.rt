@@ -29,16 +29,15 @@ fn parameter_at(s: &[u8], flag: bool, at: usize) -> Word
     }
 }
 
+#[tactic(auto, using(model::proofs::KindLaws::kinds_most))]
 pub fn parameters(s: &[u8], model: u64, at: usize) -> Parameters
     ensures { result ≡ as_parameters (parameters_at (kinds_of model) s.now at) }
 {
     let n = model::parameters_of(model);
     let mut bits = [0u64; PARAMETERS];
     let mut next = at;
-    let mut i = 0;
-    while i < n {
-        let w = parameter_at(s, model::is_flag_of(model, i), next);
-        match w {
+    for (i, place) in bits[..n].iter_mut().enumerate() {
+        match parameter_at(s, model::is_flag_of(model, i), next) {
             Word::Refused(refusal) => {
                 return Parameters {
                     refusal,
@@ -47,11 +46,10 @@ pub fn parameters(s: &[u8], model: u64, at: usize) -> Parameters
                 };
             }
             Word::Read(b, after) => {
-                bits[i] = b;
+                *place = b;
                 next = after;
             }
         }
-        i += 1;
     }
     Parameters {
         refusal: 0,

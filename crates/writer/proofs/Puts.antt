@@ -1,10 +1,15 @@
 -- Bytes put one after the other, and what one more byte or float adds to a spelling.
 use mathlib.Core.Path.{◌≡◌, refl, sym, ap, ◌∙◌}
 use mathlib.Core.List.{List, [], ◌∷◌, ◌++◌, append_assoc, append-nil}
-use Prim.Native.Nat.{ℕ, zero, suc, ◌+◌, ◌*◌, ◌/◌, ◌%◌, ◌≤◌, ◌<◌}
+use Prim.Native.Nat.{ℕ, suc, ◌+◌, ◌*◌, ◌≤◌, ◌<◌}
 use native.Mathlib.Omega.{arith}
+use native.Mathlib.Numerals.{add-one}
 use lib.ListN.{length, get_or, take, drop, set, length-append, length-drop, take-append-drop}
 use lib.Seq.{length-take-le, take-suc, drop-cons, drop-drop, set_at, take_at, drop_at}
+use borrow.Rule.Slice.PartMut.{put_mid}
+use native.Mathlib.Nat.{div-div-eq-div-mul}
+use Rattle.std.specs.Int.{w64, to_le_bytes}
+use Rattle.sheet.proofs.Pieces.{bytes_length, spelled_length}
 use Rattle.sheet.specs.Spelling.{spell_bytes, spell_words}
 use Rattle.writer.specs.Writer.{put}
 
@@ -38,19 +43,14 @@ put_byte room at b x h =
     ∙ rw (n, append_assoc, append_assoc)
 
 -- ---- a float's bytes
--- what is left of w after k bytes
-abbrev pub left : ℕ → ℕ → ℕ
-left zero w = w
-left (suc k) w = left k w / 256
-
-left_next : (k w : ℕ) → left k (w / 256) ≡ left k w / 256
-left_next zero w = refl
-left_next (suc k) w = ap (λ (x : ℕ). x / 256) (left_next k w)
-
-pub bytes_next : (k w : ℕ) → spell_bytes (suc k) w ≡ spell_bytes k w ++ (left k w % 256 ∷ [])
+-- the library's are these
+eight_bytes : (w : ℕ) → to_le_bytes w64 w ≡ spell_bytes 8 w
 unfolding spell_bytes
-bytes_next zero w = refl
-bytes_next (suc k) w = ap (λ (l : List ℕ). w % 256 ∷ l) (bytes_next k (w / 256) ∙ ap (λ (x : ℕ). spell_bytes k (w / 256) ++ (x % 256 ∷ [])) (left_next k w))
+eight_bytes w = simp div-div-eq-div-mul
+
+-- and stand where they are copied to
+pub put_word : (room : List ℕ) (at k w : ℕ) (bytes : List ℕ) → k ≡ 8 → bytes ≡ to_le_bytes w64 w → put_mid at k room bytes ≡ put room at (spell_bytes 8 w)
+put_word room at k w bytes n e = rw (n, e ∙ eight_bytes w, bytes_length 8 w, drop-drop 8 at room)
 
 -- ---- a list's floats
 pub words_append : (a b : List ℕ) → spell_words (a ++ b) ≡ spell_words a ++ spell_words b
@@ -64,6 +64,13 @@ one_word w = append-nil (spell_bytes 8 w)
 
 pub words_next : (words : List ℕ) (i : ℕ) → i < length words → spell_words (take (suc i) words) ≡ spell_words (take i words) ++ spell_bytes 8 (get_or words i 0)
 words_next words i h = ap spell_words (take-suc words i 0 h) ∙ words_append (take i words) (get_or words i 0 ∷ []) ∙ ap (λ (l : List ℕ). spell_words (take i words) ++ l) (one_word (get_or words i 0))
+
+-- one float more
+pub put_next : (room₀ : List ℕ) (at : ℕ) (words room : List ℕ) (i w : ℕ) → at + length words * 8 ≤ length room₀ → i < length words → w ≡ get_or words i 0
+    → room ≡ put room₀ at (spell_words (take i words)) → put room (at + i * 8) (spell_bytes 8 w) ≡ put room₀ at (spell_words (take (i + 1) words))
+put_next room₀ at words room i w h k f e =
+    let n : length (spell_words (take i words)) ≡ i * 8 = spelled_length (take i words) ∙ ap (λ (n : ℕ). n * 8) (length-take-le i words (omega arith)) in
+    rw (e, f, add-one i, words_next words i k, ← n) (put_more room₀ at (spell_words (take i words)) (spell_bytes 8 (get_or words i 0)) (rw n (omega arith)))
 
 -- one byte at a place, and two
 pub put_one : (room : List ℕ) (at x : ℕ) → at < length room → set room at x ≡ put room at (x ∷ [])

@@ -21,44 +21,35 @@ pub fn write_number(room: &mut [u8], at: usize, n: u64) -> usize
 }
 
 // A float's bits: 8 bytes, low byte first.
+#[tactic(auto, using(crate::proofs::Puts::put_word))]
 fn write_word(room: &mut [u8], at: usize, w: u64)
     requires { at + 8 ≤ length room.old }
     ensures { room.new ≡ put room.old at (spell_bytes 8 w) }
 {
-    let mut left = w;
-    let mut i = 0;
-    while i < BYTES {
-        room[at + i] = (left % 256) as u8;
-        left = left / 256;
-        i += 1;
-    }
+    room[at..at + BYTES].copy_from_slice(&w.to_le_bytes());
 }
 
 // A list's floats, one after the other.
+#[tactic(auto, using(crate::proofs::Puts::put_next), unfolding(sheet::specs::Spelling::spell_words))]
 pub fn write_words(room: &mut [u8], at: usize, words: &[u64])
     requires { at + length words.now * 8 ≤ length room.old }
     ensures { room.new ≡ put room.old at (spell_words words.now) }
 {
-    let mut i = 0;
-    while i < words.len() {
-        write_word(room, at + i * BYTES, words[i]);
-        i += 1;
+    for (i, w) in words.iter().enumerate() {
+        write_word(room, at + i * BYTES, *w);
     }
 }
 
 // A list's records, each as the model's sheets have it.
+#[tactic(auto, using(sheet::proofs::RecordLaws::floats_most), unfolding(sheet::specs::Records::each, sheet::specs::Spelling::spell_words))]
 pub fn write_records(room: &mut [u8], at: usize, model: u64, records: &[u64])
     requires { at + count_of records.now * sheet_floats model * 8 ≤ length room.old }
     ensures { room.new ≡ put room.old at (spell_words (sheet_words model (count_of records.now) records.now)) }
 {
     let n = sheet::floats_of(model);
     let bytes = n * BYTES;
-    let count = records.len() / record::FLOATS;
-    let mut i = 0;
-    while i < count {
-        let a = i * record::FLOATS;
-        let b = a + n;
-        write_words(room, at + i * bytes, &records[a..b]);
-        i += 1;
+    let (whole, _) = records.as_chunks::<{ record::FLOATS }>();
+    for (i, r) in whole.iter().enumerate() {
+        write_words(room, at + i * bytes, &r[..n]);
     }
 }

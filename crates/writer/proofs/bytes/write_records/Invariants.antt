@@ -1,13 +1,9 @@
 -- `writer::bytes::write_records` meets its contract: the loop's invariant: the first i records stand as the sheet has them.
-use mathlib.Core.Path.{◌≡◌}
-use Prim.Native.Nat.{◌-◌, ◌≤◌}
+use Rattle.std.proofs.Common.{◌≡◌}
 use Rattle.sheet.specs.Records.{sheet_words}
 use Rattle.sheet.specs.Spelling.{spell_words}
-use Rattle.writer.specs.Writer.{put, count_of}
+use Rattle.writer.specs.Writer.{put}
 use Rattle.writer.proofs.bytes.write_records.Given as goal
 
 abbrev pub invariant-loop-i : goal.invariant-loop-i
-invariant-loop-i l = (l.i ≤ count_of l.records) × (l.room ≡ put l.initial.room l.at (spell_words (sheet_words l.model l.i l.records)))
-
-abbrev pub decreases-loop-i : goal.decreases-loop-i
-decreases-loop-i l = count_of l.records - l.i
+invariant-loop-i l = l.room ≡ put l.initial.room l.at (spell_words (sheet_words l.model l.i l.records))

@@ -1,13 +1,8 @@
 -- `writer::bytes::write_words` meets its contract: the loop's invariant: the first i floats stand.
-use mathlib.Core.Path.{◌≡◌}
-use Prim.Native.Nat.{◌-◌, ◌≤◌}
-use lib.ListN.{length, take}
+use Rattle.std.proofs.Common.{◌≡◌, take}
 use Rattle.sheet.specs.Spelling.{spell_words}
 use Rattle.writer.specs.Writer.{put}
 use Rattle.writer.proofs.bytes.write_words.Given as goal
 
 abbrev pub invariant-loop-i : goal.invariant-loop-i
-invariant-loop-i l = (l.i ≤ length l.words) × (l.room ≡ put l.initial.room l.at (spell_words (take l.i l.words)))
-
-abbrev pub decreases-loop-i : goal.decreases-loop-i
-decreases-loop-i l = length l.words - l.i
+invariant-loop-i l = l.room ≡ put l.initial.room l.at (spell_words (take l.i l.words))
