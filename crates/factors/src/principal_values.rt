@@ -36,26 +36,27 @@ fn level_pair(w: Work) -> Work
 }
 
 // A sweep: each pair of axes once.
+#[tactic(auto, using(crate::proofs::Times::once_more))]
 fn level_sweep(x: Work) -> Work
     ensures { result ≡ sweep_by level_pair_of x }
 {
     let mut w = x;
-    let mut i = 0;
-    while i < sweep::PAIRS {
+    for _ in 0..sweep::PAIRS {
         w = level_pair(w);
-        i += 1;
     }
     w
 }
 
+#[tactic(auto, using(crate::proofs::Times::once_more, crate::proofs::Times::stays), unfolding(crate::specs::PrincipalValues::levelled_of, crate::specs::PrincipalValues::level_step_of))]
 fn levelled(f: [[f64; 3]; 3]) -> Work
     ensures { result ≡ levelled_of f }
 {
     let mut w = sweep::start(f);
-    let mut i = 0;
-    while (i < sweep::SWEEPS) & !sweep::settled(w) {
+    for _ in 0..sweep::SWEEPS {
+        if sweep::settled(w) {
+            break;
+        }
         w = level_sweep(w);
-        i += 1;
     }
     w
 }

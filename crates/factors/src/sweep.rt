@@ -151,14 +151,13 @@ pub(crate) fn settled(w: Work) -> bool
 }
 
 // A sweep: each pair of axes once.
+#[tactic(auto, using(crate::proofs::Times::once_more))]
 fn sweep(x: Work) -> Work
     ensures { result ≡ sweep_by pair_of x }
 {
     let mut w = x;
-    let mut i = 0;
-    while i < PAIRS {
+    for _ in 0..PAIRS {
         w = pair(w);
-        i += 1;
     }
     w
 }
@@ -182,14 +181,16 @@ pub(crate) fn start(f: [[f64; 3]; 3]) -> Work
 }
 
 // Eight sweeps, or as many as leave nothing to turn.
+#[tactic(auto, using(crate::proofs::Times::once_more, crate::proofs::Times::stays), unfolding(crate::specs::Sweeps::worked_of, crate::specs::Sweeps::step_of))]
 fn worked(f: [[f64; 3]; 3]) -> Work
     ensures { result ≡ worked_of f }
 {
     let mut w = start(f);
-    let mut i = 0;
-    while (i < SWEEPS) & !settled(w) {
+    for _ in 0..SWEEPS {
+        if settled(w) {
+            break;
+        }
         w = sweep(w);
-        i += 1;
     }
     w
 }

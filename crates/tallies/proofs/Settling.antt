@@ -3,7 +3,6 @@ use mathlib.Core.Path.{◌≡◌, refl, sym, ap, ◌∙◌}
 use mathlib.Core.Bool.{Bool, true, false, cond, ◌&&◌}
 use mathlib.Core.List.{List}
 use Prim.Native.Nat.{ℕ, ◌+◌, ◌≤◌, ◌<◌, zero-le}
-use native.Mathlib.Numerals.{add-one, add-one-le}
 use native.Mathlib.Omega.{arith}
 use lib.Dec.{eqb, ltb}
 use lib.ListN.{length, get_or, set}
@@ -12,7 +11,7 @@ use Rattle.numbers.proofs.Laws.{and_both}
 use Rattle.tallies.specs.declared.tally.Tally.{Tally}
 use Rattle.tallies.specs.declared.plan.Plan.{Plan}
 use Rattle.tallies.specs.Zones.{zones_fit, move_fits}
-use Rattle.tallies.specs.Tallies.{none, with_particles, by_zone, recount, cleared_at, has_room, clear_tallies, move_zones, move_tallies}
+use Rattle.tallies.specs.Tallies.{none, with_particles, by_zone, recount, cleared_at, clear_tallies, move_zones, move_tallies}
 use Rattle.tallies.specs.Plans.{Counts, Planned, planned, room_by}
 use Rattle.tallies.proofs.ByZone.{get_by, length_by, is_by, set_by}
 use Rattle.tallies.proofs.ZoneLaws.{fits_of}
@@ -38,72 +37,30 @@ settled_other w c k z t d = go (ltb z k) refl
     go true e = let q = ltb-true z k e in rw (lt-ltb z (k + 1) (omega arith)) refl
     go false e = let q = ltb-false z k e in rw (le-ltb z (k + 1) (above k z q d)) refl
 
-pub record Settling (w : ℕ) (c : List ℕ) (ts₀ : List Tally) : Type 0 where
-  pub i : ℕ
-  pub ts : List Tally
-  pub ok : Bool
-  pub upto : i ≤ length ts₀
-  pub so_far : ts ≡ by_zone (settled_below w c i) 0 ts₀
-  pub room : ok ≡ room_by c ts₀ i
-
+-- before the first, after tally i and after the last
 pub none_settled : (w : ℕ) (c : List ℕ) (ts : List Tally) → ts ≡ by_zone (settled_below w c 0) 0 ts
 none_settled w c ts = is_by (settled_below w c 0) ts ts refl (λ z l. rw (le-ltb z 0 zero-le) refl)
 
-pub none_looked : (c : List ℕ) (ts : List Tally) → true ≡ room_by c ts 0
-unfolding room_by
-none_looked c ts = refl
+module _ (w : ℕ) (c : List ℕ) (ts₀ ts : List Tally) (i : ℕ) (so_far : ts ≡ by_zone (settled_below w c i) 0 ts₀) (within : i < length ts₀) where
+  pub as_it_came : get_or ts i none ≡ get_or ts₀ i none
+  as_it_came = ap (λ (us : List Tally). get_or us i none) so_far ∙ get_by (settled_below w c i) ts₀ i within ∙ rw (le-ltb i i (omega arith)) refl
 
--- what the two steps by value give for tally z
-abbrev pub Stepped : ℕ → List ℕ → ℕ → Tally → Bool → Bool → Tally → Type 0
-Stepped w c z t before ok r = (ok ≡ (before && has_room (with_particles (get_or c z 0) t))) × (r ≡ planned w c z t)
+  pub settled_next : (r : Tally) → r ≡ planned w c i (get_or ts i none) → set ts i r ≡ by_zone (settled_below w c (i + 1)) 0 ts₀
+  settled_next r e =
+      set_by (settled_below w c i) (settled_below w c (i + 1)) ts ts₀ i r within so_far
+      (e ∙ ap (planned w c i) as_it_came ∙ settled_here w c i (get_or ts₀ i none)) (λ y b d. settled_other w c i y (get_or ts₀ y none) d)
 
+pub all_settled : (w : ℕ) (c : List ℕ) (ts : List Tally) → by_zone (settled_below w c (length ts)) 0 ts ≡ by_zone (planned w c) 0 ts
+all_settled w c ts =
+    is_by (planned w c) (by_zone (settled_below w c (length ts)) 0 ts) ts (length_by (settled_below w c (length ts)) ts)
+    (λ z l. get_by (settled_below w c (length ts)) ts z l ∙ rw (lt-ltb z (length ts) l) refl)
+
+-- what the call ensures
 abbrev pub SettledBy : ℕ → List ℕ → List Tally → Bool → List Tally → Type 0
 SettledBy w c ts ok us = (ok ≡ room_by c ts (length ts)) × (us ≡ by_zone (planned w c) 0 ts)
 
 abbrev pub Settled : Plan → List Tally → Bool → List Tally → Type 0
 Settled p ts ok us = SettledBy p.what p.counts ts ok us
-
-module _ (w : ℕ) (c : List ℕ) (ts₀ : List Tally) where
-  abbrev pub begun : Settling w c ts₀
-  begun = record { i = 0; ts = ts₀; ok = true; upto = zero-le; so_far = none_settled w c ts₀; room = none_looked c ts₀ }
-
-  module _ (st : Settling w c ts₀) where
-    abbrev pub told : Tally
-    told = get_or st.ts st.i none
-
-    pub long : length st.ts ≡ length ts₀
-    long = ap length st.so_far ∙ length_by (settled_below w c st.i) ts₀
-
-    module _ (within : st.i < length ts₀) where
-      pub inside : st.i < length st.ts
-      inside = omega (arith, within, long)
-
-      as_it_came : told ≡ get_or ts₀ st.i none
-      as_it_came = ap (λ (us : List Tally). get_or us st.i none) st.so_far ∙ get_by (settled_below w c st.i) ts₀ st.i within ∙ rw (le-ltb st.i st.i (omega arith)) refl
-
-      module _ (ok : Bool) (r : Tally) (e : Stepped w c st.i told st.ok ok r) where
-        pub next_so_far : set st.ts st.i r ≡ by_zone (settled_below w c (st.i + 1)) 0 ts₀
-        next_so_far =
-            set_by (settled_below w c st.i) (settled_below w c (st.i + 1)) st.ts ts₀ st.i r within st.so_far
-            (e.1 ∙ ap (planned w c st.i) as_it_came ∙ settled_here w c st.i (get_or ts₀ st.i none)) (λ y b d. settled_other w c st.i y (get_or ts₀ y none) d)
-
-        pub next_room : ok ≡ room_by c ts₀ (st.i + 1)
-        unfolding room_by
-        next_room =
-            rw (add-one st.i) (e.0 ∙ ap (λ (t : Tally). st.ok && has_room (with_particles (get_or c st.i 0) t)) as_it_came
-            ∙ ap (λ (b : Bool). b && has_room (with_particles (get_or c st.i 0) (get_or ts₀ st.i none))) st.room)
-
-        abbrev pub next : Settling w c ts₀
-        next = record { i = st.i + 1; ts = set st.ts st.i r; ok = ok; upto = add-one-le within; so_far = next_so_far; room = next_room }
-
-    pub over : length ts₀ ≤ st.i → SettledBy w c ts₀ st.ok st.ts
-    over h =
-        let u = st.upto in
-        let e : st.i ≡ length ts₀ = omega arith in (
-          (rw e at st.room),
-          st.so_far ∙ is_by (planned w c) (by_zone (settled_below w c st.i) 0 ts₀) ts₀ (length_by (settled_below w c st.i) ts₀)
-              (λ z l. get_by (settled_below w c st.i) ts₀ z l ∙ rw (lt-ltb z st.i (omega arith)) refl),
-        )
 
 -- a plan that leaves, one that counts afresh and one that clears
 pub leaves : (p : Plan) (ts : List Tally) → p.what ≡ 0 → by_zone (planned p.what p.counts) 0 ts ≡ ts

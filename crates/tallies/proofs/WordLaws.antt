@@ -1,10 +1,10 @@
 -- Tallies as words, one more at a time. Assumes nothing.
 use mathlib.Core.Path.{◌≡◌, refl, sym, ap, ◌∙◌}
 use mathlib.Core.List.{List, [], ◌∷◌, ◌++◌, append_assoc}
-use Prim.Native.Nat.{ℕ, zero, suc, ◌+◌, ◌*◌, ◌≤◌, ◌<◌}
+use Prim.Native.Nat.{ℕ, zero, suc, ◌+◌, ◌*◌, ◌<◌}
 use native.Mathlib.Omega.{arith}
 use native.Mathlib.Numerals.{add-one}
-use lib.ListN.{length, get_or, set, take, drop, length-append, length-drop}
+use lib.ListN.{length, get_or, set, take, drop, length-append}
 use lib.Seq.{take_at, drop_at, drop-drop, drop-cons, set_at}
 use Rattle.tallies.specs.declared.tally.Tally.{Tally}
 use Rattle.tallies.specs.Tallies.{none}
@@ -30,20 +30,15 @@ words_length ts zero = refl
 words_length ts (suc n) = let ih = words_length ts n in simp length-append (omega arith)
 
 -- one tally's words more are written
-pub words_step : (ts : List Tally) (l ws : List ℕ) (z : ℕ) (t : Tally) → z * fields + fields ≤ length l → ws ≡ words_in ts z ++ drop (z * fields) l → t ≡ get_or ts z none
-    → take (z * fields) ws ++ (words_of t ++ drop fields (drop (z * fields) ws)) ≡ words_in ts (z + 1) ++ drop ((z + 1) * fields) l
+pub words_step : (ts : List Tally) (l ws : List ℕ) (z : ℕ) → ws ≡ words_in ts z ++ drop (z * fields) l
+    → take (z * fields) ws ++ (words_of (get_or ts z none) ++ drop fields (drop (z * fields) ws)) ≡ words_in ts (z + 1) ++ drop ((z + 1) * fields) l
 unfolding words_in
-words_step ts l ws z t h e q =
+words_step ts l ws z e =
     let n = words_length ts z in
     let a : take (z * fields) ws ≡ words_in ts z = ap (take (z * fields)) e ∙ take_at (words_in ts z) (drop (z * fields) l) (z * fields) n in
     let d : drop (z * fields) ws ≡ drop (z * fields) l = ap (drop (z * fields)) e ∙ drop_at (words_in ts z) (drop (z * fields) l) (z * fields) n in
     let j : suc z * fields ≡ z * fields + fields = omega arith in
-    rw (q, a, d, drop-drop fields (z * fields) l, add-one z, j) (sym (append_assoc (words_in ts z) (words_of (get_or ts z none)) (drop (z * fields + fields) l)))
-
-pub words_long : (ts : List Tally) (l ws : List ℕ) (z : ℕ) → z * fields ≤ length l → ws ≡ words_in ts z ++ drop (z * fields) l → length ws ≡ length l
-words_long ts l ws z h e =
-    let n = words_length ts z in
-    ap length e ∙ simp (length-append, length-drop) (omega arith)
+    rw (a, d, drop-drop fields (z * fields) l, add-one z, j) (sym (append_assoc (words_in ts z) (words_of (get_or ts z none)) (drop (z * fields + fields) l)))
 
 -- the words of n tallies are those of any list that begins with them
 pub words_same : (us ts : List Tally) (n : ℕ) → ((z : ℕ) → z < n → get_or us z none ≡ get_or ts z none) → words_in us n ≡ words_in ts n

@@ -7,9 +7,11 @@ use Prim.Native.Nat.{ℕ, zero, suc, ◌+◌, ◌*◌, ◌/◌, ◌≤◌, ◌<�
 use native.Mathlib.Omega.{arith}
 use native.Mathlib.Numerals.{add-one}
 use lib.Dec.{eqb, leb, ltb}
-use lib.ListN.{length, get_or, set, length-set}
-use lib.Seq.{get_or-set_same, get_or-set_other}
+use lib.ListN.{length, get_or, set, take, length-set}
+use lib.Seq.{take-length, get_or-set_same, get_or-set_other}
 use borrow.Author.Tests.{eqb-true, eqb-false, leb-true, ltb-true, ltb-false, lt-ltb, eq-eqb, ne_eqb}
+use Rattle.std.specs.List.{list_all}
+use Rattle.std.proofs.lemmas.List.Folds.{list_all_more}
 use Rattle.numbers.proofs.Laws.{and_both}
 use Rattle.plasticity.specs.declared.Outcome.{Outcome}
 use Rattle.plasticity.specs.declared.Outcome.TheVariants.{Untouched, Stored, Refused}
@@ -40,6 +42,15 @@ pub below_all : (n : ℕ) (zones : List ℕ) (k : ℕ) → ((i : ℕ) → i < k 
 unfolding below_in
 below_all n zones zero h = refl
 below_all n zones (suc k) h = rw (below_all n zones k (λ i l. h i (omega arith)), lt-ltb _ _ (h k (omega arith))) refl
+
+-- the zones of all particles, as a list's `all` tests them
+below_first : (n : ℕ) (zones : List ℕ) (k : ℕ) → k ≤ length zones → below_in n zones k ≡ list_all (λ z. ltb z n) (take k zones)
+unfolding below_in
+below_first n zones zero h = refl
+below_first n zones (suc k) h = rw (below_first n zones k (omega arith), ← add-one k) (sym (list_all_more (λ z. ltb z n) zones k 0 h))
+
+pub below_listed : (n : ℕ) (zones : List ℕ) → below_in n zones (length zones) ≡ list_all (λ z. ltb z n) zones
+below_listed n zones = below_first n zones (length zones) (omega arith) ∙ ap (list_all (λ z. ltb z n)) (take-length zones)
 
 pub below_wider : (n m : ℕ) (zones : List ℕ) (k : ℕ) → n ≤ m → below_in n zones k ≡ true → below_in m zones k ≡ true
 below_wider n m zones k h e = below_all m zones k (λ i l. let q = below_at n zones k i e l in omega arith)

@@ -19,16 +19,14 @@ pub struct Plan {
 }
 
 // How many particles are listed in each zone.
+#[tactic(auto, using(crate::proofs::ZoneLaws::below_at, crate::proofs::ZoneLaws::listed_most))]
 fn counted(zones: &[u64]) -> [u64; 256]
     requires { below_in 256 zones.now (length zones.now) ≡ true }
     ensures { Counts zones.now result }
 {
     let mut r = [0; 256];
-    let mut i = 0;
-    while i < zones.len() {
-        let z = zones[i] as usize;
-        r[z] = r[z] + 1;
-        i = i + 1;
+    for z in zones {
+        r[*z as usize] += 1;
     }
     r
 }

@@ -7,13 +7,7 @@ use crate::tally::ZONES;
 fn all_below(zones: &[u64], n: usize) -> bool
     ensures { result ≡ below_in n zones.now (length zones.now) }
 {
-    let mut ok = true;
-    let mut i = 0;
-    while i < zones.len() {
-        ok = ok & ((zones[i] as usize) < n);
-        i = i + 1;
-    }
-    ok
+    zones.iter().all(|z| (*z as usize) < n)
 }
 
 // At most 256 tallies, a zone for each of so many particles, and each zone below the number of tallies.

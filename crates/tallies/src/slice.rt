@@ -52,12 +52,9 @@ fn pass_all(s: Step, xs: &mut [u64], out: &mut [u64], zones: &[u64], ts: &mut [T
     ensures { (ts.new ≡ by_zone (tallied_in (step_law s) xs.old zones.now (length zones.now)) 0 ts.old) × (xs.new ≡ worked (step_law s) xs.old (length zones.now)) × (out.new ≡ answers (step_law s) xs.old (length zones.now)) }
 {
     let t = particles::ready_for(s);
-    let mut i = 0;
-    while i < zones.len() {
-        let z = zones[i] as usize;
+    for (i, z) in zones.iter().enumerate() {
         let d = tell_record(t, xs, out, i);
-        count_told(ts, z, d);
-        i = i + 1;
+        count_told(ts, *z as usize, d);
     }
 }
 
@@ -66,12 +63,9 @@ fn settle_all(ts: &mut [Tally], what: u64, counts: &[u64]) -> bool
     ensures { (result ≡ room_by counts.now ts.old (length ts.old)) × (ts.new ≡ by_zone (planned what counts.now) 0 ts.old) }
 {
     let mut ok = true;
-    let mut z = 0;
-    while z < ts.len() {
-        let t = ts[z];
-        ok = plan::room_too(ok, t, counts, z);
-        ts[z] = plan::settled(t, what, counts, z);
-        z = z + 1;
+    for (z, t) in ts.iter_mut().enumerate() {
+        ok = plan::room_too(ok, *t, counts, z);
+        *t = plan::settled(*t, what, counts, z);
     }
     ok
 }

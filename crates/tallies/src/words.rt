@@ -51,27 +51,24 @@ fn write_tally(ws: &mut [u64], z: usize, t: Tally)
 }
 
 // The first n, and none after them.
+#[tactic(auto, using(crate::proofs::WordLaws::tallies_step, crate::proofs::ByZone::spare_length), unfolding(crate::specs::Words::tallies_in))]
 pub fn read_tallies(ws: &[u64], n: usize) -> [Tally; 256]
     requires { (n ≤ 256) × (n * fields ≤ length ws.now) }
     ensures { result ≡ tallies_in ws.now n ++ drop n spare }
 {
     let mut r = tally::no_tallies();
-    let mut z = 0;
-    while z < n {
+    for z in 0..n {
         r[z] = read_tally(ws, z);
-        z = z + 1;
     }
     r
 }
 
+#[tactic(auto, using(crate::proofs::WordLaws::words_step), unfolding(crate::specs::Words::words_in))]
 pub fn write_tallies(ws: &mut [u64], ts: [Tally; 256], n: usize)
     requires { (n ≤ 256) × (length ws.old ≡ n * fields) }
     ensures { ws.new ≡ words_in ts n }
 {
-    let mut z = 0;
-    while z < n {
-        let t = ts[z];
-        write_tally(ws, z, t);
-        z = z + 1;
+    for z in 0..n {
+        write_tally(ws, z, ts[z]);
     }
 }

@@ -5,8 +5,5 @@ use Rattle.factors.specs.Sweeps.{times}
 use Rattle.factors.specs.PrincipalValues.{level_pair_of}
 use Rattle.factors.proofs.principal_values.level_sweep.Given as goal
 
-abbrev pub invariant-loop-i : goal.invariant-loop-i
-invariant-loop-i l = times (3 - l.i) level_pair_of l.w ≡ times 3 level_pair_of l.initial.w
-
-abbrev pub decreases-loop-i : goal.decreases-loop-i
-decreases-loop-i l = 3 - l.i
+abbrev pub invariant-loop : goal.invariant-loop
+invariant-loop l = times (3 - l.counter) level_pair_of l.w ≡ times 3 level_pair_of l.initial.w
