@@ -428,7 +428,7 @@ pub fn doubled(%s) -> %s%s
         sys.path.insert(0, str(TOP / "tools"))
         from making import prose
         named = subprocess.run(["git", "ls-files", "*.md", "man/*"], cwd=TOP, capture_output=True, text=True).stdout.split()
-        there = [name for name in named if name not in (*prose.MADE_PAGES, prose.PORT) and not name.startswith("docs/landings/")]
+        there = [name for name in named if name not in (*prose.MADE_PAGES, *prose.MOVED) and not name.startswith("docs/landings/")]
         self.assertEqual(sorted(prose.kept(TOP)), sorted(there) if named else sorted(prose.kept(TOP)))
 
     def test_a_table_that_is_not_made_is_told(self):

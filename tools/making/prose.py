@@ -11,8 +11,8 @@ import re
 import struct
 
 MADE_PAGES = ("docs/BELIEVE.md", "docs/CALLS.md", "docs/SPEED.md", "docs/TOOLS.md")
-# What was moved and renamed on the way to today's Rattle: it names what is gone, at whatever length.
-PORT = "docs/PORT.md"
+# What was moved, renamed and written anew on the way to today's Rattle: they name what is gone, at whatever length.
+MOVED = ("docs/PORT.md", "docs/DESIGN-PASS.md")
 # Pages of which only the length is held here.
 BESIDE = ("beside/README.md", "beside/factors/README.md", "bindings/README.md", "bindings/python/README.md", "bindings/rust/README.md", "fuzz/README.md", "man/slope.1")
 # Notes of their day, and what a user of an older version sees: they name what is gone.
@@ -46,7 +46,7 @@ TOLD = re.compile(r"\b(?:[a-z][a-z0-9]*(?:_[a-z0-9]+)+|[A-Z][A-Z0-9]*(?:_[A-Z0-9
 def pages(top):
     """The pages of the repository by name, but for those that are made whole."""
     named = ["README.md", "CONTRIBUTING.md", "CHANGELOG.md"] + sorted("docs/" + p.name for p in (top / "docs").glob("*.md"))
-    return {name: (top / name).read_text() for name in named if name not in (*MADE_PAGES, PORT) and (top / name).exists()}
+    return {name: (top / name).read_text() for name in named if name not in (*MADE_PAGES, *MOVED) and (top / name).exists()}
 
 
 def kept(top):
