@@ -6,7 +6,7 @@ use Prim.Native.Nat.{ℕ, suc, ◌+◌, ◌^◌, ◌≤◌, ◌<◌}
 use native.Mathlib.Omega.{arith}
 use lib.Dec.{ltb}
 use lib.ListN.{length, set, length-set, take, drop}
-use lib.Seq.{sets, length-sets, sets-eq, set_out}
+use lib.Seq.{sets, length-sets, sets-eq, set_out, drop-cons}
 use borrow.Author.Tests.{lt-ltb, le-ltb, ltb-false}
 use Rattle.answer_text.specs.Text.{full, behind, Puts}
 
@@ -20,6 +20,10 @@ behind_length s t at (w ∷ words) e =
 pub sets_out : (text : List ℕ) (at : ℕ) (words : List ℕ) → length text ≤ at → sets text at words ≡ text
 sets_out text at [] h = refl
 sets_out text at (w ∷ words) h = ap (λ (l : List ℕ). sets l (suc at) words) (set_out text at w h) ∙ sets_out text (suc at) words (omega arith)
+
+-- A word there has no place behind it but `full`.
+pub no_room : (text : List ℕ) (at : ℕ) (words : List ℕ) (i : ℕ) → i < length words → length text ≤ at → behind text at (drop i words) ≡ full
+no_room text at words i more out = rw (drop-cons words i 0 more, le-ltb at (length text) out) refl
 
 module _ (text : List ℕ) (b : List ℕ) (short : length text ≤ full) where
   behind_full : (words : List ℕ) → behind text full words ≡ full
