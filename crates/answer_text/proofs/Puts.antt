@@ -79,3 +79,19 @@ fits words text at h = (place words at h, sets-eq words text at h)
     place : (words : List ℕ) (at : ℕ) → at + length words ≤ length text → behind text at words ≡ at + length words
     place [] at h = omega arith
     place (w ∷ words) at h = rw (lt-ltb at (length text) (omega arith), place words (suc at) (omega arith)) (omega arith)
+
+-- A place within a text that ends before `full` is behind all the words.
+behind_within : (text : List ℕ) (at : ℕ) (words : List ℕ) → length text < full → behind text at words ≤ length text → behind text at words ≡ at + length words
+behind_within text at [] short h = omega arith
+behind_within text at (w ∷ words) short h = go (ltb at (length text)) (behind_within text (suc at) words short) h
+  where
+    go : (c : Bool) → (behind text (suc at) words ≤ length text → behind text (suc at) words ≡ suc at + length words)
+        → cond c (behind text (suc at) words) full ≤ length text → cond c (behind text (suc at) words) full ≡ at + length (w ∷ words)
+    go true more h = omega (arith, more h)
+    go false more h = absurd (omega arith)
+
+-- so that a text holds all that was put at its start, where the place behind it is in the text
+pub puts_whole : {words text then : List ℕ} {r : ℕ} → length then < full → Puts words text 0 r then → r ≤ length then → r ≡ length words
+puts_whole {words} {text} {then} {r} short p h =
+    let e : length then ≡ length text = puts_length p in
+    omega (arith, p.place_is, behind_within text 0 words (rw e at short) (rw (p.place_is, e) at h))
