@@ -1,13 +1,15 @@
 // What the program's arguments ask (RULES, section 7).
 #![tactic(auto)]
 
-ghost use Rattle.std.specs.Prelude.{◌≡◌, [], ◌∷◌};
+ghost use Rattle.std.specs.Prelude.{◌≡◌, ◌≤◌, [], ◌∷◌, IfOk, length};
 ghost use Rattle.asked.specs.Asked.{asked_of, number_of, only_of};
 
 use std::env::{Env, FillError};
 
 // Argument i in a room, or why it is not there: missing, or longer than the room.
-pub fn argument<'a>(rt: &impl Env, i: usize, room: &'a mut [u8]) -> Result<&'a [u8], FillError> {
+pub fn argument<'a>(rt: &impl Env, i: usize, room: &'a mut [u8]) -> Result<&'a [u8], FillError>
+    ensures { IfOk result (λ words. length words.now ≤ length room.old) }
+{
     let n = rt.arg(i, room)?;
     Ok(&room[..n])
 }

@@ -10,7 +10,7 @@ pub struct Draws {
 }
 
 impl Draws {
-    pub fn new() -> Draws {
+    pub(crate) fn new() -> Draws {
         Draws { seed: 6 }
     }
 
@@ -30,7 +30,7 @@ impl Draws {
     }
 
     // A record with the next F in its places, with its determinant, and zeros in all others.
-    pub fn draw(&mut self) -> [u64; record::FLOATS] {
+    pub(crate) fn draw(&mut self) -> [u64; record::FLOATS] {
         let mut r = [0u64; record::FLOATS];
         for word in &mut r[..record::U] {
             *word = self.entry();

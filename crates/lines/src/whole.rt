@@ -1,4 +1,4 @@
-// A whole input in a lent room.
+// A whole input in a lent room (RULES, section 7).
 ghost use Rattle.std.specs.Prelude.{◌≤◌, IfOk, length};
 
 use std::io;
