@@ -281,7 +281,7 @@ def printed():
     source = (shell.TOP / "crates" / "why_lines" / "src" / "rows.rt").read_text()
 
     def text(name):
-        words = re.search(r'fn %s\(.*?b"([^"]*\\n)",\n' % name, source, re.S)[1]
+        words = re.search(r'fn %s\(.*?"([^"]*\\n)",\n' % name, source, re.S)[1]
         return re.sub(r"\\\n *", "", words).split("\\n")[:-1]
 
     begins = [tuple(map(int, row)) for row in re.findall(r"Row \{\s*sentences: (\d+),\s*steps: (\d+),\s*parameters: (\d+),\s*\}", source)]

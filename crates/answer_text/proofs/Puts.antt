@@ -6,7 +6,7 @@ use Prim.Native.Nat.{ℕ, suc, ◌+◌, ◌^◌, ◌≤◌, ◌<◌}
 use native.Mathlib.Omega.{arith}
 use lib.Dec.{ltb}
 use lib.ListN.{length, set, length-set, take, drop}
-use lib.Seq.{sets, length-sets, sets-eq, set_out}
+use lib.Seq.{sets, length-sets, sets-eq, set_out, drop-cons}
 use borrow.Author.Tests.{lt-ltb, le-ltb, ltb-false}
 use Rattle.answer_text.specs.Text.{full, behind, Puts}
 
@@ -20,6 +20,10 @@ behind_length s t at (w ∷ words) e =
 pub sets_out : (text : List ℕ) (at : ℕ) (words : List ℕ) → length text ≤ at → sets text at words ≡ text
 sets_out text at [] h = refl
 sets_out text at (w ∷ words) h = ap (λ (l : List ℕ). sets l (suc at) words) (set_out text at w h) ∙ sets_out text (suc at) words (omega arith)
+
+-- A word there has no place behind it but `full`.
+pub no_room : (text : List ℕ) (at : ℕ) (words : List ℕ) (i : ℕ) → i < length words → length text ≤ at → behind text at (drop i words) ≡ full
+no_room text at words i more out = rw (drop-cons words i 0 more, le-ltb at (length text) out) refl
 
 module _ (text : List ℕ) (b : List ℕ) (short : length text ≤ full) where
   behind_full : (words : List ℕ) → behind text full words ≡ full
@@ -75,3 +79,19 @@ fits words text at h = (place words at h, sets-eq words text at h)
     place : (words : List ℕ) (at : ℕ) → at + length words ≤ length text → behind text at words ≡ at + length words
     place [] at h = omega arith
     place (w ∷ words) at h = rw (lt-ltb at (length text) (omega arith), place words (suc at) (omega arith)) (omega arith)
+
+-- A place within a text that ends before `full` is behind all the words.
+behind_within : (text : List ℕ) (at : ℕ) (words : List ℕ) → length text < full → behind text at words ≤ length text → behind text at words ≡ at + length words
+behind_within text at [] short h = omega arith
+behind_within text at (w ∷ words) short h = go (ltb at (length text)) (behind_within text (suc at) words short) h
+  where
+    go : (c : Bool) → (behind text (suc at) words ≤ length text → behind text (suc at) words ≡ suc at + length words)
+        → cond c (behind text (suc at) words) full ≤ length text → cond c (behind text (suc at) words) full ≡ at + length (w ∷ words)
+    go true more h = omega (arith, more h)
+    go false more h = absurd (omega arith)
+
+-- so that a text holds all that was put at its start, where the place behind it is in the text
+pub puts_whole : {words text then : List ℕ} {r : ℕ} → length then < full → Puts words text 0 r then → r ≤ length then → r ≡ length words
+puts_whole {words} {text} {then} {r} short p h =
+    let e : length then ≡ length text = puts_length p in
+    omega (arith, p.place_is, behind_within text 0 words (rw e at short) (rw (p.place_is, e) at h))

@@ -6,21 +6,20 @@ ghost use Rattle.std.specs.Prelude.{◌++◌, ◌/◌, min, length};
 ghost use Rattle.answer_text.specs.Text.{Puts, bytes, decimal, hex, outcome, line, lines, sheet_text, refused_text, heading_text};
 
 // No text reaches to this place.
-const FULL: usize = 18446744073709551615;
+const FULL: usize = usize::MAX;
 
 // Puts words from a place on; the place behind them.
+#[tactic(auto, using(crate::proofs::Puts::no_room, crate::proofs::Puts::sets_out))]
 fn put(text: &mut [u8], at: usize, words: &[u8]) -> usize
     ensures { Puts words.now text.old at result text.new }
 {
     let mut k = at;
-    let mut i = 0;
-    while i < words.len() {
+    for word in words {
         if text.len() <= k {
             return FULL;
         }
-        text[k] = words[i];
+        text[k] = *word;
         k += 1;
-        i += 1;
     }
     k
 }
@@ -59,12 +58,10 @@ fn put_stored(text: &mut [u8], at: usize, amount: u64) -> usize
 fn put_outcome(text: &mut [u8], at: usize, code: u64, value: u64) -> usize
     ensures { Puts (outcome code value) text.old at result text.new }
 {
-    if code == 0 {
-        put(text, at, b" untouched")
-    } else if code == 1 {
-        put_stored(text, at, value)
-    } else {
-        put_number(text, at, b" refused ", value)
+    match code {
+        0 => put(text, at, b" untouched"),
+        1 => put_stored(text, at, value),
+        _ => put_number(text, at, b" refused ", value),
     }
 }
 
@@ -78,17 +75,13 @@ fn put_line(text: &mut [u8], at: usize, i: usize, code: u64, value: u64) -> usiz
 }
 
 // The lines of the first n particles, or of as many as the answers tell of.
+#[tactic(auto, unfolding(crate::specs::Text::lines))]
 fn put_lines(text: &mut [u8], at: usize, answers: &[u64], n: usize) -> usize
     ensures { Puts (lines (min n (length answers.now / 2)) answers.now) text.old at result text.new }
 {
     let mut k = at;
-    let mut i = 0;
-    while i < n {
-        if answers.len() / 2 <= i {
-            return k;
-        }
+    for i in 0..n.min(answers.len() / 2) {
         k = put_line(text, k, i, answers[2 * i], answers[2 * i + 1]);
-        i += 1;
     }
     k
 }

@@ -1,10 +1,20 @@
 // What the program's arguments ask (RULES, section 7).
 #![tactic(auto)]
 
-ghost use Rattle.std.specs.Prelude.{◌≡◌};
-ghost use Rattle.asked.specs.Asked.{asked_of, is_digit, number_of, only_of};
+ghost use Rattle.std.specs.Prelude.{◌≡◌, ◌≤◌, [], ◌∷◌, IfOk, length};
+ghost use Rattle.asked.specs.Asked.{asked_of, number_of, only_of};
 
-#[derive(Drop)]
+use std::env::{Env, FillError};
+
+// Argument i in a room, or why it is not there: missing, or longer than the room.
+pub fn argument<'a>(rt: &impl Env, i: usize, room: &'a mut [u8]) -> Result<&'a [u8], FillError>
+    ensures { IfOk result (λ words. length words.now ≤ length room.old) }
+{
+    let n = rt.arg(i, room)?;
+    Ok(&room[..n])
+}
+
+#[derive(Clone, Copy, Debug, PartialEq, Eq)]
 pub enum Asked {
     Sheet,
     Why,
@@ -13,80 +23,53 @@ pub enum Asked {
     Other,
 }
 
-// What the first argument asks, by how many words the program was started with, its own name among them, and the argument: its length, 0 of a longer one than
-// there is room for, and the room. Words behind it change nothing.
-pub fn first(words: usize, n: usize, w: [u8; 8]) -> Asked
-    ensures { result ≡ asked_of words n w }
+// What the first argument asks. Words behind it change nothing.
+pub fn first(argument: Result<&[u8], FillError>) -> Asked
+    ensures { result ≡ asked_of argument.entry }
 {
-    if words < 2 {
-        return Asked::Sheet;
-    }
-    let a = w[0];
-    let b = w[1];
-    let c = w[2];
-    let d = w[3];
-    let e = w[4];
-    if (a == b'-') & (b == b'-') & (c == b'w') & (d == b'h') & (e == b'y') & (n == 5) {
-        return Asked::Why;
-    }
-    if (a == b'-') & (b == b'o') & (n == 2) {
-        return Asked::New;
-    }
-    if (a == b'-')
-        & (b == b'-')
-        & (c == b'f')
-        & (d == b'r')
-        & (e == b'a')
-        & (w[5] == b'm')
-        & (w[6] == b'e')
-        & (w[7] == b's')
-        & (n == 8)
-    {
-        return Asked::Frames;
-    }
-    Asked::Other
-}
-
-// Of which records the reasons are asked.
-#[derive(Drop)]
-pub enum Only {
-    All,
-    One(usize),
-    NoNumber,
-}
-
-fn is_digit(d: u8) -> bool
-    ensures { result ≡ is_digit d }
-{
-    (b'0' <= d) & (d <= b'9')
-}
-
-// The number of three digits.
-fn number(a: u8, b: u8, c: u8) -> Only
-    ensures { result ≡ number_of a b c }
-{
-    if is_digit(a) & is_digit(b) & is_digit(c) {
-        Only::One(((a % b'0') as usize) * 100 + ((b % b'0') as usize) * 10 + ((c % b'0') as usize))
-    } else {
-        Only::NoNumber
+    match argument {
+        Ok(words) => match words {
+            b"--why" => Asked::Why,
+            b"-o" => Asked::New,
+            b"--frames" => Asked::Frames,
+            _ => Asked::Other,
+        },
+        Err(FillError::TooLong) => Asked::Other,
+        Err(FillError::NotPresent) => Asked::Sheet,
     }
 }
 
-// The same of argument i, the number of the record whose reason is asked, in one to three digits.
-pub fn record(words: usize, i: usize, n: usize, w: [u8; 3]) -> Only
-    ensures { result ≡ only_of words i n w }
+// What is no number of one to three digits.
+#[derive(Clone, Copy, Debug, PartialEq, Eq)]
+pub struct NoNumber;
+
+fn digit(byte: u8) -> Result<usize, NoNumber>
+    ensures { result ≡ number_of (byte ∷ []) }
 {
-    if words <= i {
-        return Only::All;
+    match byte {
+        b'0'..=b'9' => Ok(usize::from(byte - b'0')),
+        _ => Err(NoNumber),
     }
-    if n == 3 {
-        return number(w[0], w[1], w[2]);
+}
+
+fn number(digits: &[u8]) -> Result<usize, NoNumber>
+    ensures { result ≡ number_of digits.now }
+{
+    match digits {
+        [a] => digit(*a),
+        [a, b] => Ok(digit(*a)? * 10 + digit(*b)?),
+        [a, b, c] => Ok(digit(*a)? * 100 + digit(*b)? * 10 + digit(*c)?),
+        _ => Err(NoNumber),
     }
-    if n == 2 {
-        return number(b'0', w[0], w[1]);
+}
+
+// The number of the record whose reason is asked; without such an argument the reasons of all are.
+pub fn record(argument: Result<&[u8], FillError>) -> Result<Option<usize>, NoNumber>
+    ensures { result ≡ only_of argument.entry }
+{
+    match argument {
+        Ok(digits) => Ok(Some(number(digits)?)),
+        Err(FillError::TooLong) => Err(NoNumber),
+        Err(FillError::NotPresent) => Ok(None),
     }
-    if n == 1 {
-        return number(b'0', b'0', w[0]);
-    }
-    Only::NoNumber
 }

@@ -1,118 +1,115 @@
 // The edges. An entry is a byte, 0 for factors and 1 for principal values, a byte, 1 where the check's words accept it and else 0, and 30 words
 // of 8 bytes, low byte first. A byte 255 ends the list.
-use crate::{held, say};
-use lines::Input;
-use sheet::Word;
-use std::fs;
+use crate::held;
+use std::fmt::{Display, Formatter};
 use std::io::Read;
-
-const ENTRY: usize = 242;
+use std::{fmt, fs, io};
 
 const WORDS: usize = 30;
 
-fn word(entry: &[u8], at: usize) -> u64 {
-    match sheet::word_at(entry, at) {
-        Word::Read(w, _) => w,
-        Word::Refused(_) => 0,
-    }
+const ENTRY: usize = 2 + WORDS * 8;
+
+#[derive(Clone, Copy)]
+enum Kind {
+    Factors,
+    Principals,
 }
 
-fn decoded(entry: &[u8]) -> [u64; 30] {
-    let mut room = [0u64; WORDS];
-    let mut i = 0;
-    while i < WORDS {
-        room[i] = word(entry, i * 8 + 2);
-        i += 1;
-    }
-    room
+#[derive(Clone, Copy)]
+struct Entry {
+    kind: Kind,
+    // what the check's words say
+    accepted: bool,
+    words: [u64; WORDS],
 }
 
-// Whether the check says of an entry what its words say; where it is the first that differs, it is named.
-fn same(rt: &HostRuntime, entry: &[u8; 242], n: u64, named: bool) -> bool {
-    let room = decoded(entry);
-    let accepted = if entry[0] == 0 {
-        held::factors_held(&room)
+// The next entry, where the list has one.
+fn next<F: Read>(file: &mut F) -> io::Result<Option<Entry>> {
+    let mut room = [0u8; ENTRY];
+    if lines::read_whole(file, &mut room)?.len() < ENTRY {
+        return Ok(None);
+    }
+    let mut words = [0u64; WORDS];
+    for (word, bytes) in words.iter_mut().zip(room[2..].as_chunks::<8>().0) {
+        *word = u64::from_le_bytes(*bytes);
+    }
+    let kind = if room[0] == 0 {
+        Kind::Factors
     } else {
-        held::principals_held(&room)
+        Kind::Principals
     };
-    let agrees = accepted == (entry[1] == 1);
-    if agrees | named {
-        return agrees;
-    }
-    say::number(rt, b"entry ", n);
-    if accepted {
-        say::words(rt, b" is accepted\n");
-    } else {
-        say::words(rt, b" is refused\n");
-    }
-    agrees
+    Ok(Some(Entry {
+        kind,
+        accepted: room[1] == 1,
+        words,
+    }))
 }
 
-// Fills the entry; whether the file had as many bytes.
-fn filled<F: Read>(file: &mut F, entry: &mut [u8; 242]) -> bool {
-    match lines::read_whole(file, entry) {
-        Input::Bytes(n) => n == ENTRY,
-        Input::Failed(_) => false,
+// Whether the check accepts it.
+fn accepted(entry: &Entry) -> bool {
+    match entry.kind {
+        Kind::Factors => held::factors_held(&entry.words),
+        Kind::Principals => held::principals_held(&entry.words),
     }
 }
 
-#[derive(Drop)]
+#[derive(Clone, Copy, Default)]
 struct Seen {
-    pub asked: u64,
-    pub accepted: u64,
-    pub differ: u64,
+    asked: u64,
+    accepted: u64,
+    differ: u64,
 }
 
-fn nothing() -> Seen {
-    Seen {
-        asked: 0,
-        accepted: 0,
-        differ: 0,
+impl Seen {
+    fn count(&mut self, accepted: bool, agrees: bool) {
+        self.asked = self.asked.wrapping_add(1);
+        self.accepted = self.accepted.wrapping_add(u64::from(accepted));
+        self.differ = self.differ.wrapping_add(u64::from(!agrees));
     }
 }
 
-fn counted(s: Seen, accepted: bool, agrees: bool) -> Seen {
-    Seen {
-        asked: say::more(s.asked, true),
-        accepted: say::more(s.accepted, accepted),
-        differ: say::more(s.differ, !agrees),
+impl Display for Seen {
+    fn fmt<W: fmt::Write>(&self, f: &mut Formatter<W>) -> fmt::Result {
+        let Seen {
+            asked,
+            accepted,
+            differ,
+        } = *self;
+        write!(
+            f,
+            "edges {asked}, to be accepted {accepted}, differ {differ}"
+        )
     }
 }
 
-fn told(rt: &HostRuntime, what: &[u8], s: Seen) {
-    say::words(rt, what);
-    say::number(rt, b": edges ", s.asked);
-    say::number(rt, b", to be accepted ", s.accepted);
-    say::number(rt, b", differ ", s.differ);
-    say::words(rt, b"\n");
-}
-
-pub fn run(rt: &HostRuntime) {
+// The first entry of which the check says another thing than its words is named.
+pub fn run(rt: &HostRuntime) -> io::Result<()> {
     let mut file = match fs::open(rt, "list") {
         Ok(file) => file,
         Err(error) => {
             lines::fail(rt, "list", error);
-            return;
+            return Ok(());
         }
     };
-    let mut of_factors = nothing();
-    let mut of_principals = nothing();
+    let mut of_factors = Seen::default();
+    let mut of_principals = Seen::default();
     let mut named = false;
-    let mut n: u64 = 0;
-    while n < 100000 {
-        let mut entry = [0u8; ENTRY];
-        if !filled(&mut file, &mut entry) {
+    for n in 0..100_000 {
+        let Some(entry) = next(&mut file)? else {
             break;
+        };
+        let accepted = accepted(&entry);
+        let agrees = accepted == entry.accepted;
+        if !agrees && !named {
+            let said = if accepted { "accepted" } else { "refused" };
+            println!(rt; "entry {n} is {said}")?;
+            named = true;
         }
-        let agrees = same(rt, &entry, n, named);
-        named = named | !agrees;
-        if entry[0] == 0 {
-            of_factors = counted(of_factors, entry[1] == 1, agrees);
-        } else {
-            of_principals = counted(of_principals, entry[1] == 1, agrees);
+        match entry.kind {
+            Kind::Factors => of_factors.count(entry.accepted, agrees),
+            Kind::Principals => of_principals.count(entry.accepted, agrees),
         }
-        n += 1;
     }
-    told(rt, b"factors", of_factors);
-    told(rt, b"principal values", of_principals);
+    println!(rt; "factors: {of_factors}")?;
+    println!(rt; "principal values: {of_principals}")
 }

@@ -6,11 +6,12 @@
 mod draws;
 mod edges;
 mod held;
-mod say;
 mod stresses;
 
-fn main(rt: HostRuntime) {
-    edges::run(&rt);
-    draws::run(&rt);
-    stresses::run(&rt);
+use std::io;
+
+fn main(rt: HostRuntime) -> io::Result<()> {
+    edges::run(&rt)?;
+    draws::run(&rt)?;
+    stresses::run(&rt)
 }

@@ -1,6 +1,8 @@
 // The stresses that both solid laws give for the same F with the library's own factors: elastic hardening 1; phase 1, 1/2 and 0;
 // lambda and mu alike, 1, 2^-10, 2^-20 and 2^-30; the corotated flag 1, so that phase 0 drops the tensile part. How many are given, and how many refused by 14.
-use crate::{draws, say};
+use crate::draws::{COUNT, Draws};
+use std::fmt::{Display, Formatter};
+use std::{fmt, io};
 
 const ONE: u64 = 0x3ff0_0000_0000_0000;
 
@@ -9,98 +11,105 @@ const HALF: u64 = 0x3fe0_0000_0000_0000;
 // The largest float, above every principal value and every shear.
 const WIDE: u64 = 0x7fef_ffff_ffff_ffff;
 
-const MODULI: usize = 4;
-
-const SIZES: [u64; 4] = [
+const MODULI: [u64; 4] = [
     ONE,
     0x3f50_0000_0000_0000,
     0x3eb0_0000_0000_0000,
     0x3e10_0000_0000_0000,
 ];
 
-#[derive(Drop)]
-struct Seen {
-    pub asked: u64,
-    pub given: u64,
-    pub missed: u64,
-    pub failed: u64,
+#[derive(Clone, Copy)]
+enum Law {
+    NeoHookean,
+    Corotated,
 }
 
-fn asked(corotated: bool, modulus: u64, r: &[u64; 37], verdict: &mut [u64; 1]) -> u8 {
-    let limits = [WIDE, WIDE];
-    let mut stress = [0u64; 9];
-    if corotated {
-        let law = [ONE, HALF, modulus, modulus];
-        host::judged::pasoletu_corotated_stress_and_verdict(&law, &limits, r, &mut stress, verdict)
-    } else {
-        let law = [HALF, modulus, modulus];
-        host::judged::pasoletu_neo_hookean_stress_and_verdict(
-            &law,
-            &limits,
-            r,
-            &mut stress,
-            verdict,
+impl Display for Law {
+    fn fmt<W: fmt::Write>(&self, f: &mut Formatter<W>) -> fmt::Result {
+        f.write_str(match *self {
+            Law::NeoHookean => "neo-Hookean",
+            Law::Corotated => "corotated",
+        })
+    }
+}
+
+#[derive(Clone, Copy, Default)]
+struct Seen {
+    asked: u64,
+    given: u64,
+    missed: u64,
+    failed: u64,
+}
+
+impl Seen {
+    fn count(&mut self, refusal: u8, failed: bool) {
+        self.asked = self.asked.wrapping_add(1);
+        self.given = self.given.wrapping_add(u64::from(refusal == 0));
+        self.missed = self.missed.wrapping_add(u64::from(refusal == 14));
+        self.failed = self.failed.wrapping_add(u64::from(failed));
+    }
+}
+
+impl Display for Seen {
+    fn fmt<W: fmt::Write>(&self, f: &mut Formatter<W>) -> fmt::Result {
+        let Seen {
+            asked,
+            given,
+            missed,
+            failed,
+        } = *self;
+        write!(
+            f,
+            "stresses asked {asked}, given {given}, 14 {missed}, failed {failed}"
         )
     }
 }
 
-fn look(corotated: bool, modulus: u64, r: &[u64; 37], s: Seen) -> Seen {
+// The refusal's number, and whether the record failed.
+fn asked(law: Law, modulus: u64, r: &[u64]) -> (u8, bool) {
+    let limits = [WIDE, WIDE];
+    let mut stress = [0u64; 9];
     let mut verdict = [0u64; 1];
-    let refusal = asked(corotated, modulus, r, &mut verdict);
-    Seen {
-        asked: say::more(s.asked, true),
-        given: say::more(s.given, refusal == 0),
-        missed: say::more(s.missed, refusal == 14),
-        failed: say::more(s.failed, verdict[0] == 1),
-    }
-}
-
-// The stresses of one record, a size of the moduli each.
-fn looks(corotated: bool, r: &[u64; 37], from: Seen) -> Seen {
-    let mut s = from;
-    let mut k = 0;
-    while k < MODULI {
-        s = look(corotated, SIZES[k], r, s);
-        k += 1;
-    }
-    s
-}
-
-fn all(corotated: bool, phase: u64) -> Seen {
-    let mut s = Seen {
-        asked: 0,
-        given: 0,
-        missed: 0,
-        failed: 0,
+    let refusal = match law {
+        Law::NeoHookean => host::judged::pasoletu_neo_hookean_stress_and_verdict(
+            &[HALF, modulus, modulus],
+            &limits,
+            r,
+            &mut stress,
+            &mut verdict,
+        ),
+        Law::Corotated => host::judged::pasoletu_corotated_stress_and_verdict(
+            &[ONE, HALF, modulus, modulus],
+            &limits,
+            r,
+            &mut stress,
+            &mut verdict,
+        ),
     };
-    let mut seed = draws::SEED;
-    let mut n: u64 = 0;
-    while n < draws::COUNT {
-        let mut r = [0u64; 37];
-        seed = draws::draw(seed, &mut r);
-        draws::factor(&mut r);
-        r[30] = phase;
-        r[33] = ONE;
-        s = looks(corotated, &r, s);
-        n += 1;
+    (refusal, verdict[0] == 1)
+}
+
+fn all(law: Law, phase: u64) -> Seen {
+    let mut seen = Seen::default();
+    let mut draws = Draws::new();
+    for _ in 0..COUNT {
+        let mut r = draws.draw();
+        host_passes::pasoletu_factor(&mut r);
+        r[record::PHASE] = phase;
+        r[record::ELASTIC_HARDENING] = ONE;
+        for modulus in MODULI {
+            let (refusal, failed) = asked(law, modulus, &r);
+            seen.count(refusal, failed);
+        }
     }
-    s
+    seen
 }
 
-fn told(rt: &HostRuntime, what: &[u8], s: Seen) {
-    say::words(rt, what);
-    say::number(rt, b": stresses asked ", s.asked);
-    say::number(rt, b", given ", s.given);
-    say::number(rt, b", 14 ", s.missed);
-    say::number(rt, b", failed ", s.failed);
-    say::words(rt, b"\n");
-}
-
-pub fn run(rt: &HostRuntime) {
-    told(rt, b"neo-Hookean, phase 1", all(false, ONE));
-    told(rt, b"neo-Hookean, phase 1/2", all(false, HALF));
-    told(rt, b"neo-Hookean, phase 0", all(false, 0));
-    told(rt, b"corotated, phase 1", all(true, ONE));
-    told(rt, b"corotated, phase 1/2", all(true, HALF));
-    told(rt, b"corotated, phase 0", all(true, 0));
+pub fn run(rt: &HostRuntime) -> io::Result<()> {
+    for law in [Law::NeoHookean, Law::Corotated] {
+        println!(rt; "{law}, phase 1: {}", all(law, ONE))?;
+        println!(rt; "{law}, phase 1/2: {}", all(law, HALF))?;
+        println!(rt; "{law}, phase 0: {}", all(law, 0))?;
+    }
+    Ok(())
 }

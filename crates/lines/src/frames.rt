@@ -1,83 +1,57 @@
 // Sheets one after the other on an input, each a frame: its length, 8 bytes, the lowest first, and its bytes (RULES, section 7).
 ghost use Rattle.std.specs.Prelude.{◌≤◌};
 
-use crate::{Input, ROOM, fail, print_under, read_whole};
-use sheet::Word;
-use std::io::Read;
+use crate::{ROOM, fail, print_under, read_whole};
+use std::io::{Error, Read};
 
 // No input has as many frames.
-pub const ALL_FRAMES: u64 = 18446744073709551615;
+pub const ALL_FRAMES: u64 = u64::MAX;
 
-#[derive(Drop)]
-enum Frame {
-    Bytes(usize),
-    End,
-    Failed,
-}
+// What is cut, longer than its room, or could not be read.
+#[derive(Clone, Copy, Debug, PartialEq, Eq)]
+struct NoFrame;
 
-// The next n bytes of the input; fewer are no frame.
-fn read_bytes<F: Read>(file: &mut F, room: &mut [u8], n: usize) -> Frame {
-    if room.len() < n {
-        return Frame::Failed;
-    }
-    match read_whole(file, &mut room[..n]) {
-        Input::Bytes(k) => {
-            if k < n {
-                return Frame::Failed;
-            }
-            Frame::Bytes(n)
-        }
-        Input::Failed(_) => Frame::Failed,
-    }
-}
-
-fn length_of(head: &[u8]) -> Frame {
-    match sheet::word_at(head, 0) {
-        Word::Read(n, _) => Frame::Bytes(n as usize),
-        Word::Refused(_) => Frame::Failed,
+impl From<Error> for NoFrame {
+    fn from(_error: Error) -> NoFrame {
+        NoFrame
     }
 }
 
 // The length that the next frame tells, which may be more than a room has. An input without a further byte ends there.
-fn read_length<F: Read>(file: &mut F) -> Frame {
+fn read_length<F: Read>(file: &mut F) -> Result<Option<usize>, NoFrame> {
     let mut head = [0u8; 8];
-    match read_whole(file, &mut head) {
-        Input::Bytes(k) => {
-            if k == 0 {
-                return Frame::End;
-            }
-            if k < 8 {
-                return Frame::Failed;
-            }
-            length_of(&head)
-        }
-        Input::Failed(_) => Frame::Failed,
+    match read_whole(file, &mut head)?.len() {
+        0 => Ok(None),
+        8 => Ok(Some(u64::from_le_bytes(head) as usize)),
+        _ => Err(NoFrame),
     }
 }
 
 // The next frame's bytes at the start of the room.
-fn read_frame<F: Read>(file: &mut F, room: &mut [u8]) -> Frame {
-    match read_length(file) {
-        Frame::Bytes(n) => read_bytes(file, room, n),
-        Frame::End => Frame::End,
-        Frame::Failed => Frame::Failed,
+fn read_frame<'a, F: Read>(file: &mut F, room: &'a mut [u8]) -> Result<Option<&'a [u8]>, NoFrame> {
+    let Some(n) = read_length(file)? else {
+        return Ok(None);
+    };
+    if room.len() < n {
+        return Err(NoFrame);
     }
-}
-
-fn print_or_fail(rt: &(impl Print + Eprint), number: u64, room: &[u8], n: usize) -> bool {
-    match print_under(rt, number, room, n) {
-        Ok(told) => told,
-        Err(error) => fail(rt, "standard output", error),
+    let bytes = read_whole(file, &mut room[..n])?;
+    if bytes.len() < n {
+        return Err(NoFrame);
     }
+    Ok(Some(bytes))
 }
 
 // The answer of the next frame under its number; whether there may be a further one.
 fn answer_frame<F: Read>(rt: &(impl Print + Eprint), file: &mut F, number: u64) -> bool {
     let mut room = [0u8; ROOM];
     match read_frame(file, &mut room) {
-        Frame::Bytes(n) => print_or_fail(rt, number, &room, n),
-        Frame::End => false,
-        Frame::Failed => {
+        Ok(Some(sheet)) => match print_under(rt, number, sheet) {
+            Ok(_) => true,
+            Err(error) => fail(rt, "standard output", error),
+        },
+        Ok(None) => false,
+        Err(NoFrame) => {
             let _ = eprintln!(rt; "standard input: this is no whole frame");
             false
         }
@@ -88,12 +62,10 @@ fn answer_frame<F: Read>(rt: &(impl Print + Eprint), file: &mut F, number: u64) 
 pub fn answer_frames<F: Read>(rt: &(impl Print + Eprint), file: &mut F, most: u64) -> u64
     ensures { result ≤ most }
 {
-    let mut number: u64 = 0;
-    while number < most {
+    for number in 0..most {
         if !answer_frame(rt, file, number) {
             return number;
         }
-        number += 1;
     }
-    number
+    most
 }

@@ -6,14 +6,15 @@ mod failed;
 mod frames;
 mod whole;
 
-ghost use Rattle.std.specs.Prelude.{◌≡◌, Ok, false, ◌<◌, length};
-ghost use Rattle.answer_text.specs.Text.{Puts};
-ghost use Rattle.lines.specs.Answer.{answer_text};
+ghost use Rattle.std.specs.Prelude.{◌≡◌, ◌++◌, ◌≤◌, IfOk, length};
+ghost use Rattle.answer_text.specs.Text.{Puts, heading_text};
+ghost use Rattle.lines.specs.Answer.{answer_text, updated_length};
 
 pub use failed::fail;
 pub use frames::{ALL_FRAMES, answer_frames};
 use std::io;
-pub use whole::{Input, read_whole};
+use std::io::ErrorKind;
+pub use whole::read_whole;
 use writer::Written;
 
 // A byte more than the longest sheet has, so that every longer input is refused: by 5, 6 or 7, as the reader meets them.
@@ -36,68 +37,46 @@ fn put_answer(s: &[u8], text: &mut [u8], at: usize) -> usize
     }
 }
 
-// The answer of a sheet by one call, so that what a failed output holds is a start of it; whether all of it was written.
-fn print_run(rt: &impl Print, s: &[u8]) -> io::Result<bool> {
+// The first n bytes of a room, by one call, so that what a failed output holds is a start of them; how many.
+fn write_front(rt: &impl Print, room: &[u8], n: usize) -> io::Result<usize>
+    ensures { IfOk result (λ k. (k ≡ n) × (n ≤ length room.now)) }
+{
+    let Some(front) = room.get(..n) else {
+        return Err(io::Error::from(ErrorKind::WriteZero));
+    };
+    rt.write_all(front)?;
+    Ok(n)
+}
+
+// Runs a sheet and prints its answer; how many bytes.
+pub fn print_answer(rt: &impl Print, sheet: &[u8]) -> io::Result<usize>
+    ensures { IfOk result (λ n. n ≡ length (answer_text sheet.now)) }
+{
     let mut text = [0u8; TEXT];
-    let k = put_answer(s, &mut text, 0);
-    write_front(rt, &text, k)
+    let end = put_answer(sheet, &mut text, 0);
+    write_front(rt, &text, end)
 }
 
 // The same under a heading with a number.
-fn print_headed(rt: &impl Print, number: u64, s: &[u8]) -> io::Result<bool> {
+pub fn print_under(rt: &impl Print, number: u64, sheet: &[u8]) -> io::Result<usize>
+    ensures { IfOk result (λ n. n ≡ length (heading_text number ++ answer_text sheet.now)) }
+{
     let mut text = [0u8; TEXT];
     let at = answer_text::put_heading(&mut text, 0, number);
-    let k = put_answer(s, &mut text, at);
-    write_front(rt, &text, k)
+    let end = put_answer(sheet, &mut text, at);
+    write_front(rt, &text, end)
 }
 
-// Runs the sheet in the first n bytes of the room and prints it; whether all of it was written.
-pub fn print_answer(rt: &impl Print, room: &[u8], n: usize) -> io::Result<bool>
-    ensures { length room.now < n → result ≡ Ok false }
+// Runs the sheet and writes it with its updated records, nothing of a refused one; how many bytes.
+#[tactic(auto, unfolding(crate::specs::Answer::updated_length))]
+pub fn write_updated(rt: &impl Print, sheet: &[u8]) -> io::Result<usize>
+    ensures { IfOk result (λ n. n ≡ updated_length sheet.now) }
 {
-    if room.len() < n {
-        return Ok(false);
-    }
-    print_run(rt, &room[..n])
-}
-
-// The same under a heading with a number.
-pub fn print_under(rt: &impl Print, number: u64, room: &[u8], n: usize) -> io::Result<bool>
-    ensures { length room.now < n → result ≡ Ok false }
-{
-    if room.len() < n {
-        return Ok(false);
-    }
-    print_headed(rt, number, &room[..n])
-}
-
-// The first k bytes; whether all of them were written.
-fn write_front(rt: &impl Print, out: &[u8], k: usize) -> io::Result<bool> {
-    if out.len() < k {
-        return Ok(false);
-    }
-    rt.write_all(&out[..k])?;
-    Ok(true)
-}
-
-// Runs the sheet and writes it with its updated records, nothing of a refused one; whether all of it was written.
-fn write_run(rt: &impl Print, s: &[u8]) -> io::Result<bool> {
     let mut records = [0u64; sheet::MOST_WORDS];
     let mut answers = [0u64; sheet::MOST_ANSWERS];
     let mut out = [0u8; sheet::LONGEST];
-    let w = sheet_run::run_out(s, &mut records, &mut answers, &mut out);
-    match w {
-        Written::Length(k) => write_front(rt, &out, k),
-        Written::Refused(_) => Ok(true),
+    match sheet_run::run_out(sheet, &mut records, &mut answers, &mut out) {
+        Written::Length(n) => write_front(rt, &out, n),
+        Written::Refused(_) => Ok(0),
     }
-}
-
-// The same of the sheet in the first n bytes of the room.
-pub fn write_updated(rt: &impl Print, room: &[u8], n: usize) -> io::Result<bool>
-    ensures { length room.now < n → result ≡ Ok false }
-{
-    if room.len() < n {
-        return Ok(false);
-    }
-    write_run(rt, &room[..n])
 }

@@ -1,26 +1,19 @@
-// A whole input in a lent room.
-ghost use Rattle.std.specs.Prelude.{length};
-ghost use Rattle.lines.specs.Whole.{Within};
+// A whole input in a lent room (RULES, section 7).
+ghost use Rattle.std.specs.Prelude.{◌≤◌, IfOk, length};
 
-use std::io::{Error, Read};
+use std::io;
+use std::io::Read;
 
-#[derive(Drop)]
-pub enum Input {
-    Bytes(usize),
-    Failed(Error),
-}
-
-// Reads until the room is full or the input ends; how many bytes came, or why a read failed.
-pub fn read_whole<F: Read>(file: &mut F, room: &mut [u8]) -> Input
-    ensures { Within result (length room.old) }
+// Reads until the room is full or the input ends: the bytes that came, at the room's start.
+pub fn read_whole<'a, F: Read>(file: &mut F, room: &'a mut [u8]) -> io::Result<&'a [u8]>
+    ensures { IfOk result (λ bytes. length bytes.now ≤ length room.old) }
 {
     let mut at = 0;
     while at < room.len() {
-        match file.read(&mut room[at..]) {
-            Ok(0) => return Input::Bytes(at),
-            Ok(n) => at += n,
-            Err(error) => return Input::Failed(error),
+        match file.read(&mut room[at..])? {
+            0 => break,
+            n => at += n,
         }
     }
-    Input::Bytes(at)
+    Ok(&room[..at])
 }

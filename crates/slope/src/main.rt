@@ -3,28 +3,27 @@
 // records instead (RULES, section 7). With any other it reads nothing and says so.
 #![tactic(auto)]
 
-use asked::Asked;
-use lines::Input;
-use std::env::{Env, FillError};
+use asked::{Asked, NoNumber};
 
 // Words behind the first argument change nothing.
 fn asks(rt: &HostRuntime) -> Asked {
-    let mut w = [0u8; 8];
-    match rt.arg(1, &mut w) {
-        Ok(n) => asked::first(2, n, w),
-        Err(FillError::TooLong) => asked::first(2, 0, w),
-        Err(FillError::NotPresent) => asked::first(1, 0, w),
-    }
+    let mut room = [0u8; 8];
+    asked::first(asked::argument(rt, 1, &mut room))
 }
 
-// Answers the sheet in the first n bytes of the room.
-fn answer(rt: &HostRuntime, room: &[u8], n: usize, asks: Asked) {
-    let told = match asks {
-        Asked::Why => why_lines::print_reasons(rt, room, n, 2),
-        Asked::New => lines::write_updated(rt, room, n),
-        _ => lines::print_answer(rt, room, n),
+// The same of those behind the second.
+fn only(rt: &HostRuntime) -> Result<Option<usize>, NoNumber> {
+    let mut room = [0u8; 3];
+    asked::record(asked::argument(rt, 2, &mut room))
+}
+
+fn answer(rt: &HostRuntime, sheet: &[u8], asks: Asked) {
+    let written = match asks {
+        Asked::Why => why_lines::print_reasons(rt, sheet, only(rt)),
+        Asked::New => lines::write_updated(rt, sheet),
+        _ => lines::print_answer(rt, sheet),
     };
-    if let Err(error) = told {
+    if let Err(error) = written {
         lines::fail(rt, "standard output", error);
     }
 }
@@ -32,8 +31,8 @@ fn answer(rt: &HostRuntime, room: &[u8], n: usize, asks: Asked) {
 fn answer_one(rt: &HostRuntime, asks: Asked) {
     let mut room = [0u8; lines::ROOM];
     match lines::read_whole(&mut rt.stdin(), &mut room) {
-        Input::Bytes(n) => answer(rt, &room, n, asks),
-        Input::Failed(error) => {
+        Ok(sheet) => answer(rt, sheet, asks),
+        Err(error) => {
             lines::fail(rt, "standard input", error);
         }
     }
@@ -48,6 +47,6 @@ fn main(rt: HostRuntime) {
         Asked::Other => {
             let _ = eprintln!(rt; "slope: the argument is none of --why, -o, --frames");
         }
-        _ => answer_one(&rt, asks),
+        Asked::Sheet | Asked::Why | Asked::New => answer_one(&rt, asks),
     }
 }

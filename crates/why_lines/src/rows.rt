@@ -1,10 +1,10 @@
 // A law is a row: where its sentences, its steps and its parameters begin in the texts, in the words of docs/STEPS.md and calls.toml, which
 // tools/reasons.py holds to each other.
 use crate::texts::{print_line, print_sentence};
-use crate::words::{Told, print_number};
 use model::Law;
+use std::io;
 
-#[derive(Drop)]
+#[derive(Clone, Copy)]
 struct Row {
     sentences: usize,
     steps: usize,
@@ -45,12 +45,10 @@ fn row_of(law: Law) -> Row {
 }
 
 // The words of the last test, by the branch that it chose: before the first number, between the two, behind the second.
-pub fn print_test(rt: &impl Print, so_far: Told, law: Law, branch: usize, a: f64, b: f64) -> Told {
-    let r = row_of(law);
+pub fn print_test(rt: &impl Print, law: Law, branch: usize, a: f64, b: f64) -> io::Result<()> {
     print_sentence(
         rt,
-        so_far,
-        b": the largest stress \n is within the softened strength \n; untouched\n\
+        ": the largest stress \n is within the softened strength \n; untouched\n\
             : were the largest strain brought down to the next, the largest stress \n would be within the softened strength \n; one strain is returned\n\
             : were all strains brought down to the least, the stress \n would be within the softened strength \n; two strains are returned\n\
             : were all strains brought down to the least, the stress \n would be over the softened strength \n; all three strains are returned\n\
@@ -61,18 +59,17 @@ pub fn print_test(rt: &impl Print, so_far: Told, law: Law, branch: usize, a: f64
             : the largest pressure \n is below its pressure \n; returned to the upper tip\n\
             : its pressure \n is below the lowest \n; returned to the lower tip\n\
             : its distance past the ellipse \n is at least \n; returned to the ellipse\n",
-        r.sentences,
+        row_of(law).sentences,
         branch,
         a,
         b,
     )
 }
 
-fn print_step(rt: &impl Print, so_far: Told, first: usize, k: usize) -> Told {
+fn print_step(rt: &impl Print, first: usize, k: usize) -> io::Result<()> {
     print_line(
         rt,
-        so_far,
-        b": each sigma: maximum with the lower bound 1 - min_epsilon\n\
+        ": each sigma: maximum with the lower bound 1 - min_epsilon\n\
             : then minimum with the upper bound 1 + max_epsilon\n\
             : the exponential of hardening_coeff * (1 - plastic determinant), and the determinant in it\n\
             : the results: F, sigma, plastic determinant, elastic hardening\n\
@@ -142,25 +139,21 @@ fn print_step(rt: &impl Print, so_far: Told, first: usize, k: usize) -> Told {
     )
 }
 
-// Steps count from 1 in each law; the record's own two, the last of the text, are 40 and 41.
-pub fn print_refused(rt: &impl Print, so_far: Told, law: Law, step: usize) -> Told {
-    if 40 <= step {
-        return print_step(rt, so_far, OWN_STEPS, step - 40);
+// Steps count from 1 in each law, 0 is the inputs; the record's own two, the last of the text, are 40 and 41.
+pub fn print_refused(rt: &impl Print, law: Law, step: usize) -> io::Result<()> {
+    match step {
+        0 => Ok(()),
+        1..40 => print_step(rt, row_of(law).steps, step - 1),
+        _ => print_step(rt, OWN_STEPS, step - 40),
     }
-    if step == 0 {
-        return so_far;
-    }
-    let r = row_of(law);
-    print_step(rt, so_far, r.steps, step - 1)
 }
 
 // That parameter i of a law isn't finite, with its name.
-pub fn print_parameter(rt: &impl Print, so_far: Told, law: Law, i: usize) -> Told {
-    let r = row_of(law);
+pub fn print_parameter(rt: &impl Print, law: Law, i: usize) -> io::Result<()> {
+    print!(rt; " refused 1 at step 0: parameter {i}")?;
     print_line(
         rt,
-        print_number(rt, so_far, b" refused 1 at step 0: parameter ", i as u64),
-        b", min_epsilon\n\
+        ", min_epsilon\n\
             , max_epsilon\n\
             , hardening_coeff\n\
             , young_modulus\n\
@@ -181,7 +174,7 @@ pub fn print_parameter(rt: &impl Print, so_far: Told, law: Law, i: usize) -> Tol
             , hardening_enabled\n\
             , hardening_factor\n\
             , m\n",
-        r.parameters,
+        row_of(law).parameters,
         i,
     )
 }

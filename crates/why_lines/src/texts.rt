@@ -1,80 +1,47 @@
 // A line of a text, and which float of a record a place is, in the words of calls.toml (tools/reasons.py; RULES, section 7).
-use crate::words::{Told, print, print_float, print_number};
-
-// Where the line of a text that begins there ends: at its new line.
-fn end(text: &[u8], from: usize) -> usize {
-    let mut at = from;
-    while at < text.len() {
-        if text[at] == b'\n' {
-            return at;
-        }
-        at += 1;
-    }
-    at
-}
-
-// Where the line begins that is k lines after the one which begins there; each line ends with a new line.
-fn begin(text: &[u8], from: usize, k: usize) -> usize {
-    let mut at = from;
-    let mut line = 0;
-    while line < k {
-        at = end(text, at);
-        if text.len() <= at {
-            return at;
-        }
-        at += 1;
-        line += 1;
-    }
-    at
-}
+use std::io;
 
 // Line k of a part of a text, by the part's first line; nothing behind the text.
-pub fn print_line(rt: &impl Print, so_far: Told, text: &[u8], first: usize, k: usize) -> Told {
-    let from = begin(text, begin(text, 0, first), k);
-    let to = end(text, from);
-    if to < from {
-        return Ok(false);
-    }
-    if text.len() < to {
-        return Ok(false);
-    }
-    print(rt, so_far, &text[from..to])
+fn line(text: &str, first: usize, k: usize) -> &str {
+    text.lines().skip(first).nth(k).unwrap_or("")
+}
+
+pub fn print_line(rt: &impl Print, text: &str, first: usize, k: usize) -> io::Result<()> {
+    rt.print(line(text, first, k))
 }
 
 // Sentence k of at most four, three lines each, with two numbers between them.
 pub fn print_sentence(
     rt: &impl Print,
-    so_far: Told,
-    text: &[u8],
+    text: &str,
     first: usize,
     k: usize,
     a: f64,
     b: f64,
-) -> Told {
+) -> io::Result<()> {
     let at = 3 * (k % 4);
-    let x = print_float(rt, print_line(rt, so_far, text, first, at), a);
-    let y = print_float(rt, print_line(rt, x, text, first, at + 1), b);
-    print_line(rt, y, text, first, at + 2)
+    let before = line(text, first, at);
+    let between = line(text, first, at + 1);
+    let behind = line(text, first, at + 2);
+    let a = numbers::bits_of(a);
+    let b = numbers::bits_of(b);
+    print!(rt; "{before}{a:016x}{between}{b:016x}{behind}")
 }
 
 // That the float at place i of a record isn't finite, with its name.
-pub fn print_place(rt: &impl Print, so_far: Told, i: usize) -> Told {
-    let k = if i < record::U {
-        0
-    } else if i < record::SIGMA {
-        1
-    } else if i < record::VT {
-        2
-    } else if i < record::PHASE {
-        3
-    } else {
-        i - record::PHASE + 4
+pub fn print_place(rt: &impl Print, i: usize) -> io::Result<()> {
+    let name = match i {
+        ..record::U => "of F",
+        record::U..record::SIGMA => "of U",
+        record::SIGMA..record::VT => "of sigma",
+        record::VT..record::PHASE => "of V^T",
+        record::PHASE => "phase",
+        record::PLASTIC_DETERMINANT => "plastic determinant",
+        record::PLASTIC_HARDENING => "plastic hardening",
+        record::ELASTIC_HARDENING => "elastic hardening",
+        record::LOG_GAIN => "log gain",
+        record::ALPHA => "alpha",
+        _ => "the stored determinant",
     };
-    print_line(
-        rt,
-        print_number(rt, so_far, b" refused 1 at step 0: float ", i as u64),
-        b", of F\n, of U\n, of sigma\n, of V^T\n, phase\n, plastic determinant\n, plastic hardening\n, elastic hardening\n, log gain\n, alpha\n, the stored determinant\n",
-        0,
-        k,
-    )
+    print!(rt; " refused 1 at step 0: float {i}, {name}")
 }

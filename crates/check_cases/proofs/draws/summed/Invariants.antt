@@ -1,9 +1,0 @@
--- `check_cases::draws::summed` meets its contract.
-use Rattle.std.proofs.Common.{◌≤◌, ◌-◌}
-use Rattle.check_cases.proofs.draws.summed.Given as goal
-
-abbrev pub invariant-loop-i : goal.invariant-loop-i
-invariant-loop-i l = l.i ≤ 9
-
-abbrev pub decreases-loop-i : goal.decreases-loop-i
-decreases-loop-i l = 9 - l.i

@@ -1,0 +1,10 @@
+-- What was written ends within the text, so that it is all of the heading and the answer.
+use Rattle.std.proofs.Common.{◌∙◌, arith}
+use Rattle.std.proofs.lemmas.Result.{IfOk-weaker}
+use Rattle.answer_text.proofs.Puts.{puts_more, puts_whole}
+use Rattle.lines.proofs.print_under.Goals as goal
+
+pub returns : goal.returns
+returns g c =
+    let whole = puts_more (omega arith) c.put_heading-at.ensures c.put_answer-end.ensures in
+    IfOk-weaker c.write_front.result _ _ (λ k w. w.0 ∙ puts_whole (omega arith) whole w.1) c.write_front.ensures

@@ -1,9 +1,0 @@
--- Each record's line is printed.
-use Rattle.std.proofs.Common.{◌-◌, ◌≤◌}
-use Rattle.why_lines.proofs.print_lines.Given as goal
-
-abbrev pub invariant-loop-i : goal.invariant-loop-i
-invariant-loop-i g l = l.i ≤ l.n
-
-abbrev pub decreases-loop-i : goal.decreases-loop-i
-decreases-loop-i g l = l.n - l.i
