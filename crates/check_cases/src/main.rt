@@ -8,10 +8,9 @@ mod edges;
 mod held;
 mod stresses;
 
-use std::io;
-
-fn main(rt: HostRuntime) -> io::Result<()> {
-    edges::run(&rt)?;
-    draws::run(&rt)?;
-    stresses::run(&rt)
+// A print that fails ends its part alone: what is printed is compared, and what is missing seen.
+fn main(rt: HostRuntime) {
+    let _ = edges::run(&rt);
+    let _ = draws::run(&rt);
+    let _ = stresses::run(&rt);
 }
