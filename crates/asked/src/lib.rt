@@ -1,7 +1,7 @@
 // What the program's arguments ask (RULES, section 7).
 #![tactic(auto)]
 
-ghost use Rattle.std.specs.Prelude.{◌≡◌, ◌≤◌, [], ◌∷◌, IfOk, length};
+ghost use Rattle.std.specs.Prelude.{◌≡◌, ◌≤◌, [], ◌∷◌, Err, IfOk, IsOkAnd, MatchResult, length, take};
 ghost use Rattle.asked.specs.Asked.{asked_of, number_of, only_of};
 
 use std::env::{Env, FillError};
@@ -10,8 +10,16 @@ use std::env::{Env, FillError};
 pub fn argument<'a>(rt: &impl Env, i: usize, room: &'a mut [u8]) -> Result<&'a [u8], FillError>
     ensures { IfOk result (λ words. length words.now ≤ length room.old) }
 {
-    let n = rt.arg(i, room)?;
-    Ok(&room[..n])
+    let n = rt.arg(i, room);
+    filled(room, n)
+}
+
+// The first n bytes of a room, or why there are none: nothing is told of an argument that is too long, its first bytes neither.
+fn filled(room: &[u8], n: Result<usize, FillError>) -> Result<&[u8], FillError>
+    requires { IfOk n (λ k. k ≤ length room.now) }
+    ensures { MatchResult n (λ k. IsOkAnd result (λ words. words.now ≡ take k room.now)) (λ why. result ≡ Err why) }
+{
+    Ok(&room[..n?])
 }
 
 #[derive(Clone, Copy, Debug, PartialEq, Eq)]

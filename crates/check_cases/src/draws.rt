@@ -1,6 +1,5 @@
 // Ticket 6's F, drawn by the generator of docs/FACTORS.md from the seed 6.
-use crate::held;
-use std::io;
+use crate::{held, say};
 
 pub const COUNT: u64 = 10_000;
 
@@ -40,7 +39,7 @@ impl Draws {
     }
 }
 
-pub fn run(rt: &HostRuntime) -> io::Result<()> {
+pub fn run(rt: &HostRuntime) {
     let mut draws = Draws::new();
     let mut sum: u64 = 0;
     let mut handed: u64 = 0;
@@ -55,7 +54,13 @@ pub fn run(rt: &HostRuntime) -> io::Result<()> {
             accepted = accepted.wrapping_add(u64::from(held::factors_held(&r)));
         }
     }
-    println!(rt;
-        "F drawn {COUNT}, sum of their words {sum:016x}, factors handed back {handed}, accepted {accepted}"
-    )
+    say(rt, "F drawn ");
+    say(rt, COUNT);
+    say(rt, ", sum of their words ");
+    let _ = print!(rt; "{sum:016x}");
+    say(rt, ", factors handed back ");
+    say(rt, handed);
+    say(rt, ", accepted ");
+    say(rt, accepted);
+    say(rt, "\n");
 }

@@ -1,9 +1,8 @@
 // The edges. An entry is a byte, 0 for factors and 1 for principal values, a byte, 1 where the check's words accept it and else 0, and 30 words
 // of 8 bytes, low byte first. A byte 255 ends the list.
-use crate::held;
-use std::fmt::{Display, Formatter};
+use crate::{held, say};
+use std::fs;
 use std::io::Read;
-use std::{fmt, fs, io};
 
 const WORDS: usize = 30;
 
@@ -71,41 +70,46 @@ impl Seen {
     }
 }
 
-impl Display for Seen {
-    fn fmt<W: fmt::Write>(&self, f: &mut Formatter<W>) -> fmt::Result {
-        let Seen {
-            asked,
-            accepted,
-            differ,
-        } = *self;
-        write!(
-            f,
-            "edges {asked}, to be accepted {accepted}, differ {differ}"
-        )
-    }
+fn tell(rt: &HostRuntime, what: &str, seen: Seen) {
+    say(rt, what);
+    say(rt, ": edges ");
+    say(rt, seen.asked);
+    say(rt, ", to be accepted ");
+    say(rt, seen.accepted);
+    say(rt, ", differ ");
+    say(rt, seen.differ);
+    say(rt, "\n");
 }
 
 // The first entry of which the check says another thing than its words is named.
-pub fn run(rt: &HostRuntime) -> io::Result<()> {
+pub fn run(rt: &HostRuntime) {
     let mut file = match fs::open(rt, "list") {
         Ok(file) => file,
         Err(error) => {
             lines::fail(rt, "list", error);
-            return Ok(());
+            return;
         }
     };
     let mut of_factors = Seen::default();
     let mut of_principals = Seen::default();
     let mut named = false;
-    for n in 0..100_000 {
+    for n in 0..100_000u64 {
         let Some(entry) = next(&mut file) else {
             break;
         };
         let accepted = accepted(&entry);
         let agrees = accepted == entry.accepted;
         if !agrees && !named {
-            let said = if accepted { "accepted" } else { "refused" };
-            println!(rt; "entry {n} is {said}")?;
+            say(rt, "entry ");
+            say(rt, n);
+            say(
+                rt,
+                if accepted {
+                    " is accepted\n"
+                } else {
+                    " is refused\n"
+                },
+            );
             named = true;
         }
         match entry.kind {
@@ -113,6 +117,6 @@ pub fn run(rt: &HostRuntime) -> io::Result<()> {
             Kind::Principals => of_principals.count(entry.accepted, agrees),
         }
     }
-    println!(rt; "factors: {of_factors}")?;
-    println!(rt; "principal values: {of_principals}")
+    tell(rt, "factors", of_factors);
+    tell(rt, "principal values", of_principals);
 }

@@ -1,8 +1,9 @@
 // The stresses that both solid laws give for the same F with the library's own factors: elastic hardening 1; phase 1, 1/2 and 0;
 // lambda and mu alike, 1, 2^-10, 2^-20 and 2^-30; the corotated flag 1, so that phase 0 drops the tensile part. How many are given, and how many refused by 14.
 use crate::draws::{COUNT, Draws};
+use crate::say;
+use std::fmt;
 use std::fmt::{Display, Formatter};
-use std::{fmt, io};
 
 const ONE: u64 = 0x3ff0_0000_0000_0000;
 
@@ -50,19 +51,17 @@ impl Seen {
     }
 }
 
-impl Display for Seen {
-    fn fmt<W: fmt::Write>(&self, f: &mut Formatter<W>) -> fmt::Result {
-        let Seen {
-            asked,
-            given,
-            missed,
-            failed,
-        } = *self;
-        write!(
-            f,
-            "stresses asked {asked}, given {given}, 14 {missed}, failed {failed}"
-        )
-    }
+fn tell(rt: &HostRuntime, law: Law, phase: &str, seen: Seen) {
+    let _ = print!(rt; "{law}, phase {phase}");
+    say(rt, ": stresses asked ");
+    say(rt, seen.asked);
+    say(rt, ", given ");
+    say(rt, seen.given);
+    say(rt, ", 14 ");
+    say(rt, seen.missed);
+    say(rt, ", failed ");
+    say(rt, seen.failed);
+    say(rt, "\n");
 }
 
 // The refusal's number, and whether the record failed.
@@ -105,11 +104,10 @@ fn all(law: Law, phase: u64) -> Seen {
     seen
 }
 
-pub fn run(rt: &HostRuntime) -> io::Result<()> {
+pub fn run(rt: &HostRuntime) {
     for law in [Law::NeoHookean, Law::Corotated] {
-        println!(rt; "{law}, phase 1: {}", all(law, ONE))?;
-        println!(rt; "{law}, phase 1/2: {}", all(law, HALF))?;
-        println!(rt; "{law}, phase 0: {}", all(law, 0))?;
+        tell(rt, law, "1", all(law, ONE));
+        tell(rt, law, "1/2", all(law, HALF));
+        tell(rt, law, "0", all(law, 0));
     }
-    Ok(())
 }

@@ -46,7 +46,7 @@ fn read_frame<'a, F: Read>(file: &mut F, room: &'a mut [u8]) -> Result<Option<&'
 fn answer_frame<F: Read>(rt: &(impl Print + Eprint), file: &mut F, number: u64) -> bool {
     let mut room = [0u8; ROOM];
     match read_frame(file, &mut room) {
-        Ok(Some(sheet)) => match print_under(rt, number, sheet) {
+        Ok(Some(sheet)) => match print_under(rt, number, Some(sheet)) {
             Ok(_) => true,
             Err(error) => fail(rt, "standard output", error),
         },

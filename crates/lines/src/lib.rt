@@ -6,7 +6,7 @@ mod failed;
 mod frames;
 mod whole;
 
-ghost use Rattle.std.specs.Prelude.{◌≡◌, ◌++◌, ◌≤◌, IfOk, length};
+ghost use Rattle.std.specs.Prelude.{◌≡◌, ◌++◌, ◌≤◌, IfOk, Ok, None, length, option_map};
 ghost use Rattle.answer_text.specs.Text.{Puts, heading_text};
 ghost use Rattle.lines.specs.Answer.{answer_text, updated_length};
 
@@ -48,35 +48,47 @@ fn write_front(rt: &impl Print, room: &[u8], n: usize) -> io::Result<usize>
     Ok(n)
 }
 
-// Runs a sheet and prints its answer; how many bytes.
-pub fn print_answer(rt: &impl Print, sheet: &[u8]) -> io::Result<usize>
-    ensures { IfOk result (λ n. n ≡ length (answer_text sheet.now)) }
+// Runs a sheet and prints its answer; how many bytes, none of a sheet that is longer than its room. Such a one is None, as `room.get(..n)` gives it.
+pub fn print_answer(rt: &impl Print, sheet: Option<&[u8]>) -> io::Result<Option<usize>>
+    ensures missing { sheet.entry ≡ None → result ≡ Ok None }
+    ensures printed { IfOk result (λ n. n ≡ option_map (λ s. length (answer_text s.now)) sheet.entry) }
 {
+    let Some(sheet) = sheet else {
+        return Ok(None);
+    };
     let mut text = [0u8; TEXT];
     let end = put_answer(sheet, &mut text, 0);
-    write_front(rt, &text, end)
+    Ok(Some(write_front(rt, &text, end)?))
 }
 
 // The same under a heading with a number.
-pub fn print_under(rt: &impl Print, number: u64, sheet: &[u8]) -> io::Result<usize>
-    ensures { IfOk result (λ n. n ≡ length (heading_text number ++ answer_text sheet.now)) }
+pub fn print_under(rt: &impl Print, number: u64, sheet: Option<&[u8]>) -> io::Result<Option<usize>>
+    ensures missing { sheet.entry ≡ None → result ≡ Ok None }
+    ensures printed { IfOk result (λ n. n ≡ option_map (λ s. length (heading_text number ++ answer_text s.now)) sheet.entry) }
 {
+    let Some(sheet) = sheet else {
+        return Ok(None);
+    };
     let mut text = [0u8; TEXT];
     let at = answer_text::put_heading(&mut text, 0, number);
     let end = put_answer(sheet, &mut text, at);
-    write_front(rt, &text, end)
+    Ok(Some(write_front(rt, &text, end)?))
 }
 
 // Runs the sheet and writes it with its updated records, nothing of a refused one; how many bytes.
 #[tactic(auto, unfolding(crate::specs::Answer::updated_length))]
-pub fn write_updated(rt: &impl Print, sheet: &[u8]) -> io::Result<usize>
-    ensures { IfOk result (λ n. n ≡ updated_length sheet.now) }
+pub fn write_updated(rt: &impl Print, sheet: Option<&[u8]>) -> io::Result<Option<usize>>
+    ensures missing { sheet.entry ≡ None → result ≡ Ok None }
+    ensures written { IfOk result (λ n. n ≡ option_map (λ s. updated_length s.now) sheet.entry) }
 {
+    let Some(sheet) = sheet else {
+        return Ok(None);
+    };
     let mut records = [0u64; sheet::MOST_WORDS];
     let mut answers = [0u64; sheet::MOST_ANSWERS];
     let mut out = [0u8; sheet::LONGEST];
     match sheet_run::run_out(sheet, &mut records, &mut answers, &mut out) {
-        Written::Length(n) => write_front(rt, &out, n),
-        Written::Refused(_) => Ok(0),
+        Written::Length(n) => Ok(Some(write_front(rt, &out, n)?)),
+        Written::Refused(_) => Ok(Some(0)),
     }
 }

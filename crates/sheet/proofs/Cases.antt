@@ -70,3 +70,18 @@ eight_bytes l w n k =
     let m : length l ≤ 8 = omega arith in
     let e : word_of (drop 8 l) ≡ 0 = rw (drop_of_length-le l m) refl in
     omega (arith, byte l 0, byte l 1, byte l 2, byte l 3, byte l 4, byte l 5, byte l 6, byte l 7)
+
+-- one place more of a sheet
+more : (s : List ℕ) (at k n : ℕ) → at + k < length s → take (suc n) (drop (at + k) s) ≡ get_or s (at + k) 0 ∷ take n (drop (at + suc k) s)
+more s at k n h =
+    let e : at + suc k ≡ suc (at + k) = omega arith in
+    rw (drop-cons s (at + k) 0 h, e) refl
+
+-- and of eight places of a sheet, read one by one
+pub eight_places : (s : List ℕ) (at w : ℕ) → at + 8 ≤ length s
+    → w ≡ from_le_bytes w64 (get_or s at 0 ∷ get_or s (at + 1) 0 ∷ get_or s (at + 2) 0 ∷ get_or s (at + 3) 0 ∷ get_or s (at + 4) 0 ∷ get_or s (at + 5) 0 ∷ get_or s (at + 6) 0 ∷ get_or s (at + 7) 0 ∷ [])
+    → w ≡ word_of (take 8 (drop at s))
+eight_places s at w h q =
+    let z : at + 0 ≡ at = omega arith in
+    let e = rw z at (more s at 0 7 (omega arith)) in
+    rw (e, more s at 1 6 (omega arith), more s at 2 5 (omega arith), more s at 3 4 (omega arith), more s at 4 3 (omega arith), more s at 5 2 (omega arith), more s at 6 1 (omega arith), more s at 7 0 (omega arith)) (eight_bytes _ w refl q)

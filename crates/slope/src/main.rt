@@ -18,6 +18,7 @@ fn only(rt: &HostRuntime) -> Result<Option<usize>, NoNumber> {
 }
 
 fn answer(rt: &HostRuntime, sheet: &[u8], asks: Asked) {
+    let sheet = Some(sheet);
     let written = match asks {
         Asked::Why => why_lines::print_reasons(rt, sheet, only(rt)),
         Asked::New => lines::write_updated(rt, sheet),

@@ -3,12 +3,21 @@
 
 use std::{fs, io};
 
-// The answer and the reasons of a sheet.
+// A print that fails is passed over: that of what stands below it tells.
+fn print_heading(rt: &HostRuntime, name: &str, words: &str) {
+    let _ = rt.print("-- ");
+    let _ = rt.print(name);
+    let _ = rt.print(words);
+}
+
+// The answer and the reasons of a sheet; of that record alone which argument 1000 names, where it is there.
 fn print_case(rt: &HostRuntime, name: &str, sheet: &[u8]) -> io::Result<()> {
-    print!(rt; "-- {name}\n")?;
-    lines::print_answer(rt, sheet)?;
-    print!(rt; "-- {name} why\n")?;
-    why_lines::print_reasons(rt, sheet, Ok(None))?;
+    let mut room = [0u8; 3];
+    let only = asked::record(asked::argument(rt, 1000, &mut room));
+    print_heading(rt, name, "\n");
+    lines::print_answer(rt, Some(sheet))?;
+    print_heading(rt, name, " why\n");
+    why_lines::print_reasons(rt, Some(sheet), only)?;
     Ok(())
 }
 

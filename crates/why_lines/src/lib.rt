@@ -5,7 +5,7 @@ mod rows;
 mod texts;
 mod words;
 
-ghost use Rattle.std.specs.Prelude.{◌≡◌, IfOk};
+ghost use Rattle.std.specs.Prelude.{◌≡◌, IfOk, Ok, None, option_map};
 ghost use Rattle.sheet.specs.Sheet.{read_of};
 
 use asked::NoNumber;
@@ -19,7 +19,10 @@ fn print_why(rt: &impl Print, model: u64, cause: Cause) -> io::Result<()> {
         Cause::Told(reason) => words::print_reason(rt, law, reason),
         Cause::Parameter(i) => rows::print_parameter(rt, law, i),
         Cause::Record(i) => texts::print_place(rt, i),
-        Cause::Refused(n) => print!(rt; " refused {n}"),
+        Cause::Refused(n) => {
+            rt.print(" refused ")?;
+            rt.print(n)
+        }
     }
 }
 
@@ -31,7 +34,8 @@ fn print_line(
     parameters: &[u64],
     record: &[u64],
 ) -> io::Result<()> {
-    print!(rt; "\n{i}")?;
+    rt.print("\n")?;
+    rt.print(i)?;
     print_why(rt, model, record_why::why(model, parameters, record))
 }
 
@@ -54,28 +58,39 @@ fn print_lines(
         }
         Ok(Some(i)) => match records.nth(i) {
             Some(record) => print_line(rt, i, h.model, parameters, record),
-            None => print!(rt; "\nno particle {i}"),
+            None => {
+                rt.print("\nno particle ")?;
+                rt.print(i)
+            }
         },
         Err(NoNumber) => rt.print("\nno such particle"),
     }
 }
 
-// Reads the sheet and prints why each record moves or doesn't, or that one which is asked for; how many records it has, none where it is refused.
+// Reads the sheet and prints why each record moves or doesn't, or that one which is asked for; how many records it has, none where it is refused. A sheet that is
+// longer than its room is None, as `room.get(..n)` gives it.
 pub fn print_reasons(
     rt: &impl Print,
-    sheet: &[u8],
+    sheet: Option<&[u8]>,
     only: Result<Option<usize>, NoNumber>,
-) -> io::Result<usize>
-    ensures { IfOk result (λ n. n ≡ (read_of sheet.now 7400).count) }
+) -> io::Result<Option<usize>>
+    ensures missing { sheet.entry ≡ None → result ≡ Ok None }
+    ensures printed { IfOk result (λ n. n ≡ option_map (λ s. (read_of s.now 7400).count) sheet.entry) }
 {
+    let Some(sheet) = sheet else {
+        return Ok(None);
+    };
     let mut records = [0u64; sheet::MOST_WORDS];
     let h = reader::read(sheet, &mut records);
     if h.refusal != 0 {
-        print!(rt; "sheet refused {}\n", h.refusal)?;
+        rt.print("sheet refused ")?;
+        rt.print(h.refusal)?;
+        rt.print("\n")?;
     } else {
-        print!(rt; "particles {}", h.count)?;
+        rt.print("particles ")?;
+        rt.print(h.count)?;
         print_lines(rt, h, &records, only)?;
         rt.print("\nend\n")?;
     }
-    Ok(h.count)
+    Ok(Some(h.count))
 }

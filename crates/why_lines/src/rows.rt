@@ -150,7 +150,8 @@ pub fn print_refused(rt: &impl Print, law: Law, step: usize) -> io::Result<()> {
 
 // That parameter i of a law isn't finite, with its name.
 pub fn print_parameter(rt: &impl Print, law: Law, i: usize) -> io::Result<()> {
-    print!(rt; " refused 1 at step 0: parameter {i}")?;
+    rt.print(" refused 1 at step 0: parameter ")?;
+    rt.print(i)?;
     print_line(
         rt,
         ", min_epsilon\n\
