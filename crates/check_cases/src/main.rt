@@ -11,7 +11,7 @@ mod stresses;
 use std::fmt::Display;
 
 // A piece of a line, printed by itself. One that fails is passed over: what is printed is compared, and what is missing seen.
-fn say<D: Display>(rt: &HostRuntime, piece: D) {
+fn say<D: Display + Drop>(rt: &HostRuntime, piece: D) {
     let _ = rt.print(piece);
 }
 
