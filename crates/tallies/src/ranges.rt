@@ -7,7 +7,12 @@ use crate::tally::ZONES;
 fn all_below(zones: &[u64], n: usize) -> bool
     ensures { result ≡ below_in n zones.now (length zones.now) }
 {
-    zones.iter().all(|z| (*z as usize) < n)
+    // One way out, so that several zones are looked at at once: `all` takes half as long again.
+    let mut ok = true;
+    for z in zones {
+        ok &= (*z as usize) < n;
+    }
+    ok
 }
 
 // At most 256 tallies, a zone for each of so many particles, and each zone below the number of tallies.
