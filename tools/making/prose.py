@@ -11,8 +11,8 @@ import re
 import struct
 
 MADE_PAGES = ("docs/BELIEVE.md", "docs/CALLS.md", "docs/SPEED.md", "docs/TOOLS.md")
-# What was moved, renamed and written anew on the way to today's Rattle: they name what is gone, at whatever length.
-MOVED = ("docs/PORT.md", "docs/DESIGN-PASS.md")
+# What was moved, renamed, written anew and looked at again on the way to today's Rattle: they name what is gone, at whatever length.
+MOVED = ("docs/PORT.md", "docs/DESIGN-PASS.md", "docs/LOOK-BACK.md")
 # Pages of which only the length is held here.
 BESIDE = ("beside/README.md", "beside/factors/README.md", "bindings/README.md", "bindings/python/README.md", "bindings/rust/README.md", "fuzz/README.md", "man/slope.1")
 # Notes of their day, and what a user of an older version sees: they name what is gone.
